@@ -1,0 +1,11 @@
+// Files and output as the program sees them: traits, the fakes that tests use, the system's own, and calls over whole files.
+#![tactic(auto)]
+
+pub mod files;
+pub mod memory;
+pub mod real;
+pub mod shelf;
+pub mod sure;
+#[cfg(test)]
+mod tests;
+pub mod whole;

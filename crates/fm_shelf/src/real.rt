@@ -1,0 +1,129 @@
+// The shelf over the system's files, and the sink over its standard output.
+ghost use Rattle.std.specs.Prelude.{◌≡◌, ◌≤◌, List, ℕ, [], false, None, length, IfOk};
+
+use crate::shelf::{Failed, Shelf, Sink};
+use std::fs::{OpenFile, OpenOptions};
+use std::io::{Read, Seek, SeekFrom, Write};
+use std::rt::Files;
+use std::{fs, io};
+
+// One open, seek and read.
+fn read_some<R: Files>(rt: &R, name: &str, at: u64, piece: &mut [u8]) -> io::Result<usize>
+    ensures { IfOk result (λ n. n ≤ length piece.new) }
+{
+    let mut file = fs::open(rt, name)?;
+    file.seek(SeekFrom::Start(at))?;
+    file.read(piece)
+}
+
+// Adds a whole piece, over short writes too.
+fn add<R: Files>(rt: &R, name: &str, piece: &[u8]) -> io::Result<()> {
+    let mut file = OpenOptions::new().append(true).create(true).open(rt, name)?;
+    file.write_all(piece)
+}
+
+// A longer file is cut; a shorter one isn't filled up.
+fn shorten<R: Files>(rt: &R, name: &str, len: u64) -> io::Result<()> {
+    let file = OpenOptions::new()
+        .write(true)
+        .create(true)
+        .truncate(false)
+        .open(rt, name)?;
+    if file.metadata()?.len() > len {
+        file.set_len(len)?;
+    }
+    Ok(())
+}
+
+/// Files of the system, by their paths. It tells nothing of what they hold.
+///
+/// One count of failed reads and one of failed writes stand for every name. Each rises at every error of the system, want of
+/// memory inside that call included, and stands still at the end of `u64`.
+#[derive(Drop)]
+pub struct FileShelf<'a, R: Files + Sync> {
+    rt: &'a R,
+    failed_reads: u64,
+    failed_writes: u64,
+}
+
+impl<'a, R: Files + Sync> FileShelf<'a, R> {
+    /// The files that this runtime opens. Nothing is opened before the first call.
+    pub fn new(rt: &'a R) -> Self {
+        FileShelf {
+            rt,
+            failed_reads: 0,
+            failed_writes: 0,
+        }
+    }
+}
+
+impl<'a, R: Files + Sync> Shelf for FileShelf<'a, R> {
+    ghost files = { λ _. [] };
+
+    ghost rest_absent = { λ _. false };
+
+    ghost read_faults = { λ s _. s.failed_reads };
+
+    ghost write_faults = { λ s _. s.failed_writes };
+
+    fn read(&mut self, name: &str, at: u64, piece: &mut [u8]) -> Result<usize, Failed> {
+        match read_some(self.rt, name, at, piece) {
+            Ok(n) => Ok(n),
+            Err(_) => {
+                self.failed_reads = self.failed_reads.saturating_add(1);
+                Err(Failed)
+            }
+        }
+    }
+
+    fn append(&mut self, name: &str, piece: &[u8]) -> Result<usize, Failed> {
+        match add(self.rt, name, piece) {
+            Ok(()) => Ok(piece.len()),
+            Err(_) => {
+                self.failed_writes = self.failed_writes.saturating_add(1);
+                Err(Failed)
+            }
+        }
+    }
+
+    fn cut(&mut self, name: &str, len: u64) -> Result<(), Failed> {
+        match shorten(self.rt, name, len) {
+            Ok(()) => Ok(()),
+            Err(_) => {
+                self.failed_writes = self.failed_writes.saturating_add(1);
+                Err(Failed)
+            }
+        }
+    }
+}
+
+/// Standard output. It tells nothing of what was written. Its count of failures rises at every error of the system, and
+/// stands still at the end of `u64`.
+#[derive(Drop)]
+pub struct OutSink<'a, R: Print> {
+    rt: &'a R,
+    failures: u64,
+}
+
+impl<'a, R: Print> OutSink<'a, R> {
+    /// The standard output of this runtime.
+    pub fn new(rt: &'a R) -> Self {
+        OutSink { rt, failures: 0 }
+    }
+}
+
+impl<'a, R: Print> Sink for OutSink<'a, R> {
+    ghost written = { λ _. None };
+
+    ghost faults = { λ s. s.failures };
+
+    fn write(&mut self, piece: &[u8]) -> Result<usize, Failed> {
+        match self.rt.write_all(piece) {
+            Ok(()) => Ok(piece.len()),
+            Err(_) => {
+                self.failures = self.failures.saturating_add(1);
+                Err(Failed)
+            }
+        }
+    }
+}
