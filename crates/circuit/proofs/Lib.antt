@@ -1,0 +1,6 @@
+pub mod Steps
+pub mod Walks
+pub mod Flips
+pub mod Cycles
+pub mod Drivers
+pub mod Passing
