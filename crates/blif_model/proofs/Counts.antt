@@ -1,0 +1,100 @@
+-- The cells that are counted model by model are those of the tables of the walk.
+use Rattle.std.proofs.Common.{◌≡◌, ℕ, zero-add, zero, suc, ◌+◌, ◌*◌, max, List, [], ◌∷◌, ◌++◌, refl, sym, ◌∙◌, length, arith}
+use Rattle.std.specs.Prelude.{Option, Some, None, map, filter_map, sum_by}
+use Rattle.std.specs.Option.{option_map_or}
+use Rattle.std.proofs.lemmas.List.{length-map}
+use Rattle.std.proofs.lemmas.List.Sums.{sum_by-append, sum_by-cons}
+use Rattle.blif_model.specs.Statement.{Statement, inputs, outputs, clock, table, instance}
+use Rattle.blif_model.specs.Models.{Item, Instance, Model, at_model, model_named, main_of, instance_from, instances, sum_over_instances, cells_from, cell_count}
+use Rattle.blif_model.specs.Walk.{Scope, top, inside, Act, flat_table, Step, acts_of, inner_steps, scope_of, next, net_of, steps_from, enter, walk}
+use Rattle.fm_base.specs.Names.{Name}
+
+-- the cells of a step
+abbrev pub act_cells : Act → ℕ
+act_cells (flat_table ins out rows) = max 1 (length rows) * max 1 (length ins)
+act_cells _ = 0
+
+-- the cells of a walk
+abbrev pub walk_cells : List Step → ℕ
+walk_cells steps = sum_by (λ s. act_cells s.act) steps
+
+-- a number for the model of each `.subckt` line, summed
+abbrev named_sum : (Name → ℕ) → List Item → ℕ
+named_sum g items = sum_by (λ (i : Instance). g i.name) (filter_map (λ (item : Item). instance_from item.line item.says) items)
+
+abbrev own_sum : List Item → ℕ
+own_sum items = sum_by (λ (item : Item). cells_from item.says item.rows) items
+
+-- the number of the model that a line instances
+abbrev named_at : (Name → ℕ) → Statement → ℕ
+named_at g (instance name bindings) = g name
+named_at g _ = 0
+
+named_more : (g : Name → ℕ) (line : ℕ) (says : Statement) (rows : List (List Name)) (items : List Item)
+    → named_sum g (record { line = line; says = says; rows = rows } ∷ items) ≡ named_at g says + named_sum g items
+named_more g line (instance name bindings) rows items =
+    sum_by-cons (λ (i : Instance). g i.name) (record { line = line; name = name; bindings = bindings }) (filter_map (λ (item : Item). instance_from item.line item.says) items)
+named_more g line says rows items = sym (zero-add (named_sum g items))
+
+-- the cells of a line's own step, and of its instance
+act_of_line : (scope : Scope) (line : ℕ) (says : Statement) (rows : List (List Name))
+    → walk_cells (map (λ act. record { line = line; act = act }) (acts_of scope says rows)) ≡ cells_from says rows
+act_of_line scope line (table ins out) rows = rw (length-map ins (net_of scope)) (zero-add (max 1 (length rows) * max 1 (length ins)))
+act_of_line top line (inputs names) rows = refl
+act_of_line (inside path bound) line (inputs names) rows = refl
+act_of_line top line (outputs names) rows = refl
+act_of_line (inside path bound) line (outputs names) rows = refl
+act_of_line top line (clock names) rows = refl
+act_of_line (inside path bound) line (clock names) rows = refl
+act_of_line scope line says rows = refl
+
+inner_of_line : (f : Scope → Name → List Step) (g : Name → ℕ) → ((scope : Scope) (name : Name) → walk_cells (f scope name) ≡ g name)
+    → (scope : Scope) (j : ℕ) (says : Statement) → walk_cells (inner_steps f scope j says) ≡ named_at g says
+inner_of_line f g same scope j (instance name bindings) = same (scope_of scope j bindings) name
+inner_of_line f g same scope j says = refl
+
+-- the cells of items: their own, and those of the models that they instance
+items_cells : (f : Scope → Name → List Step) (g : Name → ℕ) → ((scope : Scope) (name : Name) → walk_cells (f scope name) ≡ g name)
+    → (scope : Scope) (j : ℕ) (items : List Item) → walk_cells (steps_from f scope j items) ≡ own_sum items + named_sum g items
+unfolding steps_from
+items_cells f g same scope j [] = refl
+items_cells f g same scope j (item ∷ items) =
+    let own : own_sum (item ∷ items) ≡ cells_from item.says item.rows + own_sum items = sum_by-cons (λ (i : Item). cells_from i.says i.rows) item items in
+    let named : named_sum g (item ∷ items) ≡ named_at g item.says + named_sum g items = named_more g item.line item.says item.rows items in
+    let acts : List Step = map (λ act. record { line = item.line; act = act }) (acts_of scope item.says item.rows) in
+    let inner : List Step = inner_steps f scope j item.says in
+    let rest : List Step = steps_from f scope (next j item.says) items in
+    let one : walk_cells ((acts ++ inner) ++ rest) ≡ walk_cells (acts ++ inner) + walk_cells rest = sum_by-append (λ (s : Step). act_cells s.act) (acts ++ inner) rest in
+    let two : walk_cells (acts ++ inner) ≡ walk_cells acts + walk_cells inner = sum_by-append (λ (s : Step). act_cells s.act) acts inner in
+    sum_up (walk_cells acts) (walk_cells inner) (walk_cells rest) (own_sum (item ∷ items)) (named_sum g (item ∷ items)) _ _ _ _ _ _
+    one two (act_of_line scope item.line item.says item.rows) (inner_of_line f g same scope j item.says) (items_cells f g same scope (next j item.says) items) own named
+  where
+    sum_up : (a i r o n all both c m os ns : ℕ) → all ≡ both + r → both ≡ a + i → a ≡ c → i ≡ m → r ≡ os + ns → o ≡ c + os → n ≡ m + ns → all ≡ o + n
+    sum_up a i r o n all both c m os ns p q s t u v w = omega arith
+
+module _ (models : List Model) where
+  enter_cells : (depth : ℕ) (scope : Scope) (name : Name) → walk_cells (enter models (suc depth) scope name) ≡ at_model models name (sum_over_instances cell_count models depth) 0
+  unfolding enter sum_over_instances instances
+  enter_cells zero scope name = found_here (model_named models name)
+    where
+      found_here : (found : Option Model) → walk_cells (option_map_or (λ (m : Model). steps_from (λ inner other. []) scope 0 m.items) found []) ≡ option_map_or (sum_over_instances cell_count models 0) found 0
+      found_here None = refl
+      found_here (Some m) = items_cells (λ inner other. []) (λ other. 0) (λ inner other. refl) scope 0 m.items ∙ nothing (own_sum m.items) (named_sum (λ other. 0) m.items) (zeros (filter_map (λ (item : Item). instance_from item.line item.says) m.items))
+        where
+          zeros : (xs : List Instance) → sum_by (λ (i : Instance). 0) xs ≡ 0
+          zeros [] = refl
+          zeros (x ∷ xs) = sum_by-cons (λ (i : Instance). 0) x xs ∙ zero-add (sum_by (λ (i : Instance). 0) xs) ∙ zeros xs
+
+          nothing : (a b : ℕ) → b ≡ 0 → a + b ≡ a
+          nothing a b e = omega arith
+  enter_cells (suc depth) scope name = found_here (enter_cells depth) (model_named models name)
+    where
+      found_here : ((inner : Scope) (other : Name) → walk_cells (enter models (suc depth) inner other) ≡ at_model models other (sum_over_instances cell_count models depth) 0)
+          → (found : Option Model) → walk_cells (option_map_or (λ (m : Model). steps_from (enter models (suc depth)) scope 0 m.items) found []) ≡ option_map_or (sum_over_instances cell_count models (suc depth)) found 0
+      found_here same None = refl
+      found_here same (Some m) = items_cells (enter models (suc depth)) (λ other. at_model models other (sum_over_instances cell_count models depth) 0) same scope 0 m.items
+
+  -- the count of cells, model by model, is the sum over the tables of the walk
+  pub count-cells : walk_cells (walk models) ≡ sum_over_instances cell_count models 32 (main_of models)
+  unfolding walk sum_over_instances instances
+  count-cells = items_cells (enter models 32) (λ other. at_model models other (sum_over_instances cell_count models 31) 0) (enter_cells 31) top 0 (main_of models).items

@@ -1,0 +1,13 @@
+pub mod Rows
+pub mod Nets
+pub mod Drivers
+pub mod Depth
+pub mod Counts
+pub mod Answer
+pub mod Times
+pub mod Driven
+pub mod Fits
+pub mod ReadNets
+pub mod Few
+pub mod Sound
+pub mod FileNetlist

@@ -1,0 +1,7 @@
+pub mod Taken
+pub mod Places
+pub mod Below
+pub mod Counting
+pub mod Built
+pub mod FlatModel
+pub mod Reading

@@ -1,0 +1,75 @@
+// Instances and cells of a model.
+ghost use Rattle.std.specs.Prelude.{◌≡◌, ◌*◌, ◌<◌, ◌^◌, length, max, min, sum_by};
+ghost use Rattle.blif_model.specs.Models.{cells_from, items_of, rows_below};
+ghost use Rattle.blif_says.specs.Grouped.{all_said};
+ghost use Rattle.blif_says.specs.Meant.{meant};
+ghost use Rattle.blif_reader.specs.Flat.{has_instance};
+
+use blif_says::says::Says;
+use blif_says::statement::line_says;
+use blif_text::lines::TextLine;
+
+/// Some line instances a model.
+pub fn any_instance(lines: &[TextLine<'_>]) -> bool
+    ensures { result ≡ has_instance (items_of (all_said lines.now)) }
+{
+    for line in lines {
+        match line_says(line) {
+            Says::Instance { .. } => return true,
+            _ => {}
+        }
+    }
+    false
+}
+
+/// The number of rows that stand directly below a line.
+fn row_count(below: &[TextLine<'_>]) -> usize
+    ensures { result ≡ length (rows_below (all_said below.now)) }
+{
+    let mut count: usize = 0;
+    for line in below {
+        match line_says(line) {
+            Says::Row(_) => count += 1,
+            Says::Passed => {}
+            _ => return count,
+        }
+    }
+    count
+}
+
+/// Rows times inputs, up to the cap, where none count as one.
+fn capped_product(rows: usize, inputs: usize, cap: u64) -> u64
+    requires { cap < 2 ^ 32 }
+    ensures { result ≡ min cap (max 1 rows * max 1 inputs) }
+{
+    (rows.max(1) as u64)
+        .saturating_mul(inputs.max(1) as u64)
+        .min(cap)
+}
+
+/// The cells of a line, up to the cap.
+fn line_cells(says: Says<'_, '_>, below: &[TextLine<'_>], cap: u64) -> u64
+    requires { cap < 2 ^ 32 }
+    ensures { result ≡ min cap (cells_from (meant says.entry) (rows_below (all_said below.now))) }
+{
+    match says {
+        Says::Table { ins, .. } => capped_product(row_count(below), ins.len(), cap),
+        _ => 0,
+    }
+}
+
+/// The cells of a model's lines, up to the cap.
+pub fn capped_cells(lines: &[TextLine<'_>], cap: u64) -> u64
+    requires { cap < 2 ^ 32 }
+    ensures { result ≡ min cap (sum_by (λ item. cells_from item.says item.rows) (items_of (all_said lines.now))) }
+{
+    let mut total: u64 = 0;
+    let mut rest = lines;
+    'lines: while let [line, below @ ..] = rest {
+        total = total
+            .saturating_add(line_cells(line_says(line), below, cap))
+            .min(cap);
+        rest = below;
+    }
+    total
+}

@@ -1,0 +1,5 @@
+pub mod Forms
+pub mod Spots
+pub mod FirstFaults
+pub mod Parts
+pub mod Answered

@@ -1,0 +1,5 @@
+pub mod Slices
+pub mod Cuts
+pub mod FirstBytes
+pub mod Anys
+pub mod Told

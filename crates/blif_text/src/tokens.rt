@@ -1,0 +1,46 @@
+// The tokens of a physical line.
+ghost use Rattle.std.specs.Prelude.{◌≡◌, ◌++◌, ◌∷◌, [], ◌+◌, ◌<◌, ◌^◌, length, filter, OnOk};
+ghost use Rattle.blif_text.specs.Lines.{has_bytes, is_white, pieces};
+ghost use Rattle.blif_text.specs.Read.{pieces_of};
+
+use crate::places::{behind, white_place};
+use crate::token::Token;
+use std::alloc::AllocError;
+
+/// A piece is a token where it has a byte.
+fn put_token<'a>(
+    tokens: &mut Vec<Token<'a>>,
+    start: usize,
+    text: &'a [u8],
+) -> Result<(), AllocError>
+    requires { start + length text.now < 2 ^ 31 }
+    ensures { OnOk result (pieces_of tokens.new.items ≡ pieces_of tokens.old.items ++ filter has_bytes (record { start = start; text = text.now } ∷ [])) }
+{
+    if text.is_empty() {
+        return Ok(());
+    }
+    tokens.push(Token { start, text })?;
+    Ok(())
+}
+
+/// The tokens of a text that begins at this place.
+pub fn put_tokens<'a>(
+    tokens: &mut Vec<Token<'a>>,
+    place: usize,
+    text: &'a [u8],
+) -> Result<(), AllocError>
+    requires { place + length text.now < 2 ^ 31 }
+    ensures { OnOk result (pieces_of tokens.new.items ≡ pieces_of tokens.old.items ++ filter has_bytes (pieces is_white place text.now)) }
+{
+    let mut rest = text;
+    let mut start = place;
+    'pieces: loop {
+        let n = white_place(rest);
+        put_token(tokens, start, &rest[..n])?;
+        if n == rest.len() {
+            return Ok(());
+        }
+        rest = behind(rest, n);
+        start += n + 1;
+    }
+}

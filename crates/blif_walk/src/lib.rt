@@ -1,0 +1,12 @@
+// The walk of the flattened main model, a step at a time.
+#![tactic(auto)]
+
+pub mod acts;
+pub mod bound;
+pub mod enter;
+pub mod frames;
+pub mod numbers;
+pub mod places;
+pub mod table;
+pub mod text;
+pub mod walker;
