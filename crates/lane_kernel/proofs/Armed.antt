@@ -1,0 +1,112 @@
+-- Nets that no fault names, cycles without a pulse, and forces that were set in order.
+use Rattle.std.proofs.Common.{◌≡◌, ℕ, zero, suc, ◌+◌, ◌<◌, ◌==◌, ◌||◌, ◌&&◌, Bool, true, false, not, cond, List, [], ◌∷◌, length, drop, get_or, refl, ap, sym, ◌∙◌, Option}
+use Rattle.std.proofs.lemmas.List.{drop_more}
+use Rattle.std.proofs.lemmas.Bool.{true≢false}
+use Rattle.std.specs.List.{list_any}
+use Rattle.circuit.specs.declared.parts.Fault.{Fault}
+use Rattle.circuit.specs.declared.parts.Fault.TheVariants.{Stuck, Flip, Pulse}
+use Rattle.circuit.specs.Effects.{affected, forced, has_flip, has_pulse, inverted, is_flip_of, is_permanent, is_pulse_on}
+use Rattle.circuit.specs.Trace.{flipped, flipped_from}
+use Rattle.lane_kernel.specs.Loads.{somes, faults_of, is_on, is_pulse_in, names, named, has_pulses, has_transients}
+
+pub or_left : (a b : Bool) → (a || b) ≡ false → a ≡ false
+or_left true b e = absurd (true≢false e)
+or_left false b e = refl
+
+or_right : (a b : Bool) → (a || b) ≡ false → b ≡ false
+or_right true b e = absurd (true≢false e)
+or_right false b e = e
+
+and_false : (b : Bool) → (b && false) ≡ false
+and_false true = refl
+and_false false = refl
+
+pub merged : (a b s f : Bool) → cond b s (cond a s f) ≡ cond (a || b) s f
+merged true true s f = refl
+merged true false s f = refl
+merged false true s f = refl
+merged false false s f = refl
+
+pub armed : (b s f : Bool) → (b ≡ false → f ≡ s) → cond b s f ≡ s
+armed true s f e = refl
+armed false s f e = e refl
+
+pub named_more : (loads : List (List (Option Fault))) (i n : ℕ) → i < length loads
+    → named (drop i loads) n ≡ (names (get_or loads i []) n || named (drop (i + 1) loads) n)
+named_more loads i n lt = ap (λ xs. named xs n) (drop_more loads i [] lt)
+
+-- where no item passes a test, none passes a stricter one
+none_passes : {X : Type 0} (p q : X → Bool) → ((x : X) → q x ≡ false → p x ≡ false) → (xs : List X) → list_any q xs ≡ false → list_any p xs ≡ false
+none_passes p q each [] e = refl
+none_passes p q each (x ∷ xs) e =
+    ap (λ b. b || list_any p xs) (each x (or_left (q x) (list_any q xs) e)) ∙ none_passes p q each xs (or_right (q x) (list_any q xs) e)
+
+-- where no lane passes a test, this lane doesn't
+lane_fails : (q : List (Option Fault) → Bool) → q [] ≡ false → (loads : List (List (Option Fault))) (k : ℕ) → list_any q loads ≡ false → q (get_or loads k []) ≡ false
+lane_fails q none [] k e = none
+lane_fails q none (faults ∷ loads) zero e = or_left (q faults) (list_any q loads) e
+lane_fails q none (faults ∷ loads) (suc k) e = lane_fails q none loads k (or_right (q faults) (list_any q loads) e)
+
+forced_free : (faults : List Fault) (n : ℕ) (own : Bool) → list_any (is_on n) faults ≡ false → forced faults n own ≡ own
+forced_free [] n own e = refl
+forced_free (Stuck net value ∷ faults) n own e =
+    ap (λ b. cond b value (forced faults n own)) (or_left (net.0 == n) (list_any (is_on n) faults) e)
+    ∙ forced_free faults n own (or_right (net.0 == n) (list_any (is_on n) faults) e)
+forced_free (Flip latch cycle ∷ faults) n own e = forced_free faults n own e
+forced_free (Pulse net cycle ∷ faults) n own e = forced_free faults n own (or_right (net.0 == n) (list_any (is_on n) faults) e)
+
+off_pulse : (n t : ℕ) (fault : Fault) → is_on n fault ≡ false → is_pulse_on n t fault ≡ false
+off_pulse n t (Stuck net value) e = refl
+off_pulse n t (Flip latch cycle) e = refl
+off_pulse n t (Pulse net cycle) e = ap (λ b. b && (cycle == t)) e
+
+-- no fault of any lane changes a net that none names
+pub affected_free : (loads : List (List (Option Fault))) (k t n : ℕ) (own : Bool) → named loads n ≡ false → affected (faults_of loads k) t n own ≡ own
+affected_free loads k t n own e =
+    let free = lane_fails (λ faults. names faults n) refl loads k e in
+    ap (λ b. forced (faults_of loads k) n (inverted b own)) (none_passes (is_pulse_on n t) (is_on n) (off_pulse n t) (faults_of loads k) free)
+    ∙ forced_free (faults_of loads k) n own free
+
+other_cycle : (n t : ℕ) (fault : Fault) → is_pulse_in t fault ≡ false → is_pulse_on n t fault ≡ false
+other_cycle n t (Stuck net value) e = refl
+other_cycle n t (Flip latch cycle) e = refl
+other_cycle n t (Pulse net cycle) e = ap (λ b. (net.0 == n) && b) e ∙ and_false (net.0 == n)
+
+lane_steady : (loads : List (List (Option Fault))) (k n t : ℕ) → has_pulses loads t ≡ false → has_pulse (faults_of loads k) n t ≡ false
+lane_steady loads k n t e =
+    none_passes (is_pulse_on n t) (is_pulse_in t) (other_cycle n t) (faults_of loads k)
+    (lane_fails (λ faults. list_any (is_pulse_in t) (somes faults)) refl loads k e)
+
+-- in all cycles without a pulse a net is changed in the same way
+pub affected_steady : (loads : List (List (Option Fault))) (k n s t : ℕ) (own : Bool) → has_pulses loads s ≡ false → has_pulses loads t ≡ false
+    → affected (faults_of loads k) s n own ≡ affected (faults_of loads k) t n own
+affected_steady loads k n s t own e f =
+    ap (λ b. forced (faults_of loads k) n (inverted b own)) (lane_steady loads k n s e ∙ sym (lane_steady loads k n t f))
+
+stays_unpulsed : (t : ℕ) (fault : Fault) → not (is_permanent fault) ≡ false → is_pulse_in t fault ≡ false
+stays_unpulsed t (Stuck net value) e = refl
+stays_unpulsed t (Flip latch cycle) e = refl
+stays_unpulsed t (Pulse net cycle) e = absurd (true≢false e)
+
+stays_unflipped : (latch t : ℕ) (fault : Fault) → not (is_permanent fault) ≡ false → is_flip_of latch t fault ≡ false
+stays_unflipped latch t (Stuck net value) e = refl
+stays_unflipped latch t (Flip l cycle) e = absurd (true≢false e)
+stays_unflipped latch t (Pulse net cycle) e = refl
+
+-- without transient faults no cycle has a pulse
+pub no_pulses : (loads : List (List (Option Fault))) (t : ℕ) → has_transients loads ≡ false → has_pulses loads t ≡ false
+no_pulses loads t e =
+    none_passes (λ faults. list_any (is_pulse_in t) (somes faults)) (λ faults. list_any (λ fault. not (is_permanent fault)) (somes faults))
+    (λ faults none. none_passes (is_pulse_in t) (λ fault. not (is_permanent fault)) (stays_unpulsed t) (somes faults) none) loads e
+
+flipped_same : (faults : List Fault) (t latch : ℕ) (bits : List Bool) → ((l : ℕ) → has_flip faults l t ≡ false) → flipped_from faults t latch bits ≡ bits
+flipped_same faults t latch [] none = refl
+flipped_same faults t latch (bit ∷ bits) none =
+    ap (λ b. inverted b bit ∷ flipped_from faults t (latch + 1) bits) (none latch) ∙ ap (λ xs. bit ∷ xs) (flipped_same faults t (latch + 1) bits none)
+
+-- and the latches stay as they are
+pub flipped_free : (loads : List (List (Option Fault))) (k t : ℕ) (bits : List Bool) → has_transients loads ≡ false → flipped (faults_of loads k) t bits ≡ bits
+flipped_free loads k t bits e =
+    flipped_same (faults_of loads k) t 0 bits
+    (λ l. none_passes (is_flip_of l t) (λ fault. not (is_permanent fault)) (stays_unflipped l t) (faults_of loads k)
+    (lane_fails (λ faults. list_any (λ fault. not (is_permanent fault)) (somes faults)) refl loads k e))

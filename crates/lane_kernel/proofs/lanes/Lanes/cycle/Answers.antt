@@ -1,0 +1,7 @@
+use Rattle.std.proofs.Common.{sym, subst}
+use Rattle.fm_base.specs.Planes.{bit}
+use Rattle.lane_kernel.specs.Bank.{AreAfter}
+use Rattle.lane_kernel.proofs.lanes.Lanes.cycle.Goals as goal
+
+pub returns-clause-step : goal.returns-clause-step
+returns-clause-step g c = λ vectors after. c.cycle.ensures.step vectors (subst (AreAfter 64 bit vectors) (sym c.self.view_is) after)

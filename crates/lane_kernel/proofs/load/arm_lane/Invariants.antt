@@ -1,0 +1,13 @@
+use Rattle.std.proofs.Common.{◌≡◌, ◌<◌, ℕ, Bool, cond, length, drop, get_or}
+use Rattle.circuit.specs.Effects.{affected}
+use Rattle.lane_kernel.specs.declared.force.Force.{Force}
+use Rattle.lane_kernel.specs.Gates.{force_value}
+use Rattle.lane_kernel.specs.Loads.{faults_of, names}
+use Rattle.lane_kernel.proofs.load.arm_lane.Given as goal
+
+-- what is left comes to what all of them do
+abbrev pub invariant-loop-fault : goal.invariant-loop-fault
+invariant-loop-fault g l =
+    (k n : ℕ) (d : Force g.row.W.Denot) (own : Bool) → k < g.W.Word.lanes → n < length l.forces
+    → cond (names (drop l.fault-index l.faults) n) (affected (faults_of l.loads k) l.cycle n own) (force_value g.W.Word.lane_bit k (get_or l.forces n d) own)
+    ≡ cond (names l.faults n) (affected (faults_of l.loads k) l.cycle n own) (force_value g.W.Word.lane_bit k (get_or l.initial.forces n d) own)

@@ -1,0 +1,164 @@
+// As many faulty circuits as a word has bits, cycle by cycle.
+ghost use Rattle.std.specs.Prelude.{◌≡◌, ◌<◌, ◌≤◌, ◌+◌, ◌⊎◌, ◌++◌, ◌∷◌, [], ℕ, Bool, List, Option, IfOk, length, map, slice_index_or};
+ghost use Rattle.circuit.specs.declared.parts.Fault.{Fault};
+ghost use Rattle.circuit.specs.Order.{IsOrder};
+ghost use Rattle.lane_kernel.specs.Bank.{AreAfter, IsMadeFor, KeepsLoads};
+ghost use Rattle.lane_kernel.specs.Gates.{plane};
+ghost use Rattle.lane_kernel.specs.Kernel.{IsKernel, bank_of};
+ghost use Rattle.circuit.specs.Value.{bit_at};
+
+use crate::cycle::run;
+use crate::force::{Force, idle};
+use crate::gate::{Gate, Masks};
+use crate::load::{arm_for, is_some_transient, place, prepare};
+use crate::program::{make_gates, make_ops};
+use crate::source::{take_first, word_at};
+use crate::word::Word;
+use circuit::netlist::Netlist;
+use circuit::parts::{Fault, Latch, NetId};
+use fm_base::Steps;
+use netlist_levels::Order;
+use std::alloc::{AllocError, Global};
+use std::snapshot::Snapshot;
+use std::sync::ledger::Ledger;
+
+/// Simulations of one netlist, one in each lane of a word, which stand between two cycles.
+#[derive(Drop)]
+pub struct Kernel<W> {
+    circuit: Snapshot<Netlist>,
+    order: Snapshot<Order>,
+    gates: Vec<Gate>,
+    masks: Vec<Masks<W>>,
+    starts: Vec<bool>,
+    loads: Vec<[Option<Fault>; 2]>,
+    transient: bool,
+    marks: Vec<bool>,
+    next: Vec<usize>,
+    forces: Vec<Force<W>>,
+    stale: bool,
+    cycle: u32,
+    raw: Vec<W>,
+    words: Vec<W>,
+}
+
+fn first_state_of(alloc: Global, latches: &[Latch]) -> Result<Vec<bool>, AllocError>
+    ensures { IfOk result (λ starts. starts.items ≡ map (λ latch. latch.start) latches.now) }
+{
+    latches.iter().map(|latch| latch.start).collect(alloc)
+}
+
+impl<W: Word> Kernel<W> {
+    /// Lanes for a netlist and an order of its tables, without faults.
+    pub fn new(alloc: Global, netlist: &Netlist, order: &Order) -> Result<Self, AllocError>
+        requires { IsOrder netlist.now order.now }
+        ensures kernel { IfOk result (λ s. IsKernel W.lanes W.lane_bit s) }
+        ensures made { IfOk result (λ s. IsMadeFor netlist.now order.now (bank_of s)) }
+    {
+        let nets = netlist.nets();
+        let gates = make_gates(alloc, netlist, order.nets())?;
+        let masks = make_ops(alloc)?;
+        let starts = first_state_of(alloc, netlist.latches())?;
+        let loads = vec![in alloc; [None, None]; W::count() as usize]?;
+        let mut marks = vec![in alloc; false; nets]?;
+        let mut next = vec![in alloc; 0; gates.len()]?;
+        let mut forces = vec![in alloc; idle(); nets]?;
+        let raw = vec![in alloc; W::all(false); starts.len()]?;
+        let words = vec![in alloc; W::all(false); nets]?;
+        prepare(&gates, &loads, &mut marks, &mut next, &mut forces);
+        let transient = is_some_transient(&loads);
+        Ok(Kernel {
+            circuit: Snapshot::of(netlist),
+            order: Snapshot::of(order),
+            gates,
+            masks,
+            starts,
+            loads,
+            transient,
+            marks,
+            next,
+            forces,
+            stale: true,
+            cycle: 0,
+            raw,
+            words,
+        })
+    }
+
+    /// Gives some lanes their faults, from a lane on.
+    pub fn load(&mut self, from: usize, faults: &[[Option<Fault>; 2]])
+        requires kernel { IsKernel W.lanes W.lane_bit self.old }
+        requires lanes { from + length faults.now ≤ W.lanes }
+        ensures kernel { IsKernel W.lanes W.lane_bit self.new }
+        ensures made { IsMadeFor self.old.circuit.value self.old.order.value (bank_of self.new) }
+        ensures placed { (k : ℕ) (d : List (Option Fault)) → k < length faults.now
+            → slice_index_or self.new.loads.items (from + k) d ≡ slice_index_or faults.now k d }
+        ensures others { (j : ℕ) (d : List (Option Fault)) → (j < from) ⊎ (from + length faults.now ≤ j)
+            → slice_index_or self.new.loads.items j d ≡ slice_index_or self.old.loads.items j d }
+    {
+        place(&mut self.loads, from, faults);
+        prepare(
+            &self.gates,
+            &self.loads,
+            &mut self.marks,
+            &mut self.next,
+            &mut self.forces,
+        );
+        self.transient = is_some_transient(&self.loads);
+        self.stale = true;
+    }
+
+    /// Goes to the initial state in all lanes.
+    pub fn start(&mut self)
+        requires { IsKernel W.lanes W.lane_bit self.old }
+        ensures kernel { IsKernel W.lanes W.lane_bit self.new }
+        ensures keeps { KeepsLoads (bank_of self.old) (bank_of self.new) }
+        ensures cycle { self.new.cycle ≡ 0 }
+        ensures start { AreAfter W.lanes W.lane_bit [] (bank_of self.new) }
+    {
+        take_first(&self.starts, &mut self.raw);
+        self.cycle = 0;
+    }
+
+    /// Runs the next cycle in all lanes.
+    pub fn cycle<L: Ledger>(&mut self, netlist: &Netlist, inputs: &[bool], steps: &mut Steps<L>)
+        requires kernel { IsKernel W.lanes W.lane_bit self.old }
+        requires made { self.old.circuit.value ≡ netlist.now }
+        requires few { self.old.cycle < 65536 }
+        ensures kernel { IsKernel W.lanes W.lane_bit self.new }
+        ensures keeps { KeepsLoads (bank_of self.old) (bank_of self.new) }
+        ensures cycle { self.new.cycle ≡ self.old.cycle + 1 }
+        ensures step { (vectors : List (List Bool)) → AreAfter W.lanes W.lane_bit vectors (bank_of self.old)
+            → AreAfter W.lanes W.lane_bit (vectors ++ inputs.now ∷ []) (bank_of self.new) }
+        ensures cost { steps.new ≡ steps.old + length netlist.now.tables }
+    {
+        self.stale = arm_for(
+            &self.loads,
+            self.transient,
+            self.stale,
+            self.cycle,
+            &mut self.forces,
+        );
+        run(
+            netlist,
+            &self.gates,
+            &self.masks,
+            &self.next,
+            &self.forces,
+            &self.loads,
+            self.transient,
+            self.cycle,
+            inputs,
+            &mut self.raw,
+            &mut self.words,
+            steps,
+        );
+        self.cycle += 1;
+    }
+
+    /// The word of a net in the last cycle.
+    pub fn net(&self, net: NetId) -> W
+        ensures { (k : ℕ) → k < W.lanes → W.lane_bit result k ≡ bit_at (plane W.lane_bit k self.now.words.items) net.0 }
+    {
+        word_at(&self.words, net.0 as usize)
+    }
+}

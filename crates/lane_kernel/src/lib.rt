@@ -1,0 +1,17 @@
+// Many faulty circuits at once, one in each bit of a word.
+#![tactic(auto)]
+
+mod cycle;
+mod force;
+mod gate;
+mod kernel;
+mod lanes;
+mod load;
+mod program;
+mod quad;
+mod source;
+mod walk;
+mod wide;
+mod word;
+
+pub use lanes::{Lanes, Lanes4};

@@ -1,0 +1,228 @@
+// What the faults of all lanes make of the flat arrays.
+ghost use Rattle.std.specs.Prelude.{◌≡◌, ◌<◌, ◌≤◌, ◌+◌, ◌==◌, ◌||◌, ◌⊎◌, ℕ, Bool, false, not, List, Option, length, slice_index_or, if◌then◌else◌};
+ghost use Rattle.std.specs.List.{list_any};
+ghost use Rattle.circuit.specs.declared.parts.Fault.{Fault};
+ghost use Rattle.circuit.specs.Effects.{affected, is_permanent};
+ghost use Rattle.circuit.specs.Value.{bit_at};
+ghost use Rattle.lane_kernel.specs.declared.force.Force.{Force};
+ghost use Rattle.lane_kernel.specs.Gates.{AreInside, AreNarrowRuns, IsNext, force_value, gate_at};
+ghost use Rattle.lane_kernel.specs.Loads.{AreIdle, AreSteady, IsUnnamed, faults_of, has_pulses, has_transients, is_pulse_in, named, names, somes};
+
+use crate::force::{Force, force_of, idle};
+use crate::gate::Gate;
+use crate::word::Word;
+use circuit::meaning::bit;
+use circuit::parts::{Fault, NetId};
+
+/// Gives some lanes their faults, from a lane on.
+pub fn place(loads: &mut [[Option<Fault>; 2]], from: usize, faults: &[[Option<Fault>; 2]])
+    requires { from + length faults.now ≤ length loads.old }
+    ensures placed { (k : ℕ) (d : List (Option Fault)) → k < length faults.now → slice_index_or loads.new (from + k) d ≡ slice_index_or faults.now k d }
+    ensures others { (j : ℕ) (d : List (Option Fault)) → (j < from) ⊎ (from + length faults.now ≤ j) → slice_index_or loads.new j d ≡ slice_index_or loads.old j d }
+{
+    for (k, pair) in faults.iter().enumerate() {
+        loads[from + k] = *pair;
+    }
+}
+
+fn mark(marks: &mut [bool], net: NetId)
+    ensures { (n : ℕ) → n < length marks.old → bit_at marks.new n ≡ ((net.0 == n) || bit_at marks.old n) }
+{
+    let at = net.0 as usize;
+    if at < marks.len() {
+        marks[at] = true;
+    }
+}
+
+fn mark_lane(faults: &[Option<Fault>], marks: &mut [bool])
+    ensures { (n : ℕ) → n < length marks.old → bit_at marks.new n ≡ (names faults.now n || bit_at marks.old n) }
+{
+    for fault in faults {
+        match fault {
+            Some(Fault::Stuck(net, _)) => mark(marks, *net),
+            Some(Fault::Pulse(net, _)) => mark(marks, *net),
+            _ => {}
+        }
+    }
+}
+
+fn mark_all(loads: &[[Option<Fault>; 2]], marks: &mut [bool])
+    ensures { (n : ℕ) → n < length marks.old → bit_at marks.new n ≡ (named loads.now n || bit_at marks.old n) }
+{
+    for faults in loads {
+        mark_lane(faults, marks);
+    }
+}
+
+// Sets the places where a walk pauses: those of marked nets and of wide tables.
+fn fill_next(gates: &[Gate], marks: &[bool], next: &mut [usize])
+    requires { length next.old ≡ length gates.now }
+    ensures next { IsNext (length gates.now) next.new }
+    ensures quiet { (from j : ℕ) → from < length gates.now → from ≤ j → j < slice_index_or next.new from 0
+        → bit_at marks.now (gate_at gates.now j).to ≡ false }
+    ensures narrow { AreNarrowRuns gates.now next.new }
+{
+    let mut pause = gates.len();
+    for back in 0..gates.len() {
+        let at = gates.len() - 1 - back;
+        if bit(marks, gates[at].to) || gates[at].op >= 16 {
+            pause = at;
+        }
+        next[at] = pause;
+    }
+}
+
+fn arm<W: Word>(loads: &[[Option<Fault>; 2]], cycle: u32, net: NetId, forces: &mut [Force<W>])
+    requires { length loads.now ≡ W.lanes }
+    ensures { (k n : ℕ) (d : Force W) (own : Bool) → k < W.lanes → n < length forces.old
+        → force_value W.lane_bit k (slice_index_or forces.new n d) own
+        ≡ (if net.0 == n then affected (faults_of loads.now k) cycle n own else force_value W.lane_bit k (slice_index_or forces.old n d) own) }
+{
+    let at = net.0 as usize;
+    if at < forces.len() {
+        forces[at] = force_of(loads, cycle, net);
+    }
+}
+
+fn arm_lane<W: Word>(
+    loads: &[[Option<Fault>; 2]],
+    cycle: u32,
+    faults: &[Option<Fault>],
+    forces: &mut [Force<W>],
+)
+    requires { length loads.now ≡ W.lanes }
+    ensures { (k n : ℕ) (d : Force W) (own : Bool) → k < W.lanes → n < length forces.old
+        → force_value W.lane_bit k (slice_index_or forces.new n d) own
+        ≡ (if names faults.now n then affected (faults_of loads.now k) cycle n own else force_value W.lane_bit k (slice_index_or forces.old n d) own) }
+{
+    for fault in faults {
+        match fault {
+            Some(Fault::Stuck(net, _)) => arm(loads, cycle, *net, forces),
+            Some(Fault::Pulse(net, _)) => arm(loads, cycle, *net, forces),
+            _ => {}
+        }
+    }
+}
+
+// Sets the forces on each net that a fault of some lane may change to those of a cycle.
+fn arm_all<W: Word>(loads: &[[Option<Fault>; 2]], cycle: u32, forces: &mut [Force<W>])
+    requires { length loads.now ≡ W.lanes }
+    ensures { (k n : ℕ) (d : Force W) (own : Bool) → k < W.lanes → n < length forces.old
+        → force_value W.lane_bit k (slice_index_or forces.new n d) own
+        ≡ (if named loads.now n then affected (faults_of loads.now k) cycle n own else force_value W.lane_bit k (slice_index_or forces.old n d) own) }
+{
+    for faults in loads {
+        arm_lane(loads, cycle, faults, forces);
+    }
+}
+
+// Leaves each net as it is.
+fn disarm<W: Word>(forces: &mut [Force<W>])
+    ensures { (k n : ℕ) (d : Force W) (own : Bool) → k < W.lanes → n < length forces.old
+        → force_value W.lane_bit k (slice_index_or forces.new n d) own ≡ own }
+{
+    for force in forces.iter_mut() {
+        *force = idle();
+    }
+}
+
+// Takes all marks away.
+fn unmark(marks: &mut [bool])
+    ensures { (n : ℕ) → n < length marks.old → bit_at marks.new n ≡ false }
+{
+    for mark in marks.iter_mut() {
+        *mark = false;
+    }
+}
+
+fn is_pulsing(faults: &[Option<Fault>], cycle: u32) -> bool
+    ensures { result ≡ list_any (is_pulse_in cycle) (somes faults.now) }
+{
+    for fault in faults {
+        if let Some(Fault::Pulse(_, c)) = fault {
+            if *c == cycle {
+                return true;
+            }
+        }
+    }
+    false
+}
+
+fn is_some_pulsing(loads: &[[Option<Fault>; 2]], cycle: u32) -> bool
+    ensures { result ≡ has_pulses loads.now cycle }
+{
+    loads.iter().any(|faults| is_pulsing(faults, cycle))
+}
+
+fn is_transient(faults: &[Option<Fault>]) -> bool
+    ensures { result ≡ list_any (λ fault. not (is_permanent fault)) (somes faults.now) }
+{
+    for fault in faults {
+        if let Some(fault) = fault {
+            if !fault.permanent() {
+                return true;
+            }
+        }
+    }
+    false
+}
+
+/// Some fault of some lane is a flip or a pulse.
+pub fn is_some_transient(loads: &[[Option<Fault>; 2]]) -> bool
+    ensures { result ≡ has_transients loads.now }
+{
+    loads.iter().any(|faults| is_transient(faults))
+}
+
+#[tactic(auto, using(crate::proofs::Armed::no_pulses))]
+fn has_some_pulse(loads: &[[Option<Fault>; 2]], transient: bool, cycle: u32) -> bool
+    requires { transient ≡ has_transients loads.now }
+    ensures { result ≡ has_pulses loads.now cycle }
+{
+    transient && is_some_pulsing(loads, cycle)
+}
+
+/// Sets the forces to those of a cycle, and answers whether they are of no use in the next one.
+pub fn arm_for<W: Word>(
+    loads: &[[Option<Fault>; 2]],
+    transient: bool,
+    stale: bool,
+    cycle: u32,
+    forces: &mut [Force<W>],
+) -> bool
+    requires lanes { length loads.now ≡ W.lanes }
+    requires transient { transient ≡ has_transients loads.now }
+    requires idle { AreIdle W.lanes W.lane_bit loads.now forces.old }
+    requires steady { stale ≡ false → AreSteady W.lanes W.lane_bit loads.now forces.old }
+    ensures armed { (k n : ℕ) (d : Force W) (own : Bool) → k < W.lanes → n < length forces.new
+        → force_value W.lane_bit k (slice_index_or forces.new n d) own ≡ affected (faults_of loads.now k) cycle n own }
+    ensures idle { AreIdle W.lanes W.lane_bit loads.now forces.new }
+    ensures steady { result ≡ false → AreSteady W.lanes W.lane_bit loads.now forces.new }
+{
+    let pulses = has_some_pulse(loads, transient, cycle);
+    if pulses || stale {
+        arm_all(loads, cycle, forces);
+    }
+    pulses
+}
+
+/// Sets pauses for the faults of all lanes, and forces that leave each net as it is.
+pub fn prepare<W: Word>(
+    gates: &[Gate],
+    loads: &[[Option<Fault>; 2]],
+    marks: &mut [bool],
+    next: &mut [usize],
+    forces: &mut [Force<W>],
+)
+    requires inside { AreInside (length marks.old) gates.now }
+    requires same { length next.old ≡ length gates.now }
+    ensures next { IsNext (length gates.now) next.new }
+    ensures quiet { IsUnnamed loads.now gates.now next.new }
+    ensures narrow { AreNarrowRuns gates.now next.new }
+    ensures idle { AreIdle W.lanes W.lane_bit loads.now forces.new }
+{
+    unmark(marks);
+    mark_all(loads, marks);
+    fill_next(gates, marks, next);
+    disarm(forces);
+}
