@@ -1,0 +1,4 @@
+pub mod Unalarmed
+pub mod Planes
+pub mod Settled
+pub mod Rings

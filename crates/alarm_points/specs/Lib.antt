@@ -1,0 +1,5 @@
+pub mod PointsFile
+pub mod Interval
+pub mod PointsKept
+pub mod Watch
+pub mod Outputs

@@ -1,0 +1,110 @@
+// The reader of the rows.
+ghost use Rattle.std.specs.Prelude.{◌≡◌, IfOk};
+ghost use Rattle.csv_rows.specs.Rows.{Yields, rows_of};
+
+use crate::row::Row;
+use csv::{ByteRecord, Reader, ReaderBuilder};
+use std::alloc::{AllocError, Global};
+use std::marker::Model;
+
+/// Where a reader stands.
+#[derive(Clone, Copy, Debug, PartialEq, Eq)]
+enum Stage {
+    /// Before the first row, or behind one.
+    Between,
+    /// Behind the last row.
+    Ended,
+    /// Behind a read for which there was no memory.
+    Failed,
+}
+
+/// The rows of a file that are to come.
+///
+/// The text is read as `csv` reads it by default: commas, double quotes, nothing trimmed. The header is a row like the
+/// others, and a row may have any number of fields: which number is right is for the table to say.
+#[derive(Drop)]
+pub struct Rows<'a> {
+    alloc: Global,
+    reader: Reader<&'a [u8]>,
+    stage: Stage,
+}
+
+impl<'a> Model for Rows<'a> {
+    ghost use Rattle.std.specs.Prelude.{List};
+    ghost use Rattle.csv_rows.specs.Rows.{Fields};
+    ghost use Rattle.csv_rows.specs.Reading.{IsSound, rows_to_come};
+
+    ghost Value = { List Fields };
+
+    ghost view = { λ r. rows_to_come r.stage r.reader };
+
+    ghost invariant = { λ r. IsSound r.stage r.reader };
+}
+
+impl<'a> Rows<'a> {
+    /// All rows of a file's bytes.
+    pub fn new(alloc: Global, bytes: &'a [u8]) -> Self
+        ensures { result ≡ rows_of bytes.now }
+    {
+        let reader = ReaderBuilder::new()
+            .has_headers(false)
+            .flexible(true)
+            .from_reader(alloc, bytes);
+        Rows {
+            alloc,
+            reader,
+            stage: Stage::Between,
+        }
+    }
+
+    /// The next row, or `None` behind the last. Where memory ran out once, it is refused from then on.
+    pub fn next(&mut self) -> Result<Option<Row>, AllocError>
+        ensures { IfOk result (Yields self.old self.new) }
+    {
+        match self.stage {
+            Stage::Between => {}
+            Stage::Ended => return Ok(None),
+            Stage::Failed => return Err(AllocError),
+        }
+        let mut record = ByteRecord::new(self.alloc);
+        match self.reader.read_byte_record(&mut record) {
+            Ok(true) => Ok(Some(Row { record })),
+            Ok(false) => {
+                self.stage = Stage::Ended;
+                Ok(None)
+            }
+            Err(_) => {
+                self.stage = Stage::Failed;
+                Err(AllocError)
+            }
+        }
+    }
+}
+
+#[cfg(test)]
+mod tests {
+    use super::*;
+    use std::process::Abort;
+
+    fn read(rt: &impl Abort, rows: &mut Rows) -> Option<Row> {
+        rows.next().expect(rt, "memory for a row")
+    }
+
+    #[test]
+    fn a_mark_quotes_line_ends_and_empty_lines_are_no_part_of_the_rows(rt: HostRuntime) {
+        let text = b"\xEF\xBB\xBF\"kind\",net\r\n\r\n\n\"a\"\"b\",\"c,\nd\",\n \r\"x\"y";
+        let rows_wanted: [&[&[u8]]; 4] = [
+            &[b"kind", b"net"],
+            &[b"a\"b", b"c,\nd", b""],
+            &[b" "],
+            &[b"xy"],
+        ];
+        let mut rows = Rows::new(rt.alloc(), text);
+        for wanted in rows_wanted {
+            let row = read(&rt, &mut rows).expect(&rt, "a row");
+            assert!(rt; row.is_row(wanted));
+        }
+        assert!(rt; read(&rt, &mut rows).is_none());
+        assert!(rt; read(&rt, &mut rows).is_none());
+    }
+}

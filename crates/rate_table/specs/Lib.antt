@@ -1,0 +1,4 @@
+pub mod Table
+pub mod Rate
+pub mod RatesFile
+pub mod Reading

@@ -1,0 +1,7 @@
+pub mod Groups
+pub mod RowFaults
+pub mod Building
+pub mod Whole
+pub mod Headers
+pub mod Fits
+pub mod TwoSound

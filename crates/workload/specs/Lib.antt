@@ -1,0 +1,5 @@
+pub mod RunsKept
+pub mod Runs
+pub mod WorkloadFile
+pub mod Built
+pub mod TwoInputs
