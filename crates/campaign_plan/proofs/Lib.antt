@@ -1,0 +1,9 @@
+pub mod Lanes
+pub mod PartNumbers
+pub mod Refusing
+pub mod Running
+pub mod Sharing
+pub mod Small
+pub mod SumsBelow
+pub mod Tabled
+pub mod Weighing

@@ -1,0 +1,13 @@
+use Rattle.std.proofs.Common.{◌≡◌, ◌&&◌, Bool, true, false, not, refl, ◌∙◌}
+use Rattle.fm_base.specs.Lists.{same_bit}
+use Rattle.fm_base.specs.Planes.{bit}
+use Rattle.alarm_points.proofs.Planes.{bit_of_not}
+use Rattle.classifier.proofs.points.silenced_lanes.Goals as goal
+
+silent_bit : (b g : Bool) → g ≡ true → not b ≡ (not b && g)
+silent_bit true true e = refl
+silent_bit false true e = refl
+silent_bit b false e = absurd (cc)
+
+pub returns-then-golden : goal.returns-then-golden
+returns-then-golden c = λ k lt. bit_of_not c.args.word k c.ranges.word.fits lt ∙ silent_bit (bit c.args.word k) c.args.golden c.if-golden.true
