@@ -1,0 +1,5 @@
+use Rattle.campaign_board.proofs.Boards.{begins_room}
+use Rattle.campaign_board.proofs.board.Board.new.Goals as goal
+
+pub with_room-requires : goal.with_room-requires
+with_room-requires g c = begins_room _ _ _ _ _ _ _ c.requires

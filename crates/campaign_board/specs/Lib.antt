@@ -1,0 +1,4 @@
+pub mod Boards
+pub mod Kept
+pub mod Posts
+pub mod AsResult

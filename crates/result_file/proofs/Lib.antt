@@ -1,0 +1,13 @@
+pub mod Appending
+pub mod Words
+pub mod Numbers
+pub mod RowBack
+pub mod NoForm
+pub mod Checks
+pub mod CheckSteps
+pub mod Pieces
+pub mod Keeping
+pub mod Whole
+pub mod WrittenBack
+pub mod Feeds
+pub mod Lanes

@@ -1,0 +1,121 @@
+-- What is kept of a result file when it is read back.
+use Rattle.std.specs.Prelude.{◌≡◌, ◌^◌, ◌<◌, All, IsFalse, ℕ, ◌+◌, ◌-◌, ◌*◌, ◌/◌, Bool, not, ◌&&◌, ◌||◌, List, [], ◌∷◌, ◌++◌, map, length, take, fold, Option, Some, None, Result, Ok, Err, if◌then◌else◌, nat_lt, nat_le, ◌==◌, slice_range, nat_eq, codes}
+use Rattle.std.specs.List.{list_any, starts_with, position_or_len}
+use Rattle.std.specs.Str.{bytes_eq}
+use Rattle.metric_sums.specs.Totals.{same_sums, no_sums}
+use Rattle.fm_base.specs.Lists.{below}
+use Rattle.fm_base.specs.Planes.{lanes, bit}
+use Rattle.fault_list.specs.Faults.{is_used}
+use Rattle.campaign_plan.specs.Analysis.{Analysis, fault_count, batch_count}
+use Rattle.campaign_plan.specs.Batches.{Entry, total, AreDistinct}
+use Rattle.campaign_plan.specs.Kept.{IsPlan}
+use Rattle.result_file.specs.declared.Row.{Row}
+use Rattle.result_file.specs.declared.RowFault.{RowFault}
+use Rattle.result_file.specs.declared.RowFault.TheVariants as why
+use Rattle.result_file.specs.declared.KeptRows.{KeptRows}
+use Rattle.result_file.specs.declared.ResultRefusal.{ResultRefusal}
+use Rattle.result_file.specs.declared.ResultRefusal.TheVariants.{Foreign, BadRow}
+use Rattle.result_file.specs.ResultText.{row_text, row_of, result_rows, result_text}
+use Rattle.fm_base.specs.Firsts.{given, first_answer, first_fault}
+use Rattle.fm_base.specs.Names.{Bytes}
+
+-- the length of the header in bytes
+abbrev pub header_len : ℕ
+header_len = 89
+
+-- the length of a row
+abbrev pub row_len : ℕ
+row_len = 130
+
+-- the number that hexadecimal digits stand for
+unfoldable pub hex_value : Bytes → ℕ
+hex_value digits = fold (λ n digit. 16 * n + position_or_len (nat_eq digit) (codes "0123456789abcdef")) 0 digits
+
+-- the number in so many digits from a place of a piece on
+abbrev pub number_at : Bytes → ℕ → ℕ → ℕ
+number_at piece from digits = hex_value (slice_range piece from (from + digits))
+
+-- the row that a piece of 130 bytes reads as
+abbrev pub row_read : Bytes → Row
+row_read piece = record {
+  batch = number_at piece 2 8;
+  danger = number_at piece 11 16;
+  noticed = number_at piece 28 16;
+  sums = record {
+    permanent_all = number_at piece 45 16;
+    permanent_danger = number_at piece 62 16;
+    latent = number_at piece 79 16;
+    transient_all = number_at piece 96 16;
+    transient_danger = number_at piece 113 16;
+  };
+}
+
+-- a piece has the row's form: it is the text of the row that it reads as
+abbrev pub has_form : Bytes → Bool
+has_form piece = bytes_eq (row_text (row_read piece)) piece
+
+-- the batch and the planes of a row
+abbrev pub entry_of : Row → Entry
+entry_of row = (row.batch, record { danger = row.danger; noticed = row.noticed })
+
+-- a lane that holds no fault has a bit that is 1
+abbrev pub has_unused_lane : Analysis → Row → Bool
+has_unused_lane p row =
+    list_any (λ k. not (is_used (fault_count p) row.batch k) && (bit row.danger k || bit row.noticed k)) (below lanes)
+
+-- a row's checks, in order, behind the rows before it
+abbrev pub fault_over : Analysis → List Row → Bytes → Option RowFault
+fault_over p rows piece =
+    let row = row_read piece in
+    let computed = total p (map entry_of rows ++ entry_of row ∷ []) in
+    first_answer (
+    given (not (has_form piece)) why.Form
+    ∷ given (nat_le (batch_count p) row.batch) why.Range
+    ∷ given (list_any (λ earlier. earlier.batch == row.batch) rows) why.Repeated
+    ∷ given (has_unused_lane p row) why.UnusedLane
+    ∷ given (not (same_sums row.sums computed)) (why.Sums row.sums computed)
+    ∷ [])
+
+-- the rule that a piece breaks, behind the pieces before it
+unfoldable pub row_fault : Analysis → List Bytes → Bytes → Option RowFault
+row_fault p before piece = fault_over p (map row_read before) piece
+
+-- the whole rows behind the header; a last piece of fewer bytes isn't looked at
+abbrev pub whole_pieces : Bytes → List Bytes
+whole_pieces bytes = map (λ k. slice_range bytes (header_len + row_len * k) (header_len + row_len * (k + 1))) (below ((length bytes - header_len) / row_len))
+
+-- the first bad row, or else the rows and the bytes that are kept
+abbrev pub kept_unless : Option (ℕ × RowFault) → List Bytes → Result KeptRows ResultRefusal
+kept_unless (Some found) rows = Err (BadRow found.0 found.1)
+kept_unless None rows = Ok (record { rows = map row_read rows; whole = header_len + row_len * length rows })
+
+-- the file is shorter than a header, and begins as the own one does
+abbrev pub is_torn_header : Bytes → Bytes → Bool
+is_torn_header own bytes = nat_lt (length bytes) header_len && starts_with nat_eq own bytes
+
+-- what is kept of a file under the plan's own header, or the first rule that it breaks
+unfoldable pub kept : Bytes → Analysis → Bytes → Result KeptRows ResultRefusal
+kept own p bytes =
+    if is_torn_header own bytes then Ok (record { rows = []; whole = 0 })
+    else if not (bytes_eq (take header_len bytes) own) then Err (Foreign (take header_len bytes) own)
+    else kept_unless (first_fault (row_fault p) (whole_pieces bytes)) (whole_pieces bytes)
+
+-- the batches and planes of kept rows
+abbrev pub kept_entries : KeptRows → List Entry
+kept_entries k = map entry_of k.rows
+
+-- the planes fit a word, and lanes that hold no fault are 0 in them
+pub record FitsLanes (p : Analysis) (entry : Entry) : Type 0 where
+  pub danger : entry.1.danger < 2 ^ 64
+  pub noticed : entry.1.noticed < 2 ^ 64
+  pub unused : IsFalse (has_unused_lane p (row_of entry no_sums))
+
+-- for a list of distinct batches of the plan with any planes, all rows and all bytes are kept
+abbrev pub ReadsBackOf : Analysis → Type 0
+ReadsBackOf p = (own : Bytes) (entries : List Entry) → length own ≡ header_len → AreDistinct p entries → All (FitsLanes p) entries
+    → kept own p (result_text own p entries)
+    ≡ Ok (record { rows = result_rows p entries; whole = length (result_text own p entries) })
+
+-- WHAT WAS WRITTEN IS READ BACK, of each plan
+abbrev pub ReadsBack : Type 0
+ReadsBack = (p : Analysis) → IsPlan p → ReadsBackOf p

@@ -1,0 +1,6 @@
+pub mod ResultText
+pub mod KeptRows
+pub mod Numbers
+pub mod Reading
+pub mod Answers
+pub mod Feeding
