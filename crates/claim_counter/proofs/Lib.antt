@@ -1,0 +1,16 @@
+pub mod Views
+pub mod Few
+pub mod Logs
+pub mod Frames
+pub mod Draws
+pub mod Takes
+pub mod Gives
+pub mod Notes
+pub mod Splits
+pub mod Joins
+pub mod Opening
+pub mod Closing
+pub mod Calls
+pub mod Showing
+pub mod Made
+pub mod Joining
