@@ -1,0 +1,4 @@
+pub mod Commands
+pub mod Table
+pub mod Words
+pub mod Asks

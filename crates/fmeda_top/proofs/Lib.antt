@@ -1,0 +1,3 @@
+mod Saying
+mod Statuses
+mod Checks

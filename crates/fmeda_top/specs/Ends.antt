@@ -1,0 +1,251 @@
+-- What a call of the program has done when it ends. Each promise is of files whose content the shelf tells.
+use Rattle.std.specs.Prelude.{◌≡◌, ◌≢◌, ◌⊎◌, ℕ, List, [], length, take, All, Option, Some, None, Ok, find, unwrap_or, option_map, ◌==◌}
+use Rattle.fm_shelf.specs.Shelf.{Told, NowHas, told_more, HasPrefix, Rose}
+use Rattle.circuit.specs.Loop.{HasNoLoop}
+use Rattle.circuit.specs.Circuit.{Circuit}
+use Rattle.campaign_plan.specs.declared.Settings.{Settings}
+use Rattle.campaign_plan.specs.declared.Outcome.{Outcome}
+use Rattle.campaign_plan.specs.Analysis.{Analysis}
+use Rattle.campaign_plan.specs.Batches.{Entry, AreDistinct, HasEach, true_planes}
+use Rattle.result_file.specs.declared.KeptRows.{KeptRows}
+use Rattle.result_file.specs.ResultText.{result_text}
+use Rattle.result_file.specs.KeptRows.{kept, kept_entries}
+use Rattle.blif_model.specs.Net.{netlist_of}
+use Rattle.fmeda_report.specs.Report.{report, true_report, summary}
+use Rattle.fmeda_top.specs.declared.status.Status.{Status}
+use Rattle.fmeda_top.specs.declared.status.Status.TheVariants as status
+use Rattle.fmeda_top.specs.declared.status.WriteTo.TheVariants as to
+use Rattle.fmeda_top.specs.declared.status.Which.{Which}
+use Rattle.fmeda_top.specs.declared.status.Which.TheVariants as which
+use Rattle.fmeda_top.specs.RefusalLines.{refusal_line}
+use Rattle.command_line.specs.Commands.{Command, Classes, Check, Run, Resume, Audit, Gen, Inputs, settings_of}
+use Rattle.command_line.specs.Words.{IsCommand}
+use Rattle.fmeda_top.specs.Files.{Files, all_read}
+use Rattle.fmeda_top.specs.Texts.{classes_text, check_text, audit_text}
+use Rattle.fmeda_top.specs.FirstRefusal.{IsPlanOf, classes_plan_of, audited_of, own_header, generated, generated_settings}
+use Rattle.fm_base.specs.Names.{Bytes}
+
+-- what is told of each file of a shelf
+abbrev pub Shelves : Type 0
+Shelves = Bytes → Told
+
+-- the shelf tells that a file holds these bytes
+abbrev pub Holds : Shelves → Bytes → Bytes → Type 0
+Holds shelf name bytes = shelf name ≡ Some (Some bytes)
+
+-- the shelf tells the bytes of the four inputs
+pub record HoldsInputs (shelf : Shelves) (inputs : Inputs) (files : Files) : Type 0 where
+  pub netlist : Holds shelf inputs.netlist files.netlist
+  pub workload : Holds shelf inputs.workload files.workload
+  pub rates : Holds shelf inputs.rates files.rates
+  pub points : Holds shelf inputs.points files.points
+
+-- files of other names are as at entry
+abbrev pub KeepsOthers : Shelves → Shelves → Bytes → Type 0
+KeepsOthers before after result = (name : Bytes) → name ≢ result → after name ≡ before name
+
+-- no file has changed
+abbrev pub KeepsAll : Shelves → Shelves → Type 0
+KeepsAll before after = (name : Bytes) → after name ≡ before name
+
+-- `out` grew by exactly this text, where it is told
+abbrev pub Wrote : Option Bytes → Option Bytes → Bytes → Type 0
+Wrote out_before out_after text = out_after ≡ told_more out_before text
+
+-- each batch of the plan once, with the planes that `planes` gives
+pub record IsWhole (p : Analysis) (planes : ℕ → Outcome) (entries : List Entry) : Type 0 where
+  pub distinct : AreDistinct p entries
+  pub each : HasEach p entries
+  pub have : All (λ entry. entry.1 ≡ planes entry.0) entries
+
+-- some batches of the plan, none of them twice, with the planes that `planes` gives
+pub record IsPart (p : Analysis) (planes : ℕ → Outcome) (entries : List Entry) : Type 0 where
+  pub distinct : AreDistinct p entries
+  pub have : All (λ entry. entry.1 ≡ planes entry.0) entries
+
+-- WHAT IS PROMISED OF A CAMPAIGN: the text of one thread that takes the faults in order was written; and the result file holds a row for
+-- each batch, once, with the sums of the rows up to it from scratch.
+pub record HasReported (own text : Bytes) (p : Analysis) (planes : ℕ → Outcome) (after : Told) (out_before out_after : Option Bytes) : Type 0 where
+  pub wrote : Wrote out_before out_after text
+  pub entries : List Entry
+  pub whole : IsWhole p planes entries
+  pub result : NowHas after (result_text own p entries)
+
+-- a campaign over these bytes
+pub record RanCampaign (files : Files) (set : Settings) (text : Analysis → Bytes) (after : Told) (out_before out_after : Option Bytes) : Type 0 where
+  pub p : Analysis
+  pub plan : IsPlanOf set files p
+  pub reported : HasReported (own_header set files p) (text p) p (true_planes p) after out_before out_after
+
+-- the planes that were kept of a batch, or else those that it truly has
+abbrev pub kept_or_true : Analysis → KeptRows → ℕ → Outcome
+kept_or_true p k batch = unwrap_or (option_map (λ entry. entry.1) (find (λ entry. entry.0 == batch) (kept_entries k))) (true_planes p batch)
+
+-- a list begins with another
+abbrev pub BeginsWith : {X : Type 0} → List X → List X → Type 0
+BeginsWith xs start = take (length start) xs ≡ start
+
+-- a campaign that was resumed: it is reported, and its rows begin with those that were kept
+pub record ResumedAs (own text : Bytes) (p : Analysis) (planes : ℕ → Outcome) (bytes : Bytes) (after : Told) (out_before out_after : Option Bytes) : Type 0 where
+  pub k : KeptRows
+  pub kept_rows : kept own p bytes ≡ Ok k
+  pub reported : HasReported own text p planes after out_before out_after
+  pub first : BeginsWith reported.entries (kept_entries k)
+
+-- RESUMING, whatever the file held that is accepted: the report of the kept planes, and of the true ones of all other batches
+pub record Resumed (files : Files) (set : Settings) (bytes : Bytes) (after : Told) (out_before out_after : Option Bytes) : Type 0 where
+  pub p : Analysis
+  pub plan : IsPlanOf set files p
+  pub k : KeptRows
+  pub kept_rows : kept (own_header set files p) p bytes ≡ Ok k
+  pub resumed : ResumedAs (own_header set files p) (report p (kept_or_true p k)) p (kept_or_true p k) bytes after out_before out_after
+
+-- the file held a byte prefix of a result file of the plan: a campaign over the same inputs was stopped at any byte
+pub record IsStopped (files : Files) (set : Settings) (p : Analysis) (bytes : Bytes) : Type 0 where
+  pub entries : List Entry
+  pub part : IsPart p (true_planes p) entries
+  pub length_left : ℕ
+  pub left : bytes ≡ take length_left (result_text (own_header set files p) p entries)
+
+-- EVERY PREFIX RESUMES: `resume` on a campaign that was stopped at any byte has written the campaign's report
+abbrev pub ResumesStopped : Files → Settings → Bytes → Told → Option Bytes → Option Bytes → Type 0
+ResumesStopped files set bytes after out_before out_after =
+    (p : Analysis) → IsPlanOf set files p → IsStopped files set p bytes
+    → ResumedAs (own_header set files p) (true_report p) p (true_planes p) bytes after out_before out_after
+
+-- what a command has done where its words and the shelf at entry are these, and it ended Done
+abbrev pub DoneAs : Command → Shelves → Shelves → Option Bytes → Option Bytes → Type 0
+DoneAs (Classes netlist workload) before after out_before out_after =
+    KeepsAll before after
+    × ((files : Files) → Holds before netlist files.netlist → Holds before workload files.workload
+    → (p : Analysis) × (classes_plan_of None (all_read files []) ≡ Ok p) × HasNoLoop p.circuit × Wrote out_before out_after (classes_text p))
+DoneAs (Check inputs flips pulses) before after out_before out_after =
+    KeepsAll before after
+    × ((files : Files) → HoldsInputs before inputs files
+    → (p : Analysis) × IsPlanOf (settings_of flips pulses) files p × Wrote out_before out_after (check_text p))
+DoneAs (Run inputs name set workers) before after out_before out_after =
+    KeepsOthers before after name
+    × ((files : Files) → HoldsInputs before inputs files → RanCampaign files set true_report (after name) out_before out_after)
+DoneAs (Resume inputs name set workers) before after out_before out_after =
+    KeepsOthers before after name
+    × ((files : Files) (bytes : Bytes) → HoldsInputs before inputs files → Holds before name bytes
+    → Resumed files set bytes (after name) out_before out_after × ResumesStopped files set bytes (after name) out_before out_after)
+DoneAs (Audit inputs name set) before after out_before out_after =
+    KeepsAll before after
+    × ((files : Files) (bytes : Bytes) → HoldsInputs before inputs files → Holds before name bytes
+    → (p : Analysis) × (k : KeptRows) × IsPlanOf set files p × (audited_of None set (all_read files bytes) ≡ Ok k)
+    × Wrote out_before out_after (audit_text (length k.rows) p))
+DoneAs (Gen n name workers) before after out_before out_after =
+    KeepsOthers before after name
+    × RanCampaign (generated n) generated_settings (λ p. summary n p (true_planes p)) (after name) out_before out_after
+
+-- at Done the words are a command, and it has done what it is for
+abbrev pub AtDone : Status → List Bytes → Shelves → Shelves → Option Bytes → Option Bytes → Type 0
+AtDone ended words before after out_before out_after =
+    ended ≡ status.Done → (command : Command) × IsCommand words command × DoneAs command before after out_before out_after
+
+-- where it is told, the file is a byte prefix of this text
+abbrev pub IsPrefixOf : Told → Bytes → Type 0
+IsPrefixOf None text = Unit {0}
+IsPrefixOf (Some None) text = ⊥
+IsPrefixOf (Some (Some bytes)) text = (n : ℕ) × (bytes ≡ take n text)
+
+-- the file is a byte prefix of a result file of the plan with these planes
+pub record LeftPrefix (own : Bytes) (p : Analysis) (planes : ℕ → Outcome) (after : Told) : Type 0 where
+  pub entries : List Entry
+  pub part : IsPart p planes entries
+  pub prefix : IsPrefixOf after (result_text own p entries)
+
+-- the same of a campaign over these bytes
+pub record StoppedCampaign (files : Files) (set : Settings) (after : Told) : Type 0 where
+  pub p : Analysis
+  pub plan : IsPlanOf set files p
+  pub left : LeftPrefix (own_header set files p) p (true_planes p) after
+
+-- where it is told, the file begins with these bytes
+abbrev pub BeginsAs : Told → Bytes → Type 0
+BeginsAs None start = Unit {0}
+BeginsAs (Some None) start = ⊥
+BeginsAs (Some (Some bytes)) start = BeginsWith bytes start
+
+-- the same of a campaign that was resumed: it still begins with the bytes that were kept
+pub record StoppedResuming (files : Files) (set : Settings) (bytes : Bytes) (after : Told) : Type 0 where
+  pub p : Analysis
+  pub plan : IsPlanOf set files p
+  pub k : KeptRows
+  pub kept_rows : kept (own_header set files p) p bytes ≡ Ok k
+  pub left : LeftPrefix (own_header set files p) p (kept_or_true p k) after
+  pub begins : BeginsAs after (take k.whole bytes)
+
+-- AFTER A FAULT OF RESULT: other files stay, and the file is as at entry or a byte prefix of a result file of this plan
+abbrev pub FaultAs : Command → Shelves → Shelves → Type 0
+FaultAs (Classes netlist workload) before after = ⊥
+FaultAs (Check inputs flips pulses) before after = ⊥
+FaultAs (Run inputs name set workers) before after =
+    KeepsOthers before after name
+    × ((files : Files) → HoldsInputs before inputs files → (after name ≡ before name) ⊎ StoppedCampaign files set (after name))
+FaultAs (Resume inputs name set workers) before after =
+    KeepsOthers before after name
+    × ((files : Files) (bytes : Bytes) → HoldsInputs before inputs files → Holds before name bytes
+    → (after name ≡ before name) ⊎ StoppedResuming files set bytes (after name))
+FaultAs (Audit inputs name set) before after = ⊥
+FaultAs (Gen n name workers) before after =
+    KeepsOthers before after name × ((after name ≡ before name) ⊎ StoppedCampaign (generated n) generated_settings (after name))
+
+-- after a fault of writing RESULT the words are a command, and it was left so
+abbrev pub AfterResultFault : Status → List Bytes → Shelves → Shelves → Type 0
+AfterResultFault ended words before after =
+    ended ≡ status.WriteFault to.Result → (command : Command) × IsCommand words command × FaultAs command before after
+
+-- AFTER A FAULT OF `out`: all is as after Done, but that only a prefix of the text went out
+abbrev pub AfterOutFault : Status → List Bytes → Shelves → Shelves → Option Bytes → Option Bytes → Type 0
+AfterOutFault ended words before after out_before out_after =
+    ended ≡ status.WriteFault to.Out → (command : Command) × IsCommand words command × (text : Bytes)
+    × DoneAs command before after out_before (told_more out_before text) × HasPrefix out_before out_after text
+
+-- the status is a refusal that leaves RESULT alone: no Done, and no fault of writing
+abbrev pub IsRefusal : Status → Type 0
+IsRefusal status.Done = ⊥
+IsRefusal (status.WriteFault to) = ⊥
+IsRefusal _ = Unit {0}
+
+-- the name of each file by the words of a command
+abbrev pub name_in : Inputs → Bytes → Which → Bytes
+name_in inputs result which.Netlist = inputs.netlist
+name_in inputs result which.Workload = inputs.workload
+name_in inputs result which.Rates = inputs.rates
+name_in inputs result which.Points = inputs.points
+name_in inputs result which.Result = result
+
+-- the name of each file of a command; those that it doesn't have are empty
+abbrev pub name_of : Command → Which → Bytes
+name_of (Classes netlist workload) = name_in (record { netlist = netlist; workload = workload; rates = []; points = [] }) []
+name_of (Check inputs flips pulses) = name_in inputs []
+name_of (Run inputs name set workers) = name_in inputs name
+name_of (Resume inputs name set workers) = name_in inputs name
+name_of (Audit inputs name set) = name_in inputs name
+name_of (Gen n name workers) = name_in (record { netlist = []; workload = []; rates = []; points = [] }) name
+
+-- the names by the words; for words that are no command the line names no file
+abbrev pub AreNames : List Bytes → Status → (Which → Bytes) → Type 0
+AreNames words status.Usage names = Unit {0}
+AreNames words _ names = (command : Command) × IsCommand words command × (names ≡ name_of command)
+
+-- the circuit that the netlist's name stands for, where its file is told
+abbrev pub IsNamedCircuit : Shelves → Bytes → Circuit → Type 0
+IsNamedCircuit before name c = (bytes : Bytes) → Holds before name bytes → (d : Circuit) → netlist_of bytes ≡ Ok d → c ≡ d
+
+-- AFTER A REFUSAL: no file has changed, and the refusal's line was written, or a prefix of it where `out` failed
+pub record RefusedAs (ended : Status) (words : List Bytes) (before after : Shelves) (out_before out_after : Option Bytes) (faults_before faults_after : ℕ) : Type 0 where
+  pub files : KeepsAll before after
+  pub names : Which → Bytes
+  pub named : AreNames words ended names
+  pub c : Circuit
+  pub circuit : IsNamedCircuit before (names which.Netlist) c
+  pub line : Wrote out_before out_after (refusal_line names c ended)
+      ⊎ (Rose faults_before faults_after × HasPrefix out_before out_after (refusal_line names c ended))
+
+-- after a refusal this holds
+abbrev pub AfterRefusal : Status → List Bytes → Shelves → Shelves → Option Bytes → Option Bytes → ℕ → ℕ → Type 0
+AfterRefusal ended words before after out_before out_after faults_before faults_after =
+    IsRefusal ended → RefusedAs ended words before after out_before out_after faults_before faults_after

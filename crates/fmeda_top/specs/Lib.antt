@@ -1,0 +1,9 @@
+pub mod Files
+pub mod Texts
+pub mod RefusalLines
+pub mod FirstRefusal
+pub mod Ends
+pub mod Causes
+pub mod Said
+pub mod Named
+pub mod Steps

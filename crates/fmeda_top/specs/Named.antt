@@ -1,0 +1,13 @@
+-- The names of a command's files.
+use Rattle.fm_base.specs.Names.{Bytes}
+use Rattle.fmeda_top.specs.declared.names.FileNames.{FileNames}
+use Rattle.fmeda_top.specs.declared.status.Which.{Which}
+use Rattle.fmeda_top.specs.declared.status.Which.TheVariants as which
+
+-- the name of one of the files
+abbrev pub name_by : FileNames → Which → Bytes
+name_by names which.Netlist = names.netlist.now
+name_by names which.Workload = names.workload.now
+name_by names which.Rates = names.rates.now
+name_by names which.Points = names.points.now
+name_by names which.Result = names.result.now

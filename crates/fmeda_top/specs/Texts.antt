@@ -1,0 +1,47 @@
+-- The texts of Done of the commands other than `run`, `resume` and `gen`.
+use Rattle.std.specs.Prelude.{ℕ, List, [], ◌∷◌, ◌++◌, flat_map, length, true, false, codes, decimal}
+use Rattle.metric_sums.specs.declared.Role.TheVariants.{Mission}
+use Rattle.circuit.specs.Circuit.{Circuit}
+use Rattle.workload.specs.declared.run.Run.{Run}
+use Rattle.workload.specs.Runs.{all_cycles}
+use Rattle.alarm_points.specs.PointsFile.{all_outputs, observed}
+use Rattle.rate_table.specs.Table.{RateTable, all_rates}
+use Rattle.fm_base.specs.Lists.{below}
+use Rattle.fm_base.specs.Text.{line}
+use Rattle.fault_list.specs.Faults.{fault_name}
+use Rattle.campaign_plan.specs.Analysis.{Analysis, fault_count, fault_numbered, batch_count}
+use Rattle.campaign_plan.specs.Batches.{class_of_fault, true_planes}
+use Rattle.fmeda_report.specs.Words.{class_word}
+use Rattle.command_line.specs.Commands.{settings_of}
+use Rattle.fm_base.specs.Names.{Bytes}
+
+-- one part of role mission that isn't covered, for all nets
+abbrev pub one_part : RateTable
+one_part = record {
+  patterns = record { name = []; star = true; part = 0 } ∷ [];
+  parts = record { name = codes "all"; role = Mission; covered = false; permanent = 0; transient = 0 } ∷ [];
+}
+
+-- the plan of `classes`: all outputs observed, no alarm, no flips, no pulses and one uncovered mission part
+abbrev pub classes_plan : Circuit → List Run → Analysis
+classes_plan c runs = record { circuit = c; runs = runs; rates = one_part; points = all_outputs c; settings = settings_of [] [] }
+
+-- each fault's name and class, and the number of faults
+unfoldable pub classes_text : Analysis → Bytes
+classes_text p =
+    flat_map (λ i. line (fault_name p.circuit (fault_numbered p i) ∷ class_word (class_of_fault p (true_planes p) i) ∷ [])) (below (fault_count p))
+    ++ line (codes "end" ∷ decimal (fault_count p) ∷ [])
+
+-- the five lines of `check`
+unfoldable pub check_text : Analysis → Bytes
+check_text p =
+    line (codes "netlist nets" ∷ decimal (length p.circuit.drivers) ∷ codes "inputs" ∷ decimal (length p.circuit.inputs)
+    ∷ codes "tables" ∷ decimal (length p.circuit.tables) ∷ codes "latches" ∷ decimal (length p.circuit.latches) ∷ [])
+    ++ line (codes "workload workloads" ∷ decimal (length p.runs) ∷ codes "cycles" ∷ decimal (all_cycles p.runs) ∷ [])
+    ++ line (codes "rates parts" ∷ decimal (length p.rates.parts) ∷ codes "units" ∷ decimal (all_rates p.rates.parts) ∷ [])
+    ++ line (codes "points observe" ∷ decimal (length (observed p.points)) ∷ codes "alarm" ∷ decimal (length p.points.alarm) ∷ [])
+    ++ line (codes "faults" ∷ decimal (fault_count p) ∷ codes "batches" ∷ decimal (batch_count p) ∷ [])
+
+-- the line of `audit` for so many whole rows
+unfoldable pub audit_text : ℕ → Analysis → Bytes
+audit_text rows p = line (codes "audit" ∷ decimal rows ∷ codes "of" ∷ decimal (batch_count p) ∷ codes "rows agree" ∷ [])
