@@ -1,10 +1,9 @@
 -- The rows of a rates file, read one after the other: what the table of those that are done holds, and one row more.
-use Rattle.std.proofs.Common.{◌≡◌, ◌≢◌, ℕ, ◌+◌, ◌-◌, ◌≤◌, ◌<◌, ◌^◌, Bool, true, false, cond, ◌⊎◌, inl, inr, List, [], ◌∷◌, ◌++◌, length, map, get_or, refl, ap, sym, subst, ◌∙◌, arith, append_assoc, length-append, Vec, suc}
-use Rattle.std.specs.Prelude.{Option, Some, None, option_map, find, filter, position, is_none, not, ◌&&◌, ◌||◌, ◌==◌, nat_le, nat_lt, All, if◌then◌else◌, slice_get, unwrap_or, sum_by, codes}
-use Rattle.std.specs.declared.alloc.Global.{Global}
+use Rattle.std.proofs.Common.{◌≡◌, ℕ, ◌+◌, ◌≤◌, ◌<◌, ◌^◌, Bool, true, false, cond, inl, inr, List, [], ◌∷◌, ◌++◌, length, map, get_or, refl, ap, sym, subst, ◌∙◌, arith, append_assoc, length-append, suc}
+use Rattle.std.specs.Prelude.{Option, Some, None, find, filter, position, is_none, not, ◌&&◌, ◌||◌, ◌==◌, nat_le, nat_lt, All, if◌then◌else◌, slice_get, unwrap_or, codes}
 use Rattle.std.specs.List.{list_any, position_or_len}
 use Rattle.std.specs.Option.{option_or, option_map_or}
-use Rattle.std.specs.Str.{bytes_eq, byte}
+use Rattle.std.specs.Str.{bytes_eq}
 use Rattle.std.proofs.lemmas.List.{append-nil, map-append, length-map, get_or-map, get_or_append_left}
 use Rattle.std.proofs.lemmas.List.Elements.{All-push}
 use Rattle.std.proofs.lemmas.List.Folds.{find_at, list_any-append, position_or_len_push}
@@ -25,8 +24,8 @@ use Rattle.rate_table.specs.declared.Pattern.{Pattern}
 use Rattle.rate_table.specs.declared.RatesKind.{RatesKind}
 use Rattle.rate_table.specs.declared.RatesKind.TheVariants.{BadCsv, BadPart, BadRole, BadCovered, BadRate, TwoMeanings, TooLarge}
 use Rattle.rate_table.specs.Rate.{units_of}
-use Rattle.rate_table.specs.Table.{RateTable, IsTable, all_rates, part_names}
-use Rattle.rate_table.specs.RatesFile.{role_of, covered_of, part_of, same_part, same_meaning, first_row, parts_of, is_past, row_fault, has_star, without_star, pattern_of, table_of}
+use Rattle.rate_table.specs.Table.{all_rates, part_names}
+use Rattle.rate_table.specs.RatesFile.{role_of, covered_of, part_of, same_part, same_meaning, first_row, parts_of, is_past, row_fault, has_star, without_star, pattern_of}
 use Rattle.rate_table.specs.Reading.{is_named, is_role, is_same, own_fault, Says, IsTold, HasRead, TakesPart, numbered}
 use Rattle.rate_table.proofs.Numbers.{position_some, position_none, any_or_none}
 

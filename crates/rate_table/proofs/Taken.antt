@@ -1,19 +1,17 @@
 -- What a row's part is found to be, in the words of the reader.
-use Rattle.std.proofs.Common.{◌≡◌, ℕ, ◌+◌, ◌≤◌, ◌<◌, ◌^◌, Bool, true, false, List, [], ◌∷◌, ◌++◌, length, map, get_or, refl, ap, sym, subst, ◌∙◌, arith}
-use Rattle.std.specs.Prelude.{Option, Some, None, Result, Ok, Err, IfOk, position, nat_le, nat_lt, ◌||◌, slice_index_or}
+use Rattle.std.proofs.Common.{◌≡◌, ℕ, ◌+◌, ◌≤◌, ◌<◌, ◌^◌, Bool, true, false, List, [], ◌∷◌, ◌++◌, length, get_or, refl, ap, sym, subst, ◌∙◌, arith}
+use Rattle.std.specs.Prelude.{Some, None, Result, Ok, Err, IfOk, position, nat_le, nat_lt, ◌||◌}
 use Rattle.std.proofs.lemmas.List.{length-map}
-use Rattle.metric_sums.specs.declared.Role.{Role}
 use Rattle.fm_base.specs.declared.refusal.Refusal.{Refusal}
 use Rattle.fm_base.specs.declared.refusal.Refusal.TheVariants.{Fault, Memory}
 use Rattle.csv_rows.specs.Rows.{Fields, field}
 use Rattle.rate_table.specs.declared.Part.{Part}
 use Rattle.rate_table.specs.declared.RatesKind.{RatesKind}
-use Rattle.rate_table.specs.declared.RatesKind.TheVariants.{TwoMeanings, TooLarge}
 use Rattle.rate_table.specs.declared.reading.Reading.{Reading}
 use Rattle.rate_table.specs.declared.reading.Terms.{Terms}
 use Rattle.rate_table.specs.Table.{all_rates}
-use Rattle.rate_table.specs.RatesFile.{row_fault, part_of, parts_of, pattern_of}
-use Rattle.rate_table.specs.Reading.{is_named, is_same, own_fault, Says, Holds, HasRead, TakesPart, AddsPart, AddsOrIsPast, Numbers, known, is_too_large, texts, part_with}
+use Rattle.rate_table.specs.RatesFile.{part_of, parts_of, pattern_of}
+use Rattle.rate_table.specs.Reading.{is_named, is_same, own_fault, Says, Holds, TakesPart, AddsOrIsPast, Numbers, known, is_too_large, texts, part_with}
 use Rattle.rate_table.proofs.Rows.{meaning_known, two_meanings, too_large_old, too_large_new, takes_old, takes_new, part_missing, said_part}
 
 count_known : (before : List Fields) (r : Reading) → Holds before r → length r.patterns ≡ length before

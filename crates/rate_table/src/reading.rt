@@ -7,9 +7,10 @@ ghost use Rattle.fm_base.specs.Answers.{Gives};
 ghost use Rattle.rate_table.specs.RatesFile.{header, role_of, covered_of, has_star, without_star, rates_under, rates_of};
 ghost use Rattle.rate_table.specs.Reading.{is_same, texts, Holds, IsReading, AddsPart, AddsOrIsPast, Tells, Numbers, Reads, known, is_too_large, at_row};
 
-use crate::units::{is_label, units_of};
+use crate::units::units_of;
 use crate::{Part, Parts, Pattern, Patterns, Rates, RatesFault, RatesKind};
 use csv_rows::{Row, Rows};
+use field_text::is_label;
 use fm_base::Refusal;
 use fm_list::Seq;
 use indexmap::IndexSet;

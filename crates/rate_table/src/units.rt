@@ -1,57 +1,11 @@
-// Rates as texts, and the names of parts.
+// Rates as texts.
 ghost use Rattle.std.specs.Prelude.{◌≡◌, ◌≤◌, ◌<◌, ◌+◌, ◌-◌, ◌*◌, ◌^◌, true, length, position, IfSome, Some, None, if◌then◌else◌};
 ghost use Rattle.std.specs.List.{list_all};
 ghost use Rattle.std.specs.Char.{is_ascii_digit};
-ghost use Rattle.fm_base.specs.Names.{is_label, is_label_byte};
 ghost use Rattle.fm_base.specs.Text.{is_digits, number_of};
 ghost use Rattle.rate_table.specs.Rate.{is_point, units_of, pointed_units};
 
-// Whether a byte may stand in the name of a part.
-fn is_label_byte(b: u8) -> bool
-    ensures { result ≡ is_label_byte b }
-{
-    b.is_ascii_alphabetic() || b.is_ascii_digit() || b == b'_' || b == b'-' || b == b'.'
-}
-
-fn are_label_bytes(name: &[u8]) -> bool
-    ensures { result ≡ list_all is_label_byte name.now }
-{
-    name.iter().all(|b| is_label_byte(*b))
-}
-
-// Whether a text is the name of a part: 1 to 64 bytes, each a letter, a digit, `_`, `-` or `.`.
-pub(crate) fn is_label(name: &[u8]) -> bool
-    ensures { result ≡ is_label name.now }
-{
-    1 <= name.len() && name.len() <= 64 && are_label_bytes(name)
-}
-
-fn are_digits(text: &[u8]) -> bool
-    ensures { result ≡ list_all is_ascii_digit text.now }
-{
-    text.iter().all(|b| b.is_ascii_digit())
-}
-
-// Whether a text is 1 to `most` decimal digits.
-fn is_digits(text: &[u8], most: usize) -> bool
-    ensures { result ≡ is_digits most text.now }
-{
-    1 <= text.len() && text.len() <= most && are_digits(text)
-}
-
-// The number that at most 12 decimal digits stand for.
-fn number_of(digits: &[u8]) -> u64
-    requires digits { list_all is_ascii_digit digits.now ≡ true }
-    requires few { length digits.now ≤ 12 }
-    ensures value { result ≡ number_of digits.now }
-    ensures small { result < 10 ^ length digits.now }
-{
-    let mut number = 0;
-    for digit in digits {
-        number = 10 * number + u64::from(*digit - b'0');
-    }
-    number
-}
+use field_text::{is_digits, number_of};
 
 // The place of the decimal point.
 fn point_of(text: &[u8]) -> Option<usize>

@@ -1,7 +1,7 @@
-use Rattle.std.proofs.Common.{◌≡◌, true, false, sym, subst, ◌∙◌}
+use Rattle.std.proofs.Common.{true, false, sym, subst, ◌∙◌}
 use Rattle.std.specs.Prelude.{Err}
 use Rattle.fm_base.specs.Answers.{Gives}
-use Rattle.csv_rows.specs.Rows.{Fields, Yields}
+use Rattle.csv_rows.specs.Rows.{Yields}
 use Rattle.rate_table.specs.RatesFile.{rates_of}
 use Rattle.rate_table.proofs.Loop.{file_is, file_empty}
 use Rattle.rate_table.proofs.reading.read_rates.Goals as goal

@@ -1,9 +1,9 @@
-use Rattle.std.proofs.Common.{◌≡◌, ◌∷◌, List, true, sym, subst, arith}
+use Rattle.std.proofs.Common.{true, sym, subst}
 use Rattle.std.specs.Prelude.{Err}
 use Rattle.fm_base.specs.Answers.{Gives}
-use Rattle.csv_rows.specs.Rows.{Fields, Yields}
+use Rattle.csv_rows.specs.Rows.{Yields}
 use Rattle.rate_table.specs.RatesFile.{rates_under}
-use Rattle.rate_table.proofs.Loop.{stands_first, stands_more, stands_fault, stands_end, table_is, reading_is, number_small}
+use Rattle.rate_table.proofs.Loop.{stands_more, stands_fault, stands_end}
 use Rattle.rate_table.proofs.reading.read_under.Goals as goal
 
 pub rows-preserved : goal.rows-preserved

@@ -1,5 +1,6 @@
-use Rattle.std.proofs.Common.{◌≤◌, ◌<◌, ◌-◌, ◌^◌, length, arith}
-use Rattle.rate_table.proofs.Numbers.{digits_are, tens_le, units_small}
+use Rattle.std.proofs.Common.{◌≤◌, ◌-◌, length, arith}
+use Rattle.field_text.proofs.Digits.{digits_are, tens_le}
+use Rattle.rate_table.proofs.Numbers.{units_small}
 use Rattle.rate_table.proofs.units.units_with.Goals as goal
 
 pub overflow_mul-result : goal.overflow_mul-result

@@ -1,10 +1,10 @@
-use Rattle.std.proofs.Common.{◌≡◌, ℕ, List, [], Bool, false, ap, sym, subst, ◌∙◌, arith, ◌<◌, ◌≤◌, length}
-use Rattle.std.specs.Prelude.{position, Some, None, IfOk, nat_le, slice_index_or}
+use Rattle.std.proofs.Common.{◌≡◌, ℕ, List, [], false, ap, sym, subst, ◌∙◌, arith, ◌≤◌, length}
+use Rattle.std.specs.Prelude.{position, Some, None, IfOk, nat_le}
 use Rattle.std.specs.Str.{bytes_eq}
 use Rattle.metric_sums.specs.declared.Role.TheVariants.{Other}
-use Rattle.csv_rows.specs.Rows.{Fields, field}
+use Rattle.csv_rows.specs.Rows.{field}
 use Rattle.rate_table.specs.declared.Part.{Part}
-use Rattle.rate_table.specs.Reading.{Numbers, AddsOrIsPast, is_too_large, is_named, texts, is_same, known}
+use Rattle.rate_table.specs.Reading.{Numbers, AddsOrIsPast, is_too_large, is_named, texts}
 use Rattle.rate_table.proofs.Numbers.{position_some, position_none}
 use Rattle.rate_table.proofs.Rows.{fault_own}
 use Rattle.rate_table.proofs.Names.{number_known}

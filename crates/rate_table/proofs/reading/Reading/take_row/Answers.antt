@@ -1,5 +1,4 @@
 use Rattle.std.proofs.Common.{◌≡◌, ℕ, List, [], ◌∷◌, ◌++◌, ap, sym, subst, ◌∙◌}
-use Rattle.csv_rows.specs.Rows.{field}
 use Rattle.rate_table.specs.declared.Pattern.{Pattern}
 use Rattle.rate_table.specs.RatesFile.{has_star, without_star}
 use Rattle.rate_table.specs.Reading.{HasRead, texts, numbered}

@@ -1,6 +1,6 @@
-use Rattle.std.proofs.Common.{◌≤◌, ◌<◌, ◌+◌, ◌^◌, length, get_or, arith}
-use Rattle.rate_table.proofs.Numbers.{digit_at, digit_bounds, number_more, small_more, tens_le}
-use Rattle.rate_table.proofs.units.number_of.Goals as goal
+use Rattle.std.proofs.Common.{◌≤◌, ◌^◌, arith}
+use Rattle.field_text.proofs.Digits.{tens_le}
+use Rattle.field_text.proofs.number_of.Goals as goal
 
 pub overflow_mul-number : goal.overflow_mul-number
 overflow_mul-number c =
