@@ -2,3 +2,8 @@ pub mod Unalarmed
 pub mod Planes
 pub mod Settled
 pub mod Rings
+pub mod LentWords
+pub mod Listing
+pub mod Whole
+pub mod Fits
+pub mod FourSound

@@ -1,6 +1,6 @@
 -- The bits of what an operation on planes gives.
-use Rattle.std.proofs.Common.{◌≡◌, ℕ, zero, suc, ◌-◌, ◌^◌, ◌<◌, ◌==◌, max, min, Bool, true, false, not, ◌&&◌, ◌||◌, bit_and, bit_or, refl, ap, ap₂, ◌∙◌, w64, arith}
-use Rattle.std.specs.Int.{bit_at, bit_not}
+use Rattle.std.proofs.Common.{◌≡◌, ℕ, zero, suc, ◌-◌, ◌^◌, ◌<◌, ◌==◌, max, min, false, not, ◌&&◌, ◌||◌, bit_and, bit_or, refl, ap, ◌∙◌, w64, arith}
+use Rattle.std.specs.Int.{bit_at}
 use Rattle.std.proofs.lemmas.Nat.Bits.{bit_at_and, bit_at_or, bit_at_not, bit_at-lt, bit_at-zero}
 use Rattle.fm_base.specs.Planes.{bit}
 

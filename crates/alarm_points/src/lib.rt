@@ -1,9 +1,16 @@
 // Safety goals with their observation points, and alarm points.
 #![tactic(auto)]
 
+pub mod file;
+mod header;
+mod interval;
+mod listed;
 pub mod outputs;
+#[cfg(test)]
+mod tests;
 pub mod window;
 pub mod windows;
+pub mod windows4;
 
 use circuit::parts::NetIds;
 use fm_list::{Name, Seq};
@@ -25,19 +32,29 @@ pub struct Points {
     pub alarm: NetIds,
 }
 
-/// The kinds of refusal of a points file.
+/// The kinds of refusal of a points file. On one row the first of these decides.
 #[derive(Clone, Copy, Debug, PartialEq, Eq)]
 pub enum PointsKind {
+    /// There is no header, or a row has another number of fields than the header.
     BadCsv,
+    /// Neither `observe` nor `alarm`.
     BadKind,
+    /// No net has the name.
     UnknownNet,
+    /// The same goal, kind and net stood in an earlier row.
     Twice,
+    /// More than 1,024 points.
     TooLarge,
+    /// There is no observation point. This is looked at after all rows, and shown at row 1.
     NoObserve,
+    /// The goal of an observation point is malformed or would be the fifth, or that of an alarm point isn't `-`.
     BadGoal,
+    /// The interval of an observation point is malformed or another than that of the goal's first row, or that of an alarm
+    /// point isn't `-`.
     BadInterval,
 }
 
+/// The first faulty row, counted from the header, which is row 1, and the kind of its fault.
 #[derive(Clone, Copy, Debug, PartialEq, Eq)]
 pub struct PointsFault {
     pub row: u32,

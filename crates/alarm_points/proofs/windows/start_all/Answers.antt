@@ -1,4 +1,4 @@
-use Rattle.std.proofs.Common.{◌≡◌, ◌≢◌, ◌<◌, ℕ, [], length, get_or, set, sym, ◌∙◌, subst, below_more, arith, get_or-set_other, get_or-set_same}
+use Rattle.std.proofs.Common.{◌≢◌, ◌<◌, ℕ, [], length, get_or, set, sym, ◌∙◌, subst, below_more, arith, get_or-set_other, get_or-set_same}
 use Rattle.alarm_points.specs.Watch.{IsAfterPairs, Watch}
 use Rattle.alarm_points.proofs.Rings.{map_set}
 use Rattle.alarm_points.proofs.windows.start_all.Goals as goal
