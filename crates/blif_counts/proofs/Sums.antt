@@ -8,11 +8,10 @@ use Rattle.blif_text.specs.declared.lines.TextLine.{TextLine}
 use Rattle.blif_text.specs.Read.{line_of}
 use Rattle.blif_says.specs.declared.models.ModelLines.{ModelLines}
 use Rattle.blif_says.specs.Grouped.{all_said, model_of, models_seen}
-use Rattle.std.proofs.lemmas.List.Elements.{filter_map-append}
-use Rattle.std.proofs.lemmas.List.Sums.{sum_by-append, sum_by-cons}
+use Rattle.std.proofs.lemmas.List.Sums.{sum_by-cons}
 use Rattle.fm_base.specs.Names.{Name}
 use Rattle.blif_model.specs.Statement.{Statement, instance, statement_of, texts}
-use Rattle.blif_model.specs.Models.{Item, items_of, rows_below, Model, Instance, at_model, model_named, instance_from, instances, sum_over_instances}
+use Rattle.blif_model.specs.Models.{Item, items_of, rows_below, Model, Instance, at_model, model_named, instances, sum_over_instances}
 use Rattle.blif_counts.specs.Callees.{number_at, instances_in, AreCallees, AllCallees, callee_number, next_round}
 
 module _ (models : List Model) (f : Model → ℕ) where

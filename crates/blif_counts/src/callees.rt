@@ -1,5 +1,5 @@
 // The models that a model instances, by their places.
-ghost use Rattle.std.specs.Prelude.{◌≡◌, ◌+◌, ℕ, IfOk, OnOk, sum_by};
+ghost use Rattle.std.specs.Prelude.{◌≡◌, ◌+◌, ◌<◌, ℕ, All, IfOk, OnOk, length, sum_by};
 ghost use Rattle.blif_model.specs.Models.{items_of, Model};
 ghost use Rattle.blif_model.specs.Statement.{statement_of, texts};
 ghost use Rattle.blif_text.specs.Read.{line_of};
@@ -18,7 +18,8 @@ fn put_callee<'a>(
     places: &mut Vec<usize>,
     line: &TextLine<'a>,
 ) -> Result<(), AllocError>
-    ensures { OnOk result ((f : Model → ℕ) → sum_by (λ k. number_at f models.now k) places.new.items ≡ sum_by (λ k. number_at f models.now k) places.old.items + callee_number f models.now (statement_of (texts (line_of line.now)))) }
+    ensures within { OnOk result (All (λ k. k < length models.now) places.old.items → All (λ k. k < length models.now) places.new.items) }
+    ensures sums { OnOk result ((f : Model → ℕ) → sum_by (λ k. number_at f models.now k) places.new.items ≡ sum_by (λ k. number_at f models.now k) places.old.items + callee_number f models.now (statement_of (texts (line_of line.now)))) }
 {
     match line_says(line) {
         Says::Instance { name, .. } => match models.place(name) {
@@ -38,7 +39,8 @@ fn callees_of<'a>(
     models: &ModelTable<'_, 'a>,
     lines: &[TextLine<'a>],
 ) -> Result<Vec<usize>, AllocError>
-    ensures { IfOk result (λ v. AreCallees models.now (items_of (all_said lines.now)) v.items) }
+    ensures within { IfOk result (λ v. All (λ k. k < length models.now) v.items) }
+    ensures sums { IfOk result (λ v. AreCallees models.now (items_of (all_said lines.now)) v.items) }
 {
     let mut places = Vec::new(alloc);
     for line in lines {
@@ -52,7 +54,8 @@ pub fn all_callees(
     alloc: Global,
     models: &ModelTable<'_, '_>,
 ) -> Result<Vec<Vec<usize>>, AllocError>
-    ensures { IfOk result (λ v. AllCallees models.now models.now v.items) }
+    ensures within { IfOk result (λ v. All (λ c. All (λ k. k < length models.now) c.items) v.items) }
+    ensures sums { IfOk result (λ v. AllCallees models.now models.now v.items) }
 {
     let mut all = Vec::new(alloc);
     for model in models.lines() {

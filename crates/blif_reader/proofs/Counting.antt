@@ -1,21 +1,17 @@
 -- Instances, rows and cells, line by line.
-use Rattle.std.proofs.Common.{◌≡◌, ◌+◌, ◌-◌, ◌<◌, ◌≤◌, ◌^◌, ℕ, suc, min, Bool, false, ◌||◌, List, [], ◌∷◌, refl, ap, sym, ◌∙◌, length, drop, get_or, sum_by, arith}
-use Rattle.std.specs.Prelude.{is_some}
-use Rattle.std.specs.Borrow.{Bor}
+use Rattle.std.proofs.Common.{◌≡◌, ◌+◌, ◌-◌, ◌<◌, ◌≤◌, ◌^◌, ℕ, suc, min, Bool, cond, List, [], ◌∷◌, refl, ap, sym, ◌∙◌, length, sum_by, arith}
+use Rattle.std.specs.Prelude.{Option, Some, None, count_by, filter_map, is_some}
+use Rattle.std.specs.List.{cons_option}
+use Rattle.std.proofs.lemmas.List.Recursion.{is_count_by}
 use Rattle.std.proofs.lemmas.List.Sums.{sum_by-cons}
 use Rattle.fm_base.specs.Names.{Name}
 use Rattle.blif_text.specs.declared.lines.TextLine.{TextLine}
-use Rattle.blif_text.specs.declared.token.Token.{Token}
 use Rattle.blif_text.specs.Read.{line_of}
-use Rattle.blif_model.specs.Models.{Item, items_of, rows_below, instance_from, cells_from}
+use Rattle.blif_model.specs.Models.{Item, Instance as Subckt, items_of, rows_below, instance_from, cells_from}
 use Rattle.blif_model.specs.Statement.{statement_of, texts}
 use Rattle.blif_says.specs.declared.says.Says.{Says}
-use Rattle.blif_says.specs.declared.says.Says.TheVariants.{Model, Inputs, Outputs, Clock, Table, Latch, Instance, End, Row, Passed, Unnamed, Wrong}
 use Rattle.blif_says.specs.Grouped.{all_said}
 use Rattle.blif_says.specs.Meant.{meant}
-use Rattle.blif_walk.proofs.Items.{drop_item}
-use Rattle.blif_reader.specs.Flat.{has_instance}
-use Rattle.blif_reader.proofs.Below.{none_left}
 
 -- a line as an item
 abbrev item_at : TextLine → List TextLine → Item
@@ -27,36 +23,28 @@ items_more line lines = refl
 
 -- ---- instances
 
--- an instance from a line on, by what the line says
-pub instance_says : (lines : List TextLine) (i : ℕ) (x : TextLine) (says known : Says) → i < length lines → x ≡ get_or lines i x → meant says ≡ statement_of (texts (line_of x)) → says ≡ known
-    → has_instance (items_of (all_said (drop i lines))) ≡ (is_some (instance_from (line_of x).number (meant known)) || has_instance (items_of (all_said (drop (i + 1) lines))))
-instance_says lines i x says known h is m k =
-    ap (λ (more : List TextLine). has_instance (items_of (all_said more))) (drop_item lines i x h is)
-    ∙ ap has_instance (items_more x (drop (i + 1) lines))
-    ∙ ap (λ s. is_some (instance_from (line_of x).number s) || has_instance (items_of (all_said (drop (i + 1) lines)))) (sym m ∙ ap meant k)
+-- the line is a `.subckt` line
+abbrev pub is_instance : TextLine → Bool
+is_instance line = is_some (instance_from (line_of line).number (statement_of (texts (line_of line))))
 
--- no other line is one
-pub no_instance : (says : Says) → ((name : Bor (List ℕ)) (bindings : Bor (List Token)) → says ≡ Instance name bindings → ⊥) → (n : ℕ) → is_some (instance_from n (meant says)) ≡ false
-no_instance (Instance name bindings) other n = absurd (other name bindings refl)
-no_instance (Row tokens) other n = refl
-no_instance Passed other n = refl
-no_instance (Model name) other n = refl
-no_instance (Inputs names) other n = refl
-no_instance (Outputs names) other n = refl
-no_instance (Clock names) other n = refl
-no_instance (Table ins out) other n = refl
-no_instance (Latch l) other n = refl
-no_instance End other n = refl
-no_instance Unnamed other n = refl
-no_instance (Wrong why) other n = refl
+-- the `.subckt` lines of lines
+abbrev instances_of : List TextLine → ℕ
+instances_of lines = length (filter_map (λ (item : Item). instance_from item.line item.says) (items_of (all_said lines)))
 
--- one more line that is none
-pub instance_step : (here more all : Bool) (left : Bool) → left ≡ (here || more) → here ≡ false → left ≡ all → more ≡ all
-instance_step here more all left e f h = sym (ap (λ b. b || more) f) ∙ sym e ∙ h
-
-pub instance_end : (lines : List TextLine) (i : ℕ) → length lines ≤ i → has_instance (items_of (all_said (drop i lines))) ≡ false
+-- those that are counted are the instances
+pub count_items : (lines : List TextLine) → count_by is_instance lines ≡ length (filter_map (λ (item : Item). instance_from item.line item.says) (items_of (all_said lines)))
 unfolding items_of
-instance_end lines i h = ap (λ (more : List TextLine). has_instance (items_of (all_said more))) (none_left lines i h)
+count_items lines = sym (is_count_by instances_of is_instance refl one_more lines)
+  where
+    by_cases : (o : Option Subckt) (more : List Subckt) → length (cons_option o more) ≡ cond (is_some o) (1 + length more) (length more)
+    by_cases None more = refl
+    by_cases (Some i) more = omega arith
+
+    one_more : (line : TextLine) (more : List TextLine) → instances_of (line ∷ more) ≡ cond (is_instance line) (1 + instances_of more) (instances_of more)
+    one_more line more = by_cases (instance_from (line_of line).number (statement_of (texts (line_of line)))) (filter_map (λ (item : Item). instance_from item.line item.says) (items_of (all_said more)))
+
+pub capped_is : (cap count capped whole : ℕ) {seen : ℕ} → count ≡ seen → capped ≡ min count cap → seen ≡ whole → capped ≡ min cap whole
+capped_is cap count capped whole e f g = omega arith
 
 -- ---- rows
 

@@ -3,5 +3,5 @@ pub mod Places
 pub mod Below
 pub mod Counting
 pub mod Built
-pub mod FlatModel
+pub mod Totals
 pub mod Reading

@@ -1,7 +1,8 @@
 -- What is answered for a file, from what is found of its models and of their walk.
-use Rattle.std.proofs.Common.{◌≡◌, ℕ, ◌<◌, ◌≤◌, ◌^◌, true, false, List, [], ◌∷◌, refl, ap, sym, subst, ◌∙◌, length, arith}
-use Rattle.std.specs.Prelude.{Option, Some, None, Result, Ok, Err, nat_lt, Vec}
+use Rattle.std.proofs.Common.{◌≡◌, ℕ, ◌<◌, ◌≤◌, ◌^◌, Bool, true, false, ◌||◌, List, refl, ap, sym, subst, ◌∙◌, length, arith}
+use Rattle.std.specs.Prelude.{Option, Some, None, is_some, Result, Ok, Err, nat_lt, Vec}
 use Rattle.std.specs.declared.alloc.Global.{Global}
+use Rattle.std.specs.Option.{option_or}
 use Rattle.std.proofs.lemmas.Bool.{lt-ltb, le-ltb}
 use Rattle.std.proofs.lemmas.List.{length-map}
 use Rattle.blif_text.specs.declared.NetlistFault.{NetlistFault}
@@ -10,32 +11,30 @@ use Rattle.circuit.specs.Circuit.{Circuit}
 use Rattle.circuit.specs.Sound.{IsNetlist}
 use Rattle.fm_base.specs.Firsts.{given}
 use Rattle.fm_base.specs.Names.{Bytes, Name}
-use Rattle.blif_model.specs.LineFault.{at_line, line_fault, said_lines}
-use Rattle.blif_model.specs.Models.{Model, cell_count, file_models}
-use Rattle.blif_model.specs.ModelFault.{count_of_nets, model_fault}
+use Rattle.blif_model.specs.LineFault.{at_line}
+use Rattle.blif_model.specs.Models.{Model, main_of}
+use Rattle.blif_model.specs.ModelFault.{bad_formal, count_of_cells, count_of_instances, count_of_nets, model_fault, recursive, too_deep, too_large, two_models, unbound, unknown_model}
 use Rattle.blif_model.specs.Walk.{walk, nets_of}
 use Rattle.blif_model.specs.WalkFault.{walk_fault}
 use Rattle.blif_model.specs.Net.{bad_net, circuit_of, netlist_of, netlist_unless}
 use Rattle.blif_model.proofs.Answer.{netlist-refused}
-use Rattle.blif_model.proofs.FileNetlist.{unfaulted-netlist, walk_unfaulted}
+use Rattle.blif_model.proofs.FileNetlist.{no_answers, unfaulted-netlist, walk_unfaulted}
+use Rattle.blif_walk.proofs.FirstPlaces.{none_from}
+use Rattle.blif_ports.proofs.Bindings.{skip, stop}
 use Rattle.blif_says.specs.Answer.{models_read}
 use Rattle.blif_says.proofs.Answered.{lines-refused, models-taken}
 use Rattle.blif_walk.specs.Numbers.{owned_texts}
-use Rattle.blif_reader.specs.declared.read.Unread.{Unread}
-use Rattle.blif_reader.specs.declared.read.Unread.TheVariants.{Fault, NotYet, Memory}
 use Rattle.fm_base.specs.Answers.{Gives}
 use Rattle.fm_base.specs.declared.refusal.Refusal.{Refusal}
-use Rattle.fm_base.specs.declared.refusal.Refusal.TheVariants as lines
-use Rattle.blif_reader.specs.Flat.{GiveSound, WalkSound, has_instance, is_flat, unread_of, models_give, walk_gives, ReadsAs, ReadsFlat, ReadsModels, ReadsWalk}
+use Rattle.fm_base.specs.declared.refusal.Refusal.TheVariants.{Fault, Memory}
+use Rattle.blif_reader.specs.Stages.{GiveSound, WalkSound, models_give, unwalked_fault, walk_gives, ModelsGive, WalkGives}
 use Rattle.blif_reader.specs.Ready.{IsReady}
-use Rattle.blif_reader.proofs.FlatModel.{flat-model-fault, or_none}
 
--- an answer to the same question, where its cause is one here too
-reads_same : (a b : Result Circuit NetlistFault) (here there : Type 0) (r : Result Circuit Unread) → a ≡ b → (there → here) → ReadsAs b there r → ReadsAs a here r
-reads_same a b here there (Ok c) e cause reads = e ∙ reads
-reads_same a b here there (Err (Fault fault)) e cause reads = e ∙ reads
-reads_same a b here there (Err NotYet) e cause reads = cause reads
-reads_same a b here there (Err Memory) e cause reads = reads
+-- the answer to an equal question
+gives_same : (a b : Result Circuit NetlistFault) (r : Result Circuit (Refusal NetlistFault)) → a ≡ b → Gives b r → Gives a r
+gives_same a b (Ok c) e gives = e ∙ gives
+gives_same a b (Err (Fault fault)) e gives = e ∙ gives
+gives_same a b (Err Memory) e gives = gives
 
 -- ---- the walk
 
@@ -48,8 +47,8 @@ counted_nets models keys count e n h =
 
 module _ (models : List Model) (line : ℕ) where
   -- too many nets
-  pub walk_large : (unread : Unread) → unread ≡ Fault (at_line line TooLarge) → 2 ^ 18 < count_of_nets models → ReadsWalk models line (Err unread)
-  walk_large unread e h = subst (λ (u : Unread). ReadsWalk models line (Err u)) (sym e) (rw (lt-ltb (2 ^ 18) (count_of_nets models) h) refl)
+  pub walk_large : (fault : NetlistFault) → fault ≡ at_line line TooLarge → 2 ^ 18 < count_of_nets models → walk_gives models line ≡ Err fault
+  walk_large fault e h = rw (lt-ltb (2 ^ 18) (count_of_nets models) h, e) refl
 
   module _ (few : count_of_nets models ≤ 2 ^ 18) where
     within : walk_gives models line ≡ netlist_unless (walk_fault (walk models)) (walk models)
@@ -71,33 +70,86 @@ module _ (models : List Model) (line : ℕ) where
 
 -- ---- the models
 
-module _ (m : Model) (flat : has_instance m.items ≡ false) where
-  -- too many cells
-  many_cells : nat_lt (2 ^ 24) (cell_count m) ≡ true → models_give (m ∷ []) ≡ Err (at_line m.line TooLarge)
-  many_cells e = rw (flat-model-fault m flat, e) refl
+or_none : {X : Type 0} (o : Option X) → option_or o None ≡ o
+or_none None = refl
+or_none (Some x) = refl
 
-  module _ (few : nat_lt (2 ^ 24) (cell_count m) ≡ false) where
-    only_nets : model_fault (m ∷ []) ≡ given (nat_lt (2 ^ 18) (count_of_nets (m ∷ []))) (at_line m.line TooLarge)
-    only_nets = flat-model-fault m flat ∙ rw few refl
+-- too many nets come behind all else
+apart : (a b c d r t : Option NetlistFault) (large nets : Bool) (f : NetlistFault)
+    → option_or a (option_or b (option_or c (option_or d (option_or r (option_or t (option_or (given (large || nets) f) None))))))
+    ≡ option_or (option_or (option_or a (option_or b (option_or c (option_or d None)))) (option_or (option_or r t) (given large f))) (given nets f)
+apart (Some x) b c d r t large nets f = refl
+apart None (Some x) c d r t large nets f = refl
+apart None None (Some x) d r t large nets f = refl
+apart None None None (Some x) r t large nets f = refl
+apart None None None None (Some x) t large nets f = refl
+apart None None None None None (Some x) large nets f = refl
+apart None None None None None None true nets f = refl
+apart None None None None None None false nets f = or_none (given nets f)
 
-    give_walk : models_give (m ∷ []) ≡ walk_gives (m ∷ []) m.line
-    give_walk = rw only_nets refl
+given_there : (b : Bool) (f : NetlistFault) → b ≡ true → Some f ≡ given b f
+given_there b f e = rw e refl
 
-    sound_walk : GiveSound (m ∷ []) → WalkSound (m ∷ [])
-    sound_walk sound nets = sound (only_nets ∙ rw (le-ltb (2 ^ 18) (count_of_nets (m ∷ [])) nets) refl)
+given_none : (b : Bool) (f : NetlistFault) → b ≡ false → None ≡ given b f
+given_none b f e = rw e refl
 
-module _ (models : List Model) (m : Model) (one : models ≡ m ∷ []) (flat : has_instance m.items ≡ false) where
-  pub models_large : (unread : Unread) → unread ≡ Fault (at_line m.line TooLarge) → nat_lt (2 ^ 24) (cell_count m) ≡ true → ReadsModels models (Err unread)
-  models_large unread e many = subst (λ (u : Unread). ReadsModels models (Err u)) (sym e) (ap models_give one ∙ many_cells m flat many)
+-- what is found without a walk, step by step
+module _ (models : List Model) (port : Option NetlistFault) (e : port ≡ option_or (two_models models) (option_or (unknown_model models) (option_or (bad_formal models) (option_or (unbound models) None)))) where
+  abbrev ports : Option NetlistFault
+  ports = option_or (two_models models) (option_or (unknown_model models) (option_or (bad_formal models) (option_or (unbound models) None)))
 
-  module _ (few : nat_lt (2 ^ 24) (cell_count m) ≡ false) where
-    -- the walk of the model may be read
+  abbrev nests : Option NetlistFault
+  nests = option_or (recursive models) (too_deep models)
+
+  abbrev is_large : Bool
+  is_large = nat_lt (2 ^ 18) (count_of_instances models) || nat_lt (2 ^ 24) (count_of_cells models)
+
+  abbrev large : Option NetlistFault
+  large = given is_large (at_line (main_of models).line TooLarge)
+
+  pub port_first : is_some port ≡ true → port ≡ unwalked_fault models
+  port_first some = stop port ports (option_or nests large) e some
+
+  module _ (fits : is_some port ≡ false) where
+    pub apart_then : two_models models ≡ None
+    apart_then = (no_answers (two_models models) _ (sym e ∙ none_from port fits)).0
+
+    module _ (nest : Option NetlistFault) (f : nest ≡ option_or (recursive models) (too_deep models)) where
+      pub nest_first : is_some nest ≡ true → nest ≡ unwalked_fault models
+      nest_first some = stop nest nests large f some ∙ skip port ports (option_or nests large) e fits
+
+      module _ (flat : is_some nest ≡ false) (size : Bool) (g : size ≡ (nat_lt (2 ^ 18) (count_of_instances models) || nat_lt (2 ^ 24) (count_of_cells models))) where
+        behind : large ≡ unwalked_fault models
+        behind = skip nest nests large f flat ∙ skip port ports (option_or nests large) e fits
+
+        pub large_first : (fault : NetlistFault) → fault ≡ at_line (main_of models).line TooLarge → size ≡ true → Some fault ≡ unwalked_fault models
+        large_first fault h many = ap Some h ∙ given_there is_large (at_line (main_of models).line TooLarge) (sym g ∙ many) ∙ behind
+
+        pub none_first : size ≡ false → None ≡ unwalked_fault models
+        none_first few = given_none is_large (at_line (main_of models).line TooLarge) (sym g ∙ few) ∙ behind
+
+module _ (models : List Model) where
+  nets_last : model_fault models ≡ option_or (unwalked_fault models) (given (nat_lt (2 ^ 18) (count_of_nets models)) (at_line (main_of models).line TooLarge))
+  unfolding model_fault too_large
+  nets_last =
+      apart (two_models models) (unknown_model models) (bad_formal models) (unbound models) (recursive models) (too_deep models)
+      (nat_lt (2 ^ 18) (count_of_instances models) || nat_lt (2 ^ 24) (count_of_cells models)) (nat_lt (2 ^ 18) (count_of_nets models)) (at_line (main_of models).line TooLarge)
+
+  -- a fault that is found without a walk
+  pub models_refused : (fault : NetlistFault) → Some fault ≡ unwalked_fault models → models_give models ≡ Err fault
+  models_refused fault e = rw (nets_last, ← e) refl
+
+  module _ (none : None ≡ unwalked_fault models) where
+    only_nets : model_fault models ≡ given (nat_lt (2 ^ 18) (count_of_nets models)) (at_line (main_of models).line TooLarge)
+    only_nets = nets_last ∙ ap (λ (o : Option NetlistFault). option_or o (given (nat_lt (2 ^ 18) (count_of_nets models)) (at_line (main_of models).line TooLarge))) (sym none)
+
+    -- the walk of the models may be read
     pub models_sound : GiveSound models → WalkSound models
-    models_sound sound = subst WalkSound (sym one) (sound_walk m flat few (subst GiveSound one sound))
+    models_sound sound nets = sound (only_nets ∙ rw (le-ltb (2 ^ 18) (count_of_nets models) nets) refl)
 
-    pub models_walk : (r : Result Circuit Unread) → ReadsWalk models m.line r → ReadsModels models r
-    models_walk r reads = reads_same (models_give models) (walk_gives models m.line) (is_flat models ≡ false) ⊥ r
-        (ap models_give one ∙ give_walk m flat few ∙ ap (λ (ms : List Model). walk_gives ms m.line) (sym one)) (λ never. absurd never) reads
+    pub models_walk : (r : Result Circuit (Refusal NetlistFault)) → WalkGives models (main_of models).line r → ModelsGive models r
+    models_walk r gives = gives_same (models_give models) (walk_gives models (main_of models).line) r
+        (ap (λ (o : Option NetlistFault). netlist_unless (option_or o (walk_fault (walk models))) (walk models)) only_nets) gives
 
 -- ---- the file
 
@@ -121,16 +173,13 @@ module _ (bytes : Bytes) where
         let taken = models-taken bytes models read in
         rw (taken.0, taken.1, or_none) refl
 
-    pub file_read : (r : Result Circuit Unread) → ReadsModels models r → ReadsFlat bytes r
-    file_read r reads =
-        let taken = models-taken bytes models read in
-        reads_same (netlist_of bytes) (models_give models) ((line_fault (said_lines bytes) ≡ None) × (is_flat (file_models bytes) ≡ false)) (is_flat models ≡ false) r
-        gives_file (λ other. (taken.0, subst (λ (ms : List Model). is_flat ms ≡ false) taken.1 other)) reads
+    pub file_read : (r : Result Circuit (Refusal NetlistFault)) → ModelsGive models r → Gives (netlist_of bytes) r
+    file_read r gives = gives_same (netlist_of bytes) (models_give models) r gives_file gives
 
   -- why its lines aren't read
-  pub file_unread : (refusal : Refusal NetlistFault) (unread : Unread) (r : Result Circuit Unread) → Gives (models_read bytes) (Err refusal) → r ≡ Err unread → unread ≡ unread_of refusal → ReadsFlat bytes r
-  file_unread refusal unread r told e why = subst (ReadsFlat bytes) (sym (e ∙ ap Err why)) (by_cases refusal told)
+  pub file_unread : (refusal : Refusal NetlistFault) (r : Result Circuit (Refusal NetlistFault)) → Gives (models_read bytes) (Err refusal) → r ≡ Err refusal → Gives (netlist_of bytes) r
+  file_unread refusal r told e = subst (Gives (netlist_of bytes)) (sym e) (by_cases refusal told)
     where
-      by_cases : (of : Refusal NetlistFault) → Gives (models_read bytes) (Err of) → ReadsFlat bytes (Err (unread_of of))
-      by_cases (lines.Fault fault) told = file_refused fault told
-      by_cases lines.Memory told = told
+      by_cases : (of : Refusal NetlistFault) → Gives (models_read bytes) (Err of) → Gives (netlist_of bytes) (Err of)
+      by_cases (Fault fault) told = file_refused fault told
+      by_cases Memory told = told

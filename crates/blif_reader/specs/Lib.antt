@@ -1,4 +1,4 @@
 pub mod Parts
 pub mod Seen
 pub mod Ready
-pub mod Flat
+pub mod Stages

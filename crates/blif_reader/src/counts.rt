@@ -1,25 +1,36 @@
 // Instances and cells of a model.
-ghost use Rattle.std.specs.Prelude.{◌≡◌, ◌*◌, ◌<◌, ◌^◌, length, max, min, sum_by};
-ghost use Rattle.blif_model.specs.Models.{cells_from, items_of, rows_below};
+ghost use Rattle.std.specs.Prelude.{◌≡◌, ◌*◌, ◌<◌, ◌^◌, count_by, filter_map, is_some, length, max, min, sum_by};
+ghost use Rattle.blif_model.specs.Models.{cells_from, instance_from, items_of, rows_below};
+ghost use Rattle.blif_model.specs.Statement.{statement_of, texts};
+ghost use Rattle.blif_text.specs.Read.{line_of};
 ghost use Rattle.blif_says.specs.Grouped.{all_said};
 ghost use Rattle.blif_says.specs.Meant.{meant};
-ghost use Rattle.blif_reader.specs.Flat.{has_instance};
 
 use blif_says::says::Says;
 use blif_says::statement::line_says;
 use blif_text::lines::TextLine;
 
-/// Some line instances a model.
-pub fn any_instance(lines: &[TextLine<'_>]) -> bool
-    ensures { result ≡ has_instance (items_of (all_said lines.now)) }
+/// The line instances a model.
+fn is_instance(line: &TextLine<'_>) -> bool
+    ensures { result ≡ is_some (instance_from (line_of line.now).number (statement_of (texts (line_of line.now)))) }
 {
-    for line in lines {
-        match line_says(line) {
-            Says::Instance { .. } => return true,
-            _ => {}
-        }
+    match line_says(line) {
+        Says::Instance { .. } => true,
+        _ => false,
     }
-    false
+}
+
+fn count_instances(lines: &[TextLine<'_>]) -> usize
+    ensures { result ≡ count_by (λ line. is_some (instance_from (line_of line).number (statement_of (texts (line_of line))))) lines.now }
+{
+    lines.iter().filter(|line| is_instance(line)).count()
+}
+
+/// The `.subckt` lines of a model, up to the cap.
+pub fn capped_instances(lines: &[TextLine<'_>], cap: u64) -> u64
+    ensures { result ≡ min cap (length (filter_map (λ item. instance_from item.line item.says) (items_of (all_said lines.now)))) }
+{
+    (count_instances(lines) as u64).min(cap)
 }
 
 /// The number of rows that stand directly below a line.

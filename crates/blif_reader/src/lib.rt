@@ -8,8 +8,9 @@ mod netlist;
 mod parts;
 mod read;
 mod rows;
+mod sizes;
 
-pub use read::{Unread, read_blif};
+pub use read::read_blif;
 
 #[cfg(test)]
 mod tests;

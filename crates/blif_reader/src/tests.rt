@@ -1,15 +1,45 @@
 // Small files: the names of their nets, or why they aren't read.
-use crate::{Unread, read_blif};
+use crate::read_blif;
 use blif_text::NetlistKind;
 use circuit::netlist::Netlist;
+use circuit::parts::Driver;
+use fm_base::Refusal;
 use std::alloc::{AllocError, Global};
 
-fn kind_name(kind: &NetlistKind) -> &'static str {
+fn line_kind(kind: &NetlistKind) -> &'static str {
     match kind {
+        NetlistKind::NoModel => "NoModel",
+        NetlistKind::BadToken => "BadToken",
+        NetlistKind::Directive => "Directive",
+        NetlistKind::BadRow => "BadRow",
         NetlistKind::MixedPlane => "MixedPlane",
+        NetlistKind::BadLatch => "BadLatch",
+        NetlistKind::LevelLatch => "LevelLatch",
+        NetlistKind::TooWide => "TooWide",
+        _ => model_kind(kind),
+    }
+}
+
+fn model_kind(kind: &NetlistKind) -> &'static str {
+    match kind {
+        NetlistKind::TwoModels => "TwoModels",
+        NetlistKind::UnknownModel => "UnknownModel",
+        NetlistKind::BadFormal => "BadFormal",
+        NetlistKind::Unbound => "Unbound",
+        NetlistKind::Recursive => "Recursive",
+        NetlistKind::TooDeep => "TooDeep",
+        NetlistKind::TooLarge => "TooLarge",
+        _ => walk_kind(kind),
+    }
+}
+
+fn walk_kind(kind: &NetlistKind) -> &'static str {
+    match kind {
+        NetlistKind::TwoClocks => "TwoClocks",
+        NetlistKind::BadClock => "BadClock",
+        NetlistKind::ClockRead => "ClockRead",
         NetlistKind::TwoDrivers => "TwoDrivers",
         NetlistKind::Undriven(_) => "Undriven",
-        NetlistKind::ClockRead => "ClockRead",
         _ => "another kind",
     }
 }
@@ -21,33 +51,121 @@ fn told(alloc: Global, text: &[u8]) -> (u32, &'static str) {
     }
     match read_blif(alloc, text) {
         Ok(_) => (0, "read"),
-        Err(Unread::Fault(fault)) => (fault.line, kind_name(&fault.kind)),
-        Err(Unread::NotYet) => (0, "not yet"),
-        Err(Unread::Memory) => (0, "memory"),
+        Err(Refusal::Fault(fault)) => (fault.line, line_kind(&fault.kind)),
+        Err(Refusal::Memory) => (0, "memory"),
     }
 }
 
 #[test]
-fn each_answer_at_its_line(rt: HostRuntime) {
+fn line_faults(rt: HostRuntime) {
     for (text, line, kind) in [
-        (".model m\n.inputs a\n.outputs y\n.end\n", 3, "Undriven"),
+        ("", 1, "NoModel"),
+        ("# none\n.attr top\n", 1, "NoModel"),
+        ("\n.attr top\n.inputs a\n", 3, "NoModel"),
+        (".model m\n.inputs a\n.outputs a\n.end m\n", 4, "BadToken"),
+        (".model m\n.gate nand\n.end\n", 2, "Directive"),
+        (
+            ".model m\n.inputs a\n.outputs y\n.names a y\n11 1\n.end\n",
+            5,
+            "BadRow",
+        ),
         (
             ".model m\n.inputs a\n.outputs y\n.names a y\n1 1\n0 0\n.end\n",
             6,
             "MixedPlane",
         ),
         (
-            ".model m\n.inputs a\n.outputs y\n.names a y\n1 1\n.names y\n1\n.end\n",
+            ".model m\n.inputs a\n.outputs q\n.latch a q 4\n.end\n",
+            4,
+            "BadLatch",
+        ),
+        (
+            ".model m\n.inputs a \\\n c\n.outputs q\n.latch a q ah c\n.end\n",
+            5,
+            "LevelLatch",
+        ),
+    ] {
+        let (at, name) = told(rt.alloc(), text.as_bytes());
+        assert_eq!(rt; at, line, "in {text}");
+        assert_eq!(rt; name, kind, "in {text}");
+    }
+}
+
+#[test]
+fn model_faults(rt: HostRuntime) {
+    for (text, line, kind) in [
+        (
+            ".model m\n.end\n.model n\n.end\n.model n\n.end\n",
+            5,
+            "TwoModels",
+        ),
+        (
+            ".model m\n.inputs a\n.subckt s i=a\n.end\n",
+            3,
+            "UnknownModel",
+        ),
+        (
+            ".model m\n.inputs a\n.subckt s i=a z=a\n.end\n.model s\n.inputs i\n.end\n",
+            3,
+            "BadFormal",
+        ),
+        (
+            ".model m\n.inputs a\n.subckt s i=a i=a\n.end\n.model s\n.inputs i\n.end\n",
+            3,
+            "BadFormal",
+        ),
+        (
+            ".model m\n.inputs a\n.subckt s o=a\n.end\n.model s\n.inputs i\n.outputs o\n.end\n",
+            3,
+            "Unbound",
+        ),
+        (
+            ".model m\n.subckt a\n.end\n.model a\n.subckt b\n.end\n.model b\n.subckt a\n.end\n",
+            5,
+            "Recursive",
+        ),
+        (".model m\n.subckt m\n.end\n", 2, "Recursive"),
+        (
+            ".model m\n.inputs a\n.end\n.model r\n.subckt r\n.end\n",
+            5,
+            "Recursive",
+        ),
+        (
+            ".model m\n.subckt a\n.end\n.model a\n.subckt c\n.subckt b\n.end\n.model b\n.subckt a\n.end\n.model c\n.subckt d\n.end\n.model d\n.subckt c\n.end\n",
             6,
-            "TwoDrivers",
+            "Recursive",
+        ),
+    ] {
+        let (at, name) = told(rt.alloc(), text.as_bytes());
+        assert_eq!(rt; at, line, "in {text}");
+        assert_eq!(rt; name, kind, "in {text}");
+    }
+}
+
+#[test]
+fn walk_faults(rt: HostRuntime) {
+    for (text, line, kind) in [
+        (
+            ".model m\n.inputs a\n.clock c d\n.outputs a\n.end\n",
+            3,
+            "TwoClocks",
+        ),
+        (
+            ".model m\n.inputs a\n.outputs q\n.latch a q re k\n.end\n",
+            4,
+            "BadClock",
         ),
         (
             ".model m\n.inputs c\n.clock c\n.outputs y\n.names c y\n1 1\n.end\n",
             5,
             "ClockRead",
         ),
-        (".model m\n.inputs a\n.subckt s x=a\n.end\n", 0, "not yet"),
-        (".model m\n.end\n.model n\n.end\n", 0, "not yet"),
+        (
+            ".model m\n.inputs a\n.outputs y\n.names a y\n1 1\n.names y\n1\n.end\n",
+            6,
+            "TwoDrivers",
+        ),
+        (".model m\n.inputs a\n.outputs y\n.end\n", 3, "Undriven"),
         (".model m\n.inputs a\n.end\n", 0, "read"),
     ] {
         let (at, name) = told(rt.alloc(), text.as_bytes());
@@ -56,29 +174,169 @@ fn each_answer_at_its_line(rt: HostRuntime) {
     }
 }
 
-/// The names of the nets, a blank behind each.
-fn net_names(alloc: Global, netlist: &Netlist) -> Result<Vec<u8>, AllocError> {
-    let mut joined = Vec::new(alloc);
-    for name in netlist.names() {
-        joined.extend_from_slice(name.as_slice())?;
-        joined.push(b' ')?;
+/// A model with inputs of so many bytes.
+fn wide_text(alloc: Global, bytes: usize) -> Result<Vec<u8>, AllocError> {
+    let mut text = Vec::from_slice(alloc, b".model m\n.inputs ")?;
+    for _ in 0..bytes {
+        text.push(b'a')?;
     }
-    Ok(joined)
+    Ok(text)
 }
 
-/// An AND twice, and a comparator of both, in a file with carriage returns and a line that goes on.
-const TWICE: &[u8] =
-    b".model m\r\n.inputs a \\\r\n b\r\n.outputs y al\r\n.names a b y\r\n11 1\r\n.names a b z\r\n11 1\r\n.names y z al\r\n10 1\r\n01 1\r\n.end\r\n";
+/// Models of which each but the last has so many instances of the next.
+fn nested_text(alloc: Global, models: u32, instances: u32) -> Result<String, AllocError> {
+    let mut text = String::new(alloc);
+    for k in 1..models {
+        text.push_str(format!(in alloc; ".model m{k}\n")?.as_str())?;
+        for _ in 0..instances {
+            text.push_str(format!(in alloc; ".subckt m{}\n", k.saturating_add(1))?.as_str())?;
+        }
+        text.push_str(".end\n")?;
+    }
+    text.push_str(format!(in alloc; ".model m{models}\n.end\n")?.as_str())?;
+    Ok(text)
+}
 
 #[test]
-fn nets_in_order_of_first_visit(rt: HostRuntime) -> Result<(), AllocError> {
-    if let Ok(netlist) = read_blif(rt.alloc(), TWICE) {
-        let names = net_names(rt.alloc(), &netlist)?;
-        assert_eq!(rt; names.as_slice(), b"a b y al z ".as_slice());
-        assert_eq!(rt; netlist.inputs().len(), 2);
-        assert_eq!(rt; netlist.outputs().len(), 2);
-    } else {
-        assert!(rt; false, "not read");
+fn limits(rt: HostRuntime) -> Result<(), AllocError> {
+    let alloc = rt.alloc();
+    assert_eq!(rt; told(alloc, wide_text(alloc, 255)?.as_slice()), (0, "read"));
+    assert_eq!(rt;
+        told(alloc, wide_text(alloc, 256)?.as_slice()),
+        (2, "TooWide")
+    );
+    assert_eq!(rt;
+        told(alloc, nested_text(alloc, 33, 1)?.as_bytes()),
+        (0, "read")
+    );
+    assert_eq!(rt;
+        told(alloc, nested_text(alloc, 34, 1)?.as_bytes()),
+        (2, "TooDeep")
+    );
+    assert_eq!(rt;
+        told(alloc, nested_text(alloc, 18, 2)?.as_bytes()),
+        (0, "read")
+    );
+    assert_eq!(rt;
+        told(alloc, nested_text(alloc, 20, 2)?.as_bytes()),
+        (1, "TooLarge")
+    );
+    Ok(())
+}
+
+/// An AND twice, and a comparator of both.
+const TWICE: &[u8] =
+    b".model dup\n.inputs a b\n.outputs y al\n.names a b y\n11 1\n.names a b z\n11 1\n.names y z al\n10 1\n01 1\n.end\n";
+
+/// The answers to the prefixes of that file, from one length up to another.
+#[test]
+fn every_prefix(rt: HostRuntime) {
+    for (from, until, line, kind) in [
+        (0, 6, 1, "NoModel"),
+        (6, 8, 1, "BadToken"),
+        (8, 12, 0, "read"),
+        (12, 18, 2, "Directive"),
+        (18, 24, 0, "read"),
+        (24, 31, 3, "Directive"),
+        (31, 33, 0, "read"),
+        (33, 38, 3, "Undriven"),
+        (38, 43, 4, "Directive"),
+        (43, 45, 4, "BadToken"),
+        (45, 49, 4, "TwoDrivers"),
+        (49, 51, 3, "Undriven"),
+        (51, 54, 5, "BadRow"),
+        (54, 56, 3, "Undriven"),
+        (56, 61, 6, "Directive"),
+        (61, 63, 6, "BadToken"),
+        (63, 67, 6, "TwoDrivers"),
+        (67, 69, 3, "Undriven"),
+        (69, 72, 7, "BadRow"),
+        (72, 74, 3, "Undriven"),
+        (74, 79, 8, "Directive"),
+        (79, 81, 8, "BadToken"),
+        (81, 86, 8, "TwoDrivers"),
+        (86, 88, 0, "read"),
+        (88, 91, 9, "BadRow"),
+        (91, 93, 0, "read"),
+        (93, 96, 10, "BadRow"),
+        (96, 98, 0, "read"),
+        (98, 101, 11, "Directive"),
+        (101, 103, 0, "read"),
+    ] {
+        for len in from..until {
+            let (at, name) = told(rt.alloc(), &TWICE[..TWICE.len().min(len)]);
+            assert_eq!(rt; at, line, "of {len} bytes");
+            assert_eq!(rt; name, kind, "of {len} bytes");
+        }
+    }
+}
+
+fn put_driver(text: &mut Vec<u8>, driver: Driver) -> Result<(), AllocError> {
+    let (letter, number) = match driver {
+        Driver::Input(k) => (b'i', k),
+        Driver::Table(k) => (b't', k),
+        Driver::Latch(k) => (b'l', k),
+    };
+    text.push(letter)?;
+    text.push(b'0' + (number % 10) as u8)?;
+    text.push(b' ')?;
+    Ok(())
+}
+
+/// The names of the nets, each with its driver.
+fn nets_text(alloc: Global, netlist: &Netlist) -> Result<Vec<u8>, AllocError> {
+    let mut text = Vec::new(alloc);
+    for (name, driver) in netlist
+        .names
+        .as_slice()
+        .iter()
+        .zip(netlist.drivers.as_slice())
+    {
+        text.extend_from_slice(name.as_slice())?;
+        text.push(b':')?;
+        put_driver(&mut text, *driver)?;
+    }
+    Ok(text)
+}
+
+/// What a file of yosys is read as: constants, a name with a bracket, a line that goes on, and a clock.
+const FROM_YOSYS: &str =
+    "# Generated by Yosys\r\n\r\n.model top\r\n.inputs clk d[0] d[1]\r\n.outputs q\r\n.names $false\r\n.names $true\r\n1\r\n.names $undef\r\n.names d[0] d[1] \\\r\n $abc$1$n1\r\n11 1\r\n.latch $abc$1$n1 q re clk 2\r\n.end\r\n";
+
+/// Two inverters, one behind the other, and a model of which an output is unbound.
+const NESTED: &str =
+    ".model top\n.inputs a b\n.outputs y\n.subckt inv i=a o=x\n.subckt inv i=x o=y\n.subckt two i=b\n.end\n.model inv\n.inputs i\n.outputs o\n.names i o\n0 1\n.end\n.model two\n.inputs i\n.outputs o p\n.names i t\n1 1\n.names t o\n1 1\n.names t p\n0 1\n.end\n";
+
+#[test]
+fn nets_and_drivers(rt: HostRuntime) -> Result<(), AllocError> {
+    for (text, nets) in [
+        (
+            FROM_YOSYS,
+            "d[0]:i0 d[1]:i1 q:l0 $false:t0 $true:t1 $undef:t2 $abc$1$n1:t3 ",
+        ),
+        (NESTED, "a:i0 b:i1 y:t1 x:t0 u2.o:t3 u2.p:t4 u2.t:t2 "),
+    ] {
+        if text.len() > 10000 {
+            return Ok(());
+        }
+        match read_blif(rt.alloc(), text.as_bytes()) {
+            Ok(netlist) => {
+                let read = nets_text(rt.alloc(), &netlist)?;
+                assert_eq!(rt; read.as_slice(), nets.as_bytes());
+            }
+            Err(_) => assert!(rt; false, "not read"),
+        }
     }
     Ok(())
+}
+
+#[test]
+fn undriven_by_name(rt: HostRuntime) {
+    match read_blif(rt.alloc(), b".model m\n.inputs a\n.outputs a y\n.end\n") {
+        Err(Refusal::Fault(fault)) => match fault.kind {
+            NetlistKind::Undriven(name) => assert_eq!(rt; name.as_slice(), b"y".as_slice()),
+            _ => assert!(rt; false, "another kind"),
+        },
+        _ => assert!(rt; false, "no fault"),
+    }
 }

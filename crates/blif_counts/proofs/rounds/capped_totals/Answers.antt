@@ -10,7 +10,7 @@ pub rounds-preserved : goal.rounds-preserved
 rounds-preserved c = λ f e.
     let now = rw (c.as_slice.ensures.value, c.as_slice-in-rounds.ensures.value) at c.in_ok-numbers-2.ensures in
     round_more c.args.models.now f c.args.cap c.rounds._depth c.in_ok-numbers-2.numbers.items c.rounds.numbers.items c.args.own.now c.in_ok-callees.callees.items
-    now (c.rounds.invariant f e) e c.in_ok-callees.ensures
+    now (c.rounds.invariant f e) e c.in_ok-callees.ensures.sums
 
 pub returns : goal.returns
 returns c = λ f e.

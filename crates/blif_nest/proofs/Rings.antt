@@ -1,0 +1,248 @@
+-- A model on a way back to it nests without end.
+use Rattle.std.proofs.Common.{subst, ◌≡◌, ℕ, zero, suc, ◌+◌, ◌<◌, Bool, true, false, cond, ◌||◌, inl, inr, List, [], ◌∷◌, ◌++◌, refl, ap, sym, ◌∙◌, append_assoc, length, map, take, drop, get_or, eq-eqb, Vec, Global, ◌≤◌, arith}
+use Rattle.std.specs.Prelude.{Option, Some, None, ◌==◌, bytes_eq, slice_index, slice_index_or}
+use Rattle.std.specs.List.{list_any, slice_get}
+use Rattle.std.specs.Option.{option_or}
+use Rattle.std.proofs.lemmas.List.{append-nil}
+use Rattle.fm_base.specs.Firsts.{first_after, first_where, given}
+use Rattle.fm_base.specs.Names.{Name}
+use Rattle.fm_base.proofs.Tests.{or_cases, or_false, or_second, clash, false_of}
+use Rattle.fm_base.proofs.Distinct.{same_name, is_same}
+use Rattle.blif_text.specs.declared.NetlistFault.{NetlistFault}
+use Rattle.blif_text.specs.declared.NetlistKind.TheVariants.{TwoModels}
+use Rattle.blif_model.specs.LineFault.{at_line}
+use Rattle.blif_model.specs.Models.{Model, Instance, at_model, main_of, instances, has_nest, reaches}
+use Rattle.blif_model.specs.ModelFault.{recursive, too_deep, two_models}
+use Rattle.std.proofs.lemmas.Bool.{cases_lt}
+use Rattle.components.specs.Graph.{AreComponents, AreEdges, Reaches, Way, target, targets}
+use Rattle.components.proofs.Ways.{along, edge, join}
+use Rattle.blif_counts.specs.Callees.{AllCallees, AreCallees}
+use Rattle.blif_nest.proofs.Levels.{any_callee}
+use Rattle.blif_model.proofs.FileNetlist.{no_answers}
+use Rattle.blif_says.specs.declared.models.ModelLines.{ModelLines}
+use Rattle.blif_says.specs.Grouped.{model_of, models_seen}
+use Rattle.blif_walk.proofs.Items.{drop_item}
+use Rattle.blif_ports.proofs.FirstLines.{none_left}
+use Rattle.blif_nest.specs.declared.lines.Nesting.TheVariants as nestings
+use Rattle.blif_ports.specs.Lines.{first_among}
+use Rattle.blif_nest.specs.Marks.{instance_fault, kind_of}
+
+-- ---- models of different names
+
+not_given : (b : Bool) (fault : NetlistFault) → given b fault ≡ None → b ≡ false
+not_given true fault e = cc
+not_given false fault e = refl
+
+abbrev named_before : List Model → Model → Bool
+named_before before m = list_any (λ (earlier : Model). bytes_eq earlier.name m.name) before
+
+apart_at : (before front behind : List Model) (m : Model)
+    → first_after (λ bs (k : Model). given (named_before bs k) (at_line k.line TwoModels)) before (front ++ m ∷ behind) ≡ None → named_before (before ++ front) m ≡ false
+unfolding first_after
+apart_at before [] behind m e =
+    ap (λ (ms : List Model). named_before ms m) (append-nil before) ∙ not_given (named_before before m) (at_line m.line TwoModels) (no_answers (given (named_before before m) (at_line m.line TwoModels)) _ e).0
+apart_at before (x ∷ front) behind m e =
+    ap (λ (ms : List Model). named_before ms m) (sym (append_assoc before (x ∷ []) front))
+    ∙ apart_at (before ++ x ∷ []) front behind m (no_answers (given (named_before before x) (at_line x.line TwoModels)) _ e).1
+
+none_first : (p : Instance → Bool) (v : Instance → NetlistFault) (xs : List Instance) → list_any p xs ≡ false → first_where (λ i. given (p i) (v i)) xs ≡ None
+unfolding first_where
+none_first p v [] e = refl
+none_first p v (i ∷ xs) e = let parts = or_false (p i) (list_any p xs) e in rw parts.0 (none_first p v xs parts.1)
+
+-- ---- ways of models
+
+list_at : {X : Type 0} (p : X → Bool) (xs : List X) (i : ℕ) (x : X) → slice_get xs i ≡ Some x → p x ≡ true → list_any p xs ≡ true
+list_at p [] zero x e f = cc
+list_at p [] (suc i) x e f = cc
+list_at p (y ∷ xs) zero x e f = let same : y ≡ x = cc in ap (λ b. b || list_any p xs) (ap p same ∙ f)
+list_at p (y ∷ xs) (suc i) x e f = or_second (p y) (list_any p xs) (list_at p xs i x e f)
+
+split_at : {X : Type 0} (xs : List X) (j : ℕ) (z : X) → slice_get xs j ≡ Some z → xs ≡ take j xs ++ z ∷ drop (suc j) xs
+split_at [] zero z e = cc
+split_at [] (suc j) z e = cc
+split_at {X} (x ∷ xs) zero z e = let same : x ≡ z = cc in ap (λ (y : X). y ∷ xs) same
+split_at {X} (x ∷ xs) (suc j) z e = ap (λ (more : List X). x ∷ more) (split_at xs j z e)
+
+front_at : {X : Type 0} (xs : List X) (i j : ℕ) (m : X) → i < j → slice_get xs i ≡ Some m → slice_get (take j xs) i ≡ Some m
+front_at [] i j m lt e = elim_none i e
+  where
+    elim_none : (k : ℕ) → slice_get [] k ≡ Some m → slice_get (take j []) i ≡ Some m
+    elim_none zero e = cc
+    elim_none (suc k) e = cc
+front_at (x ∷ xs) i zero m lt e = absurd (omega arith)
+front_at (x ∷ xs) zero (suc j) m lt e = e
+front_at (x ∷ xs) (suc i) (suc j) m lt e = front_at xs i j m (omega arith) e
+
+any_index : (p : ℕ → Bool) (xs : List ℕ) → list_any p xs ≡ true → (i : ℕ) × (i < length xs) × (p (slice_index xs i) ≡ true)
+any_index p [] e = cc
+any_index p (x ∷ xs) e = elim (or_cases (p x) (list_any p xs) e) [
+  | inl h ↦ (0, omega arith, h)
+  | inr h ↦ (let r = any_index p xs h in let lt = r.1 in (suc r.0, omega arith, r.2))
+]
+
+index_any : (p : ℕ → Bool) (xs : List ℕ) (i : ℕ) → i < length xs → p (slice_index xs i) ≡ true → list_any p xs ≡ true
+index_any p [] i lt e = absurd (omega arith)
+index_any p (x ∷ xs) zero lt e = ap (λ b. b || list_any p xs) e
+index_any p (x ∷ xs) (suc i) lt e = or_second (p x) (list_any p xs) (index_any p xs i (omega arith) e)
+
+marked_model : (test : Model → Bool) (ms : List Model) (j : ℕ) → slice_index_or (map test ms) j false ≡ true → (y : Model) × (slice_get ms j ≡ Some y) × (test y ≡ true)
+marked_model test [] zero e = cc
+marked_model test [] (suc j) e = cc
+marked_model test (m ∷ ms) zero e = (m, refl, e)
+marked_model test (m ∷ ms) (suc j) e = marked_model test ms j e
+
+at_callees : (models ms : List Model) (cs : List (Vec ℕ Global)) (k : ℕ) (y : Model) → AllCallees models ms cs → slice_get ms k ≡ Some y → AreCallees models y.items (targets cs k)
+at_callees models [] cs zero y all e = cc
+at_callees models [] cs (suc k) y all e = cc
+at_callees models (m ∷ ms) [] k y all e = absurd all
+at_callees models (m ∷ ms) (c ∷ cs) zero y all e = let same : m ≡ y = cc in subst (λ (n : Model). AreCallees models n.items c.items) same all.0
+at_callees models (m ∷ ms) (c ∷ cs) (suc k) y all e = at_callees models ms cs k y all.1 e
+
+pub callees_long : (models ms : List Model) (cs : List (Vec ℕ Global)) → AllCallees models ms cs → length cs ≡ length ms
+callees_long models [] [] all = refl
+callees_long models [] (c ∷ cs) all = absurd all
+callees_long models (m ∷ ms) [] all = absurd all
+callees_long models (m ∷ ms) (c ∷ cs) all = ap suc (callees_long models ms cs all.1)
+
+some_within : (ms : List Model) (k : ℕ) (y : Model) → slice_get ms k ≡ Some y → k < length ms
+some_within [] zero y e = cc
+some_within [] (suc k) y e = cc
+some_within (m ∷ ms) zero y e = omega arith
+some_within (m ∷ ms) (suc k) y e = let h = some_within ms k y e in omega arith
+
+module _ (models : List Model) (callees : List (Vec ℕ Global)) (all : AllCallees models models callees) (within : AreEdges callees) (numbers : List ℕ) (comp : AreComponents callees numbers) where
+  -- a model that reaches a name has a way to a model of this name
+  reach_way : (steps : ℕ) (name : Name) (k : ℕ) (y : Model) → slice_get models k ≡ Some y → reaches models steps name y ≡ true
+      → (j : ℕ) × (z : Model) × (slice_get models j ≡ Some z) × (z.name ≡ name) × Reaches callees k j
+  unfolding reaches instances
+  reach_way zero name k y e r = (k, y, e, same_name y.name name r, along callees k k refl)
+  reach_way (suc steps) name k y e r =
+      elim (or_cases (bytes_eq y.name name) (list_any (λ (i : Instance). at_model models i.name (reaches models steps name) false) (instances y)) r) [
+        | inl h ↦ (k, y, e, same_name y.name name h, along callees k k refl)
+        | inr h ↦
+            (let idx = any_index (λ t. slice_index_or (map (reaches models steps name) models) t false) (targets callees k)
+            (sym (any_callee models (reaches models steps name) y.items (targets callees k) (at_callees models models callees k y all e)) ∙ h) in
+            let there = marked_model (reaches models steps name) models (target callees k idx.0) idx.2 in
+            let rest = reach_way steps name (target callees k idx.0) there.0 there.1 there.2 in
+            (rest.0, rest.1, rest.2, rest.3, join callees k (target callees k idx.0) rest.0 (edge callees k idx.0 (target callees k idx.0) idx.1 refl) rest.4))
+      ]
+
+  way_down : (n x y : ℕ) → x < length callees → Way callees n x y → slice_index numbers y ≤ slice_index numbers x
+  unfolding Way
+  way_down zero x y lt e = let same = ap (slice_index numbers) e in omega arith
+  way_down (suc n) x y lt w =
+      let first = comp.down x w.0 lt w.1 in
+      let rest = way_down n (target callees x w.0) y (within x w.0 w.1) w.2 in
+      omega arith
+
+  module _ (apart : two_models models ≡ None) where
+    not_earlier : (i j : ℕ) (m z : Model) → i < j → slice_get models i ≡ Some m → slice_get models j ≡ Some z → m.name ≡ z.name → ⊥
+    unfolding two_models
+    not_earlier i j m z lt e f same =
+        let before : named_before (take j models) z ≡ true =
+        list_at (λ (k : Model). bytes_eq k.name z.name) (take j models) i m (front_at models i j m lt e) (ap (λ (n : Name). bytes_eq n z.name) same ∙ is_same z.name) in
+        let split : models ≡ take j models ++ z ∷ drop (suc j) models = split_at models j z f in
+        clash (named_before (take j models) z) before
+        (apart_at [] (take j models) (drop (suc j) models) z (sym (ap (first_after (λ bs (k : Model). given (named_before bs k) (at_line k.line TwoModels)) []) split) ∙ apart))
+
+    one_place : (i j : ℕ) (m z : Model) → slice_get models i ≡ Some m → slice_get models j ≡ Some z → m.name ≡ z.name → i ≡ j
+    one_place i j m z e f same = elim (cases_lt i j) [
+      | inl lt ↦ absurd (not_earlier i j m z lt e f same)
+      | inr ge ↦ elim (cases_lt j i) [ inl lt ↦ absurd (not_earlier j i z m lt f e (sym same)) | inr le ↦ omega arith ]
+    ]
+
+    -- a model that instances none of its component lies on no way back
+    pub off_ring : (i : ℕ) (m : Model) → slice_get models i ≡ Some m → list_any (λ k. slice_index numbers k == slice_index numbers i) (targets callees i) ≡ false
+        → list_any (λ (j : Instance). at_model models j.name (reaches models (length models) m.name) false) (instances m) ≡ false
+    unfolding instances
+    off_ring i m e off = false_of _ (λ back.
+        let test : Model → Bool = reaches models (length models) m.name in
+        let idx = any_index (λ t. slice_index_or (map test models) t false) (targets callees i)
+        (sym (any_callee models test m.items (targets callees i) (at_callees models models callees i m all e)) ∙ back) in
+        let t : ℕ = target callees i idx.0 in
+        let there = marked_model test models t idx.2 in
+        let way = reach_way (length models) m.name t there.0 there.1 there.2 in
+        let same : way.0 ≡ i = one_place way.0 i way.1 m way.2 e way.3 in
+        let long = callees_long models models callees all in
+        let in_i = some_within models i m e in
+        let down = comp.down i idx.0 (omega arith) idx.1 in
+        let up = way_down way.4.0 t way.0 (within i idx.0 idx.1) way.4.1 in
+        let at = ap (slice_index numbers) same in
+        let equal : slice_index numbers t ≡ slice_index numbers i = omega arith in
+        clash (list_any (λ k. slice_index numbers k == slice_index numbers i) (targets callees i))
+        (index_any (λ k. slice_index numbers k == slice_index numbers i) (targets callees i) idx.0 idx.1 (eq-eqb (slice_index numbers t) (slice_index numbers i) equal)) off)
+
+-- a model that is read by its place
+model_read : (lines : List ModelLines) (i : ℕ) (x : ModelLines) → i < length lines → x ≡ get_or lines i x → slice_get (models_seen lines) i ≡ Some (model_of x)
+model_read [] i x h is = absurd (omega arith)
+model_read (l ∷ lines) zero x h is = ap (λ (m : ModelLines). Some (model_of m)) (sym is)
+model_read (l ∷ lines) (suc i) x h is = model_read lines i x (omega arith) is
+
+module _ (models : List Model) where
+  -- a line of the model lies on a way back to it
+  abbrev goes_back : ℕ → Model → Bool
+  goes_back steps m = list_any (λ (i : Instance). at_model models i.name (reaches models steps m.name) false) (instances m)
+
+  -- the first fault of a model's lines
+  abbrev pub holder_fault : Model → Option NetlistFault
+  holder_fault m = first_among (instance_fault models (reaches models (length models) m.name) nestings.Recursive) m.items
+
+  pub recursive_by : recursive models ≡ first_where holder_fault models
+  unfolding recursive instances
+  recursive_by = refl
+
+  off_ring_none : (m : Model) → goes_back (length models) m ≡ false → holder_fault m ≡ None
+  unfolding instances
+  off_ring_none m e =
+      none_first (λ (i : Instance). at_model models i.name (reaches models (length models) m.name) false) (λ (i : Instance). at_line i.line (kind_of nestings.Recursive)) (instances m) e
+
+  -- ---- model by model
+
+  -- a model is looked at only where it lies on a ring
+  holder_is : (m : Model) (on_ring : Bool) (found : Option NetlistFault) → (on_ring ≡ false → goes_back (length models) m ≡ false)
+      → found ≡ cond on_ring (holder_fault m) None → found ≡ holder_fault m
+  holder_is m true found off e = e
+  holder_is m false found off e = e ∙ sym (off_ring_none m (off refl))
+
+  module _ (lines : List ModelLines) (seen : models_seen lines ≡ models) (apart : two_models models ≡ None) where
+    abbrev left : ℕ → Option NetlistFault
+    left i = first_where holder_fault (models_seen (drop i lines))
+
+    pub ring_step : (callees : List (Vec ℕ Global)) → AllCallees models models callees → AreEdges callees → (numbers : List ℕ) → AreComponents callees numbers
+        → (i : ℕ) (x : ModelLines) (on_ring : Bool) (found : Option NetlistFault) → i < length lines → x ≡ get_or lines i x
+        → on_ring ≡ list_any (λ k. slice_index numbers k == slice_index numbers i) (targets callees i)
+        → found ≡ cond on_ring (holder_fault (model_of x)) None
+        → first_where holder_fault (models_seen (drop i lines)) ≡ option_or found (first_where holder_fault (models_seen (drop (i + 1) lines)))
+    unfolding first_where
+    ring_step callees all within numbers comp i x on_ring found h is ring e =
+        let rest : drop i lines ≡ x ∷ drop (i + 1) lines = drop_item lines i x h is in
+        let here = model_read lines i x h is in
+        let at = ap (λ (ms : List Model). slice_get ms i) (sym seen) ∙ here in
+        let off = off_ring models callees all within numbers comp apart i (model_of x) at in
+        ap (λ (ms : List ModelLines). first_where holder_fault (models_seen ms)) rest
+        ∙ ap (λ (o : Option NetlistFault). option_or o (left (i + 1))) (sym (holder_is (model_of x) on_ring found (λ f. off (sym ring ∙ f)) e))
+
+    pub ring_first : left 0 ≡ recursive models
+    ring_first = ap (first_where holder_fault) seen ∙ sym recursive_by
+
+    pub ring_end : (i : ℕ) → length lines ≤ i → left i ≡ None
+    unfolding first_where
+    ring_end i h = ap (λ (ms : List ModelLines). first_where holder_fault (models_seen ms)) (none_left lines i h)
+
+  -- the main model
+  pub deep_some : (m : Model) → Some m ≡ slice_get models 0 → first_among (instance_fault models (has_nest models 32) nestings.TooDeep) m.items ≡ too_deep models
+  unfolding too_deep instances
+  deep_some m e = main_is models e
+    where
+      main_is : (ms : List Model) → Some m ≡ slice_get ms 0 → first_among (instance_fault models (has_nest models 32) nestings.TooDeep) m.items ≡ first_among (instance_fault models (has_nest models 32) nestings.TooDeep) (main_of ms).items
+      main_is [] e = cc
+      main_is (n ∷ ms) e = let same : m ≡ n = cc in ap (λ (k : Model). first_among (instance_fault models (has_nest models 32) nestings.TooDeep) k.items) same
+
+  pub deep_none : None ≡ slice_get models 0 → None ≡ too_deep models
+  unfolding too_deep instances first_where
+  deep_none e = main_is models e
+    where
+      main_is : (ms : List Model) → None ≡ slice_get ms 0 → None ≡ first_among (instance_fault models (has_nest models 32) nestings.TooDeep) (main_of ms).items
+      main_is [] e = refl
+      main_is (n ∷ ms) e = cc

@@ -1,0 +1,90 @@
+// Instances that nest without end, or too deep.
+ghost use Rattle.std.specs.Prelude.{◌≡◌, None, IfOk, if◌then◌else◌, length, map};
+ghost use Rattle.std.specs.Option.{option_or};
+ghost use Rattle.blif_model.specs.ModelFault.{recursive, too_deep, two_models};
+ghost use Rattle.blif_model.specs.Models.{has_nest, reaches};
+ghost use Rattle.blif_counts.specs.Callees.{AllCallees};
+ghost use Rattle.blif_says.specs.Grouped.{model_of};
+ghost use Rattle.blif_ports.specs.Lines.{first_among};
+ghost use Rattle.components.specs.Graph.{AreComponents, AreEdges};
+ghost use Rattle.blif_nest.specs.Marks.{instance_fault};
+ghost use Rattle.blif_nest.specs.declared.lines.Nesting.TheVariants as nestings;
+
+use crate::lines::{Nesting, first_fault};
+use crate::rounds::{deep_marks, reaching_marks};
+use crate::same_ring::is_on_ring;
+use blif_counts::callees::all_callees;
+use blif_says::models::ModelLines;
+use blif_text::NetlistFault;
+use blif_walk::table::ModelTable;
+use components::components;
+use std::alloc::{AllocError, Global};
+
+/// The first line of a model on a way back to it. Only a model that instances one of its own component is looked at.
+fn ring_fault(
+    alloc: Global,
+    models: &ModelTable<'_, '_>,
+    callees: &[Vec<usize>],
+    model: &ModelLines<'_, '_>,
+    on_ring: bool,
+) -> Result<Option<NetlistFault>, AllocError>
+    requires { AllCallees models.now models.now callees.now }
+    ensures { IfOk result (λ o. o ≡ (if on_ring then first_among (instance_fault models.now (reaches models.now (length models.now) (model_of model.now).name) nestings.Recursive) (model_of model.now).items else None)) }
+{
+    if !on_ring {
+        return Ok(None);
+    }
+    let marks = reaching_marks(alloc, models, callees, model.name)?;
+    Ok(first_fault(models, marks.as_slice(), Nesting::Recursive, model.items))
+}
+
+/// The first line of the file on a way back to its own model.
+fn recursive(
+    alloc: Global,
+    models: &ModelTable<'_, '_>,
+    callees: &[Vec<usize>],
+    numbers: &[usize],
+) -> Result<Option<NetlistFault>, AllocError>
+    requires callees { AllCallees models.now models.now callees.now }
+    requires within { AreEdges callees.now }
+    requires numbers { AreComponents callees.now numbers.now }
+    requires apart { two_models models.now ≡ None }
+    ensures { IfOk result (λ o. o ≡ recursive models.now) }
+{
+    for (place, model) in models.lines().iter().enumerate() {
+        let on_ring = is_on_ring(callees, numbers, place);
+        if let Some(fault) = ring_fault(alloc, models, callees, model, on_ring)? {
+            return Ok(Some(fault));
+        }
+    }
+    Ok(None)
+}
+
+/// The first line of the main model whose instance has 32 more in it.
+fn too_deep(models: &ModelTable<'_, '_>, deep: &[bool]) -> Option<NetlistFault>
+    requires { deep.now ≡ map (has_nest models.now 32) models.now }
+    ensures { result ≡ too_deep models.now }
+{
+    match models.main() {
+        Some(model) => first_fault(models, deep, Nesting::TooDeep, model.items),
+        None => None,
+    }
+}
+
+/// The fault of the nests of models, if there is one: Recursive, then TooDeep.
+pub fn nest_fault(
+    alloc: Global,
+    models: &ModelTable<'_, '_>,
+) -> Result<Option<NetlistFault>, AllocError>
+    requires { two_models models.now ≡ None }
+    ensures { IfOk result (λ o. o ≡ option_or (recursive models.now) (too_deep models.now)) }
+{
+    let callees = all_callees(alloc, models)?;
+    let numbers = components(alloc, callees.as_slice())?;
+    let ring = recursive(alloc, models, callees.as_slice(), numbers.as_slice())?;
+    if ring.is_some() {
+        return Ok(ring);
+    }
+    let deep = deep_marks(alloc, models, callees.as_slice())?;
+    Ok(too_deep(models, deep.as_slice()))
+}

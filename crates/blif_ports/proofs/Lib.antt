@@ -1,0 +1,4 @@
+pub mod FirstLines
+pub mod PortNames
+pub mod SecondNames
+pub mod Bindings

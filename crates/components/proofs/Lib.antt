@@ -1,0 +1,9 @@
+pub mod Ways
+pub mod Cutting
+pub mod Opening
+pub mod Leaving
+pub mod Closing
+pub mod Steps
+pub mod Numbering
+pub mod Ahead
+pub mod Whole
