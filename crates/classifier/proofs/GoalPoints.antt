@@ -1,5 +1,5 @@
 -- The observation points of goals, one goal behind the other; and windows that keep their intervals.
-use Rattle.std.proofs.Common.{◌≡◌, ℕ, ◌+◌, ◌<◌, ◌≤◌, List, [], ◌∷◌, ◌++◌, length, map, take, get_or, ap, sym, ◌∙◌, subst, arith, length-append}
+use Rattle.std.proofs.Common.{◌≡◌, ℕ, ◌+◌, ◌<◌, ◌≤◌, List, [], ◌∷◌, ◌++◌, length, take, get_or, ap, sym, ◌∙◌, subst, length-append}
 use Rattle.std.specs.Prelude.{flat_map}
 use Rattle.std.proofs.lemmas.List.{append-nil, length-map, take_more}
 use Rattle.std.proofs.lemmas.List.Concat.{get_or-flat_map}
@@ -10,7 +10,7 @@ use Rattle.circuit.specs.Order.{net_at}
 use Rattle.alarm_points.specs.declared.Goal.{Goal}
 use Rattle.alarm_points.specs.declared.Points.{Points}
 use Rattle.alarm_points.specs.Interval.{interval_of}
-use Rattle.alarm_points.specs.Watch.{AreMadeFor, KeepsIntervals, Watch, Watches, intervals}
+use Rattle.alarm_points.specs.Watch.{AreMadeFor, KeepsIntervals, Watch, Watches}
 
 abbrev pub points_of : List Goal → List NetId
 points_of goals = flat_map (λ (goal : Goal). goal.observe) goals

@@ -1,2 +1,4 @@
-pub mod Loaded
+pub mod Load
 pub mod Seen
+pub mod Planes
+pub mod Batch

@@ -1,6 +1,13 @@
-// What becomes of a run in 64 faulty circuits at once.
+// What faulty circuits show over the runs of a workload: the planes of danger and of notice.
 #![tactic(auto)]
 
+mod batch;
+mod noise;
+mod outcome;
 mod points;
-pub mod run;
+mod run;
 mod see;
+mod words;
+
+pub use batch::{batch_outcome, quad_outcomes};
+pub use outcome::loaded_outcome;

@@ -1,5 +1,5 @@
 // What the points of one cycle show in 64 lanes.
-ghost use Rattle.std.specs.Prelude.{◌≡◌, ◌<◌, ◌≤◌, ◌+◌, ◌&&◌, ◌||◌, ℕ, All, length, not};
+ghost use Rattle.std.specs.Prelude.{◌≡◌, ◌<◌, ◌≤◌, ◌+◌, ◌&&◌, ◌||◌, ℕ, All, length, not, take};
 ghost use Rattle.std.specs.List.{list_any};
 ghost use Rattle.circuit.specs.Order.{net_at};
 ghost use Rattle.circuit.specs.Sound.{IsNet};
@@ -9,12 +9,11 @@ ghost use Rattle.alarm_points.specs.PointsFile.{observed};
 ghost use Rattle.campaign_plan.specs.Danger.{golden as golden_value, with_faults};
 ghost use Rattle.fm_base.specs.Lists.{same_bit};
 ghost use Rattle.fm_base.specs.Planes.{bit};
-ghost use Rattle.lane_kernel.specs.Loads.{faults_of};
-ghost use Rattle.classifier.specs.Seen.{AreAtCycle};
+ghost use Rattle.classifier.specs.Load.{lane_faults};
 
+use crate::words::LaneWords;
 use circuit::parts::NetId;
 use golden_run::values::Golden;
-use lane_kernel::Lanes;
 
 // The lanes whose bit isn't the golden one.
 fn other_lanes(word: u64, golden: bool) -> u64
@@ -44,79 +43,98 @@ pub fn either_lanes(a: u64, b: u64) -> u64
     a | b
 }
 
-// The value of a net in each lane, in the last cycle of a run so far.
-fn word_of(lanes: &Lanes, net: NetId) -> u64
-    ensures { (run : Run) (t k : ℕ) → t < cycles_of run → AreAtCycle run (t + 1) lanes.now → k < 64 → IsNet lanes.now.circuit net
-        → bit result k ≡ with_faults lanes.now.circuit (faults_of lanes.now.loads k) run t net }
+// The value of a net in each lane of a word, in the last cycle of a run so far.
+fn word_of<B: LaneWords>(lanes: &B, word: u32, net: NetId) -> u64
+    requires { word < B.words }
+    ensures { (run : Run) (t k : ℕ) → t < cycles_of run → B.IsAfter lanes.now (take (t + 1) run.vectors) → k < 64 → IsNet (B.load lanes.now).circuit net
+        → bit result k ≡ with_faults (B.load lanes.now).circuit (lane_faults (B.load lanes.now) word k) run t net }
 {
-    lanes.net(net)
+    lanes.word(net, word)
 }
 
 /// The lanes in which some of these nets differs from the golden run in a cycle of a run. The nets are observation points;
 /// `first` is the number of the first of them, over the goals in order.
-pub fn differing(
-    lanes: &Lanes,
+pub fn differing<B: LaneWords>(
+    lanes: &B,
+    word: u32,
     golden: &Golden,
     run: u32,
     t: u32,
     first: u32,
     nets: &[NetId],
 ) -> u64
+    requires word { word < B.words }
     requires run { run < length golden.now.runs }
     requires cycle { t < cycles_of (run_at golden.now.runs run) }
     requires few { length (observed golden.now.points) ≤ 1024 }
     requires points { first + length nets.now ≤ length (observed golden.now.points) }
     requires same { (j : ℕ) → j < length nets.now → net_at (observed golden.now.points) (first + j) ≡ net_at nets.now j }
-    requires circuit { golden.now.circuit ≡ lanes.now.circuit }
-    requires nets { All (IsNet lanes.now.circuit) nets.now }
-    ensures { (k : ℕ) → k < 64 → AreAtCycle (run_at golden.now.runs run) (t + 1) lanes.now
-        → bit result k ≡ list_any (λ net. not (same_bit (with_faults lanes.now.circuit (faults_of lanes.now.loads k) (run_at golden.now.runs run) t net)
-        (golden_value lanes.now.circuit (run_at golden.now.runs run) t net))) nets.now }
+    requires circuit { golden.now.circuit ≡ (B.load lanes.now).circuit }
+    requires nets { All (IsNet (B.load lanes.now).circuit) nets.now }
+    ensures { (k : ℕ) → k < 64 → B.IsAfter lanes.now (take (t + 1) (run_at golden.now.runs run).vectors)
+        → bit result k ≡ list_any (λ net. not (same_bit (with_faults (B.load lanes.now).circuit (lane_faults (B.load lanes.now) word k) (run_at golden.now.runs run) t net)
+        (golden_value (B.load lanes.now).circuit (run_at golden.now.runs run) t net))) nets.now }
 {
     let mut differ = 0;
     for (j, net) in nets.iter().enumerate() {
         let own = golden.observe(run, t, first + j as u32);
-        differ = either_lanes(differ, other_lanes(word_of(lanes, *net), own));
+        differ = either_lanes(differ, other_lanes(word_of(lanes, word, *net), own));
     }
     differ
 }
 
 /// The lanes in which some of these alarms is 1 in a cycle of a run, and 0 in the golden run.
-pub fn raised_in(lanes: &Lanes, golden: &Golden, run: u32, t: u32, nets: &[NetId]) -> u64
+pub fn raised_in<B: LaneWords>(
+    lanes: &B,
+    word: u32,
+    golden: &Golden,
+    run: u32,
+    t: u32,
+    nets: &[NetId],
+) -> u64
+    requires word { word < B.words }
     requires run { run < length golden.now.runs }
     requires cycle { t < cycles_of (run_at golden.now.runs run) }
     requires few { length nets.now ≤ 1024 }
     requires points { golden.now.points.alarm ≡ nets.now }
-    requires circuit { golden.now.circuit ≡ lanes.now.circuit }
-    requires nets { All (IsNet lanes.now.circuit) nets.now }
-    ensures { (k : ℕ) → k < 64 → AreAtCycle (run_at golden.now.runs run) (t + 1) lanes.now
-        → bit result k ≡ list_any (λ net. with_faults lanes.now.circuit (faults_of lanes.now.loads k) (run_at golden.now.runs run) t net
-        && not (golden_value lanes.now.circuit (run_at golden.now.runs run) t net)) nets.now }
+    requires circuit { golden.now.circuit ≡ (B.load lanes.now).circuit }
+    requires nets { All (IsNet (B.load lanes.now).circuit) nets.now }
+    ensures { (k : ℕ) → k < 64 → B.IsAfter lanes.now (take (t + 1) (run_at golden.now.runs run).vectors)
+        → bit result k ≡ list_any (λ net. with_faults (B.load lanes.now).circuit (lane_faults (B.load lanes.now) word k) (run_at golden.now.runs run) t net
+        && not (golden_value (B.load lanes.now).circuit (run_at golden.now.runs run) t net)) nets.now }
 {
     let mut found = 0;
     for (j, net) in nets.iter().enumerate() {
         let own = golden.alarm(run, t, j as u32);
-        found = either_lanes(found, raised_lanes(word_of(lanes, *net), own));
+        found = either_lanes(found, raised_lanes(word_of(lanes, word, *net), own));
     }
     found
 }
 
 /// The lanes in which some of these alarms is 0 in a cycle of a run, and 1 in the golden run.
-pub fn silenced_in(lanes: &Lanes, golden: &Golden, run: u32, t: u32, nets: &[NetId]) -> u64
+pub fn silenced_in<B: LaneWords>(
+    lanes: &B,
+    word: u32,
+    golden: &Golden,
+    run: u32,
+    t: u32,
+    nets: &[NetId],
+) -> u64
+    requires word { word < B.words }
     requires run { run < length golden.now.runs }
     requires cycle { t < cycles_of (run_at golden.now.runs run) }
     requires few { length nets.now ≤ 1024 }
     requires points { golden.now.points.alarm ≡ nets.now }
-    requires circuit { golden.now.circuit ≡ lanes.now.circuit }
-    requires nets { All (IsNet lanes.now.circuit) nets.now }
-    ensures { (k : ℕ) → k < 64 → AreAtCycle (run_at golden.now.runs run) (t + 1) lanes.now
-        → bit result k ≡ list_any (λ net. not (with_faults lanes.now.circuit (faults_of lanes.now.loads k) (run_at golden.now.runs run) t net)
-        && golden_value lanes.now.circuit (run_at golden.now.runs run) t net) nets.now }
+    requires circuit { golden.now.circuit ≡ (B.load lanes.now).circuit }
+    requires nets { All (IsNet (B.load lanes.now).circuit) nets.now }
+    ensures { (k : ℕ) → k < 64 → B.IsAfter lanes.now (take (t + 1) (run_at golden.now.runs run).vectors)
+        → bit result k ≡ list_any (λ net. not (with_faults (B.load lanes.now).circuit (lane_faults (B.load lanes.now) word k) (run_at golden.now.runs run) t net)
+        && golden_value (B.load lanes.now).circuit (run_at golden.now.runs run) t net) nets.now }
 {
     let mut found = 0;
     for (j, net) in nets.iter().enumerate() {
         let own = golden.alarm(run, t, j as u32);
-        found = either_lanes(found, silenced_lanes(word_of(lanes, *net), own));
+        found = either_lanes(found, silenced_lanes(word_of(lanes, word, *net), own));
     }
     found
 }

@@ -1,37 +1,40 @@
 // One run in all lanes.
-ghost use Rattle.std.specs.Prelude.{◌≡◌, ◌<◌, ◌+◌, ◌*◌, ◌||◌, ◌&&◌, ℕ, length};
-ghost use Rattle.workload.specs.Runs.{cycles_of, is_test, run_at};
-ghost use Rattle.alarm_points.specs.Watch.{AreMadeFor};
+ghost use Rattle.std.specs.Prelude.{◌≡◌, ◌<◌, ◌+◌, ◌*◌, ℕ, length, take};
+ghost use Rattle.circuit.specs.Circuit.{Circuit};
+ghost use Rattle.workload.specs.declared.run.Run.{Run};
+ghost use Rattle.workload.specs.Runs.{cycles_of, run_at};
 ghost use Rattle.alarm_points.specs.PointsKept.{ArePointsFor};
-ghost use Rattle.campaign_plan.specs.Danger.{is_dangerous_in, is_noticed_in, is_raised, is_silenced};
-ghost use Rattle.fm_base.specs.Lists.{some_below};
-ghost use Rattle.fm_base.specs.Planes.{bit};
-ghost use Rattle.golden_run.specs.Recording.{Recording};
-ghost use Rattle.lane_kernel.specs.Bank.{IsMadeFor, KeepsLoads};
-ghost use Rattle.lane_kernel.specs.Loads.{faults_of};
-ghost use Rattle.classifier.specs.Seen.{IsInRun};
+ghost use Rattle.classifier.specs.Load.{IsLoadFor, Load};
+ghost use Rattle.alarm_points.specs.FourWatches.{AreAllMadeFor};
+ghost use Rattle.classifier.specs.Seen.{HaveAllSeen, KeepSettings};
 
-use crate::points::{either_lanes, raised_in, silenced_in};
-use crate::see::see_goals;
+use crate::noise::{Noise, SILENT};
+use crate::see::see_cycle;
+use crate::words::LaneWords;
 use alarm_points::Points;
 use alarm_points::windows::Windows;
 use circuit::netlist::Netlist;
 use fm_base::Steps;
 use golden_run::values::Golden;
-use lane_kernel::Lanes;
 use netlist_levels::Order;
 use std::sync::ledger::Ledger;
-use workload::run::{Kind, Workload};
+use workload::run::Workload;
 
-/// The lanes in which an alarm is raised, and those in which a test finds one silenced.
-#[derive(Clone, Copy)]
-pub struct Noise {
-    pub raised: u64,
-    pub silenced: u64,
+// Forgets what was seen of earlier runs.
+fn start_windows(points: &Points, windows: &mut [Windows], noise: &mut [Noise])
+    requires noise { length noise.old ≡ length windows.old }
+    requires made { AreAllMadeFor points.now windows.old }
+    ensures seen { (c : Circuit) (run : Run) (load : Load) → HaveAllSeen c points.now run load 0 windows.new noise.new }
+    ensures ftti { KeepSettings windows.old windows.new }
+{
+    for word in 0..windows.len() {
+        windows[word].start();
+        noise[word] = SILENT;
+    }
 }
 
-// Simulates the next cycle of a run, and shows it to the goals.
-fn cycle_of<L: Ledger>(
+// Simulates the next cycle of a run, and shows it to the windows of each word.
+fn run_cycle<B: LaneWords, L: Ledger>(
     net: &Netlist,
     order: &Order,
     work: &Workload,
@@ -39,77 +42,75 @@ fn cycle_of<L: Ledger>(
     golden: &Golden,
     run: u32,
     t: u32,
-    lanes: &mut Lanes,
-    windows: &mut Windows,
+    lanes: &mut B,
+    windows: &mut [Windows],
+    noise: &mut [Noise],
     steps: &mut Steps<L>,
-) -> Noise
+)
     requires golden { golden.now ≡ record { circuit = net.now; runs = work.now; points = points.now } }
     requires points { ArePointsFor net.now points.now }
     requires run { run < length work.now }
     requires cycle { t < cycles_of (run_at work.now run) }
     requires few { t < 65536 }
-    requires state { IsInRun net.now order.now points.now (run_at work.now run) t lanes.old windows.old }
-    ensures state { IsInRun net.now order.now points.now (run_at work.now run) (t + 1) lanes.new windows.new }
-    ensures loads { lanes.new.loads ≡ lanes.old.loads }
-    ensures ftti { windows.new.ftti ≡ windows.old.ftti }
-    ensures raised { (k : ℕ) → k < 64 → bit result.raised k ≡ is_raised net.now points.now (faults_of lanes.old.loads k) (run_at work.now run) t }
-    ensures silenced { (k : ℕ) → k < 64 → bit result.silenced k ≡ is_silenced net.now points.now (faults_of lanes.old.loads k) (run_at work.now run) t }
+    requires made { IsLoadFor net.now order.now (B.load lanes.old) }
+    requires cycles { B.cycles lanes.old ≡ t }
+    requires after { B.IsAfter lanes.old (take t (run_at work.now run).vectors) }
+    requires windows { length windows.old ≡ B.words }
+    requires noise { length noise.old ≡ B.words }
+    requires seen { HaveAllSeen net.now points.now (run_at work.now run) (B.load lanes.old) t windows.old noise.old }
+    ensures load { B.load lanes.new ≡ B.load lanes.old }
+    ensures cycles { B.cycles lanes.new ≡ t + 1 }
+    ensures after { B.IsAfter lanes.new (take (t + 1) (run_at work.now run).vectors) }
+    ensures seen { HaveAllSeen net.now points.now (run_at work.now run) (B.load lanes.old) (t + 1) windows.new noise.new }
+    ensures ftti { KeepSettings windows.old windows.new }
     ensures cost { steps.new ≡ steps.old + length net.now.tables }
 {
-    lanes.cycle(net, order, work.vector(run, t), steps);
-    let alarms = points.alarm.as_slice();
-    let raised = raised_in(lanes, golden, run, t, alarms);
-    let silenced = silenced_in(lanes, golden, run, t, alarms);
-    see_goals(
-        lanes,
-        golden,
-        run,
-        t,
-        points.goals.as_slice(),
-        raised,
-        windows,
-    );
-    Noise { raised, silenced }
+    lanes.advance(net, order, work.vector(run, t), steps);
+    for word in 0..B::count() {
+        see_cycle(
+            lanes,
+            word,
+            points,
+            golden,
+            run,
+            t,
+            &mut windows[word as usize],
+            &mut noise[word as usize],
+        );
+    }
 }
 
-/// Simulates a run from its start in the 64 circuits of `lanes`, each with its own faults, and shows each cycle to the windows
-/// of the safety goals. It takes no memory, and one step for each table and cycle. Lane k of the answer says whether an alarm
-/// was raised in some cycle, and whether one was silenced.
-pub fn watch_run<L: Ledger>(
+/// Simulates a run from its start in all lanes, and shows each cycle to the windows of each word. It takes one step for each
+/// table and cycle. What lanes, windows and noise held before is no matter.
+pub fn watch_run<B: LaneWords, L: Ledger>(
     net: &Netlist,
     order: &Order,
     work: &Workload,
     points: &Points,
     golden: &Golden,
     run: u32,
-    lanes: &mut Lanes,
-    windows: &mut Windows,
+    lanes: &mut B,
+    windows: &mut [Windows],
+    noise: &mut [Noise],
     steps: &mut Steps<L>,
-) -> Noise
+)
     requires golden { golden.now ≡ record { circuit = net.now; runs = work.now; points = points.now } }
     requires points { ArePointsFor net.now points.now }
     requires run { run < length work.now }
-    requires lanes { IsMadeFor net.now order.now lanes.old }
-    requires windows { AreMadeFor points.now windows.old }
-    ensures state { IsInRun net.now order.now points.now (run_at work.now run) (cycles_of (run_at work.now run)) lanes.new windows.new }
-    ensures loads { lanes.new.loads ≡ lanes.old.loads }
-    ensures ftti { windows.new.ftti ≡ windows.old.ftti }
-    ensures raised { (k : ℕ) → k < 64
-        → bit result.raised k ≡ some_below (cycles_of (run_at work.now run)) (is_raised net.now points.now (faults_of lanes.old.loads k) (run_at work.now run)) }
-    ensures silenced { (k : ℕ) → k < 64
-        → bit result.silenced k ≡ some_below (cycles_of (run_at work.now run)) (is_silenced net.now points.now (faults_of lanes.old.loads k) (run_at work.now run)) }
+    requires made { IsLoadFor net.now order.now (B.load lanes.old) }
+    requires windows { length windows.old ≡ B.words }
+    requires noise { length noise.old ≡ B.words }
+    requires windows_made { AreAllMadeFor points.now windows.old }
+    ensures load { B.load lanes.new ≡ B.load lanes.old }
+    ensures seen { HaveAllSeen net.now points.now (run_at work.now run) (B.load lanes.old) (cycles_of (run_at work.now run)) windows.new noise.new }
+    ensures ftti { KeepSettings windows.old windows.new }
     ensures cost { steps.new ≡ steps.old + cycles_of (run_at work.now run) * length net.now.tables }
 {
-    lanes.start();
-    windows.start();
-    let mut raised = 0;
-    let mut silenced = 0;
+    lanes.restart();
+    start_windows(points, windows, noise);
     for t in 0..work.cycles(run) {
-        let noise = cycle_of(
-            net, order, work, points, golden, run, t, lanes, windows, steps,
+        run_cycle(
+            net, order, work, points, golden, run, t, lanes, windows, noise, steps,
         );
-        raised = either_lanes(raised, noise.raised);
-        silenced = either_lanes(silenced, noise.silenced);
     }
-    Noise { raised, silenced }
 }

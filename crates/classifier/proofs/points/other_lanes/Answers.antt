@@ -1,4 +1,4 @@
-use Rattle.std.proofs.Common.{◌≡◌, ◌&&◌, Bool, true, false, not, refl, ◌∙◌}
+use Rattle.std.proofs.Common.{◌≡◌, Bool, true, false, not, refl, ◌∙◌}
 use Rattle.fm_base.specs.Lists.{same_bit}
 use Rattle.fm_base.specs.Planes.{bit}
 use Rattle.alarm_points.proofs.Planes.{bit_of_not}

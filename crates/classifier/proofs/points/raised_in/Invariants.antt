@@ -4,14 +4,13 @@ use Rattle.circuit.specs.declared.parts.NetId.{NetId}
 use Rattle.workload.specs.Runs.{run_at}
 use Rattle.campaign_plan.specs.Danger.{golden, with_faults}
 use Rattle.fm_base.specs.Planes.{bit}
-use Rattle.lane_kernel.specs.Loads.{faults_of}
-use Rattle.classifier.specs.Seen.{AreAtCycle}
+use Rattle.classifier.specs.Load.{lane_faults}
 use Rattle.classifier.proofs.points.raised_in.Given as goal
 
 -- the lanes in which some alarm so far is raised
 abbrev pub invariant-loop-j : goal.invariant-loop-j
-invariant-loop-j l =
-    (k : ℕ) → k < 64 → AreAtCycle (run_at l.golden.runs l.run) (l.t + 1) l.lanes
+invariant-loop-j g l =
+    (k : ℕ) → k < 64 → g.B.LaneWords.IsAfter l.lanes (take (l.t + 1) (run_at l.golden.runs l.run).vectors)
     → bit l.found k
-    ≡ list_any (λ (net : NetId). with_faults l.lanes.circuit (faults_of l.lanes.loads k) (run_at l.golden.runs l.run) l.t net && not (golden l.lanes.circuit (run_at l.golden.runs l.run) l.t net))
+    ≡ list_any (λ (net : NetId). with_faults (g.B.LaneWords.load l.lanes).circuit (lane_faults (g.B.LaneWords.load l.lanes) l.word k) (run_at l.golden.runs l.run) l.t net && not (golden (g.B.LaneWords.load l.lanes).circuit (run_at l.golden.runs l.run) l.t net))
     (take l.j l.nets)

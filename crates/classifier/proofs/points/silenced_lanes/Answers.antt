@@ -1,5 +1,4 @@
 use Rattle.std.proofs.Common.{◌≡◌, ◌&&◌, Bool, true, false, not, refl, ◌∙◌}
-use Rattle.fm_base.specs.Lists.{same_bit}
 use Rattle.fm_base.specs.Planes.{bit}
 use Rattle.alarm_points.proofs.Planes.{bit_of_not}
 use Rattle.classifier.proofs.points.silenced_lanes.Goals as goal

@@ -1,0 +1,12 @@
+use Rattle.std.proofs.Common.{◌≡◌, ◌+◌, ◌*◌, ◌<◌, ℕ}
+use Rattle.lane_kernel.specs.Bank.{IsMadeFor}
+use Rattle.lane_kernel.specs.Loads.{faults_of}
+use Rattle.classifier.specs.Batch.{alone_in, batch_at}
+use Rattle.classifier.proofs.batch.load_words.Given as goal
+
+-- the words so far hold their batches
+abbrev pub invariant-loop-word : goal.invariant-loop-word
+invariant-loop-word l = record {
+  made : IsMadeFor l.initial.lanes.circuit l.initial.lanes.order l.lanes;
+  loads : (word k : ℕ) → word < l.word → k < 64 → faults_of l.lanes.loads (word * 64 + k) ≡ alone_in l.faults (batch_at l.batches word) k;
+}

@@ -1,0 +1,54 @@
+use Rattle.std.proofs.Common.{◌≡◌, ◌≢◌, ◌<◌, ◌++◌, ◌∷◌, ℕ, [], length, ap, sym, ◌∙◌, subst, arith, get_or-set_other}
+use Rattle.std.proofs.lemmas.List.{get_or_default}
+use Rattle.workload.specs.Runs.{cycles_of}
+use Rattle.alarm_points.specs.Watch.{Watches}
+use Rattle.campaign_plan.specs.declared.Outcome.{Outcome}
+use Rattle.campaign_plan.specs.Danger.{is_dangerous_in}
+use Rattle.classifier.specs.Load.{lane_faults}
+use Rattle.classifier.specs.Planes.{HasPlanes, outcome_at}
+use Rattle.alarm_points.specs.FourWatches.{windows_at}
+use Rattle.classifier.specs.Seen.{HaveSeen, noise_at}
+use Rattle.classifier.proofs.EachWord.{each_set_one}
+use Rattle.classifier.proofs.RunByRun.{planes_more}
+use Rattle.classifier.proofs.outcome.add_run.Goals as goal
+
+pub loop-word-preserved : goal.loop-word-preserved
+loop-word-preserved c =
+    let i = c.loop-word.word in
+    let outcomes = c.loop-word.outcomes in
+    let ws = c.args.windows.now in
+    let inv = c.loop-word.invariant in
+    let own = c.run_outcome-own in
+    let new = c.either.result in
+    let none : Outcome = outcome_at [] 0 in
+    let inside : i < length outcomes = omega (arith, c.loop-word-test.true, c.loop-word.auto.outcomes) in
+    let within : i < length ws = omega (arith, c.loop-word-test.true, c.requires.windows) in
+    let same : windows_at ws i ≡ c.index-windows-word.result =
+    sym (c.index-windows-word.is ∙ get_or_default ws i c.index-windows-word.result (windows_at [] 0) within) in
+    record {
+      done = λ circuit points runs run load word kind seen lt planes.
+          let more = λ (j : ℕ) (o : Outcome). HasPlanes circuit points (windows_at ws j).ftti (runs ++ run ∷ []) (lane_faults load j) o in
+          let before = λ (j : ℕ) (o : Outcome). HasPlanes circuit points (windows_at ws j).ftti runs (lane_faults load j) o in
+          let sees : HaveSeen circuit points run (lane_faults load i) (cycles_of run) c.index-windows-word.result (noise_at c.args.noise.now i) =
+          subst (λ (w : Watches). HaveSeen circuit points run (lane_faults load i) (cycles_of run) w (noise_at c.args.noise.now i)) same (seen i within) in
+          each_set_one (λ j o. before j (outcome_at c.args.outcomes.now j) → more j o) outcomes i new none inside
+          (λ old.
+          planes_more circuit points (windows_at ws i).ftti runs run (lane_faults load i) (outcome_at outcomes i) own.result new
+          (subst (before i) (sym (inv.left i (omega arith))) old)
+          (λ k lane.
+          own.ensures.danger circuit points run (lane_faults load i) k kind sees lane
+          ∙ ap (λ (w : Watches). is_dangerous_in circuit points w.ftti (lane_faults load i k) run) (sym same))
+          (λ k lane. own.ensures.noticed circuit points run (lane_faults load i) k kind sees lane)
+          c.either.ensures.danger c.either.ensures.noticed (omega (arith, c.either.type_inv), omega (arith, c.either.type_inv)))
+          word
+          (λ apart old. let early : word < i = omega (arith, apart, lt) in inv.done circuit points runs run load word kind seen early old)
+          planes;
+      left = λ word le.
+          let apart : word ≢ i = omega (arith, le) in
+          get_or-set_other outcomes i word new none apart ∙ inv.left word (omega (arith, le));
+    }
+
+pub returns : goal.returns
+returns c = λ circuit points runs run load word kind seen lt planes.
+    let done : word < c.loop-word.word = omega (arith, lt, c.loop-word-test.false) in
+    c.loop-word.invariant.done circuit points runs run load word kind seen done planes

@@ -1,0 +1,19 @@
+use Rattle.std.proofs.Common.{◌≡◌, ◌+◌, ◌*◌, ◌<◌, ℕ, length, take}
+use Rattle.workload.specs.Runs.{all_cycles}
+use Rattle.classifier.specs.Load.{lane_faults}
+use Rattle.classifier.specs.Planes.{HasPlanes, outcome_at}
+use Rattle.alarm_points.specs.FourWatches.{AreAllMadeFor, windows_at}
+use Rattle.classifier.specs.Seen.{KeepSettings}
+use Rattle.classifier.proofs.outcome.loaded_outcomes.Given as goal
+
+-- the runs so far are judged
+abbrev pub invariant-loop-run : goal.invariant-loop-run
+invariant-loop-run g l = record {
+  load : g.B.LaneWords.load l.lanes ≡ g.B.LaneWords.load l.initial.lanes;
+  made : AreAllMadeFor l.points l.windows;
+  ftti : KeepSettings l.initial.windows l.windows;
+  planes : (word : ℕ) → word < g.B.LaneWords.words
+      → HasPlanes l.net l.points (windows_at l.initial.windows word).ftti (take l.run l.work) (lane_faults (g.B.LaneWords.load l.initial.lanes) word)
+      (outcome_at l.outcomes word);
+  cost : l.steps ≡ l.initial.steps + all_cycles (take l.run l.work) * length l.net.tables;
+}

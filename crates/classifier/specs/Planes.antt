@@ -1,0 +1,26 @@
+-- What the faults that the lanes were loaded with are found to be.
+use Rattle.std.specs.Prelude.{◌≡◌, ◌<◌, ◌^◌, ℕ, List, slice_index_or}
+use Rattle.circuit.specs.declared.parts.Fault.{Fault}
+use Rattle.circuit.specs.Circuit.{Circuit}
+use Rattle.workload.specs.declared.run.Run.{Run}
+use Rattle.alarm_points.specs.declared.Points.{Points}
+use Rattle.fm_base.specs.Planes.{bit, plane_of}
+use Rattle.campaign_plan.specs.declared.Outcome.{Outcome}
+use Rattle.campaign_plan.specs.Danger.{is_dangerous, is_noticed}
+
+-- the planes of danger, and of notice, of the list of faults of each lane
+unfoldable pub planes_of : Circuit → Points → ℕ → List Run → (ℕ → List Fault) → Outcome
+planes_of c points ftti runs faults = record {
+  danger = plane_of (λ k. is_dangerous c points ftti runs (faults k));
+  noticed = plane_of (λ k. is_noticed c points runs (faults k));
+}
+
+-- the same of two words, bit by bit
+pub record HasPlanes (c : Circuit) (points : Points) (ftti : ℕ) (runs : List Run) (faults : ℕ → List Fault) (outcome : Outcome) : Type 0 where
+  pub fits : (outcome.danger < 2 ^ 64) × (outcome.noticed < 2 ^ 64)
+  pub danger : (k : ℕ) → k < 64 → bit outcome.danger k ≡ is_dangerous c points ftti runs (faults k)
+  pub noticed : (k : ℕ) → k < 64 → bit outcome.noticed k ≡ is_noticed c points runs (faults k)
+
+-- the planes of a word
+abbrev pub outcome_at : List Outcome → ℕ → Outcome
+outcome_at outcomes word = slice_index_or outcomes word (record { danger = 0; noticed = 0 })

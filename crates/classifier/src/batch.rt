@@ -1,0 +1,170 @@
+// What the faults of batches are found to be, each alone.
+ghost use Rattle.std.specs.Prelude.{◌≡◌, ◌<◌, ◌+◌, ◌*◌, ℕ, List, length, map};
+ghost use Rattle.circuit.specs.declared.parts.Fault.{Fault};
+ghost use Rattle.circuit.specs.Circuit.{Circuit};
+ghost use Rattle.workload.specs.declared.run.Run.{Run};
+ghost use Rattle.workload.specs.Runs.{all_cycles};
+ghost use Rattle.alarm_points.specs.declared.Points.{Points as PointsValue};
+ghost use Rattle.alarm_points.specs.FourWatches.{AreFourMadeFor};
+ghost use Rattle.alarm_points.specs.PointsKept.{ArePointsFor};
+ghost use Rattle.alarm_points.specs.Watch.{AreMadeFor};
+ghost use Rattle.campaign_plan.specs.Batches.{outcome_of};
+ghost use Rattle.lane_kernel.specs.Bank.{IsMadeFor};
+ghost use Rattle.lane_kernel.specs.Loads.{faults_of};
+ghost use Rattle.classifier.specs.Batch.{alone_in, batch_at, fault_in_lane, outcome_for};
+ghost use Rattle.classifier.specs.Planes.{HasPlanes, outcome_at};
+
+use crate::noise::SILENT;
+use crate::outcome::{NOTHING, loaded_outcome, loaded_outcomes};
+use alarm_points::Points;
+use alarm_points::windows::Windows;
+use alarm_points::windows4::Windows4;
+use campaign_plan::Outcome;
+use circuit::netlist::Netlist;
+use circuit::parts::Fault;
+use fault_list::FaultList;
+use fm_base::Steps;
+use golden_run::values::Golden;
+use lane_kernel::{Lanes, Lanes4};
+use netlist_levels::Order;
+use std::sync::ledger::Ledger;
+use workload::run::Workload;
+
+const LANES: u32 = 64;
+
+// The fault in a lane of a batch, where there is a batch and the lane holds a fault.
+fn fault_in(faults: &FaultList, batch: Option<u32>, lane: u32) -> Option<Fault>
+    ensures { result ≡ fault_in_lane faults.now batch lane }
+{
+    let batch = batch?;
+    let number = u64::from(LANES) * u64::from(batch) + u64::from(lane);
+    if number < u64::from(faults.len()) {
+        Some(faults.fault(number as u32))
+    } else {
+        None
+    }
+}
+
+// The faults of a batch, each alone in its lane.
+fn loads_of(faults: &FaultList, batch: Option<u32>) -> [[Option<Fault>; 2]; 64]
+    ensures { (k : ℕ) → k < 64 → faults_of result k ≡ alone_in faults.now batch k }
+{
+    let mut loads = [[None, None]; 64];
+    for lane in 0..LANES {
+        loads[lane as usize] = [fault_in(faults, batch, lane), None];
+    }
+    loads
+}
+
+// The planes of a batch alone, where these are those of lanes that were loaded with it.
+fn of_batch(faults: &FaultList, batch: Option<u32>, loaded: Outcome) -> Outcome
+    ensures { (c : Circuit) (points : PointsValue) (ftti : ℕ) (runs : List Run) (lanes : ℕ → List Fault)
+        → ((k : ℕ) → k < 64 → lanes k ≡ alone_in faults.now batch k) → HasPlanes c points ftti runs lanes loaded
+        → result ≡ outcome_for c points ftti runs faults.now batch }
+{
+    let Some(batch) = batch else {
+        return NOTHING;
+    };
+    let used = faults.used(batch);
+    Outcome {
+        danger: loaded.danger & used,
+        noticed: loaded.noticed & used,
+    }
+}
+
+/// The planes of danger and of notice of a batch of 64 faults, each alone in its lane; bits of lanes that hold no fault are 0,
+/// as are all of a batch behind the last. What lanes and windows held before is no matter. It takes no memory, and one step
+/// for each table and cycle.
+pub fn batch_outcome<L: Ledger>(
+    net: &Netlist,
+    order: &Order,
+    faults: &FaultList,
+    batch: u32,
+    work: &Workload,
+    points: &Points,
+    golden: &Golden,
+    lanes: &mut Lanes,
+    windows: &mut Windows,
+    steps: &mut Steps<L>,
+) -> Outcome
+    requires golden { golden.now ≡ record { circuit = net.now; runs = work.now; points = points.now } }
+    requires points { ArePointsFor net.now points.now }
+    requires lanes { IsMadeFor net.now order.now lanes.old }
+    requires windows { AreMadeFor points.now windows.old }
+    ensures outcome { result ≡ outcome_of net.now points.now windows.old.ftti work.now faults.now batch }
+    ensures lanes { IsMadeFor net.now order.now lanes.new }
+    ensures windows { AreMadeFor points.now windows.new }
+    ensures ftti { windows.new.ftti ≡ windows.old.ftti }
+    ensures cost { steps.new ≡ steps.old + all_cycles work.now * length net.now.tables }
+{
+    lanes.load(&loads_of(faults, Some(batch)));
+    let loaded = loaded_outcome(net, order, work, points, golden, lanes, windows, steps);
+    of_batch(faults, Some(batch), loaded)
+}
+
+// Loads each word with its batch.
+fn load_words(faults: &FaultList, batches: &[Option<u32>; 4], lanes: &mut Lanes4)
+    ensures made { IsMadeFor lanes.old.circuit lanes.old.order lanes.new }
+    ensures loads { (word k : ℕ) → word < 4 → k < 64
+        → faults_of lanes.new.loads (word * 64 + k) ≡ alone_in faults.now (batch_at batches.now word) k }
+{
+    for word in 0..4 {
+        lanes.load(word, &loads_of(faults, batches[word as usize]));
+    }
+}
+
+// The planes of each word's batch alone.
+fn of_batches(faults: &FaultList, batches: &[Option<u32>; 4], outcomes: &mut [Outcome; 4])
+    ensures { (c : Circuit) (points : PointsValue) (ftti : ℕ) (runs : List Run) (word : ℕ) (lanes : ℕ → List Fault) → word < 4
+        → ((k : ℕ) → k < 64 → lanes k ≡ alone_in faults.now (batch_at batches.now word) k)
+        → HasPlanes c points ftti runs lanes (outcome_at outcomes.old word)
+        → outcome_at outcomes.new word ≡ outcome_for c points ftti runs faults.now (batch_at batches.now word) }
+{
+    for word in 0..4 {
+        outcomes[word] = of_batch(faults, batches[word], outcomes[word]);
+    }
+}
+
+/// The planes of danger and of notice of up to four batches at once, one in each word, each fault alone in its lane; both planes
+/// are 0 where there is no batch. What lanes and windows held before is no matter. It takes no memory, and one step for each
+/// table and cycle, for all four words together.
+pub fn quad_outcomes<L: Ledger>(
+    net: &Netlist,
+    order: &Order,
+    faults: &FaultList,
+    batches: &[Option<u32>; 4],
+    work: &Workload,
+    points: &Points,
+    golden: &Golden,
+    lanes: &mut Lanes4,
+    windows: &mut Windows4,
+    steps: &mut Steps<L>,
+) -> [Outcome; 4]
+    requires golden { golden.now ≡ record { circuit = net.now; runs = work.now; points = points.now } }
+    requires points { ArePointsFor net.now points.now }
+    requires lanes { IsMadeFor net.now order.now lanes.old }
+    requires windows { AreFourMadeFor points.now windows.old }
+    ensures outcomes { result ≡ map (outcome_for net.now points.now windows.old.ftti work.now faults.now) batches.now }
+    ensures lanes { IsMadeFor net.now order.now lanes.new }
+    ensures windows { AreFourMadeFor points.now windows.new }
+    ensures ftti { windows.new.ftti ≡ windows.old.ftti }
+    ensures cost { steps.new ≡ steps.old + all_cycles work.now * length net.now.tables }
+{
+    load_words(faults, batches, lanes);
+    let mut noise = [SILENT; 4];
+    let mut outcomes = [NOTHING; 4];
+    loaded_outcomes(
+        net,
+        order,
+        work,
+        points,
+        golden,
+        lanes,
+        windows.words(),
+        &mut noise,
+        &mut outcomes,
+        steps,
+    );
+    of_batches(faults, batches, &mut outcomes);
+    outcomes
+}

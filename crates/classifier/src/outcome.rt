@@ -1,0 +1,166 @@
+// What the faults in the lanes are found to be, over all runs.
+ghost use Rattle.std.specs.Prelude.{◌≡◌, ◌<◌, ◌+◌, ◌*◌, ◌++◌, ◌∷◌, [], ◌||◌, ℕ, List, length};
+ghost use Rattle.circuit.specs.declared.parts.Fault.{Fault};
+ghost use Rattle.circuit.specs.Circuit.{Circuit};
+ghost use Rattle.workload.specs.declared.run.Run.{Run};
+ghost use Rattle.workload.specs.Runs.{all_cycles, cycles_of};
+ghost use Rattle.alarm_points.specs.declared.Points.{Points as PointsValue};
+ghost use Rattle.alarm_points.specs.Watch.{AreMadeFor};
+ghost use Rattle.alarm_points.specs.PointsKept.{ArePointsFor};
+ghost use Rattle.campaign_plan.specs.Danger.{is_dangerous_in, is_noticed_in};
+ghost use Rattle.fm_base.specs.Planes.{bit};
+ghost use Rattle.lane_kernel.specs.Bank.{IsMadeFor};
+ghost use Rattle.lane_kernel.specs.Loads.{faults_of};
+ghost use Rattle.classifier.specs.Load.{IsLoadFor, Load, lane_faults};
+ghost use Rattle.classifier.specs.Planes.{HasPlanes, outcome_at, planes_of};
+ghost use Rattle.alarm_points.specs.FourWatches.{AreAllMadeFor, windows_at};
+ghost use Rattle.classifier.specs.Seen.{HaveAllSeen, HaveSeen, KeepSettings};
+
+use crate::noise::{Noise, SILENT};
+use crate::points::either_lanes;
+use crate::run::watch_run;
+use crate::words::LaneWords;
+use alarm_points::Points;
+use alarm_points::windows::Windows;
+use campaign_plan::Outcome;
+use circuit::netlist::Netlist;
+use fm_base::Steps;
+use golden_run::values::Golden;
+use lane_kernel::Lanes;
+use netlist_levels::Order;
+use std::slice::from_mut;
+use std::sync::ledger::Ledger;
+use workload::run::{Kind, Workload};
+
+/// No lane in danger, and none noticed.
+pub const NOTHING: Outcome = Outcome {
+    danger: 0,
+    noticed: 0,
+};
+
+// What a run of a kind shows in a word: the lanes that go unalarmed are in danger in the mission alone, and a silenced alarm
+// is noticed in a test alone.
+fn run_outcome(kind: Kind, windows: &Windows, noise: Noise) -> Outcome
+    ensures danger { (c : Circuit) (points : PointsValue) (run : Run) (faults : ℕ → List Fault) (k : ℕ) → run.kind ≡ kind
+        → HaveSeen c points run faults (cycles_of run) windows.now noise → k < 64
+        → bit result.danger k ≡ is_dangerous_in c points windows.now.ftti (faults k) run }
+    ensures noticed { (c : Circuit) (points : PointsValue) (run : Run) (faults : ℕ → List Fault) (k : ℕ) → run.kind ≡ kind
+        → HaveSeen c points run faults (cycles_of run) windows.now noise → k < 64
+        → bit result.noticed k ≡ is_noticed_in c points (faults k) run }
+{
+    match kind {
+        Kind::Mission => Outcome {
+            danger: windows.end(),
+            noticed: noise.raised,
+        },
+        Kind::Test => Outcome {
+            danger: 0,
+            noticed: either_lanes(noise.raised, noise.silenced),
+        },
+    }
+}
+
+// The planes of both.
+fn either(a: Outcome, b: Outcome) -> Outcome
+    ensures danger { (k : ℕ) → bit result.danger k ≡ (bit a.danger k || bit b.danger k) }
+    ensures noticed { (k : ℕ) → bit result.noticed k ≡ (bit a.noticed k || bit b.noticed k) }
+{
+    Outcome {
+        danger: either_lanes(a.danger, b.danger),
+        noticed: either_lanes(a.noticed, b.noticed),
+    }
+}
+
+// Adds a run to what the runs before it have shown in each word.
+fn add_run(kind: Kind, windows: &[Windows], noise: &[Noise], outcomes: &mut [Outcome])
+    requires windows { length windows.now ≡ length outcomes.old }
+    requires noise { length noise.now ≡ length outcomes.old }
+    ensures { (c : Circuit) (points : PointsValue) (runs : List Run) (run : Run) (load : Load) (word : ℕ) → run.kind ≡ kind
+        → HaveAllSeen c points run load (cycles_of run) windows.now noise.now → word < length outcomes.old
+        → HasPlanes c points (windows_at windows.now word).ftti runs (lane_faults load word) (outcome_at outcomes.old word)
+        → HasPlanes c points (windows_at windows.now word).ftti (runs ++ run ∷ []) (lane_faults load word) (outcome_at outcomes.new word) }
+{
+    for word in 0..outcomes.len() {
+        let own = run_outcome(kind, &windows[word], noise[word]);
+        outcomes[word] = either(outcomes[word], own);
+    }
+}
+
+/// Simulates all runs in all lanes, as they are loaded. `outcomes`, all 0 before, are the planes of danger and of notice of
+/// each word: bit k of each is that of the faults of lane k together. What lanes, windows and noise held of earlier runs is no
+/// matter.
+pub fn loaded_outcomes<B: LaneWords, L: Ledger>(
+    net: &Netlist,
+    order: &Order,
+    work: &Workload,
+    points: &Points,
+    golden: &Golden,
+    lanes: &mut B,
+    windows: &mut [Windows],
+    noise: &mut [Noise],
+    outcomes: &mut [Outcome],
+    steps: &mut Steps<L>,
+)
+    requires golden { golden.now ≡ record { circuit = net.now; runs = work.now; points = points.now } }
+    requires points { ArePointsFor net.now points.now }
+    requires made { IsLoadFor net.now order.now (B.load lanes.old) }
+    requires windows { length windows.old ≡ B.words }
+    requires windows_made { AreAllMadeFor points.now windows.old }
+    requires noise { length noise.old ≡ B.words }
+    requires outcomes { length outcomes.old ≡ B.words }
+    requires nothing { (word : ℕ) → outcome_at outcomes.old word ≡ record { danger = 0; noticed = 0 } }
+    ensures load { B.load lanes.new ≡ B.load lanes.old }
+    ensures windows_made { AreAllMadeFor points.now windows.new }
+    ensures ftti { KeepSettings windows.old windows.new }
+    ensures planes { (word : ℕ) → word < B.words
+        → HasPlanes net.now points.now (windows_at windows.old word).ftti work.now (lane_faults (B.load lanes.old) word) (outcome_at outcomes.new word) }
+    ensures cost { steps.new ≡ steps.old + all_cycles work.now * length net.now.tables }
+{
+    for run in 0..work.runs() {
+        watch_run(
+            net, order, work, points, golden, run, lanes, windows, noise, steps,
+        );
+        add_run(work.kind(run), windows, noise, outcomes);
+    }
+}
+
+/// Simulates all runs in the 64 circuits of `lanes`, as they are loaded, and answers the planes of danger and of notice: bit
+/// k of each is that of the faults of lane k together. `windows` has the fault tolerant time intervals. What lanes and windows
+/// held of earlier runs is no matter. It takes no memory, and one step for each table and cycle.
+pub fn loaded_outcome<L: Ledger>(
+    net: &Netlist,
+    order: &Order,
+    work: &Workload,
+    points: &Points,
+    golden: &Golden,
+    lanes: &mut Lanes,
+    windows: &mut Windows,
+    steps: &mut Steps<L>,
+) -> Outcome
+    requires golden { golden.now ≡ record { circuit = net.now; runs = work.now; points = points.now } }
+    requires points { ArePointsFor net.now points.now }
+    requires lanes { IsMadeFor net.now order.now lanes.old }
+    requires windows { AreMadeFor points.now windows.old }
+    ensures outcome { result ≡ planes_of net.now points.now windows.old.ftti work.now (faults_of lanes.old.loads) }
+    ensures lanes { IsMadeFor net.now order.now lanes.new }
+    ensures loads { lanes.new.loads ≡ lanes.old.loads }
+    ensures windows { AreMadeFor points.now windows.new }
+    ensures ftti { windows.new.ftti ≡ windows.old.ftti }
+    ensures cost { steps.new ≡ steps.old + all_cycles work.now * length net.now.tables }
+{
+    let mut noise = [SILENT];
+    let mut outcomes = [NOTHING];
+    loaded_outcomes(
+        net,
+        order,
+        work,
+        points,
+        golden,
+        lanes,
+        from_mut(windows),
+        &mut noise,
+        &mut outcomes,
+        steps,
+    );
+    outcomes[0]
+}
