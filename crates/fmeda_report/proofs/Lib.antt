@@ -1,1 +1,7 @@
 pub mod Spacing
+pub mod Sending
+pub mod RowPlanes
+pub mod Summing
+pub mod Tallying
+pub mod Naming
+pub mod TrueReport

@@ -1,3 +1,7 @@
 pub mod Words
 pub mod Report
+pub mod Sends
 pub mod Spaces
+pub mod Rows
+pub mod Rooms
+pub mod Tallies

@@ -1,5 +1,18 @@
-// The words and the lines of the report.
+// The report of a campaign.
 #![tactic(auto)]
 
+mod faults;
+mod law;
 pub mod lines;
+mod metrics;
+mod parts;
+mod planes;
+mod report;
+pub mod sizes;
+mod space;
+mod tally;
 pub mod words;
+
+pub use law::rows_report_truly;
+pub use report::{write_report, write_summary};
+pub use space::ReportSpace;

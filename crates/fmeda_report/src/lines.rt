@@ -1,19 +1,17 @@
 // Lines of words, as they go out.
-ghost use Rattle.std.specs.Prelude.{◌≡◌, ◌≤◌, OnOk, OnErr, map};
+ghost use Rattle.std.specs.Prelude.{map};
 ghost use Rattle.std.specs.List.{flat_map};
 ghost use Rattle.fm_base.specs.Text.{line};
 ghost use Rattle.fmeda_report.specs.Spaces.{with_space};
-ghost use Rattle.fm_shelf.specs.Shelf.{told_more, HasPrefix, Rose};
+ghost use Rattle.fmeda_report.specs.Sends.{Sends};
 
 use fm_shelf::shelf::{Failed, Sink};
 use fm_shelf::whole::{write_all, write_pieces};
 
 // Writes words with a space behind each.
 fn write_words<O: Sink>(out: &mut O, words: &[&[u8]]) -> Result<(), Failed>
-    ensures ok { OnOk result (O.written out.new ≡ told_more (O.written out.old) (flat_map with_space words.now)) }
-    ensures torn { OnErr result (HasPrefix (O.written out.old) (O.written out.new) (flat_map with_space words.now)) }
-    ensures failed { OnErr result (Rose (O.faults out.old) (O.faults out.new)) }
-    ensures grows { O.faults out.old ≤ O.faults out.new }
+    ensures { Sends (O.written out.old) (O.written out.new) (O.faults out.old) (O.faults out.new)
+        (flat_map with_space words.now) result }
 {
     for word in words {
         write_pieces(out, &[word, b" "])?;
@@ -23,10 +21,8 @@ fn write_words<O: Sink>(out: &mut O, words: &[&[u8]]) -> Result<(), Failed>
 
 /// Writes a line: words with one space between each two, and a line feed.
 pub fn write_line<O: Sink>(out: &mut O, words: &[&[u8]]) -> Result<(), Failed>
-    ensures ok { OnOk result (O.written out.new ≡ told_more (O.written out.old) (line (map (λ word. word.now) words.now))) }
-    ensures torn { OnErr result (HasPrefix (O.written out.old) (O.written out.new) (line (map (λ word. word.now) words.now))) }
-    ensures failed { OnErr result (Rose (O.faults out.old) (O.faults out.new)) }
-    ensures grows { O.faults out.old ≤ O.faults out.new }
+    ensures { Sends (O.written out.old) (O.written out.new) (O.faults out.old) (O.faults out.new)
+        (line (map (λ word. word.now) words.now)) result }
 {
     let Some((last, words)) = words.split_last() else {
         return write_all(out, b"\n");

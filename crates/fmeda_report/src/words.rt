@@ -1,8 +1,9 @@
 // The words of the report.
-ghost use Rattle.std.specs.Prelude.{◌≡◌};
-ghost use Rattle.fmeda_report.specs.Words.{role_word as word_of_role, class_word as word_of_class, asil_word as word_of_asil, covering_word as word_of_covering};
+ghost use Rattle.std.specs.Prelude.{◌≡◌, ◌++◌, codes, decimal};
+ghost use Rattle.fmeda_report.specs.Words.{role_word as word_of_role, class_word as word_of_class, asil_word as word_of_asil, covering_word as word_of_covering, fraction_word as word_of_fraction, target_word as word_of_target};
 
-use metric_sums::{Asil, Class, Role};
+use fm_base::Line;
+use metric_sums::{Asil, Class, Fraction, Role};
 
 /// The word of a part's role.
 pub fn role_word(role: Role) -> &'static [u8]
@@ -45,4 +46,54 @@ pub fn covering_word(covered: bool) -> &'static [u8]
     ensures { result.now ≡ word_of_covering covered }
 {
     if covered { b"covered" } else { b"uncovered" }
+}
+
+// Whether a target is met, where there is a fraction.
+pub(crate) fn target_word(met: Option<bool>) -> &'static [u8]
+    ensures { result.now ≡ word_of_target met }
+{
+    match met {
+        None => b"-",
+        Some(true) => b"met",
+        Some(false) => b"missed",
+    }
+}
+
+/// A number in decimal digits, without leading zeros.
+pub fn number_word(n: u64) -> Line
+    ensures { result ≡ decimal n }
+{
+    let mut word = Line::new();
+    word.put_dec(n);
+    word
+}
+
+// Two numbers with a slash between them.
+fn ratio_word(fraction: Fraction) -> Line
+    ensures { result ≡ decimal fraction.num ++ codes "/" ++ decimal fraction.den }
+{
+    let mut word = Line::new();
+    word.put_dec(fraction.num);
+    word.put(b"/");
+    word.put_dec(fraction.den);
+    word
+}
+
+// A fraction that isn't reduced, where there is one.
+pub(crate) fn fraction_word(fraction: Option<Fraction>) -> Line
+    ensures { result ≡ word_of_fraction fraction }
+{
+    match fraction {
+        None => dash(),
+        Some(fraction) => ratio_word(fraction),
+    }
+}
+
+// What stands where there is no fraction.
+fn dash() -> Line
+    ensures { result ≡ codes "-" }
+{
+    let mut word = Line::new();
+    word.put(b"-");
+    word
 }

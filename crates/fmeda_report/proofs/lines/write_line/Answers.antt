@@ -1,34 +1,18 @@
-use Rattle.std.proofs.Common.{◌≡◌, ◌∙◌, ap, sym, subst, List, ℕ, ◌++◌, ◌∷◌, []}
-use Rattle.std.specs.Prelude.{Option}
-use Rattle.std.specs.List.{flat_map}
-use Rattle.std.proofs.lemmas.Result.{err_from_is_err_and, on_err_weaker, on_ok_weaker}
-use Rattle.fm_shelf.specs.Shelf.{told_more, HasPrefix}
-use Rattle.fm_shelf.proofs.Sends.{prefix_more, prefix_after, told_more-append}
-use Rattle.fm_base.specs.Text.{line}
-use Rattle.fmeda_report.specs.Spaces.{with_space}
-use Rattle.fmeda_report.proofs.Spacing.{texts, line_parts}
+use Rattle.std.proofs.Common.{sym, ◌++◌, ◌∷◌, []}
+use Rattle.std.proofs.lemmas.Result.{err_from_is_err_and}
+use Rattle.fmeda_report.proofs.Sending.{sends_as, sends_stop, sends_then}
+use Rattle.fmeda_report.proofs.Spacing.{line_parts}
 use Rattle.fmeda_report.proofs.lines.write_line.Goals as goal
 
-pub returns-in_err-write_words-clause-torn : goal.returns-in_err-write_words-clause-torn
-returns-in_err-write_words-clause-torn g c =
+pub returns-in_err-write_words : goal.returns-in_err-write_words
+returns-in_err-write_words g c =
     let p = err_from_is_err_and c.from_residual.result c.from_residual.ensures.1 in
     let e = line_parts c.args.words.now c.in-Some.words.now c.in-Some.last.now c.in-Some.ensures.cases.0 in
-    rw p.1 (subst (HasPrefix (g.O.Sink.written c.args.out.now) (g.O.Sink.written c.write_words.new.out)) (sym e)
-    (prefix_more _ _ (flat_map with_space c.in-Some.words.now) (c.in-Some.last.now.now ++ 10 ∷ []) c.in_err-write_words.ensures.torn))
+    rw p.1 (sends_as (sym e) (sends_stop (c.in-Some.last.now.now ++ 10 ∷ []) p.0 c.in_err-write_words.ensures))
 
-pub returns-clause-ok : goal.returns-clause-ok
-returns-clause-ok g c =
+pub returns : goal.returns
+returns g c =
     let e = line_parts c.args.words.now c.in-Some.words.now c.in-Some.last.now c.in-Some.ensures.cases.0 in
-    on_ok_weaker c.write_pieces.result
-    (λ more. more ∙ ap (λ w. told_more w (c.in-Some.last.now.now ++ 10 ∷ [])) c.in_ok-write_words.ensures.ok
-    ∙ told_more-append (g.O.Sink.written c.args.out.now) (flat_map with_space c.in-Some.words.now) (c.in-Some.last.now.now ++ 10 ∷ [])
-    ∙ ap (told_more (g.O.Sink.written c.args.out.now)) (sym e))
-    c.write_pieces.ensures.ok
-
-pub returns-clause-torn : goal.returns-clause-torn
-returns-clause-torn g c =
-    let e = line_parts c.args.words.now c.in-Some.words.now c.in-Some.last.now c.in-Some.ensures.cases.0 in
-    on_err_weaker c.write_pieces.result
-    (λ torn. subst (HasPrefix (g.O.Sink.written c.args.out.now) (g.O.Sink.written c.write_pieces.new.out)) (sym e)
-    (prefix_after (g.O.Sink.written c.args.out.now) _ _ (flat_map with_space c.in-Some.words.now) (c.in-Some.last.now.now ++ 10 ∷ []) c.in_ok-write_words.ensures.ok torn))
-    c.write_pieces.ensures.torn
+    let wrote = c.write_pieces.ensures in
+    sends_as (sym e) (sends_then c.in_ok-write_words.ensures
+    (record { ok = wrote.ok; torn = wrote.torn; failed = wrote.failed; grows = wrote.grows }))

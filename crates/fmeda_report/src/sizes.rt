@@ -1,0 +1,51 @@
+// The line of the sizes and the settings.
+ghost use Rattle.std.specs.Prelude.{◌≡◌};
+ghost use Rattle.workload.specs.Runs.{all_cycles};
+ghost use Rattle.fmeda_report.specs.Report.{sizes_line};
+ghost use Rattle.fmeda_report.specs.Sends.{Sends};
+
+use crate::lines::write_line;
+use crate::words::{asil_word, number_word};
+use campaign_plan::Plan;
+use fm_shelf::shelf::{Failed, Sink};
+use workload::run::Workload;
+
+/// The number of cycles over all workloads.
+pub fn cycles(work: &Workload) -> u32
+    ensures { result ≡ all_cycles work.now }
+{
+    let mut cycles = 0;
+    for run in 0..work.runs() {
+        cycles += work.cycles(run);
+    }
+    cycles
+}
+
+// Writes the sizes of the netlist, the fault list and the workload, and the settings.
+pub(crate) fn write_sizes<O: Sink>(plan: &Plan, out: &mut O) -> Result<(), Failed>
+    ensures { Sends (O.written out.old) (O.written out.new) (O.faults out.old) (O.faults out.new) (sizes_line plan.now) result }
+{
+    let net = plan.net();
+    let settings = plan.settings();
+    write_line(
+        out,
+        &[
+            b"nets",
+            number_word(net.nets() as u64).bytes(),
+            b"latches",
+            number_word(net.latches().len() as u64).bytes(),
+            b"faults",
+            number_word(u64::from(plan.faults().len())).bytes(),
+            b"batches",
+            number_word(u64::from(plan.batches())).bytes(),
+            b"workloads",
+            number_word(u64::from(plan.work().runs())).bytes(),
+            b"cycles",
+            number_word(u64::from(cycles(plan.work()))).bytes(),
+            b"ftti",
+            number_word(u64::from(settings.ftti)).bytes(),
+            b"asil",
+            asil_word(settings.asil),
+        ],
+    )
+}
