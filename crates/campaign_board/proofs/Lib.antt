@@ -3,3 +3,11 @@ pub mod Adding
 pub mod Boards
 pub mod Posting
 pub mod Results
+pub mod Rising
+pub mod Numbering
+pub mod Searching
+pub mod AddedRows
+pub mod Heading
+pub mod Marking
+pub mod Telling
+pub mod Seating

@@ -2,10 +2,9 @@
 use Rattle.std.proofs.Common.{◌≡◌, ℕ, zero, suc, ◌+◌, ◌<◌, ◌≤◌, List, [], ◌∷◌, ◌++◌, map, length, take, get_or, refl, ap, ap₂, sym, ◌∙◌, arith}
 use Rattle.std.specs.List.{flat_map}
 use Rattle.std.proofs.lemmas.List.{take_more, take-map, map-append, length-map, get_or-map, ext_get_or}
-use Rattle.metric_sums.specs.declared.Sums.{Sums}
 use Rattle.metric_sums.specs.Totals.{plus}
 use Rattle.campaign_plan.specs.Analysis.{Analysis}
-use Rattle.campaign_plan.specs.Batches.{Entry, own_sums, total}
+use Rattle.campaign_plan.specs.Batches.{own_sums, total}
 use Rattle.campaign_plan.proofs.Running.{total_push}
 use Rattle.result_file.specs.declared.Row.{Row}
 use Rattle.result_file.specs.ResultText.{row_text, row_of, row_at, result_rows, entry_at}
@@ -14,7 +13,7 @@ use Rattle.result_file.proofs.Whole.{no_row}
 use Rattle.result_file.proofs.WrittenBack.{length-result_rows, row_is}
 use Rattle.campaign_board.specs.Boards.{Start, AreEntries, entry_of, batches_of, sums_over}
 use Rattle.campaign_board.specs.Kept.{AreRows}
-use Rattle.campaign_board.specs.AsResult.{HasOwnSums, AreResult, BoardsAreResults}
+use Rattle.campaign_board.specs.AsResult.{HasOwnSums, BoardsAreResults}
 use Rattle.campaign_board.proofs.Adding.{sums_push}
 
 -- the plan's own sums of a row are its entry's

@@ -1,8 +1,8 @@
 ghost use Rattle.std.specs.Prelude.{◌≡◌, ◌<◌, ◌≤◌, vec_capacity, ◌++◌, ◌∷◌, [], true, false, length, IfOk, IfErr, OnOk, OnErr};
 ghost use Rattle.fm_shelf.specs.Shelf.{held_in, Rose};
 ghost use Rattle.fm_base.specs.Once.{Lacks};
-ghost use Rattle.campaign_board.specs.Boards.{entry_of, batches_of, sums_over, next_row};
-ghost use Rattle.campaign_board.specs.Kept.{IsBoard, IsStart, IsWhole, IsHeaderTorn};
+ghost use Rattle.campaign_board.specs.Boards.{AreEntries, entry_of, batches_of, sums_over, next_row};
+ghost use Rattle.campaign_board.specs.Kept.{AreRows, IsBoard, IsStart, IsWhole, IsHeaderTorn};
 ghost use Rattle.campaign_board.specs.Posts.{Tells, sums_at_end};
 
 use crate::entry::{Entry, Posted};
@@ -43,7 +43,7 @@ impl<F: Shelf + Drop, N: Origin> Model for Board<F, N> {
     ghost use Rattle.std.specs.Prelude.{◌≡◌, ◌≤◌, length, vec_capacity};
     ghost use Rattle.std.specs.String.{string_bytes};
     ghost use Rattle.fm_shelf.specs.Shelf.{held_in};
-    ghost use Rattle.campaign_board.specs.Kept.{IsBoard, Seen};
+    ghost use Rattle.campaign_board.specs.Kept.{AreRows, IsBoard, Seen};
 
     ghost Value = { Seen F };
 
@@ -115,8 +115,8 @@ impl<F: Shelf + Drop, N: Origin> Board<F, N> {
         Ok(())
     }
 
-    /// Adds the row of a batch to the file and to the rows, or the board has failed and keeps its rows.
-    pub fn add(&mut self, entry: &Entry) -> Posted
+    // Adds the row of a batch to the file and to the rows, or the board has failed and keeps its rows.
+    pub(crate) fn add(&mut self, entry: &Entry) -> Posted
         requires written { self.old.written ≡ true }
         requires batch { (entry.now.batch < length N.start.entries) × Lacks (batches_of self.old.rows) entry.now.batch }
         requires entry { entry.now ≡ entry_of N.start.entries entry.now.batch }
@@ -143,7 +143,8 @@ impl<F: Shelf + Drop, N: Origin> Board<F, N> {
     }
 
     pub fn rows(&self) -> &[Row]
-        ensures { result.now ≡ self.now.rows }
+        ensures rows { result.now ≡ self.now.rows }
+        ensures kept { AreEntries N.start.entries × AreRows N.start self.now.rows }
     {
         self.rows.as_slice()
     }
