@@ -1,0 +1,5 @@
+pub mod Turns
+pub mod Hiring
+pub mod Ends
+pub mod Sends
+pub mod Workshops

@@ -1,0 +1,40 @@
+-- From what a workshop keeps to what its workers are asked.
+use Rattle.std.proofs.Common.{◌≡◌, ℕ, Bool, false, List, ◌++◌, length, take, drop, refl, sym, ap, subst, ◌∙◌, arith}
+use Rattle.std.specs.List.{All}
+use Rattle.std.proofs.lemmas.List.{append-nil, take_all, drop_all, get_or-map, length-map}
+use Rattle.circuit.specs.declared.parts.NetId.{NetId}
+use Rattle.golden_run.specs.Recording.{Recording}
+use Rattle.campaign_plan.specs.Analysis.{Analysis}
+use Rattle.campaign_core.specs.Machines.{times}
+use Rattle.claim_counter.specs.Views.{giving}
+use Rattle.claim_counter.specs.Seats.{Counter, Seated, IsOf}
+use Rattle.claim_counter.specs.Crews.{IsReady, IsCrew}
+use Rattle.campaign_workers.specs.declared.worker.Worker.{Worker}
+use Rattle.campaign_workers.specs.Workplaces.{AreToolsFor, AreFor, seats_of}
+use Rattle.campaign_workers.proofs.Turns.{same_seat}
+
+-- what is written back to a vector through its slice
+pub written_whole : {X : Type 0} (now items : List X) (len : ℕ) → length now ≡ length items → len ≡ length items → take len (now ++ drop (length now) items) ≡ now
+written_whole now items len same full =
+    ap (λ l. take len (now ++ l)) (drop_all (length now) items (omega arith)) ∙ ap (take len) (append-nil now) ∙ take_all len now (omega arith)
+
+module _ {F N : Type 0} where
+  all_workers : (P : Seated → Type 0) (workers : List (Worker F N)) → All P (seats_of workers) → All (λ w. P w.seat) workers
+  all_workers P workers h =
+      λ k d lt. subst P (get_or-map (λ (w : Worker F N). w.seat) workers k d d.seat lt) (h k d.seat (omega (arith, lt, length-map workers (λ (w : Worker F N). w.seat))))
+
+  -- each worker is ready, with tools for the plan and the order
+  pub at_work : (p q : Analysis) (order nets : List NetId) (golden : Recording) (table : Counter) (first : Seated) (workers now : List (Worker F N)) → AreFor p order golden table first workers
+      → p ≡ q → order ≡ nets → now ≡ workers → All (λ w. IsReady table w.seat × AreToolsFor q nets w.lanes w.windows) now
+  at_work p q order nets golden table first workers now h plan orders same =
+      subst (All (λ w. IsReady table w.seat × AreToolsFor q nets w.lanes w.windows)) (sym same)
+      (subst (λ nets. All (λ w. IsReady table w.seat × AreToolsFor q nets w.lanes w.windows) workers) orders
+      (subst (λ q. All (λ w. IsReady table w.seat × AreToolsFor q order w.lanes w.windows) workers) plan
+      (λ k d lt. (all_workers (λ s. IsReady table s) workers h.crew.ready k d lt, h.tools k d lt))))
+
+-- the first seat, once it has given the turn back
+pub first_free : (c : Counter) (first now : Seated) (seats : List Seated) (failed : Bool) → IsCrew c first seats → now.table ≡ first.table → now.view ≡ giving first.view failed
+    → IsOf c now × (now.view.holds ≡ false) × ((n : ℕ) → times n now.view.claims ≡ times n now.view.posts)
+first_free c first now seats failed h table view =
+    let P : Seated → Type 0 = λ s. IsOf c s × (s.view.holds ≡ false) × ((n : ℕ) → times n s.view.claims ≡ times n s.view.posts) in
+    subst P (same_seat now first.table (giving first.view failed) table view) (record { table = h.of.table; todo = h.of.todo; share = h.of.share; opened = h.of.opened }, refl, h.all)

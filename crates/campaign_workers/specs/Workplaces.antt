@@ -1,0 +1,41 @@
+-- What a worker of a crew works with, and what the crew was made for.
+use Rattle.std.specs.Prelude.{◌≡◌, ℕ, ◌<◌, [], true, false, List, length, map, All}
+use Rattle.circuit.specs.declared.parts.NetId.{NetId}
+use Rattle.circuit.specs.Order.{IsOrder}
+use Rattle.alarm_points.specs.Watch.{Watches, AreMadeFor}
+use Rattle.lane_kernel.specs.Bank.{Bank, IsMadeFor}
+use Rattle.golden_run.specs.Recording.{Recording}
+use Rattle.campaign_plan.specs.Analysis.{Analysis}
+use Rattle.claim_counter.specs.Seats.{Counter, Seated}
+use Rattle.claim_counter.specs.Crews.{IsCrew}
+use Rattle.campaign_workers.specs.declared.worker.Worker.{Worker}
+
+-- the golden run of a plan
+abbrev pub golden_of : Analysis → Recording
+golden_of p = record { circuit = p.circuit; runs = p.runs; points = p.points }
+
+-- lanes and windows of a plan, by an order of its tables
+pub record AreToolsFor (p : Analysis) (order : List NetId) (lanes : Bank ℕ) (windows : Watches) : Type 0 where
+  pub lanes_made : IsMadeFor p.circuit order lanes
+  pub windows_made : AreMadeFor p.points windows
+  pub ftti : windows.ftti ≡ p.settings.ftti
+
+abbrev pub seats_of : {F N : Type 0} → List (Worker F N) → List Seated
+seats_of workers = map (λ w. w.seat) workers
+
+-- all that a campaign needs but the board was made for this plan and this order
+-- first: the first seat holds the turn, which shows no history yet
+-- some: there is a worker
+pub record AreFor {F N : Type 0} (p : Analysis) (order : List NetId) (golden : Recording) (table : Counter) (first : Seated) (workers : List (Worker F N)) : Type 0 where
+  pub order_is : IsOrder p.circuit order
+  pub golden_is : golden ≡ golden_of p
+  pub tools : All (λ w. AreToolsFor p order w.lanes w.windows) workers
+  pub crew : IsCrew table first (seats_of workers)
+  pub held : (first.view.holds ≡ true) × (first.view.fails ≡ false)
+  pub none : first.view.seen ≡ []
+  pub some : 0 < length workers
+
+-- the plan and the order that a workshop was made for
+pub record Made : Type 0 where
+  pub plan : Analysis
+  pub order : List NetId

@@ -1,0 +1,164 @@
+ghost use Rattle.std.specs.Prelude.{◌≡◌, ◌^◌, ◌<◌, ◌≤◌, [], All, IfOk, IfErr, length};
+ghost use Rattle.circuit.specs.Order.{IsOrder};
+ghost use Rattle.campaign_plan.specs.Analysis.{batch_count};
+ghost use Rattle.claim_counter.specs.Crews.{IsCrew};
+ghost use Rattle.campaign_workers.specs.Workplaces.{AreToolsFor, seats_of};
+
+use crate::worker::Worker;
+use alarm_points::windows::Windows;
+use campaign_board::{Board, Origin, Seat, Shared, missing_batches};
+use campaign_plan::Plan;
+use fm_shelf::shelf::Shelf;
+use golden_run::make::golden;
+use golden_run::values::Golden;
+use lane_kernel::Lanes;
+use netlist_levels::Order;
+use std::alloc::{AllocError, Global};
+use std::marker::Model;
+use std::snapshot::Snapshot;
+
+/// All that a campaign needs but the board: the golden run, the shared table, a seat that opens it, and the workers. Contracts
+/// see the plan and the order that it was made for.
+#[derive(Drop)]
+pub struct Workshop<F: Shelf + Drop, N: Origin> {
+    plan: Snapshot<Plan>,
+    order: Snapshot<Order>,
+    pub(crate) golden: Golden,
+    pub(crate) shared: Shared<F, N>,
+    pub(crate) first: Seat<F, N>,
+    pub(crate) workers: Vec<Worker<F, N>>,
+}
+
+impl<F: Shelf + Drop, N: Origin> Model for Workshop<F, N> {
+    ghost use Rattle.std.specs.Prelude.{◌≡◌, length};
+    ghost use Rattle.campaign_plan.specs.Analysis.{batch_count};
+    ghost use Rattle.campaign_workers.specs.Workplaces.{AreFor, Made};
+
+    ghost Value = { Made };
+
+    ghost view = { λ s. record { plan = s.plan.value; order = s.order.value } };
+
+    ghost invariant = { λ s. AreFor s.plan.value s.order.value s.golden s.shared s.first s.workers.items × (length N.start.entries ≡ batch_count s.plan.value) };
+}
+
+/// A crew: the board of a campaign, and all else that the campaign needs. Its campaign takes no memory.
+#[derive(Drop)]
+pub struct Crew<F: Shelf + Drop, N: Origin> {
+    /// The board, whose header is to be written before the campaign.
+    pub board: Board<F, N>,
+    pub(crate) workshop: Workshop<F, N>,
+}
+
+/// There was no memory for a crew.
+#[derive(Drop)]
+pub struct NoCrew<F: Shelf + Drop, N: Origin> {
+    pub board: Board<F, N>,
+}
+
+impl<F: Shelf + Drop, N: Origin> Crew<F, N> {
+    /// A crew of up to 32 workers, which takes all memory of its campaign: the golden run, the shared table with a seat for each
+    /// worker, lanes and windows. For want of memory the board comes back.
+    pub fn new(
+        alloc: Global,
+        plan: &Plan,
+        order: &Order,
+        board: Board<F, N>,
+        workers: u32,
+    ) -> Result<Self, NoCrew<F, N>>
+        requires workers { (0 < workers) × (workers ≤ 32) }
+        requires order { IsOrder plan.now.circuit order.now }
+        requires entries { length N.start.entries ≡ batch_count plan.now }
+        requires rows { board.rows ≡ N.start.rows }
+        ensures ok { IfOk result (λ crew. (crew.board ≡ board) × (crew.workshop ≡ record { plan = plan.now; order = order.now })) }
+        ensures err { IfErr result (λ e. e.board ≡ board) }
+    {
+        let Ok(workshop) = Workshop::new(alloc, plan, order, &board, workers) else {
+            return Err(NoCrew { board });
+        };
+        Ok(Crew { board, workshop })
+    }
+
+    /// The board of a crew that ran no campaign.
+    pub fn into_board(self) -> Board<F, N>
+        ensures { result ≡ self.board }
+    {
+        let Crew { board, .. } = self;
+        board
+    }
+}
+
+impl<F: Shelf + Drop, N: Origin> Workshop<F, N> {
+    fn new(
+        alloc: Global,
+        plan: &Plan,
+        order: &Order,
+        board: &Board<F, N>,
+        workers: u32,
+    ) -> Result<Self, AllocError>
+        requires workers { (0 < workers) × (workers ≤ 32) }
+        requires order { IsOrder plan.now.circuit order.now }
+        requires entries { length N.start.entries ≡ batch_count plan.now }
+        requires rows { board.now.rows ≡ N.start.rows }
+        ensures { IfOk result (λ s. s ≡ record { plan = plan.now; order = order.now }) }
+    {
+        let golden = golden(alloc, plan.net(), order, plan.work(), plan.points())?;
+        let todo = missing_batches(alloc, plan.batches(), board.rows())?;
+        let (shared, mut first) = Shared::table(alloc, board, todo)?;
+        let workers = hired(alloc, plan, order, &shared, &mut first, workers)?;
+        Ok(Workshop {
+            plan: Snapshot::of(plan),
+            order: Snapshot::of(order),
+            golden,
+            shared,
+            first,
+            workers,
+        })
+    }
+}
+
+// A worker at this seat.
+fn worker_at<F: Shelf + Drop, N: Origin>(
+    alloc: Global,
+    plan: &Plan,
+    order: &Order,
+    number: u32,
+    seat: Seat<F, N>,
+) -> Result<Worker<F, N>, AllocError>
+    requires order { IsOrder plan.now.circuit order.now }
+    ensures seat { IfOk result (λ w. w.seat ≡ seat) }
+    ensures tools { IfOk result (λ w. AreToolsFor plan.now order.now w.lanes w.windows) }
+{
+    let lanes = Lanes::new(alloc, plan.net(), order)?;
+    let windows = Windows::new(alloc, plan.points(), plan.settings().ftti)?;
+    Ok(Worker {
+        number,
+        seat,
+        lanes,
+        windows,
+    })
+}
+
+// So many workers, each with a seat that is split from the first.
+fn hired<F: Shelf + Drop, N: Origin>(
+    alloc: Global,
+    plan: &Plan,
+    order: &Order,
+    shared: &Shared<F, N>,
+    first: &mut Seat<F, N>,
+    count: u32,
+) -> Result<Vec<Worker<F, N>>, AllocError>
+    requires order { IsOrder plan.now.circuit order.now }
+    requires count { count ≤ 32 }
+    requires first { IsCrew shared.now first.old [] × (first.old.view.share ≡ 2 ^ 32) }
+    ensures crew { IfOk result (λ workers. IsCrew shared.now first.new (seats_of workers.items)) }
+    ensures tools { IfOk result (λ workers. All (λ w. AreToolsFor plan.now order.now w.lanes w.windows) workers.items) }
+    ensures count { IfOk result (λ workers. length workers.items ≡ count) }
+    ensures view { (first.new.table ≡ first.old.table) × (first.new.view.holds ≡ first.old.view.holds) × (first.new.view.fails ≡ first.old.view.fails) × (first.new.view.seen ≡ first.old.view.seen) }
+{
+    let mut workers = Vec::new(alloc);
+    for number in 0..count {
+        let seat = shared.split(first);
+        workers.push(worker_at(alloc, plan, order, number, seat)?)?;
+    }
+    Ok(workers)
+}
