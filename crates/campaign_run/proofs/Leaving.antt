@@ -1,0 +1,112 @@
+-- What a campaign leaves of its file when a write has failed.
+use Rattle.std.proofs.Common.{◌≡◌, ◌≢◌, ℕ, zero, suc, ◌+◌, ◌⊎◌, inl, inr, List, [], ◌∷◌, ◌++◌, map, length, take, refl, ap, sym, subst, ◌∙◌, append_assoc, append-nil}
+use Rattle.std.specs.Prelude.{Some, None, flat_map}
+use Rattle.std.proofs.lemmas.Bool.{cases_eq}
+use Rattle.std.proofs.lemmas.List.Concat.{flat_map-append}
+use Rattle.std.proofs.Math.Seq.{take-append_seam, take-append-add, take-length}
+use mathlib.Core.List.{IsPrefix}
+use Rattle.fm_shelf.specs.Shelf.{Told, NowIs, bytes_of}
+use Rattle.campaign_plan.specs.declared.Outcome.{Outcome}
+use Rattle.campaign_plan.specs.Analysis.{Analysis}
+use Rattle.result_file.specs.declared.Row.{Row}
+use Rattle.result_file.specs.ResultText.{row_text}
+use Rattle.result_file.specs.KeptRows.{entry_of as planed}
+use Rattle.campaign_board.specs.Boards.{Start, AreEntries, next_row, text_of}
+use Rattle.campaign_board.specs.Kept.{AreRows, IsTorn, IsHeaderTorn}
+use Rattle.campaign_board.proofs.Adding.{rows_push, text_push}
+use Rattle.campaign_run.specs.Reported.{BeginsWith}
+use Rattle.campaign_run.specs.Left.{LeftPrefix, BeginsAs}
+use Rattle.campaign_run.specs.Origins.{entries_for}
+use Rattle.campaign_run.proofs.Reporting.{are_part, text_result}
+
+-- ---- prefixes
+
+-- the first n of a list are a prefix of it and more
+front : (n : ℕ) (xs ys : List ℕ) → (m : ℕ) × (take n xs ≡ take m (xs ++ ys))
+front zero xs ys = (0, refl)
+front (suc n) [] ys = (0, refl)
+front (suc n) (x ∷ xs) ys = let rest = front n xs ys in (suc rest.0, ap (λ l. x ∷ l) rest.1)
+
+begins_with : (start text bytes more : List ℕ) → (start ≡ []) ⊎ (start ≡ text) → bytes ≡ text ++ more → BeginsWith bytes start
+begins_with start text bytes more from e = elim from as (λ _. BeginsWith bytes start) [
+  | inl none ↦ subst (BeginsWith bytes) (sym none) refl
+  | inr some ↦ subst (BeginsWith bytes) (sym some) (ap (take (length text)) e ∙ take-append_seam text more)
+]
+
+-- the text of rows begins with that of the first ones
+text_more : (own : List ℕ) (k rows : List Row) (pre : IsPrefix k rows) → text_of own rows ≡ text_of own k ++ flat_map row_text pre.0
+text_more own k rows pre =
+    ap (λ rs. own ++ flat_map row_text rs) (sym pre.1) ∙ ap (λ t. own ++ t) (flat_map-append row_text k pre.0)
+    ∙ sym (append_assoc own (flat_map row_text k) (flat_map row_text pre.0))
+
+-- ---- a row that was torn
+
+-- a part of one more row is a part of the result file with it
+torn_prefix : (p : Analysis) (planes : ℕ → Outcome) (o : Start) (rows : List Row) (bytes : List ℕ) → o.entries ≡ entries_for p planes → AreEntries o.entries → AreRows o rows
+    → IsTorn o rows bytes → LeftPrefix o.header p planes (Some (Some bytes))
+torn_prefix p planes o rows bytes e are h torn =
+    let row : Row = next_row o.entries rows torn.batch in
+    let more : AreRows o (rows ++ row ∷ []) = rows_push o rows torn.batch are h torn.within torn.lacks in
+    let text : List ℕ = text_of o.header rows in
+    record {
+      entries = map planed (rows ++ row ∷ []);
+      part = are_part p planes o (rows ++ row ∷ []) e more;
+      prefix = (
+        length text + torn.taken,
+        torn.is ∙ sym (take-append-add text (row_text row) torn.taken)
+            ∙ ap (take (length text + torn.taken)) (sym (text_push o.header rows row) ∙ text_result p planes o (rows ++ row ∷ []) e are more),
+      );
+    }
+
+pub left_torn : (p : Analysis) (planes : ℕ → Outcome) (o : Start) (rows : List Row) (now : Told) → o.entries ≡ entries_for p planes → AreEntries o.entries → AreRows o rows
+    → NowIs now (IsTorn o rows) → LeftPrefix o.header p planes now
+left_torn p planes o rows None e are h torn = record { entries = map planed rows; part = are_part p planes o rows e h; prefix = tt }
+left_torn p planes o rows (Some None) e are h torn = absurd torn
+left_torn p planes o rows (Some (Some bytes)) e are h torn = torn_prefix p planes o rows bytes e are h torn
+
+pub begins_torn : (o : Start) (k rows : List Row) (now : Told) (start : List ℕ) → (start ≡ []) ⊎ (start ≡ text_of o.header k) → IsPrefix k rows
+    → NowIs now (IsTorn o rows) → BeginsAs now start
+begins_torn o k rows None start from pre torn = tt
+begins_torn o k rows (Some None) start from pre torn = absurd torn
+begins_torn o k rows (Some (Some bytes)) start from pre torn =
+    let part : List ℕ = take torn.taken (row_text (next_row o.entries rows torn.batch)) in
+    begins_with start (text_of o.header k) bytes (flat_map row_text pre.0 ++ part) from
+    (torn.is ∙ ap (λ t. t ++ part) (text_more o.header k rows pre) ∙ append_assoc (text_of o.header k) (flat_map row_text pre.0) part)
+
+-- ---- a header that was torn
+
+-- the bytes that were kept, and a part of the header where there were none, are a part of the header and the rows that were kept
+header_prefix : (header start more bytes : List ℕ) (n whole : ℕ) → (start ≡ []) ⊎ (start ≡ header ++ more) → (whole ≡ 0 → start ≡ []) → bytes ≡ start ++ take n header
+    → (whole ≢ 0 → n ≡ 0) → (m : ℕ) × (bytes ≡ take m (header ++ more))
+header_prefix header start more bytes n whole from none is cut = elim (cases_eq whole 0) as (λ _. (m : ℕ) × (bytes ≡ take m (header ++ more))) [
+  | inl zeroed ↦ (let part = front n header more in (part.0, is ∙ ap (λ s. s ++ take n header) (none zeroed) ∙ part.1))
+  | inr some ↦ (
+      let all : bytes ≡ start = is ∙ ap (λ k. start ++ take k header) (cut some) ∙ append-nil start in
+      elim from as (λ _. (m : ℕ) × (bytes ≡ take m (header ++ more))) [
+        | inl empty ↦ (0, all ∙ empty)
+        | inr text ↦ (length (header ++ more), all ∙ text ∙ sym (take-length (header ++ more)))
+      ])
+]
+
+pub left_header : (p : Analysis) (planes : ℕ → Outcome) (o : Start) (rows : List Row) (whole : ℕ) (before now : Told) → o.entries ≡ entries_for p planes → AreEntries o.entries
+    → AreRows o rows → (take whole (bytes_of before) ≡ []) ⊎ (take whole (bytes_of before) ≡ text_of o.header rows) → IsHeaderTorn o.header whole before now
+    → (now ≡ before) ⊎ (LeftPrefix o.header p planes now × BeginsAs now (take whole (bytes_of before)))
+left_header p planes o rows whole before now e are h from torn = elim torn as (λ _. (now ≡ before) ⊎ (LeftPrefix o.header p planes now × BeginsAs now (take whole (bytes_of before)))) [
+  | inl same ↦ inl same
+  | inr is ↦ inr (go now is)
+]
+  where
+    go : (told : Told) → NowIs told (λ bytes. (n : ℕ) × (bytes ≡ take whole (bytes_of before) ++ take n o.header) × (whole ≢ 0 → n ≡ 0))
+        → LeftPrefix o.header p planes told × BeginsAs told (take whole (bytes_of before))
+    go None is = (record { entries = map planed rows; part = are_part p planes o rows e h; prefix = tt }, tt)
+    go (Some None) is = absurd is
+    go (Some (Some bytes)) is =
+        let start : List ℕ = take whole (bytes_of before) in
+        let part = header_prefix o.header start (flat_map row_text rows) bytes is.0 whole from (λ none. ap (λ n. take n (bytes_of before)) none) is.1 is.2 in (
+          record {
+            entries = map planed rows;
+            part = are_part p planes o rows e h;
+            prefix = (part.0, part.1 ∙ ap (take part.0) (text_result p planes o rows e are h));
+          },
+          ap (take (length start)) is.1 ∙ take-append_seam start (take is.0 o.header),
+        )

@@ -1,0 +1,74 @@
+-- How a campaign has ended.
+use Rattle.std.specs.Prelude.{◌≡◌, ◌⊎◌, ◌≤◌, ℕ, take, Option}
+use Rattle.fm_shelf.specs.Shelf.{Told, bytes_of, told_more, HasPrefix, Rose}
+use Rattle.campaign_plan.specs.declared.Outcome.{Outcome}
+use Rattle.campaign_plan.specs.Analysis.{Analysis}
+use Rattle.result_file.specs.declared.KeptRows.{KeptRows}
+use Rattle.result_file.specs.KeptRows.{kept_entries}
+use Rattle.fmeda_report.specs.Report.{report, summary}
+use Rattle.fm_base.specs.Names.{Bytes}
+use Rattle.campaign_run.specs.declared.run.Text.{Text}
+use Rattle.campaign_run.specs.declared.run.Text.TheVariants.{Report, Summary}
+use Rattle.campaign_run.specs.declared.run.End.{End}
+use Rattle.campaign_run.specs.declared.run.End.TheVariants.{Done, NoMemory, ResultFault, OutFault}
+use Rattle.campaign_run.specs.Outside.{Shelves, KeepsOthers}
+use Rattle.campaign_run.specs.Found.{kept_or_true}
+use Rattle.campaign_run.specs.Reported.{HasReported, BeginsWith}
+use Rattle.campaign_run.specs.Left.{LeftPrefix, BeginsAs}
+
+-- the text that is written at the end, for the planes of each batch
+abbrev pub text_for : Text → Analysis → (ℕ → Outcome) → Bytes
+text_for Report p planes = report p planes
+text_for (Summary stages) p planes = summary stages p planes
+
+-- a campaign: the name and the header of its result file, its plan, what is kept of the file, and the text to write
+pub record Campaign : Type 0 where
+  pub name : Bytes
+  pub own : Bytes
+  pub p : Analysis
+  pub k : KeptRows
+  pub text : Text
+
+-- the planes that its batches are found to have
+abbrev pub planes_of : Campaign → ℕ → Outcome
+planes_of c = kept_or_true c.p c.k
+
+-- what it writes
+abbrev pub text_of : Campaign → Bytes
+text_of c = text_for c.text c.p (planes_of c)
+
+-- what is seen of the outside: what is told of each file, the faults of writing each, what went out, and the faults of that
+pub record Seen : Type 0 where
+  pub files : Shelves
+  pub faults : Bytes → ℕ
+  pub out : Option Bytes
+  pub out_faults : ℕ
+
+-- the campaign is reported, where this went out, and the rows of its file begin with those that were kept
+pub record IsReported (c : Campaign) (after : Told) (out_before out_after : Option Bytes) : Type 0 where
+  pub reported : HasReported c.own (text_of c) c.p (planes_of c) after out_before out_after
+  pub first : BeginsWith reported.entries (kept_entries c.k)
+
+-- the file is as before, or a byte prefix of a result file that still begins with the bytes that were kept
+abbrev pub IsLeft : Campaign → Told → Told → Type 0
+IsLeft c before after =
+    (after ≡ before) ⊎ (LeftPrefix c.own c.p (planes_of c) after × BeginsAs after (take c.k.whole (bytes_of before)))
+
+-- Done: it is reported. NoMemory: nothing has changed. ResultFault: the result file couldn't be written, and nothing went out.
+-- OutFault: the file is as after Done, and a prefix of the text went out.
+abbrev pub EndsAs : End → Campaign → Seen → Seen → Type 0
+EndsAs Done c before after = IsReported c (after.files c.name) before.out after.out
+EndsAs NoMemory c before after = after ≡ before
+EndsAs ResultFault c before after =
+    Rose (before.faults c.name) (after.faults c.name) × IsLeft c (before.files c.name) (after.files c.name)
+    × (after.out ≡ before.out) × (after.out_faults ≡ before.out_faults)
+EndsAs OutFault c before after =
+    Rose before.out_faults after.out_faults × IsReported c (after.files c.name) before.out (told_more before.out (text_of c))
+    × HasPrefix before.out after.out (text_of c)
+
+-- A CAMPAIGN THAT RAN: it ended so; other files are as before; and neither the faults of writing its file nor those of `out` have fallen
+pub record HasRun (end : End) (c : Campaign) (before after : Seen) : Type 0 where
+  pub ends : EndsAs end c before after
+  pub others : KeepsOthers before.files after.files c.name
+  pub faults : before.faults c.name ≤ after.faults c.name
+  pub out_faults : before.out_faults ≤ after.out_faults

@@ -1,0 +1,153 @@
+ghost use Rattle.std.specs.Prelude.{◌≡◌, ◌<◌, ◌≤◌, IfOk, IfErr, length};
+ghost use Rattle.std.specs.String.{string_bytes};
+ghost use Rattle.circuit.specs.Order.{IsOrder};
+ghost use Rattle.fm_shelf.specs.Shelf.{held_in};
+ghost use Rattle.campaign_plan.specs.Analysis.{batch_count};
+ghost use Rattle.result_file.specs.KeptRows.{header_len};
+ghost use Rattle.campaign_board.specs.Kept.{IsStart, IsWhole};
+ghost use Rattle.campaign_workers.specs.Truth.{HasTrueEntries};
+ghost use Rattle.fmeda_report.specs.Rooms.{room_for};
+ghost use Rattle.campaign_run.specs.Origins.{origin_of};
+ghost use Rattle.campaign_run.specs.Starting.{StartsFrom};
+ghost use Rattle.campaign_run.specs.Steps.{IsFresh, HasWorked};
+ghost use Rattle.campaign_run.specs.Ran.{HasRun};
+
+use crate::run::{End, Ran, Text};
+use crate::tell::tell;
+use campaign_board::{Board, NoBoard, Origin};
+use campaign_plan::Plan;
+use campaign_workers::{Crew, NoCrew, campaign};
+use fm_base::Line;
+use fm_shelf::shelf::{Shelf, Sink};
+use fmeda_report::ReportSpace;
+use netlist_levels::Order;
+use result_file::{KeptRows, RowList};
+use std::alloc::Global;
+use std::sync::Wait;
+use std::thread::Threads;
+use worker_gate::Gate;
+
+// All the memory of a campaign.
+#[derive(Drop)]
+struct Prepared<F: Shelf + Drop, N: Origin> {
+    space: ReportSpace,
+    crew: Crew<F, N>,
+}
+
+// Takes all the memory of a campaign, and changes no file.
+fn prepare<F: Shelf + Drop, N: Origin>(
+    alloc: Global,
+    plan: &Plan,
+    order: &Order,
+    batches: u32,
+    rows: RowList,
+    workers: u32,
+    shelf: F,
+    name: &str,
+) -> Result<Prepared<F, N>, NoBoard<F>>
+    requires workers { (0 < workers) × (workers ≤ 32) }
+    requires order { IsOrder plan.now.circuit order.now }
+    requires batches { batches ≡ batch_count plan.now }
+    requires start { IsStart N.start name.now rows batches (F.files shelf) (F.rest_absent shelf) (F.write_faults shelf name.now) }
+    ensures space { IfOk result (λ r. r.space ≡ room_for plan.now) }
+    ensures crew { IfOk result (λ r. r.crew.workshop ≡ record { plan = plan.now; order = order.now }) }
+    ensures board { IfOk result (λ r. IsFresh N.start shelf r.crew.board) }
+    ensures err { IfErr result (λ e. e.shelf ≡ shelf) }
+{
+    let Ok(space) = ReportSpace::new(alloc, plan) else {
+        return Err(NoBoard { shelf });
+    };
+    let board = Board::new(alloc, shelf, name, batches, rows)?;
+    match Crew::new(alloc, plan, order, board, workers) {
+        Ok(crew) => Ok(Prepared { space, crew }),
+        Err(NoCrew { board }) => Err(NoBoard {
+            shelf: board.into_shelf(),
+        }),
+    }
+}
+
+// Writes the header, and lets the workers work to their end.
+fn worked<
+    R: Threads + Wait + Sync,
+    F: Shelf + Send + Drop,
+    N: Origin + Send + Sync,
+    G: Gate + Sync,
+>(
+    rt: &R,
+    plan: &Plan,
+    order: &Order,
+    own: &Line,
+    whole: u64,
+    mut crew: Crew<F, N>,
+    gate: &G,
+) -> Board<F, N>
+    requires made { crew.workshop ≡ record { plan = plan.now; order = order.now } }
+    requires fresh { IsFresh N.start crew.board.shelf crew.board }
+    requires own { own.now ≡ N.start.header }
+    requires whole { IsWhole N.start crew.board.rows whole (held_in (F.files crew.board.shelf) (F.rest_absent crew.board.shelf) N.start.name) }
+    requires entries { HasTrueEntries plan.now N.start }
+    ensures { HasWorked N.start whole (held_in (F.files crew.board.shelf) (F.rest_absent crew.board.shelf) N.start.name)
+        (held_in (F.files result.shelf) (F.rest_absent result.shelf) N.start.name) result }
+{
+    if crew.board.append_header(whole, own).is_err() {
+        return crew.into_board();
+    }
+    campaign(rt, plan, order, crew, gate).board
+}
+
+/// The campaign, over the origin of its board.
+pub(crate) fn run_over<
+    R: Threads + Wait + Sync,
+    F: Shelf + Send + Drop,
+    N: Origin + Send + Sync,
+    O: Sink,
+    G: Gate + Sync,
+>(
+    rt: &R,
+    alloc: Global,
+    plan: &Plan,
+    order: &Order,
+    own: &Line,
+    kept: KeptRows,
+    text: Text,
+    workers: u32,
+    shelf: F,
+    name: &String,
+    out: &mut O,
+    gate: &G,
+) -> Ran<F>
+    requires workers { (0 < workers) × (workers ≤ 32) }
+    requires order { IsOrder plan.now.circuit order.now }
+    requires own { length own.now ≡ header_len }
+    requires kept { StartsFrom own.now plan.now (held_in (F.files shelf) (F.rest_absent shelf) (string_bytes name.now)) kept }
+    requires origin { N.start ≡ origin_of (record { name = string_bytes name.now; own = own.now; p = plan.now; k = kept; text = text })
+        (F.files shelf) (F.rest_absent shelf) (F.write_faults shelf (string_bytes name.now)) }
+    ensures run { HasRun result.end (record { name = string_bytes name.now; own = own.now; p = plan.now; k = kept; text = text })
+        (record { files = held_in (F.files shelf) (F.rest_absent shelf); faults = F.write_faults shelf; out = O.written out.old; out_faults = O.faults out.old })
+        (record { files = held_in (F.files result.shelf) (F.rest_absent result.shelf); faults = F.write_faults result.shelf; out = O.written out.new; out_faults = O.faults out.new }) }
+    ensures untouched { result.end ≡ End.NoMemory → (result.shelf ≡ shelf) × (out.new ≡ out.old) }
+{
+    let KeptRows { rows, whole } = kept;
+    let batches = plan.batches();
+    let prepared = prepare::<F, N>(
+        alloc,
+        plan,
+        order,
+        batches,
+        rows,
+        workers,
+        shelf,
+        name.as_str(),
+    );
+    let Prepared { mut space, crew } = match prepared {
+        Ok(prepared) => prepared,
+        Err(NoBoard { shelf }) => {
+            return Ran {
+                shelf,
+                end: End::NoMemory,
+            };
+        }
+    };
+    let board = worked(rt, plan, order, own, whole, crew, gate);
+    tell(plan, text, board, &mut space, out)
+}
