@@ -1,1 +1,3 @@
-mod Entries
+mod Said
+mod Numbers
+mod CycleLists

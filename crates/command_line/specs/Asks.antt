@@ -1,22 +1,45 @@
 -- What the reader of words answers.
-use Rattle.std.specs.Prelude.{List, Option}
+use Rattle.std.specs.Prelude.{◌≡◌, List, Option, Result, Ok, Err}
 use Rattle.clap.specs.Words.{Row, Text}
 use Rattle.command_line.specs.declared.read.Asked.{Asked}
 use Rattle.command_line.specs.declared.read.Asked.TheVariants as asked
+use Rattle.command_line.specs.declared.read.InputNames.{InputNames}
 use Rattle.command_line.specs.declared.read.WordsRefusal.{WordsRefusal}
 use Rattle.command_line.specs.declared.read.WordsRefusal.TheVariants.{Usage, Memory}
-use Rattle.command_line.specs.Commands.{Command, Classes}
-use Rattle.command_line.specs.Words.{IsMet, IsNoCommand}
+use Rattle.command_line.specs.Commands.{Command, Classes, Check, Run, Inputs}
+use Rattle.command_line.specs.Words.{IsMet, IsNoCommand, SaidBy, word_of}
+
+-- the names of the input files
+abbrev pub names_of : InputNames → Inputs
+names_of names = record { netlist = names.netlist.now; workload = names.workload.now; rates = names.rates.now; points = names.points.now }
 
 -- the command that an answer tells
 abbrev pub told_by : Asked → Command
 told_by (asked.Classes netlist workload) = Classes netlist.now workload.now
-
--- the subcommand that was met is no command
-abbrev pub IsNotMet : Option (Text × List Row) → Type 0
-IsNotMet met = (command : Command) → ¬ (IsMet met command)
+told_by (asked.Check inputs flips pulses) = Check (names_of inputs) flips pulses
+told_by (asked.Run inputs result set workers) = Run (names_of inputs) result.now set workers
 
 -- Usage is the answer where the words are no command; want of memory is free
 abbrev pub IsRefusal : List Text → WordsRefusal → Type 0
 IsRefusal words Usage = IsNoCommand words
 IsRefusal words Memory = Unit {0}
+
+-- ---- parts of the words
+
+-- what was read is as it should be, and Usage is the answer where nothing is; want of memory is free
+abbrev pub IsRead : {T : Type 0} → (T → Type 0) → Result T WordsRefusal → Type 0
+IsRead Fits (Ok read) = Fits read
+IsRead {T} Fits (Err Usage) = (read : T) → ¬ (Fits read)
+IsRead Fits (Err Memory) = Unit {0}
+
+-- the entries say this command of this word, or no command of it
+abbrev pub IsSaid : Text → List Row → Result Asked WordsRefusal → Type 0
+IsSaid word rows (Ok asked) = (word_of (told_by asked) ≡ word) × SaidBy rows (told_by asked)
+IsSaid word rows (Err Usage) = (command : Command) → word_of command ≡ word → ¬ (SaidBy rows command)
+IsSaid word rows (Err Memory) = Unit {0}
+
+-- the subcommand that was met is this command, or none
+abbrev pub AsksMet : Option (Text × List Row) → Result Asked WordsRefusal → Type 0
+AsksMet met (Ok asked) = IsMet met (told_by asked)
+AsksMet met (Err Usage) = (command : Command) → ¬ (IsMet met command)
+AsksMet met (Err Memory) = Unit {0}

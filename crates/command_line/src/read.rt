@@ -1,19 +1,51 @@
 // What the words ask for.
-ghost use Rattle.std.specs.Prelude.{◌≡◌, ◌≢◌, MatchOption, MatchResult, codes, map, string_bytes};
+ghost use Rattle.std.specs.Prelude.{◌≡◌, ◌≢◌, MatchResult, codes, map, string_bytes};
 ghost use Rattle.clap.specs.Words.{found_of, rows_of, subcommand_rows_of};
-ghost use Rattle.command_line.specs.Words.{entry, SaidBy, IsMet, IsCommand, word_of};
-ghost use Rattle.command_line.specs.Asks.{told_by, IsRefusal, IsNotMet};
+ghost use Rattle.command_line.specs.Words.{IsCommand};
+ghost use Rattle.command_line.specs.Asks.{told_by, AsksMet, IsRefusal, IsSaid};
+ghost use Rattle.command_line.specs.declared.read.WordsRefusal.TheVariants.{Memory};
 
+use crate::cycles::read_cycles;
+use crate::entries::{
+    MOST_FLIPS, MOST_PULSES, entry_of, inputs_of, result_of, settings_of, workers_of,
+};
 use crate::table::fmeda_command;
+use campaign_plan::Settings;
 use clap::ArgMatches;
 use clap::error::ErrorKind;
-use std::alloc::Global;
+use fault_list::Flips;
+use std::alloc::{AllocError, Global};
+
+/// The names of the four input files.
+#[derive(Clone, Copy)]
+pub struct InputNames<'a> {
+    pub netlist: &'a str,
+    pub workload: &'a str,
+    pub rates: &'a str,
+    pub points: &'a str,
+}
 
 /// A command and what its words say.
 #[derive(Drop)]
 pub enum Asked<'a> {
     /// Print the class of each stuck-at fault, all outputs being observed.
-    Classes { netlist: &'a str, workload: &'a str },
+    Classes {
+        netlist: &'a str,
+        workload: &'a str,
+    },
+    /// Print what a campaign over these files would be, with flips and pulses in these cycles.
+    Check {
+        inputs: InputNames<'a>,
+        flips: Flips,
+        pulses: Flips,
+    },
+    /// Run a campaign, with 1 to 32 workers, and write its rows to the file `result`, which is none of the inputs.
+    Run {
+        inputs: InputNames<'a>,
+        result: &'a str,
+        settings: Settings,
+        workers: u32,
+    },
 }
 
 /// Why there is no command.
@@ -24,33 +56,65 @@ pub enum WordsRefusal {
     Memory,
 }
 
-fn entry_of<'a>(matches: &ArgMatches<'a>, id: &str) -> &'a str
-    ensures { result.now ≡ entry (rows_of (found_of matches.now)) id.now }
-{
-    match matches.get_str(id) {
-        Some(text) => text,
-        None => "",
+impl From<AllocError> for WordsRefusal {
+    ghost from_gives = { λ _ e. e ≡ Memory };
+
+    fn from(_: AllocError) -> Self {
+        WordsRefusal::Memory
     }
 }
 
-fn classes_of<'a>(matches: &ArgMatches<'a>) -> Asked<'a>
-    ensures word { word_of (told_by result) ≡ codes "classes" }
-    ensures said { SaidBy (rows_of (found_of matches.now)) (told_by result) }
+fn classes_of<'a>(matches: &ArgMatches<'a>) -> Result<Asked<'a>, WordsRefusal>
+    ensures { IsSaid (codes "classes") (rows_of (found_of matches.now)) result }
 {
-    Asked::Classes {
+    Ok(Asked::Classes {
         netlist: entry_of(matches, "netlist"),
         workload: entry_of(matches, "workload"),
-    }
+    })
+}
+
+fn check_of<'a>(alloc: Global, matches: &ArgMatches<'a>) -> Result<Asked<'a>, WordsRefusal>
+    ensures { IsSaid (codes "check") (rows_of (found_of matches.now)) result }
+{
+    let inputs = inputs_of(matches);
+    let flips = read_cycles(alloc, entry_of(matches, "flips"), MOST_FLIPS)?;
+    let pulses = read_cycles(alloc, entry_of(matches, "pulses"), MOST_PULSES)?;
+    Ok(Asked::Check {
+        inputs,
+        flips,
+        pulses,
+    })
+}
+
+fn run_of<'a>(alloc: Global, matches: &ArgMatches<'a>) -> Result<Asked<'a>, WordsRefusal>
+    ensures { IsSaid (codes "run") (rows_of (found_of matches.now)) result }
+{
+    let inputs = inputs_of(matches);
+    let Some(result) = result_of(matches, &inputs) else {
+        return Err(WordsRefusal::Usage);
+    };
+    let settings = settings_of(alloc, matches)?;
+    let workers = workers_of(matches)?;
+    Ok(Asked::Run {
+        inputs,
+        result,
+        settings,
+        workers,
+    })
 }
 
 // What the subcommand that was met asks for.
-fn asked_of<'a>(matches: &ArgMatches<'a>) -> Option<Asked<'a>>
-    ensures { MatchOption result (IsNotMet (subcommand_rows_of matches.now)) (λ a. IsMet (subcommand_rows_of matches.now) (told_by a)) }
+fn asked_of<'a>(alloc: Global, matches: &ArgMatches<'a>) -> Result<Asked<'a>, WordsRefusal>
+    ensures { AsksMet (subcommand_rows_of matches.now) result }
 {
-    let (name, inner) = matches.subcommand()?;
-    match name {
-        "classes" => Some(classes_of(inner)),
-        _ => None,
+    let Some((word, inner)) = matches.subcommand() else {
+        return Err(WordsRefusal::Usage);
+    };
+    match word {
+        "classes" => classes_of(inner),
+        "check" => check_of(alloc, inner),
+        "run" => run_of(alloc, inner),
+        _ => Err(WordsRefusal::Usage),
     }
 }
 
@@ -72,10 +136,7 @@ pub fn read_words<'a>(alloc: Global, words: &'a [String]) -> Result<Asked<'a>, W
         return Err(WordsRefusal::Memory);
     };
     match command.try_get_matches_from(words) {
-        Ok(matches) => match asked_of(&matches) {
-            Some(asked) => Ok(asked),
-            None => Err(WordsRefusal::Usage),
-        },
+        Ok(matches) => asked_of(alloc, &matches),
         Err(error) => Err(refusal_of(error.kind())),
     }
 }

@@ -1,10 +1,10 @@
 // The table of commands.
-ghost use Rattle.std.specs.Prelude.{◌≡◌, IfOk, codes, false};
+ghost use Rattle.std.specs.Prelude.{◌≡◌, ◌∷◌, [], IfOk, codes, false};
 ghost use Rattle.clap.specs.Words.{app_of, rule_of};
 ghost use Rattle.clap.specs.declared.builder.command.Command.TheViews.{out-Command};
-ghost use Rattle.command_line.specs.Table.{classes_app, fmeda_app, named};
+ghost use Rattle.command_line.specs.Table.{campaign_rules, check_app, classes_app, fmeda_app, input_rules, list_rules, named, number, option, result_rules, run_app, with_rules};
 
-use clap::{Arg, Command};
+use clap::{Arg, Command, value_parser};
 use std::alloc::{AllocError, Global};
 
 fn named_arg<'a>(alloc: Global, id: &'a str) -> Arg<'a>
@@ -12,6 +12,27 @@ fn named_arg<'a>(alloc: Global, id: &'a str) -> Arg<'a>
     ensures local { result.global ≡ false }
 {
     Arg::new(alloc, id).required(true)
+}
+
+fn option_arg<'a>(alloc: Global, id: &'a str, value: &'a str) -> Arg<'a>
+    ensures rule { rule_of result ≡ option id.entry.now value.entry.now }
+    ensures local { result.global ≡ false }
+{
+    Arg::new(alloc, id).long(id).default_value(value)
+}
+
+fn ftti_arg<'a>(alloc: Global) -> Arg<'a>
+    ensures rule { rule_of result ≡ number (codes "ftti") (codes "0") 0 4096 }
+    ensures local { result.global ≡ false }
+{
+    option_arg(alloc, "ftti", "0").value_parser(value_parser!(u32).range(0..=4096))
+}
+
+fn workers_arg<'a>(alloc: Global) -> Arg<'a>
+    ensures rule { rule_of result ≡ number (codes "workers") (codes "1") 1 32 }
+    ensures local { result.global ≡ false }
+{
+    option_arg(alloc, "workers", "1").value_parser(value_parser!(u32).range(1..=32))
 }
 
 fn classes_command<'a>(alloc: Global) -> Result<Command<'a>, AllocError>
@@ -23,12 +44,78 @@ fn classes_command<'a>(alloc: Global) -> Result<Command<'a>, AllocError>
     Command::new(alloc, "classes").arg(netlist)?.arg(workload)
 }
 
+// The four input files.
+fn with_inputs<'a>(alloc: Global, command: Command<'a>) -> Result<Command<'a>, AllocError>
+    requires { (out-Command command).has_globals ≡ false }
+    ensures app { IfOk result (λ c. app_of c ≡ with_rules (app_of command.entry) input_rules) }
+    ensures local { IfOk result (λ c. (out-Command c).has_globals ≡ false) }
+{
+    let netlist = named_arg(alloc, "netlist");
+    let workload = named_arg(alloc, "workload");
+    let rates = named_arg(alloc, "rates");
+    let points = named_arg(alloc, "points");
+    command.arg(netlist)?.arg(workload)?.arg(rates)?.arg(points)
+}
+
+// The lists of cycles.
+fn with_lists<'a>(alloc: Global, command: Command<'a>) -> Result<Command<'a>, AllocError>
+    requires { (out-Command command).has_globals ≡ false }
+    ensures app { IfOk result (λ c. app_of c ≡ with_rules (app_of command.entry) list_rules) }
+    ensures local { IfOk result (λ c. (out-Command c).has_globals ≡ false) }
+{
+    let flips = option_arg(alloc, "flips", "none");
+    let pulses = option_arg(alloc, "pulses", "none");
+    command.arg(flips)?.arg(pulses)
+}
+
+fn check_command<'a>(alloc: Global) -> Result<Command<'a>, AllocError>
+    ensures app { IfOk result (λ c. app_of c ≡ check_app) }
+    ensures local { IfOk result (λ c. (out-Command c).has_globals ≡ false) }
+{
+    let command = with_inputs(alloc, Command::new(alloc, "check"))?;
+    with_lists(alloc, command)
+}
+
+// The result file, and the interval of goals without one of their own.
+fn with_result<'a>(alloc: Global, command: Command<'a>) -> Result<Command<'a>, AllocError>
+    requires { (out-Command command).has_globals ≡ false }
+    ensures app { IfOk result (λ c. app_of c ≡ with_rules (app_of command.entry) result_rules) }
+    ensures local { IfOk result (λ c. (out-Command c).has_globals ≡ false) }
+{
+    let result = named_arg(alloc, "result");
+    command.arg(result)?.arg(ftti_arg(alloc))
+}
+
+// What else a campaign is told.
+fn with_campaign<'a>(alloc: Global, command: Command<'a>) -> Result<Command<'a>, AllocError>
+    requires { (out-Command command).has_globals ≡ false }
+    ensures app { IfOk result (λ c. app_of c ≡ with_rules (app_of command.entry) campaign_rules) }
+    ensures local { IfOk result (λ c. (out-Command c).has_globals ≡ false) }
+{
+    let asil = option_arg(alloc, "asil", "D");
+    command.arg(workers_arg(alloc))?.arg(asil)
+}
+
+fn run_command<'a>(alloc: Global) -> Result<Command<'a>, AllocError>
+    ensures app { IfOk result (λ c. app_of c ≡ run_app) }
+    ensures local { IfOk result (λ c. (out-Command c).has_globals ≡ false) }
+{
+    let command = with_inputs(alloc, Command::new(alloc, "run"))?;
+    let command = with_result(alloc, command)?;
+    let command = with_lists(alloc, command)?;
+    with_campaign(alloc, command)
+}
+
 /// The program with its commands.
 pub(crate) fn fmeda_command<'a>(alloc: Global) -> Result<Command<'a>, AllocError>
     ensures { IfOk result (λ c. app_of c ≡ fmeda_app) }
 {
     let classes = classes_command(alloc)?;
+    let check = check_command(alloc)?;
+    let run = run_command(alloc)?;
     Command::new(alloc, "fmeda")
         .subcommand_required(true)
-        .subcommand(classes)
+        .subcommand(classes)?
+        .subcommand(check)?
+        .subcommand(run)
 }
