@@ -1,3 +1,13 @@
 mod Saying
 mod Statuses
 mod Checks
+mod Taken
+mod InOrder
+mod ClassLines
+mod Ending
+mod ClassText
+mod PlanOrder
+mod PlanEnding
+mod CheckText
+mod RunEnding
+mod Limits

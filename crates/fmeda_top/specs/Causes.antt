@@ -11,7 +11,8 @@ use Rattle.command_line.specs.Commands.{Command, Classes, Check, Run, Resume, Au
 use Rattle.command_line.specs.Words.{IsCommand, IsNoCommand}
 use Rattle.fmeda_top.specs.Files.{Reads}
 use Rattle.fmeda_top.specs.FirstRefusal.{IsLoopAnswer, first_refusal}
-use Rattle.fmeda_top.specs.Ends.{Shelves, name_of}
+use Rattle.fmeda_top.specs.Ends.{Shelves, name_of, IsRefusal, DoneAs, RefusedAs, FaultAs, FaultSaid, OutFaultAs}
+use Rattle.fmeda_top.specs.Named.{no_names}
 use Rattle.fm_base.specs.Names.{Bytes}
 
 -- the counts at entry and at exit: of reads and of writes of each name, and of `out`
@@ -36,30 +37,40 @@ abbrev pub ReadFits : Told → ℕ → ℕ → Option Bytes → Type 0
 ReadFits told before after None = (told ≡ Some None) ⊎ Rose before after
 ReadFits told before after (Some bytes) = NowHas told bytes
 
--- the answer that a file can't be read comes only where a read of its name has failed
-abbrev pub FaultRose : ℕ → ℕ → Status → Type 0
-FaultRose before after ended = (which : Which) → ended ≡ status.ReadFault which → Rose before after
+-- the answer that a file can't be read is of this file, and comes only where a read of its name has failed
+abbrev pub FaultRose : Which → ℕ → ℕ → Status → Type 0
+FaultRose own before after ended = (which : Which) → ended ≡ status.ReadFault which → (which ≡ own) × Rose before after
 
--- the same of a name
-abbrev pub NameFits : Shelves → Counts → Bytes → Option Bytes → Type 0
-NameFits shelf n name got = ReadFits (shelf name) (n.reads_before name) (n.reads_after name) got
+-- the same of a name; `before` and `after` count the failed reads of each name
+abbrev pub NameFits : Shelves → (before after : Bytes → ℕ) → Bytes → Option Bytes → Type 0
+NameFits shelf before after name got = ReadFits (shelf name) (before name) (after name) got
 
 -- the same of the four inputs
-pub record InputsFit (shelf : Shelves) (n : Counts) (name : Which → Bytes) (reads : Reads) : Type 0 where
-  pub netlist : NameFits shelf n (name which.Netlist) reads.netlist
-  pub workload : NameFits shelf n (name which.Workload) reads.workload
-  pub rates : NameFits shelf n (name which.Rates) reads.rates
-  pub points : NameFits shelf n (name which.Points) reads.points
+pub record InputsFit (shelf : Shelves) (before after : Bytes → ℕ) (name : Which → Bytes) (reads : Reads) : Type 0 where
+  pub netlist : NameFits shelf before after (name which.Netlist) reads.netlist
+  pub workload : NameFits shelf before after (name which.Workload) reads.workload
+  pub rates : NameFits shelf before after (name which.Rates) reads.rates
+  pub points : NameFits shelf before after (name which.Points) reads.points
 
 -- the same of each file that a command reads
-abbrev pub ReadsFit : Shelves → Counts → Command → Reads → Type 0
-ReadsFit shelf n (Classes netlist workload) reads = NameFits shelf n netlist reads.netlist × NameFits shelf n workload reads.workload
-ReadsFit shelf n (Check inputs flips pulses) reads = InputsFit shelf n (name_of (Check inputs flips pulses)) reads
-ReadsFit shelf n (Run inputs name set workers) reads = InputsFit shelf n (name_of (Run inputs name set workers)) reads
-ReadsFit shelf n (Resume inputs name set workers) reads =
-    InputsFit shelf n (name_of (Resume inputs name set workers)) reads × NameFits shelf n name reads.result
-ReadsFit shelf n (Audit inputs name set) reads = InputsFit shelf n (name_of (Audit inputs name set)) reads × NameFits shelf n name reads.result
-ReadsFit shelf n (Gen n_stages name workers) reads = Unit {0}
+abbrev pub ReadsFit : Shelves → (before after : Bytes → ℕ) → Command → Reads → Type 0
+ReadsFit shelf before after (Classes netlist workload) reads =
+    NameFits shelf before after netlist reads.netlist × NameFits shelf before after workload reads.workload
+ReadsFit shelf before after (Check inputs flips pulses) reads = InputsFit shelf before after (name_of (Check inputs flips pulses)) reads
+ReadsFit shelf before after (Run inputs name set workers) reads = InputsFit shelf before after (name_of (Run inputs name set workers)) reads
+ReadsFit shelf before after (Resume inputs name set workers) reads =
+    InputsFit shelf before after (name_of (Resume inputs name set workers)) reads × NameFits shelf before after name reads.result
+ReadsFit shelf before after (Audit inputs name set) reads =
+    InputsFit shelf before after (name_of (Audit inputs name set)) reads × NameFits shelf before after name reads.result
+ReadsFit shelf before after (Gen n_stages name workers) reads = Unit {0}
+
+-- THE ORDER OF THE CHECKS: over what the call has read, this is the first refusal, or there is none
+pub record Checked (command : Command) (shelf : Shelves) (before after : Bytes → ℕ) (refusal : Option Status) : Type 0 where
+  pub reads : Reads
+  pub fit : ReadsFit shelf before after command reads
+  pub walk : Option (List NetId)
+  pub loops : IsLoopAnswer reads.netlist walk
+  pub first : first_refusal walk command reads ≡ refusal
 
 -- a refusal is the answer; where nothing refuses the call is done, or a write has failed
 abbrev pub EndsBy : Option Status → Status → Counts → Bytes → Type 0
@@ -69,16 +80,31 @@ EndsBy None ended n result =
     ⊎ ((ended ≡ status.WriteFault to.Result) × WritesRose n result)
     ⊎ ((ended ≡ status.WriteFault to.Out) × Rose n.out_before n.out_after)
 
--- THE ORDER OF THE CHECKS: the status is the first refusal over what the call has read, and says that a file can't be read only where a read of it failed
+-- the status is the first refusal over what the call has read, and says that a file can't be read only where a read of it has failed
 pub record EndsInOrder (command : Command) (ended : Status) (shelf : Shelves) (n : Counts) : Type 0 where
-  pub reads : Reads
-  pub fit : ReadsFit shelf n command reads
-  pub walk : Option (List NetId)
-  pub loops : IsLoopAnswer reads.netlist walk
-  pub ends : EndsBy (first_refusal walk command reads) ended n (name_of command which.Result)
+  pub refusal : Option Status
+  pub checked : Checked command shelf n.reads_before n.reads_after refusal
+  pub ends : EndsBy refusal ended n (name_of command which.Result)
   pub fault : (which : Which) → ended ≡ status.ReadFault which → ReadsRose n (name_of command which)
 
--- Usage is the answer exactly where the words are no command, and for a command the checks decide; memory may run out in place of either
-pub record HasCause (ended : Status) (words : List Bytes) (shelf : Shelves) (n : Counts) : Type 0 where
-  pub usage : IsNoCommand words → (ended ≡ status.Usage) ⊎ (ended ≡ status.Memory)
-  pub checks : (command : Command) → IsCommand words command → (ended ≡ status.Memory) ⊎ EndsInOrder command ended shelf n
+-- WHY A CALL ENDS SO: Usage exactly where the words are no command; for a command the checks decide; and memory may run out in place of either
+abbrev pub HasCause : Status → List Bytes → Shelves → Counts → Type 0
+HasCause ended words shelf n =
+    (IsNoCommand words × (ended ≡ status.Usage))
+    ⊎ ((command : Command) × IsCommand words command × EndsInOrder command ended shelf n)
+    ⊎ (ended ≡ status.Memory)
+
+-- how a command has ended, in its cause and in what it has done
+pub record CommandEnds (command : Command) (ended : Status) (before after : Shelves) (n : Counts) (out_before out_after : Option Bytes) : Type 0 where
+  pub cause : EndsInOrder command ended before n ⊎ (ended ≡ status.Memory)
+  pub done : ended ≡ status.Done → DoneAs command before after out_before out_after
+  pub refused : IsRefusal ended → RefusedAs (name_of command) ended before after out_before out_after n.out_before n.out_after
+  pub result_fault : ended ≡ status.WriteFault to.Result → FaultAs command before after × FaultSaid (name_of command) out_before out_after n.out_before n.out_after
+  pub out_fault : ended ≡ status.WriteFault to.Out → OutFaultAs command before after out_before out_after
+
+-- how a call has ended: as its command; or the words are none; or there was no memory to read them
+abbrev pub WordsEnd : List Bytes → Status → Shelves → Shelves → Counts → (out_before out_after : Option Bytes) → Type 0
+WordsEnd words ended before after n out_before out_after =
+    ((command : Command) × IsCommand words command × CommandEnds command ended before after n out_before out_after)
+    ⊎ (IsNoCommand words × (ended ≡ status.Usage) × RefusedAs no_names ended before after out_before out_after n.out_before n.out_after)
+    ⊎ ((ended ≡ status.Memory) × RefusedAs no_names ended before after out_before out_after n.out_before n.out_after)

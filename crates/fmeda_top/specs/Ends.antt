@@ -1,15 +1,14 @@
 -- What a call of the program has done when it ends. Each promise is of files whose content the shelf tells.
-use Rattle.std.specs.Prelude.{◌≡◌, ◌≢◌, ◌⊎◌, ℕ, List, [], length, take, All, Option, Some, None, Ok, find, unwrap_or, option_map, ◌==◌}
-use Rattle.fm_shelf.specs.Shelf.{Told, NowHas, told_more, HasPrefix, Rose}
+use Rattle.std.specs.Prelude.{◌≡◌, ◌⊎◌, ℕ, List, [], ◌∷◌, codes, length, take, Option, Some, None, Ok}
+use Rattle.fm_shelf.specs.Shelf.{Told, told_more, HasPrefix, Rose}
 use Rattle.circuit.specs.Loop.{HasNoLoop}
 use Rattle.circuit.specs.Circuit.{Circuit}
 use Rattle.campaign_plan.specs.declared.Settings.{Settings}
-use Rattle.campaign_plan.specs.declared.Outcome.{Outcome}
 use Rattle.campaign_plan.specs.Analysis.{Analysis}
-use Rattle.campaign_plan.specs.Batches.{Entry, AreDistinct, HasEach, true_planes}
+use Rattle.campaign_plan.specs.Batches.{Entry, true_planes}
 use Rattle.result_file.specs.declared.KeptRows.{KeptRows}
 use Rattle.result_file.specs.ResultText.{result_text}
-use Rattle.result_file.specs.KeptRows.{kept, kept_entries}
+use Rattle.result_file.specs.KeptRows.{kept}
 use Rattle.blif_model.specs.Net.{netlist_of}
 use Rattle.fmeda_report.specs.Report.{report, true_report, summary}
 use Rattle.fmeda_top.specs.declared.status.Status.{Status}
@@ -17,17 +16,17 @@ use Rattle.fmeda_top.specs.declared.status.Status.TheVariants as status
 use Rattle.fmeda_top.specs.declared.status.WriteTo.TheVariants as to
 use Rattle.fmeda_top.specs.declared.status.Which.{Which}
 use Rattle.fmeda_top.specs.declared.status.Which.TheVariants as which
-use Rattle.fmeda_top.specs.RefusalLines.{refusal_line}
+use Rattle.fmeda_top.specs.RefusalLines.{refused, refusal_line}
 use Rattle.command_line.specs.Commands.{Command, Classes, Check, Run, Resume, Audit, Gen, Inputs, settings_of}
 use Rattle.command_line.specs.Words.{IsCommand}
 use Rattle.fmeda_top.specs.Files.{Files, all_read}
 use Rattle.fmeda_top.specs.Texts.{classes_text, check_text, audit_text}
 use Rattle.fmeda_top.specs.FirstRefusal.{IsPlanOf, classes_plan_of, audited_of, own_header, generated, generated_settings}
 use Rattle.fm_base.specs.Names.{Bytes}
-
--- what is told of each file of a shelf
-abbrev pub Shelves : Type 0
-Shelves = Bytes → Told
+pub use Rattle.campaign_run.specs.Outside.{Shelves, KeepsOthers, Wrote}
+use Rattle.campaign_run.specs.Found.{IsPart, kept_or_true}
+use Rattle.campaign_run.specs.Reported.{HasReported, ResumedAs}
+use Rattle.campaign_run.specs.Left.{LeftPrefix, BeginsAs}
 
 -- the shelf tells that a file holds these bytes
 abbrev pub Holds : Shelves → Bytes → Bytes → Type 0
@@ -40,57 +39,15 @@ pub record HoldsInputs (shelf : Shelves) (inputs : Inputs) (files : Files) : Typ
   pub rates : Holds shelf inputs.rates files.rates
   pub points : Holds shelf inputs.points files.points
 
--- files of other names are as at entry
-abbrev pub KeepsOthers : Shelves → Shelves → Bytes → Type 0
-KeepsOthers before after result = (name : Bytes) → name ≢ result → after name ≡ before name
-
 -- no file has changed
 abbrev pub KeepsAll : Shelves → Shelves → Type 0
 KeepsAll before after = (name : Bytes) → after name ≡ before name
-
--- `out` grew by exactly this text, where it is told
-abbrev pub Wrote : Option Bytes → Option Bytes → Bytes → Type 0
-Wrote out_before out_after text = out_after ≡ told_more out_before text
-
--- each batch of the plan once, with the planes that `planes` gives
-pub record IsWhole (p : Analysis) (planes : ℕ → Outcome) (entries : List Entry) : Type 0 where
-  pub distinct : AreDistinct p entries
-  pub each : HasEach p entries
-  pub have : All (λ entry. entry.1 ≡ planes entry.0) entries
-
--- some batches of the plan, none of them twice, with the planes that `planes` gives
-pub record IsPart (p : Analysis) (planes : ℕ → Outcome) (entries : List Entry) : Type 0 where
-  pub distinct : AreDistinct p entries
-  pub have : All (λ entry. entry.1 ≡ planes entry.0) entries
-
--- WHAT IS PROMISED OF A CAMPAIGN: the text of one thread that takes the faults in order was written; and the result file holds a row for
--- each batch, once, with the sums of the rows up to it from scratch.
-pub record HasReported (own text : Bytes) (p : Analysis) (planes : ℕ → Outcome) (after : Told) (out_before out_after : Option Bytes) : Type 0 where
-  pub wrote : Wrote out_before out_after text
-  pub entries : List Entry
-  pub whole : IsWhole p planes entries
-  pub result : NowHas after (result_text own p entries)
 
 -- a campaign over these bytes
 pub record RanCampaign (files : Files) (set : Settings) (text : Analysis → Bytes) (after : Told) (out_before out_after : Option Bytes) : Type 0 where
   pub p : Analysis
   pub plan : IsPlanOf set files p
   pub reported : HasReported (own_header set files p) (text p) p (true_planes p) after out_before out_after
-
--- the planes that were kept of a batch, or else those that it truly has
-abbrev pub kept_or_true : Analysis → KeptRows → ℕ → Outcome
-kept_or_true p k batch = unwrap_or (option_map (λ entry. entry.1) (find (λ entry. entry.0 == batch) (kept_entries k))) (true_planes p batch)
-
--- a list begins with another
-abbrev pub BeginsWith : {X : Type 0} → List X → List X → Type 0
-BeginsWith xs start = take (length start) xs ≡ start
-
--- a campaign that was resumed: it is reported, and its rows begin with those that were kept
-pub record ResumedAs (own text : Bytes) (p : Analysis) (planes : ℕ → Outcome) (bytes : Bytes) (after : Told) (out_before out_after : Option Bytes) : Type 0 where
-  pub k : KeptRows
-  pub kept_rows : kept own p bytes ≡ Ok k
-  pub reported : HasReported own text p planes after out_before out_after
-  pub first : BeginsWith reported.entries (kept_entries k)
 
 -- RESUMING, whatever the file held that is accepted: the report of the kept planes, and of the true ones of all other batches
 pub record Resumed (files : Files) (set : Settings) (bytes : Bytes) (after : Told) (out_before out_after : Option Bytes) : Type 0 where
@@ -144,29 +101,11 @@ abbrev pub AtDone : Status → List Bytes → Shelves → Shelves → Option Byt
 AtDone ended words before after out_before out_after =
     ended ≡ status.Done → (command : Command) × IsCommand words command × DoneAs command before after out_before out_after
 
--- where it is told, the file is a byte prefix of this text
-abbrev pub IsPrefixOf : Told → Bytes → Type 0
-IsPrefixOf None text = Unit {0}
-IsPrefixOf (Some None) text = ⊥
-IsPrefixOf (Some (Some bytes)) text = (n : ℕ) × (bytes ≡ take n text)
-
--- the file is a byte prefix of a result file of the plan with these planes
-pub record LeftPrefix (own : Bytes) (p : Analysis) (planes : ℕ → Outcome) (after : Told) : Type 0 where
-  pub entries : List Entry
-  pub part : IsPart p planes entries
-  pub prefix : IsPrefixOf after (result_text own p entries)
-
 -- the same of a campaign over these bytes
 pub record StoppedCampaign (files : Files) (set : Settings) (after : Told) : Type 0 where
   pub p : Analysis
   pub plan : IsPlanOf set files p
   pub left : LeftPrefix (own_header set files p) p (true_planes p) after
-
--- where it is told, the file begins with these bytes
-abbrev pub BeginsAs : Told → Bytes → Type 0
-BeginsAs None start = Unit {0}
-BeginsAs (Some None) start = ⊥
-BeginsAs (Some (Some bytes)) start = BeginsWith bytes start
 
 -- the same of a campaign that was resumed: it still begins with the bytes that were kept
 pub record StoppedResuming (files : Files) (set : Settings) (bytes : Bytes) (after : Told) : Type 0 where
@@ -192,23 +131,6 @@ FaultAs (Audit inputs name set) before after = ⊥
 FaultAs (Gen n name workers) before after =
     KeepsOthers before after name × ((after name ≡ before name) ⊎ StoppedCampaign (generated n) generated_settings (after name))
 
--- after a fault of writing RESULT the words are a command, and it was left so
-abbrev pub AfterResultFault : Status → List Bytes → Shelves → Shelves → Type 0
-AfterResultFault ended words before after =
-    ended ≡ status.WriteFault to.Result → (command : Command) × IsCommand words command × FaultAs command before after
-
--- AFTER A FAULT OF `out`: all is as after Done, but that only a prefix of the text went out
-abbrev pub AfterOutFault : Status → List Bytes → Shelves → Shelves → Option Bytes → Option Bytes → Type 0
-AfterOutFault ended words before after out_before out_after =
-    ended ≡ status.WriteFault to.Out → (command : Command) × IsCommand words command × (text : Bytes)
-    × DoneAs command before after out_before (told_more out_before text) × HasPrefix out_before out_after text
-
--- the status is a refusal that leaves RESULT alone: no Done, and no fault of writing
-abbrev pub IsRefusal : Status → Type 0
-IsRefusal status.Done = ⊥
-IsRefusal (status.WriteFault to) = ⊥
-IsRefusal _ = Unit {0}
-
 -- the name of each file by the words of a command
 abbrev pub name_in : Inputs → Bytes → Which → Bytes
 name_in inputs result which.Netlist = inputs.netlist
@@ -226,26 +148,53 @@ name_of (Resume inputs name set workers) = name_in inputs name
 name_of (Audit inputs name set) = name_in inputs name
 name_of (Gen n name workers) = name_in (record { netlist = []; workload = []; rates = []; points = [] }) name
 
+-- the line of a fault of RESULT was written, or a prefix of it where `out` failed
+abbrev pub FaultSaid : (Which → Bytes) → (out_before out_after : Option Bytes) → (faults_before faults_after : ℕ) → Type 0
+FaultSaid names out_before out_after faults_before faults_after =
+    let text = refused (codes "cannot write" ∷ names which.Result ∷ []) in
+    Wrote out_before out_after text ⊎ (Rose faults_before faults_after × HasPrefix out_before out_after text)
+
+-- after a fault of writing RESULT the words are a command, the file was left so, and the line was written
+abbrev pub AfterResultFault : Status → List Bytes → Shelves → Shelves → Option Bytes → Option Bytes → ℕ → ℕ → Type 0
+AfterResultFault ended words before after out_before out_after faults_before faults_after =
+    ended ≡ status.WriteFault to.Result → (command : Command) × IsCommand words command × FaultAs command before after
+    × FaultSaid (name_of command) out_before out_after faults_before faults_after
+
+-- AFTER A FAULT OF `out`: all is as after Done, but that only a prefix of the text went out
+abbrev pub OutFaultAs : Command → Shelves → Shelves → Option Bytes → Option Bytes → Type 0
+OutFaultAs command before after out_before out_after =
+    (text : Bytes) × DoneAs command before after out_before (told_more out_before text) × HasPrefix out_before out_after text
+
+-- after a fault of `out` the words are a command, and it has done so
+abbrev pub AfterOutFault : Status → List Bytes → Shelves → Shelves → Option Bytes → Option Bytes → Type 0
+AfterOutFault ended words before after out_before out_after =
+    ended ≡ status.WriteFault to.Out → (command : Command) × IsCommand words command × OutFaultAs command before after out_before out_after
+
+-- the status is a refusal that leaves RESULT alone: no Done, and no fault of writing
+abbrev pub IsRefusal : Status → Type 0
+IsRefusal status.Done = ⊥
+IsRefusal (status.WriteFault to) = ⊥
+IsRefusal _ = Unit {0}
+
 -- the names by the words; for words that are no command the line names no file
 abbrev pub AreNames : List Bytes → Status → (Which → Bytes) → Type 0
 AreNames words status.Usage names = Unit {0}
+AreNames words status.Memory names = Unit {0}
 AreNames words _ names = (command : Command) × IsCommand words command × (names ≡ name_of command)
 
--- the circuit that the netlist's name stands for, where its file is told
-abbrev pub IsNamedCircuit : Shelves → Bytes → Circuit → Type 0
-IsNamedCircuit before name c = (bytes : Bytes) → Holds before name bytes → (d : Circuit) → netlist_of bytes ≡ Ok d → c ≡ d
+-- the circuit that the netlist's file stands for, where the file is told
+abbrev pub IsCircuitOf : Told → Circuit → Type 0
+IsCircuitOf told c = (bytes : Bytes) → told ≡ Some (Some bytes) → (d : Circuit) → netlist_of bytes ≡ Ok d → c ≡ d
 
 -- AFTER A REFUSAL: no file has changed, and the refusal's line was written, or a prefix of it where `out` failed
-pub record RefusedAs (ended : Status) (words : List Bytes) (before after : Shelves) (out_before out_after : Option Bytes) (faults_before faults_after : ℕ) : Type 0 where
+pub record RefusedAs (names : Which → Bytes) (ended : Status) (before after : Shelves) (out_before out_after : Option Bytes) (faults_before faults_after : ℕ) : Type 0 where
   pub files : KeepsAll before after
-  pub names : Which → Bytes
-  pub named : AreNames words ended names
   pub c : Circuit
-  pub circuit : IsNamedCircuit before (names which.Netlist) c
+  pub circuit : IsCircuitOf (before (names which.Netlist)) c
   pub line : Wrote out_before out_after (refusal_line names c ended)
       ⊎ (Rose faults_before faults_after × HasPrefix out_before out_after (refusal_line names c ended))
 
--- after a refusal this holds
+-- after a refusal this holds, with the names of the words
 abbrev pub AfterRefusal : Status → List Bytes → Shelves → Shelves → Option Bytes → Option Bytes → ℕ → ℕ → Type 0
 AfterRefusal ended words before after out_before out_after faults_before faults_after =
-    IsRefusal ended → RefusedAs ended words before after out_before out_after faults_before faults_after
+    IsRefusal ended → (names : Which → Bytes) × AreNames words ended names × RefusedAs names ended before after out_before out_after faults_before faults_after

@@ -7,6 +7,8 @@ use Rattle.blif_model.specs.Net.{netlist_of}
 use Rattle.workload.specs.declared.run.Run.{Run}
 use Rattle.workload.specs.WorkloadFile.{workload_of}
 use Rattle.rate_table.specs.RatesFile.{rates_of}
+use Rattle.rate_table.specs.Table.{RateTable}
+use Rattle.alarm_points.specs.declared.Points.{Points}
 use Rattle.alarm_points.specs.PointsFile.{points_of}
 use Rattle.campaign_plan.specs.declared.Settings.{Settings}
 use Rattle.campaign_plan.specs.declared.PlanRefusal.{PlanRefusal}
@@ -74,6 +76,18 @@ workload_step c bytes = do
   whole ← at_most which.Workload bytes
   or_refuse status.Workload (workload_of c whole)
 
+-- RATES
+unfoldable pub rates_step : Option Bytes → Result RateTable Status
+rates_step bytes = do
+  whole ← at_most which.Rates bytes
+  or_refuse status.Rates (rates_of whole)
+
+-- POINTS
+unfoldable pub points_step : Circuit → Option Bytes → Result Points Status
+points_step c bytes = do
+  whole ← at_most which.Points bytes
+  or_refuse status.Points (points_of c whole)
+
 -- the status of a refusal of the plan
 abbrev pub status_of_plan : PlanRefusal → Status
 status_of_plan plan.TooManyFaults = status.TooLarge what.Faults
@@ -86,16 +100,17 @@ abbrev pub refusal_of_plan : Option PlanRefusal → Option Status
 refusal_of_plan None = None
 refusal_of_plan (Some refusal) = Some (status_of_plan refusal)
 
+-- TOO MANY FAULTS, A MISSING RATE, AN IDLE RATE
+abbrev pub plan_step : Analysis → Result Analysis Status
+plan_step p = unless (refusal_of_plan (plan_refusal p)) p
+
 -- the plan of a netlist and three more files, or the first refusal
 unfoldable pub plan_for : Circuit → Settings → Reads → Result Analysis Status
 plan_for c set reads = do
   runs ← workload_step c reads.workload
-  rates_bytes ← at_most which.Rates reads.rates
-  rates ← or_refuse status.Rates (rates_of rates_bytes)
-  points_bytes ← at_most which.Points reads.points
-  points ← or_refuse status.Points (points_of c points_bytes)
-  let p : Analysis = record { circuit = c; runs = runs; rates = rates; points = points; settings = set }
-  unless (refusal_of_plan (plan_refusal p)) p
+  rates ← rates_step reads.rates
+  points ← points_step c reads.points
+  plan_step (record { circuit = c; runs = runs; rates = rates; points = points; settings = set })
 
 -- the plan of four files, or the first refusal
 unfoldable pub plan_of : Option (List NetId) → Settings → Reads → Result Analysis Status

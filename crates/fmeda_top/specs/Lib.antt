@@ -7,3 +7,6 @@ pub mod Causes
 pub mod Said
 pub mod Named
 pub mod Steps
+pub mod Simulated
+pub mod ClassLines
+pub mod PlanSteps

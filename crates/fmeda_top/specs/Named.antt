@@ -1,4 +1,5 @@
 -- The names of a command's files.
+use Rattle.std.specs.Prelude.{[]}
 use Rattle.fm_base.specs.Names.{Bytes}
 use Rattle.fmeda_top.specs.declared.names.FileNames.{FileNames}
 use Rattle.fmeda_top.specs.declared.status.Which.{Which}
@@ -11,3 +12,7 @@ name_by names which.Workload = names.workload.now
 name_by names which.Rates = names.rates.now
 name_by names which.Points = names.points.now
 name_by names which.Result = names.result.now
+
+-- the names of words that are no command
+abbrev pub no_names : Which → Bytes
+no_names which = []

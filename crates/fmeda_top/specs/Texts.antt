@@ -4,6 +4,7 @@ use Rattle.metric_sums.specs.declared.Role.TheVariants.{Mission}
 use Rattle.circuit.specs.Circuit.{Circuit}
 use Rattle.workload.specs.declared.run.Run.{Run}
 use Rattle.workload.specs.Runs.{all_cycles}
+use Rattle.alarm_points.specs.declared.Points.{Points}
 use Rattle.alarm_points.specs.PointsFile.{all_outputs, observed}
 use Rattle.rate_table.specs.Table.{RateTable, all_rates}
 use Rattle.fm_base.specs.Lists.{below}
@@ -32,15 +33,31 @@ classes_text p =
     flat_map (λ i. line (fault_name p.circuit (fault_numbered p i) ∷ class_word (class_of_fault p (true_planes p) i) ∷ [])) (below (fault_count p))
     ++ line (codes "end" ∷ decimal (fault_count p) ∷ [])
 
+-- the sizes of a netlist
+abbrev pub netlist_line : Circuit → Bytes
+netlist_line c =
+    line (codes "netlist nets" ∷ decimal (length c.drivers) ∷ codes "inputs" ∷ decimal (length c.inputs)
+    ∷ codes "tables" ∷ decimal (length c.tables) ∷ codes "latches" ∷ decimal (length c.latches) ∷ [])
+
+-- those of a workload
+abbrev pub workload_line : List Run → Bytes
+workload_line runs = line (codes "workload workloads" ∷ decimal (length runs) ∷ codes "cycles" ∷ decimal (all_cycles runs) ∷ [])
+
+-- the parts, and their rates of both kinds together
+abbrev pub rates_line : RateTable → Bytes
+rates_line table = line (codes "rates parts" ∷ decimal (length table.parts) ∷ codes "units" ∷ decimal (all_rates table.parts) ∷ [])
+
+-- the observation points of all goals, and the alarm points
+abbrev pub points_line : Points → Bytes
+points_line points = line (codes "points observe" ∷ decimal (length (observed points)) ∷ codes "alarm" ∷ decimal (length points.alarm) ∷ [])
+
+-- the faults, and their batches
+abbrev pub faults_line : Analysis → Bytes
+faults_line p = line (codes "faults" ∷ decimal (fault_count p) ∷ codes "batches" ∷ decimal (batch_count p) ∷ [])
+
 -- the five lines of `check`
 unfoldable pub check_text : Analysis → Bytes
-check_text p =
-    line (codes "netlist nets" ∷ decimal (length p.circuit.drivers) ∷ codes "inputs" ∷ decimal (length p.circuit.inputs)
-    ∷ codes "tables" ∷ decimal (length p.circuit.tables) ∷ codes "latches" ∷ decimal (length p.circuit.latches) ∷ [])
-    ++ line (codes "workload workloads" ∷ decimal (length p.runs) ∷ codes "cycles" ∷ decimal (all_cycles p.runs) ∷ [])
-    ++ line (codes "rates parts" ∷ decimal (length p.rates.parts) ∷ codes "units" ∷ decimal (all_rates p.rates.parts) ∷ [])
-    ++ line (codes "points observe" ∷ decimal (length (observed p.points)) ∷ codes "alarm" ∷ decimal (length p.points.alarm) ∷ [])
-    ++ line (codes "faults" ∷ decimal (fault_count p) ∷ codes "batches" ∷ decimal (batch_count p) ∷ [])
+check_text p = netlist_line p.circuit ++ (workload_line p.runs ++ (rates_line p.rates ++ (points_line p.points ++ faults_line p)))
 
 -- the line of `audit` for so many whole rows
 unfoldable pub audit_text : ℕ → Analysis → Bytes

@@ -1,7 +1,9 @@
 // The line of a status.
 ghost use Rattle.std.specs.Prelude.{◌≡◌, codes, if◌then◌else◌};
 ghost use Rattle.circuit.specs.Circuit.{Circuit};
+ghost use Rattle.fm_shelf.specs.Shelf.{Told};
 ghost use Rattle.fmeda_top.specs.Said.{IsSaid};
+ghost use Rattle.fmeda_top.specs.Steps.{status_of, HasItsNets, IsSaidOf};
 ghost use Rattle.fmeda_top.specs.Named.{name_by};
 ghost use Rattle.fmeda_top.specs.RefusalLines.{refusal_line};
 
@@ -10,6 +12,7 @@ use crate::lines::{
 };
 use crate::names::{FileNames, file_name};
 use crate::refusal::{points_kind, rates_kind, refuse_netlist, refuse_row, workload_kind};
+use crate::refused::Refused;
 use crate::status::{Status, What, Which, WriteTo};
 use crate::walk::refuse_loop;
 use circuit::parts::Name;
@@ -104,5 +107,24 @@ pub fn refuse<O: Sink>(out: &mut O, names: &FileNames, nets: &[Name], status: &S
             b"computed",
             *computed,
         ),
+    }
+}
+
+/// Writes the line of a refusal, and answers its status.
+pub fn say_refused<O: Sink>(out: &mut O, names: &FileNames, refused: Refused) -> Status
+    ensures status { result ≡ status_of refused }
+    ensures said { (told : Told) → HasItsNets told refused
+        → IsSaidOf told (O.written out.old) (O.written out.new) (O.faults out.old) (O.faults out.new) (name_by names.now) (status_of refused) }
+{
+    match refused {
+        Refused::By(status) => {
+            refuse(out, names, &[], &status);
+            status
+        }
+        Refused::Looped { walk, net } => {
+            let status = Status::Loop(walk);
+            refuse(out, names, net.names(), &status);
+            status
+        }
     }
 }

@@ -1,0 +1,36 @@
+// The program: words, files and standard output are those of the system.
+#![tactic(auto)]
+
+use fm_shelf::real::{FileShelf, OutSink};
+use fmeda_top::top::fmeda;
+use std::process::ExitCode;
+use std::{env, io};
+use worker_gate::NoGate;
+
+/// The exit status where the system doesn't give the words.
+const NO_WORDS: u8 = 22;
+
+// The words of the command line, the program's name first.
+fn words(rt: &HostRuntime) -> io::Result<Vec<String>> {
+    let mut words = Vec::new(rt.alloc());
+    for word in env::args(rt)? {
+        words.push(word)?;
+    }
+    Ok(words)
+}
+
+fn main(rt: HostRuntime) -> ExitCode {
+    let Ok(words) = words(&rt) else {
+        return ExitCode::from(NO_WORDS);
+    };
+    let mut out = OutSink::new(&rt);
+    let ended = fmeda(
+        &rt,
+        rt.alloc(),
+        words.as_slice(),
+        FileShelf::new(&rt),
+        &mut out,
+        &NoGate,
+    );
+    ExitCode::from(ended.status.code())
+}

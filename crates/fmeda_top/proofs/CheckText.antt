@@ -1,0 +1,30 @@
+-- The lines of `check`, and what they count.
+use Rattle.std.proofs.Common.{◌≡◌, ◌∙◌, ap, sym, refl, ℕ, ◌≤◌, ◌<◌, ◌+◌, List, [], ◌∷◌, ◌++◌, take, drop, get_or, length, length-append, false, arith}
+use Rattle.std.specs.List.{flat_map, sum_by}
+use Rattle.alarm_points.specs.declared.Goal.{Goal}
+use Rattle.metric_sums.specs.declared.Role.TheVariants.{Other}
+use Rattle.rate_table.specs.declared.Part.{Part}
+use Rattle.campaign_plan.specs.Analysis.{Analysis}
+use Rattle.fmeda_top.specs.Texts.{check_text, netlist_line, workload_line, rates_line, points_line, faults_line}
+
+pub check_is : (p : Analysis) → netlist_line p.circuit ++ (workload_line p.runs ++ (rates_line p.rates ++ (points_line p.points ++ faults_line p))) ≡ check_text p
+unfolding check_text
+check_is p = refl
+
+-- the rates of parts, both kinds
+abbrev pub part_units : Part → ℕ
+part_units part = part.permanent + part.transient
+
+abbrev pub units_of : List Part → ℕ
+units_of parts = sum_by part_units parts
+
+-- what stands for a part behind the last
+abbrev pub no_part : Part
+no_part = record { name = []; role = Other; covered = false; permanent = 0; transient = 0 }
+
+-- the number of observation points of goals
+abbrev pub goal_points : Goal → ℕ
+goal_points goal = length goal.observe
+
+abbrev pub points_of : List Goal → ℕ
+points_of goals = sum_by goal_points goals

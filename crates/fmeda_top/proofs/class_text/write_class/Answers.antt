@@ -1,0 +1,22 @@
+use Rattle.std.proofs.Common.{◌∙◌, ap, refl}
+use Rattle.std.proofs.lemmas.Result.{err_from_is_err_and}
+use Rattle.fmeda_report.specs.Words.{class_word}
+use Rattle.fmeda_report.proofs.Sending.{sends_as, sends_stop, sends_then}
+use Rattle.fmeda_top.proofs.ClassLines.{class_pieces}
+use Rattle.fmeda_top.proofs.class_text.write_class.Goals as goal
+
+pub returns-in_err-write_name : goal.returns-in_err-write_name
+returns-in_err-write_name g c =
+    let p = err_from_is_err_and c.from_residual.result c.from_residual.ensures.1 in
+    rw p.1 (sends_as (class_pieces c.args.net.now c.args.faults.now c.args.planes c.args.i _ refl) (sends_stop _ _ (record {
+      ok = tt;
+      torn = c.in_err-write_name.ensures.torn;
+      failed = c.in_err-write_name.ensures.failed;
+      grows = c.in_err-write_name.ensures.grows;
+    })))
+
+pub returns : goal.returns
+returns g c =
+    sends_as (class_pieces c.args.net.now c.args.faults.now c.args.planes c.args.i c.class_word.result.now (c.class_word.ensures ∙ ap class_word c.class_in.ensures))
+    (sends_then {v = tt} (record { ok = c.in_ok-write_name.ensures.ok; torn = tt; failed = tt; grows = c.in_ok-write_name.ensures.grows })
+    (record { ok = c.write_pieces.ensures.ok; torn = c.write_pieces.ensures.torn; failed = c.write_pieces.ensures.failed; grows = c.write_pieces.ensures.grows }))
