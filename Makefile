@@ -1,5 +1,5 @@
 # The program, a run of it on a real circuit, and all that CI runs.
-.PHONY: demo test install
+.PHONY: demo test cases install
 
 PREFIX ?= /usr/local
 
@@ -14,10 +14,12 @@ demo: build/fmeda
 	cd examples/duplicated && ../../build/fmeda run gate.blif vectors.csv rates.csv points.csv ../../build/gate.result --workers 2
 	cat build/gate.result
 
-# Each proof, the edits that must be refused, and each test; then the rows of the command line on the built program.
+# Each proof, the edits that must be refused, each test, and the program's stored run.
 test:
 	rt ci
-	$(MAKE) build/fmeda
+
+# The cases of the command line, on the built program.
+cases: build/fmeda
 	tests/cli/run build/fmeda
 
 install: build/fmeda
