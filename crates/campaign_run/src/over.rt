@@ -89,7 +89,7 @@ fn worked<
     ensures { HasWorked N.start whole (held_in (F.files crew.board.shelf) (F.rest_absent crew.board.shelf) N.start.name)
         (held_in (F.files result.shelf) (F.rest_absent result.shelf) N.start.name) result }
 {
-    if crew.board.append_header(whole, own).is_err() {
+    if crew.board().append_header(whole, own).is_err() {
         return crew.into_board();
     }
     campaign(rt, plan, order, crew, gate).board

@@ -1,4 +1,5 @@
-pub mod Turns
+pub mod Owing
+pub mod RoundByRound
 pub mod Hiring
 pub mod Ends
 pub mod Sends

@@ -6,10 +6,10 @@ use Rattle.circuit.proofs.parts.Fault.TheSendSync as fault
 use Rattle.lane_kernel.proofs.gate.Gate.TheSendSync as gate
 use Rattle.lane_kernel.proofs.gate.Masks.TheSendSync as masks
 use Rattle.lane_kernel.proofs.force.Force.TheSendSync as force
-use Rattle.lane_kernel.specs.contracts.lanes.Lanes.{the_row}
+use Rattle.lane_kernel.specs.contracts.lanes.Lanes4.{the_row}
 use Rattle.claim_counter.proofs.seat.Seat.TheSendSync as seat
 use Rattle.campaign_board.proofs.headed.Headed.TheSendSync as headed
-use Rattle.alarm_points.proofs.windows.Windows.TheSendSync as windows
+use Rattle.alarm_points.proofs.windows4.Windows4.TheSendSync as windows
 use Rattle.fm_shelf.specs.declared.shelf.Shelf.{Ghosts as ShelfGhosts}
 use Rattle.campaign_board.specs.declared.board.Origin.{Ghosts as OriginGhosts}
 use Rattle.campaign_workers.specs.contracts.worker.Worker.{the_row as worker_row}

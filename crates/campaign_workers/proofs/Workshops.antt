@@ -11,7 +11,7 @@ use Rattle.claim_counter.specs.Seats.{Counter, Seated, IsOf}
 use Rattle.claim_counter.specs.Crews.{IsReady, IsCrew}
 use Rattle.campaign_workers.specs.declared.worker.Worker.{Worker}
 use Rattle.campaign_workers.specs.Workplaces.{AreToolsFor, AreFor, seats_of}
-use Rattle.campaign_workers.proofs.Turns.{same_seat}
+use Rattle.campaign_workers.proofs.Owing.{same_seat}
 
 -- what is written back to a vector through its slice
 pub written_whole : {X : Type 0} (now items : List X) (len : ℕ) → length now ≡ length items → len ≡ length items → take len (now ++ drop (length now) items) ≡ now

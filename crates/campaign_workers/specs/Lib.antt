@@ -1,3 +1,5 @@
 pub mod Truth
 pub mod Workplaces
+pub mod Rounds
 pub mod Finish
+pub mod LentBoard

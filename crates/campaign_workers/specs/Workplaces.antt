@@ -2,7 +2,7 @@
 use Rattle.std.specs.Prelude.{◌≡◌, ℕ, ◌<◌, [], true, false, List, length, map, All}
 use Rattle.circuit.specs.declared.parts.NetId.{NetId}
 use Rattle.circuit.specs.Order.{IsOrder}
-use Rattle.alarm_points.specs.Watch.{Watches, AreMadeFor}
+use Rattle.alarm_points.specs.FourWatches.{FourWatches, AreFourMadeFor}
 use Rattle.lane_kernel.specs.Bank.{Bank, IsMadeFor}
 use Rattle.golden_run.specs.Recording.{Recording}
 use Rattle.campaign_plan.specs.Analysis.{Analysis}
@@ -14,10 +14,10 @@ use Rattle.campaign_workers.specs.declared.worker.Worker.{Worker}
 abbrev pub golden_of : Analysis → Recording
 golden_of p = record { circuit = p.circuit; runs = p.runs; points = p.points }
 
--- lanes and windows of a plan, by an order of its tables
-pub record AreToolsFor (p : Analysis) (order : List NetId) (lanes : Bank ℕ) (windows : Watches) : Type 0 where
+-- four words of lanes and of windows for a plan, by an order of its tables
+pub record AreToolsFor (p : Analysis) (order : List NetId) (lanes : Bank (List ℕ)) (windows : FourWatches) : Type 0 where
   pub lanes_made : IsMadeFor p.circuit order lanes
-  pub windows_made : AreMadeFor p.points windows
+  pub windows_made : AreFourMadeFor p.points windows
   pub ftti : windows.ftti ≡ p.settings.ftti
 
 abbrev pub seats_of : {F N : Type 0} → List (Worker F N) → List Seated

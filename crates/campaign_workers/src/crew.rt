@@ -5,13 +5,13 @@ ghost use Rattle.claim_counter.specs.Crews.{IsCrew};
 ghost use Rattle.campaign_workers.specs.Workplaces.{AreToolsFor, seats_of};
 
 use crate::worker::Worker;
-use alarm_points::windows::Windows;
+use alarm_points::windows4::Windows4;
 use campaign_board::{Board, Origin, Seat, Shared, missing_batches};
 use campaign_plan::Plan;
 use fm_shelf::shelf::Shelf;
 use golden_run::make::golden;
 use golden_run::values::Golden;
-use lane_kernel::Lanes;
+use lane_kernel::Lanes4;
 use netlist_levels::Order;
 use std::alloc::{AllocError, Global};
 use std::marker::Model;
@@ -44,8 +44,7 @@ impl<F: Shelf + Drop, N: Origin> Model for Workshop<F, N> {
 /// A crew: the board of a campaign, and all else that the campaign needs. Its campaign takes no memory.
 #[derive(Drop)]
 pub struct Crew<F: Shelf + Drop, N: Origin> {
-    /// The board, whose header is to be written before the campaign.
-    pub board: Board<F, N>,
+    pub(crate) board: Board<F, N>,
     pub(crate) workshop: Workshop<F, N>,
 }
 
@@ -56,6 +55,9 @@ pub struct NoCrew<F: Shelf + Drop, N: Origin> {
 }
 
 impl<F: Shelf + Drop, N: Origin> Crew<F, N> {
+    ghost use Rattle.std.specs.Borrow.{sem};
+    ghost use Rattle.campaign_workers.specs.LentBoard.{LendsBoard};
+
     /// A crew of up to 32 workers, which takes all memory of its campaign: the golden run, the shared table with a seat for each
     /// worker, lanes and windows. For want of memory the board comes back.
     pub fn new(
@@ -76,6 +78,14 @@ impl<F: Shelf + Drop, N: Origin> Crew<F, N> {
             return Err(NoCrew { board });
         };
         Ok(Crew { board, workshop })
+    }
+
+    /// The board, whose header is to be written before the campaign.
+    pub fn board(&mut self) -> &mut Board<F, N>
+        ensures* writes_back { sem 𝓛 (LendsBoard F.row N.row F.Shelf N.Origin self.entry result) }
+        ensures value { result.now ≡ self.old.board }
+    {
+        &mut self.board
     }
 
     /// The board of a crew that ran no campaign.
@@ -128,8 +138,8 @@ fn worker_at<F: Shelf + Drop, N: Origin>(
     ensures seat { IfOk result (λ w. w.seat ≡ seat) }
     ensures tools { IfOk result (λ w. AreToolsFor plan.now order.now w.lanes w.windows) }
 {
-    let lanes = Lanes::new(alloc, plan.net(), order)?;
-    let windows = Windows::new(alloc, plan.points(), plan.settings().ftti)?;
+    let lanes = Lanes4::new(alloc, plan.net(), order)?;
+    let windows = Windows4::new(alloc, plan.points(), plan.settings().ftti)?;
     Ok(Worker {
         number,
         seat,

@@ -76,8 +76,9 @@ fn board_of_all<F: Shelf + Drop, N: Origin>(
 }
 
 /// Runs the campaign of a crew to its end, in a thread for each worker, and waits for them. It takes no memory. Each worker
-/// draws a batch, tells the gate, simulates the batch and posts its row, until a draw gives none, and then looks once; it ends
-/// early where a post is stopped. The board has failed exactly where some append failed.
+/// draws up to four batches and tells the gate after each draw; it then simulates them together and posts the row of each by
+/// itself, in the order drawn. It goes on until a draw has given none and what it drew is posted, and then looks once; it ends
+/// early where a post is stopped. It draws no more once a draw gave none. The board has failed exactly where some append failed.
 pub fn campaign<
     R: Threads + Wait + Sync,
     F: Shelf + Send + Drop,

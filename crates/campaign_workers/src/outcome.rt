@@ -1,43 +1,44 @@
 ghost use Rattle.std.specs.Prelude.{◌≡◌, ◌<◌};
 ghost use Rattle.campaign_plan.specs.Analysis.{batch_count};
 ghost use Rattle.campaign_plan.specs.Batches.{true_planes};
+ghost use Rattle.campaign_workers.specs.Rounds.{true_planes_in};
 ghost use Rattle.campaign_workers.specs.Truth.{true_entry};
 ghost use Rattle.campaign_workers.specs.Workplaces.{golden_of, AreToolsFor};
 
-use alarm_points::windows::Windows;
+use alarm_points::windows4::Windows4;
 use campaign_board::Entry;
 use campaign_plan::{Outcome, Plan, own_sums};
-use classifier::batch_outcome;
+use classifier::quad_outcomes;
 use fm_base::Steps;
 use golden_run::values::Golden;
-use lane_kernel::Lanes;
+use lane_kernel::Lanes4;
 use netlist_levels::Order;
 use std::marker::Brand;
 use std::sync::ledger::{Blank, Ledger};
 
-// The planes of a batch. The steps are counted in a ledger of their own.
-fn counted_outcome<L: Ledger>(
+// The planes of up to four batches. The steps are counted in a ledger of their own.
+fn counted_outcomes<L: Ledger>(
     plan: &Plan,
     order: &Order,
     golden: &Golden,
-    batch: u32,
-    lanes: &mut Lanes,
-    windows: &mut Windows,
+    batches: &[Option<u32>; 4],
+    lanes: &mut Lanes4,
+    windows: &mut Windows4,
     blank: Blank,
-) -> Outcome
+) -> [Outcome; 4]
     requires blank { (blank.name ≡ L.name) × (blank.parts ≡ L.parts) × (0 < blank.parts) }
     requires golden { golden.now ≡ golden_of plan.now }
     requires tools { AreToolsFor plan.now order.now lanes.old windows.old }
-    ensures planes { result ≡ true_planes plan.now batch }
+    ensures planes { result ≡ true_planes_in plan.now batches.now }
     ensures tools { AreToolsFor plan.now order.now lanes.new windows.new }
 {
     let mut steps: Steps<L> = Steps::fresh(blank);
     let (net, work, points) = (plan.net(), plan.work(), plan.points());
-    batch_outcome(
+    quad_outcomes(
         net,
         order,
         plan.faults(),
-        batch,
+        batches,
         work,
         points,
         golden,
@@ -47,30 +48,29 @@ fn counted_outcome<L: Ledger>(
     )
 }
 
-/// The entry of a batch, with the planes that it truly has and the sums over it.
-pub(crate) fn simulated_entry(
+/// The planes that each of up to four batches truly has, simulated together.
+pub(crate) fn simulated_planes(
     plan: &Plan,
     order: &Order,
     golden: &Golden,
-    batch: u32,
-    lanes: &mut Lanes,
-    windows: &mut Windows,
-) -> Entry
-    requires batch { batch < batch_count plan.now }
+    batches: &[Option<u32>; 4],
+    lanes: &mut Lanes4,
+    windows: &mut Windows4,
+) -> [Outcome; 4]
     requires golden { golden.now ≡ golden_of plan.now }
     requires tools { AreToolsFor plan.now order.now lanes.old windows.old }
-    ensures entry { result ≡ true_entry plan.now batch }
+    ensures planes { result ≡ true_planes_in plan.now batches.now }
     ensures tools { AreToolsFor plan.now order.now lanes.new windows.new }
 {
-    let planes = counted_outcome::<Brand>(
-        plan,
-        order,
-        golden,
-        batch,
-        lanes,
-        windows,
-        Blank::new(1),
-    );
+    counted_outcomes::<Brand>(plan, order, golden, batches, lanes, windows, Blank::new(1))
+}
+
+/// The entry of a batch with these planes, which are those that it truly has.
+pub(crate) fn entry_with(plan: &Plan, batch: u32, planes: Outcome) -> Entry
+    requires batch { batch < batch_count plan.now }
+    requires planes { planes ≡ true_planes plan.now batch }
+    ensures { result ≡ true_entry plan.now batch }
+{
     Entry {
         batch,
         danger: planes.danger,

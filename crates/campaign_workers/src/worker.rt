@@ -1,27 +1,29 @@
-ghost use Rattle.std.specs.Prelude.{◌≡◌, length};
+ghost use Rattle.std.specs.Prelude.{◌≡◌, ◌++◌, [], OnOk, OnErr, length};
 ghost use Rattle.campaign_plan.specs.Analysis.{batch_count};
 ghost use Rattle.claim_counter.specs.Crews.{IsReady, IsDone};
+ghost use Rattle.campaign_workers.specs.Rounds.{drawn_in, numbers_in, true_planes_in, Owes};
 ghost use Rattle.campaign_workers.specs.Truth.{HasTrueEntries};
 ghost use Rattle.campaign_workers.specs.Workplaces.{golden_of, AreToolsFor};
 
-use crate::outcome::simulated_entry;
-use alarm_points::windows::Windows;
+use crate::outcome::{entry_with, simulated_planes};
+use crate::round::{Round, draw_round};
+use alarm_points::windows4::Windows4;
 use campaign_board::{Origin, Posted, Seat, Shared};
-use campaign_plan::Plan;
+use campaign_plan::{Outcome, Plan};
 use fm_shelf::shelf::Shelf;
 use golden_run::values::Golden;
-use lane_kernel::Lanes;
+use lane_kernel::Lanes4;
 use netlist_levels::Order;
 use std::sync::Wait;
 use worker_gate::Gate;
 
-/// A worker: its number, its seat at the shared board, and what it simulates a batch with.
+/// A worker: its number, its seat at the shared board, and what it simulates four batches at once with.
 #[derive(Drop)]
 pub struct Worker<F: Shelf + Drop, N: Origin> {
     pub(crate) number: u32,
     pub(crate) seat: Seat<F, N>,
-    pub(crate) lanes: Lanes,
-    pub(crate) windows: Windows,
+    pub(crate) lanes: Lanes4,
+    pub(crate) windows: Windows4,
 }
 
 impl<F: Shelf + Drop, N: Origin> Worker<F, N> {
@@ -33,7 +35,75 @@ impl<F: Shelf + Drop, N: Origin> Worker<F, N> {
     }
 }
 
-/// Draws, tells the gate, simulates and posts, until a draw gives none, and then looks once; or until a post is stopped.
+/// The board has failed, and takes no more posts.
+#[derive(Drop)]
+pub(crate) struct BoardFailed;
+
+// Posts each batch of a round by itself, in the order drawn, until a post is stopped.
+fn post_round<R: Wait, F: Shelf + Drop, N: Origin>(
+    rt: &R,
+    plan: &Plan,
+    shared: &Shared<F, N>,
+    seat: &mut Seat<F, N>,
+    round: &Round,
+    planes: &[Outcome; 4],
+) -> Result<(), BoardFailed>
+    requires owes { Owes shared.now N.start seat.old (drawn_in round.now.batches) }
+    requires planes { planes.now ≡ true_planes_in plan.now round.now.batches }
+    requires entries { HasTrueEntries plan.now N.start × (length N.start.entries ≡ batch_count plan.now) }
+    ensures owes { OnOk result (Owes shared.now N.start seat.new []) }
+    ensures posts { OnOk result (seat.new.view.posts ≡ seat.old.view.posts ++ numbers_in N.start round.now.batches) }
+    ensures nones { OnOk result (seat.new.view.nones ≡ seat.old.view.nones) }
+    ensures stopped { OnErr result (IsDone shared.now seat.new) }
+    ensures share { seat.new.view.share ≡ seat.old.view.share }
+{
+    for (word, batch) in round.batches.iter().enumerate() {
+        let Some(batch) = *batch else { continue };
+        let entry = entry_with(plan, batch, planes[word]);
+        if let Posted::Stopped = shared.post(rt, seat, &entry) {
+            return Err(BoardFailed);
+        }
+    }
+    Ok(())
+}
+
+// Simulates the batches of a round together, and posts each.
+fn finish_round<R: Wait, F: Shelf + Drop, N: Origin>(
+    rt: &R,
+    plan: &Plan,
+    order: &Order,
+    golden: &Golden,
+    shared: &Shared<F, N>,
+    round: &Round,
+    worker: &mut Worker<F, N>,
+) -> Result<(), BoardFailed>
+    requires owes { Owes shared.now N.start worker.old.seat (drawn_in round.now.batches) }
+    requires golden { golden.now ≡ golden_of plan.now }
+    requires tools { AreToolsFor plan.now order.now worker.old.lanes worker.old.windows }
+    requires entries { HasTrueEntries plan.now N.start × (length N.start.entries ≡ batch_count plan.now) }
+    ensures owes { OnOk result (Owes shared.now N.start worker.new.seat []) }
+    ensures posts { OnOk result (worker.new.seat.view.posts ≡ worker.old.seat.view.posts ++ numbers_in N.start round.now.batches) }
+    ensures nones { OnOk result (worker.new.seat.view.nones ≡ worker.old.seat.view.nones) }
+    ensures stopped { OnErr result (IsDone shared.now worker.new.seat) }
+    ensures share { worker.new.seat.view.share ≡ worker.old.seat.view.share }
+    ensures tools { AreToolsFor plan.now order.now worker.new.lanes worker.new.windows }
+{
+    if round.is_empty() {
+        return Ok(());
+    }
+    let planes = simulated_planes(
+        plan,
+        order,
+        golden,
+        &round.batches,
+        &mut worker.lanes,
+        &mut worker.windows,
+    );
+    post_round(rt, plan, shared, &mut worker.seat, round, &planes)
+}
+
+/// Draws up to four batches, simulates them together and posts each, until a draw has given none and what was drawn is posted,
+/// and then looks once; or until a post is stopped.
 pub(crate) fn work<R: Wait, F: Shelf + Drop, N: Origin, G: Gate>(
     rt: &R,
     plan: &Plan,
@@ -51,20 +121,12 @@ pub(crate) fn work<R: Wait, F: Shelf + Drop, N: Origin, G: Gate>(
     ensures share { worker.new.seat.view.share ≡ worker.old.seat.view.share }
 {
     for _ in rt.forever() {
-        let Some(batch) = shared.draw(&mut worker.seat) else {
-            shared.look(rt, &mut worker.seat);
+        let round = draw_round(shared, gate, worker.number, &mut worker.seat);
+        if let Err(BoardFailed) = finish_round(rt, plan, order, golden, shared, &round, worker) {
             return;
-        };
-        gate.drawn(worker.number, batch);
-        let entry = simulated_entry(
-            plan,
-            order,
-            golden,
-            batch,
-            &mut worker.lanes,
-            &mut worker.windows,
-        );
-        if let Posted::Stopped = shared.post(rt, &mut worker.seat, &entry) {
+        }
+        if round.last {
+            shared.look(rt, &mut worker.seat);
             return;
         }
     }

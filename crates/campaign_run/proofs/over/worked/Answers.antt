@@ -6,7 +6,8 @@ use Rattle.campaign_run.proofs.over.worked.Goals as goal
 pub returns-then-is_err : goal.returns-then-is_err
 returns-then-is_err g c =
     let bad : is_err c.append_header.result ≡ true = sym c.is_err.ensures.value ∙ c.if-is_err.true in
-    rw c.into_board.ensures (inr ((on_err c.append_header.result bad c.append_header.ensures.failed).0, on_err c.append_header.result bad c.append_header.ensures.torn))
+    let torn = rw c.board.ensures.value at (on_err c.append_header.result bad c.append_header.ensures.torn) in
+    rw c.into_board.ensures (inr ((on_err c.append_header.result bad c.append_header.ensures.failed).0, torn))
 
 pub campaign-requires-clause-written : goal.campaign-requires-clause-written
 campaign-requires-clause-written g c κs within =

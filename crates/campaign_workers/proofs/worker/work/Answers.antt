@@ -1,30 +1,18 @@
-use Rattle.std.proofs.Common.{ap, subst, ◌∙◌}
-use Rattle.claim_counter.specs.declared.view.View.{View}
-use Rattle.campaign_board.specs.declared.entry.Entry.{Entry}
-use Rattle.campaign_board.specs.Sharing.{IsPosted}
-use Rattle.campaign_board.proofs.Seating.{kept_by_post}
-use Rattle.campaign_workers.proofs.Turns.{posts_entry, ready_again, done_at_look}
+use Rattle.std.proofs.Common.{◌<◌, ◌∙◌, arith}
+use Rattle.campaign_workers.proofs.Owing.{ready_again, done_at_look}
 use Rattle.campaign_workers.proofs.worker.work.Goals as goal
 
-pub returns-in_default-clause-done : goal.returns-in_default-clause-done
-returns-in_default-clause-done g c =
-    let none = c.in_default.ensures in
-    done_at_look c.args.shared.now g.N.Origin.start c.loop.worker.seat c.draw.new.seat c.look.new.seat c.look.result c.loop.invariant.ready none.table none.none c.look.ensures.table c.look.ensures.look
-
-pub post-requires-clause-drawn : goal.post-requires-clause-drawn
-post-requires-clause-drawn g c =
-    let entry = c.simulated_entry-entry in
-    (posts_entry c.args.plan.now c.args.shared.now g.N.Origin.start c.loop.worker.seat c.draw.new.seat.view c.in-Some-draw.batch entry.result c.loop.invariant.ready c.in-Some-draw.ensures.some c.requires.entries.0 entry.ensures.entry).0
+pub returns-then-round-clause-done : goal.returns-then-round-clause-done
+returns-then-round-clause-done g c =
+    let finished = c.in_default.ensures in
+    let none : 0 < c.finish_round.new.worker.seat.view.nones = omega (arith, c.draw_round-round.ensures.last c.if-round.true, finished.nones) in
+    done_at_look c.args.shared.now g.N.Origin.start c.finish_round.new.worker.seat c.look.new.seat c.look.result finished.owes none c.look.ensures.table c.look.ensures.look
 
 pub loop-preserved : goal.loop-preserved
 loop-preserved g c =
-    let o = g.N.Origin.start in
-    let some = c.in-Some-draw.ensures in
-    let posted = c.in_default-post.ensures in
-    let kept = kept_by_post g.N.Origin.start c.draw.new.seat.view c.post.new.seat.view c.simulated_entry-entry.result.batch c.post.result c.post.ensures.posted in
+    let finished = c.in_default.ensures in
     record {
-      ready = ready_again c.args.shared.now o c.loop.worker.seat c.draw.new.seat c.post.new.seat c.in-Some-draw.batch c.in_default-post.field-0 c.loop.invariant.ready some.table some.some posted.table
-          (subst (λ b. IsPosted o c.draw.new.seat.view c.post.new.seat.view b c.in_default-post.field-0) (ap (λ (e : Entry). e.batch) c.simulated_entry-entry.ensures.entry) posted.posted);
-      tools = c.simulated_entry-entry.ensures.tools;
-      share = kept.share ∙ ap (λ (v : View). v.share) some.some.view ∙ c.loop.invariant.share;
+      ready = ready_again c.args.shared.now g.N.Origin.start c.finish_round.new.worker.seat finished.owes (finished.nones ∙ c.draw_round-round.ensures.more c.if-round.false);
+      tools = finished.tools;
+      share = finished.share ∙ c.draw_round-round.ensures.share ∙ c.loop.invariant.share;
     }

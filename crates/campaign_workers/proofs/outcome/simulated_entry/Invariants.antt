@@ -1,4 +1,0 @@
-use Rattle.campaign_workers.proofs.outcome.simulated_entry.Given as goal
-
-abbrev pub ghosts-counted_outcome : goal.ghosts-counted_outcome
-ghosts-counted_outcome a = record { name = a.blank.name; parts = a.blank.parts }
