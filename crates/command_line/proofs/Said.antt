@@ -1,6 +1,6 @@
 -- The entries of a command, and the words that are none.
-use Rattle.std.proofs.Common.{subst, refl, ◌≢◌, ◌⊎◌, inl, inr, true, Bor, List, ℕ, ◌≡◌, ◌∙◌, ap, sym, Option, Some, []}
-use Rattle.std.specs.Prelude.{MatchResult, Result, Ok, Err, codes, option_map, unwrap_or}
+use Rattle.std.proofs.Common.{subst, refl, ◌≢◌, ◌⊎◌, inl, inr, true, Bor, List, ℕ, ◌≡◌, ◌∙◌, ap, sym, Option, []}
+use Rattle.std.specs.Prelude.{IfOk, MatchResult, Result, Ok, Err, codes, option_map, unwrap_or}
 use Rattle.clap.specs.Words.{App, Row, Text, first_value, rows_of, subcommand_of}
 use Rattle.clap.specs.declared.parser.matches.Found.{Found}
 use Rattle.clap.proofs.WalkLemmas.{first_value-rows}
@@ -11,9 +11,11 @@ use Rattle.clap.specs.Kinds.{IsAmong}
 use Rattle.clap.specs.declared.error.kind.ErrorKind.{ErrorKind}
 use Rattle.clap.specs.declared.error.kind.ErrorKind.TheVariants as kind
 use Rattle.command_line.specs.Table.{fmeda_app}
-use Rattle.command_line.specs.Commands.{Command, Classes, Check, Run, Resume, Audit, Gen, Inputs}
-use Rattle.command_line.specs.Words.{entry, HasInputs, HasResult, HasWorkers, IsMet, IsCommand, IsNoCommand, SaidBy, word_of}
-use Rattle.command_line.specs.Asks.{AsksMet, IsRead, IsRefusal, IsSaid, told_by}
+use Rattle.command_line.specs.Commands.{Command, Run, Resume, Audit, Gen, Inputs}
+use Rattle.command_line.specs.Words.{entry, HasCampaign, HasInputs, HasResult, IsAlone, IsMet, IsCommand, IsNoCommand, SaidBy, word_of}
+use Rattle.campaign_plan.specs.declared.Settings.{Settings}
+use Rattle.command_line.proofs.Alone.{apart, same_command, same_inputs}
+use Rattle.command_line.specs.Asks.{AreCampaign, AsksMet, IsRead, IsRefusal, IsSaid, told_by}
 use Rattle.command_line.specs.declared.read.Asked.{Asked}
 use Rattle.command_line.specs.declared.read.WordsRefusal.{WordsRefusal}
 use Rattle.command_line.specs.declared.read.WordsRefusal.TheVariants.{Usage, Memory}
@@ -53,18 +55,11 @@ answered a words met (Ok asked) e taken same is =
 answered a words met (Err Usage) e taken same is = unmet a words met e same is
 answered a words met (Err Memory) e taken same is = tt
 
-some_same : (p q : Text × List Row) → Some p ≡ Some q → p ≡ q
-some_same p q e = cc
-
--- the answer of a command's entries is that of what was met
-pub said : (word : Text) (rows : List Row) (met : Option (Text × List Row)) (result : Result Asked WordsRefusal) → met ≡ Some (word, rows) → IsSaid word rows result → AsksMet met result
-said word rows met (Ok asked) e is = (rows, e ∙ ap (λ (w : Text). Some (w, rows)) (sym is.0), is.1)
-said word rows met (Err Usage) e is = λ command m.
-    let here : Text × List Row = (word_of command, m.0) in
-    let there : Text × List Row = (word, rows) in
-    let both : here ≡ there = some_same here there (sym m.1 ∙ e) in
-    is command (ap (λ (p : Text × List Row). p.0) both) (subst (λ (r : List Row). SaidBy r command) (ap (λ (p : Text × List Row). p.1) both) m.2)
-said word rows met (Err Memory) e is = tt
+-- the command that is told is the only one
+pub alone : (words : List Text) (result : Result Asked WordsRefusal) → MatchResult result (λ asked. IsCommand words (told_by asked)) (IsRefusal words)
+    → IfOk result (λ asked. IsAlone words (told_by asked))
+alone words (Ok asked) is = λ other said. same_command words other (told_by asked) said is
+alone words (Err refusal) is = tt
 
 -- where a part can't be read, what is made of it can't
 pub part_fails : {T U : Type 0} (Part : T → Type 0) (Whole : U → Type 0) (r : WordsRefusal) → IsRead Part (Err r) → ((whole : U) → Whole whole → (part : T) × Part part)
@@ -72,37 +67,58 @@ pub part_fails : {T U : Type 0} (Part : T → Type 0) (Whole : U → Type 0) (r 
 part_fails Part Whole Usage h parts = λ whole w. let p = parts whole w in h p.0 p.1
 part_fails Part Whole Memory h parts = tt
 
--- the same of a command
-pub command_fails : {T : Type 0} (Part : T → Type 0) (word : Text) (rows : List Row) (r : WordsRefusal) → IsRead Part (Err r)
-    → ((command : Command) → word_of command ≡ word → SaidBy rows command → (part : T) × Part part) → IsSaid word rows (Err r)
-command_fails Part word rows Usage h parts = λ command e w. let p = parts command e w in h p.0 p.1
-command_fails Part word rows Memory h parts = tt
-
 -- ---- a campaign's words
 
-same_inputs : (rows : List Row) (a b : Inputs) → HasInputs rows a → HasInputs rows b → a ≡ b
-same_inputs rows a b p q = λ i. record {
-  netlist = (p.netlist ∙ sym q.netlist) i;
-  workload = (p.workload ∙ sym q.workload) i;
-  rates = (p.rates ∙ sym q.rates) i;
-  points = (p.points ∙ sym q.points) i;
-}
+-- where a part of a campaign can't be read, the campaign can't
+pub campaign_fails : {T : Type 0} (Part : T → Type 0) (rows : List Row) (r : WordsRefusal) → IsRead Part (Err r)
+    → ((inputs : Inputs) (name : Text) (set : Settings) (workers : ℕ) → HasCampaign rows inputs name set workers → (part : T) × Part part) → AreCampaign rows (Err r)
+campaign_fails Part rows Usage h parts = λ inputs name set workers w. let p = parts inputs name set workers w in h p.0 p.1
+campaign_fails Part rows Memory h parts = tt
+
+-- what the words of a campaign say is what `run` says
+pub run_said : (rows : List Row) (r : WordsRefusal) → AreCampaign rows (Err r) → IsSaid (codes "run") rows (Err r)
+run_said rows Memory none = tt
+run_said rows Usage none = none_of
+  where
+    none_of : (command : Command) → word_of command ≡ codes "run" → ¬ (SaidBy rows command)
+    none_of (Run inputs name set workers) e = none inputs name set workers
+    none_of other e = absurd (apart (word_of other) (codes "run") refl e)
+
+-- and what `resume` says
+pub resume_said : (rows : List Row) (r : WordsRefusal) → AreCampaign rows (Err r) → IsSaid (codes "resume") rows (Err r)
+resume_said rows Memory none = tt
+resume_said rows Usage none = none_of
+  where
+    none_of : (command : Command) → word_of command ≡ codes "resume" → ¬ (SaidBy rows command)
+    none_of (Resume inputs name set workers) e = none inputs name set workers
+    none_of other e = absurd (apart (word_of other) (codes "resume") refl e)
 
 -- no name of a result file is other than these inputs
-pub no_result : (rows : List Row) (inputs : Inputs) → HasInputs rows inputs → ((name : Text) → ¬ (HasResult rows inputs name))
-    → (command : Command) → word_of command ≡ codes "run" → ¬ (SaidBy rows command)
-no_result rows inputs has none (Classes netlist workload) e = absurd (cc)
-no_result rows inputs has none (Check own flips pulses) e = absurd (cc)
-no_result rows inputs has none (Run own name set workers) e = λ w. none name (subst (λ (i : Inputs). HasResult rows i name) (same_inputs rows own inputs w.0 has) w.1)
-no_result rows inputs has none (Resume own name set workers) e = λ w. w
-no_result rows inputs has none (Audit own name set) e = λ w. w
-no_result rows inputs has none (Gen n name workers) e = λ w. w
+no_name : (rows : List Row) (inputs : Inputs) → HasInputs rows inputs → ((name : Text) → ¬ (HasResult rows inputs name))
+    → (own : Inputs) (name : Text) → HasInputs rows own → ¬ (HasResult rows own name)
+no_name rows inputs has none own name said other = none name (subst (λ (i : Inputs). HasResult rows i name) (same_inputs rows own inputs said has) other)
 
--- a campaign has workers
-pub workers_said : (rows : List Row) (command : Command) → word_of command ≡ codes "run" → SaidBy rows command → (workers : ℕ) × HasWorkers rows workers
-workers_said rows (Classes netlist workload) e w = absurd (cc)
-workers_said rows (Check own flips pulses) e w = absurd (cc)
-workers_said rows (Run own name set workers) e w = (workers, w.3)
-workers_said rows (Resume own name set workers) e w = absurd w
-workers_said rows (Audit own name set) e w = absurd w
-workers_said rows (Gen n name workers) e w = absurd w
+pub no_campaign : (rows : List Row) (inputs : Inputs) → HasInputs rows inputs → ((name : Text) → ¬ (HasResult rows inputs name)) → AreCampaign rows (Err Usage)
+no_campaign rows inputs has none own name set workers w = no_name rows inputs has none own name w.0 w.1
+
+-- ---- an audit's words
+
+-- where nothing is said by `audit`, its words are none
+audit_none : (rows : List Row) → ((inputs : Inputs) (name : Text) (set : Settings) → ¬ (SaidBy rows (Audit inputs name set))) → IsSaid (codes "audit") rows (Err Usage)
+audit_none rows none (Audit inputs name set) e = none inputs name set
+audit_none rows none other e = absurd (apart (word_of other) (codes "audit") refl e)
+
+pub no_audit : (rows : List Row) (inputs : Inputs) → HasInputs rows inputs → ((name : Text) → ¬ (HasResult rows inputs name)) → IsSaid (codes "audit") rows (Err Usage)
+no_audit rows inputs has none = audit_none rows (λ own name set w. no_name rows inputs has none own name w.0 w.1)
+
+-- ---- the words of a generated campaign
+
+-- where a part can't be read, `gen` says nothing
+pub gen_fails : {T : Type 0} (Part : T → Type 0) (rows : List Row) (r : WordsRefusal) → IsRead Part (Err r)
+    → ((stages : ℕ) (name : Text) (workers : ℕ) → SaidBy rows (Gen stages name workers) → (part : T) × Part part) → IsSaid (codes "gen") rows (Err r)
+gen_fails Part rows Memory h parts = tt
+gen_fails {T} Part rows Usage h parts = none_of
+  where
+    none_of : (command : Command) → word_of command ≡ codes "gen" → ¬ (SaidBy rows command)
+    none_of (Gen stages name workers) e = λ w. let p = parts stages name workers w in h p.0 p.1
+    none_of other e = absurd (apart (word_of other) (codes "gen") refl e)

@@ -1,13 +1,15 @@
 -- What the reader of words answers.
-use Rattle.std.specs.Prelude.{◌≡◌, List, Option, Result, Ok, Err}
+use Rattle.std.specs.Prelude.{◌≡◌, ℕ, List, Option, Result, Ok, Err}
 use Rattle.clap.specs.Words.{Row, Text}
 use Rattle.command_line.specs.declared.read.Asked.{Asked}
 use Rattle.command_line.specs.declared.read.Asked.TheVariants as asked
+use Rattle.command_line.specs.declared.read.CampaignWords.{CampaignWords}
 use Rattle.command_line.specs.declared.read.InputNames.{InputNames}
 use Rattle.command_line.specs.declared.read.WordsRefusal.{WordsRefusal}
 use Rattle.command_line.specs.declared.read.WordsRefusal.TheVariants.{Usage, Memory}
-use Rattle.command_line.specs.Commands.{Command, Classes, Check, Run, Inputs}
-use Rattle.command_line.specs.Words.{IsMet, IsNoCommand, SaidBy, word_of}
+use Rattle.command_line.specs.Commands.{Command, Classes, Check, Run, Resume, Audit, Gen, Inputs}
+use Rattle.command_line.specs.Words.{HasCampaign, IsMet, IsNoCommand, SaidBy, word_of}
+use Rattle.campaign_plan.specs.declared.Settings.{Settings}
 
 -- the names of the input files
 abbrev pub names_of : InputNames → Inputs
@@ -18,6 +20,9 @@ abbrev pub told_by : Asked → Command
 told_by (asked.Classes netlist workload) = Classes netlist.now workload.now
 told_by (asked.Check inputs flips pulses) = Check (names_of inputs) flips pulses
 told_by (asked.Run inputs result set workers) = Run (names_of inputs) result.now set workers
+told_by (asked.Resume inputs result set workers) = Resume (names_of inputs) result.now set workers
+told_by (asked.Audit inputs result set) = Audit (names_of inputs) result.now set
+told_by (asked.Gen stages result workers) = Gen stages result.now workers
 
 -- Usage is the answer where the words are no command; want of memory is free
 abbrev pub IsRefusal : List Text → WordsRefusal → Type 0
@@ -31,6 +36,12 @@ abbrev pub IsRead : {T : Type 0} → (T → Type 0) → Result T WordsRefusal �
 IsRead Fits (Ok read) = Fits read
 IsRead {T} Fits (Err Usage) = (read : T) → ¬ (Fits read)
 IsRead Fits (Err Memory) = Unit {0}
+
+-- what was read is the words of a campaign, or they are none of any
+abbrev pub AreCampaign : List Row → Result CampaignWords WordsRefusal → Type 0
+AreCampaign rows (Ok said) = HasCampaign rows (names_of said.inputs) said.result.now said.settings said.workers
+AreCampaign rows (Err Usage) = (inputs : Inputs) (name : Text) (set : Settings) (workers : ℕ) → ¬ (HasCampaign rows inputs name set workers)
+AreCampaign rows (Err Memory) = Unit {0}
 
 -- the entries say this command of this word, or no command of it
 abbrev pub IsSaid : Text → List Row → Result Asked WordsRefusal → Type 0

@@ -20,7 +20,7 @@ pub data Command : Type 0 where
   Run : Inputs → (result : Bytes) → Settings → (workers : ℕ) → Command
   Resume : Inputs → (result : Bytes) → Settings → (workers : ℕ) → Command
   Audit : Inputs → (result : Bytes) → Settings → Command
-  Gen : (n : ℕ) → (result : Bytes) → (workers : ℕ) → Command
+  Gen : (stages : ℕ) → (result : Bytes) → (workers : ℕ) → Command
 
 -- the settings of a command that has none but flips and pulses
 abbrev pub settings_of : (flips pulses : List ℕ) → Settings

@@ -1,4 +1,4 @@
--- The table of commands, as `clap` states a simple command with one level of subcommands. A command that isn't built has no row.
+-- The table of commands, as `clap` states a simple command with one level of subcommands.
 use Rattle.std.specs.Prelude.{ℕ, List, [], ◌∷◌, fold, codes, true, pos, Some}
 use Rattle.clap.specs.Words.{App, Rule, Text, new_app, new_rule, with_rule, with_subcommand}
 use Rattle.clap.specs.declared.builder.value_parser.ValueParser.TheVariants as vp
@@ -13,9 +13,9 @@ named id = record (new_rule id) { required = true }
 abbrev pub option : Text → Text → Rule
 option id value = record (new_rule id) { long = Some id; defaults = value ∷ [] }
 
--- an option with a default that takes numbers within these bounds
-abbrev pub number : Text → Text → ℕ → ℕ → Rule
-number id value least most = record (option id value) { parser = Some (vp.Signed (pos least) (pos most)) }
+-- the same argument where it takes numbers within these bounds alone
+abbrev pub bounded : Rule → ℕ → ℕ → Rule
+bounded rule low high = record rule { parser = Some (vp.Signed (pos low) (pos high)) }
 
 -- a command with these arguments, in this order
 abbrev pub with_rules : App → List Rule → App
@@ -41,15 +41,35 @@ check_app = with_rules (with_rules (new_app (codes "check")) input_rules) list_r
 
 -- `RESULT [--ftti F]`
 abbrev pub result_rules : List Rule
-result_rules = named (codes "result") ∷ number (codes "ftti") (codes "0") 0 4096 ∷ []
+result_rules = named (codes "result") ∷ bounded (option (codes "ftti") (codes "0")) 0 4096 ∷ []
 
--- `[--workers N] [--asil LEVEL]`
-abbrev pub campaign_rules : List Rule
-campaign_rules = number (codes "workers") (codes "1") 1 32 ∷ option (codes "asil") (codes "D") ∷ []
+-- `NETLIST WORKLOAD RATES POINTS RESULT [--ftti F] [--flips LIST] [--pulses LIST]`
+abbrev pub with_plan : App → App
+with_plan a = with_rules (with_rules (with_rules a input_rules) result_rules) list_rules
+
+-- `[--workers N]`
+abbrev pub workers_rule : Rule
+workers_rule = bounded (option (codes "workers") (codes "1")) 1 32
+
+-- the same with `[--workers N] [--asil LEVEL]`
+abbrev pub with_campaign : App → App
+with_campaign a = with_rules (with_plan a) (workers_rule ∷ option (codes "asil") (codes "D") ∷ [])
 
 -- `run NETLIST WORKLOAD RATES POINTS RESULT [--ftti F] [--flips LIST] [--pulses LIST] [--workers N] [--asil LEVEL]`
 abbrev pub run_app : App
-run_app = with_rules (with_rules (with_rules (with_rules (new_app (codes "run")) input_rules) result_rules) list_rules) campaign_rules
+run_app = with_campaign (new_app (codes "run"))
+
+-- `resume`, with the same words as `run`
+abbrev pub resume_app : App
+resume_app = with_campaign (new_app (codes "resume"))
+
+-- `audit NETLIST WORKLOAD RATES POINTS RESULT [--ftti F] [--flips LIST] [--pulses LIST]`
+abbrev pub audit_app : App
+audit_app = with_plan (new_app (codes "audit"))
+
+-- `gen N RESULT [--workers N]`; the first N is the number of stages
+abbrev pub gen_app : App
+gen_app = with_rules (new_app (codes "gen")) (bounded (named (codes "stages")) 1 1000 ∷ named (codes "result") ∷ workers_rule ∷ [])
 
 -- ---- the table
 
@@ -57,9 +77,9 @@ run_app = with_rules (with_rules (with_rules (with_rules (new_app (codes "run"))
 abbrev pub with_required : App → App
 with_required a = record a { top = record a.top { subcommand_required = true } }
 
--- the commands that are built, a row each
+-- the commands, a row each
 abbrev pub commands : List App
-commands = classes_app ∷ check_app ∷ run_app ∷ []
+commands = classes_app ∷ check_app ∷ run_app ∷ resume_app ∷ audit_app ∷ gen_app ∷ []
 
 -- the program with its commands
 abbrev pub fmeda_app : App

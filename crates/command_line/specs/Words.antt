@@ -5,6 +5,8 @@ use Rattle.std.specs.declared.num.ParseIntError.{ParseIntError}
 use Rattle.clap.specs.Faults.{fault_of}
 use Rattle.clap.specs.Words.{Row, Text, first_of, one_of, subcommand_of}
 use Rattle.campaign_plan.specs.declared.Settings.{Settings}
+use Rattle.metric_sums.specs.declared.Asil.{Asil}
+use Rattle.metric_sums.specs.declared.Asil.TheVariants.{D}
 use Rattle.fmeda_report.specs.Words.{asil_word}
 use Rattle.command_line.specs.Commands.{Command, Classes, Check, Run, Resume, Audit, Gen, Inputs, IsCycleList, IsOther}
 use Rattle.command_line.specs.Table.{fmeda_app}
@@ -16,7 +18,7 @@ word_of (Check inputs flips pulses) = codes "check"
 word_of (Run inputs name set workers) = codes "run"
 word_of (Resume inputs name set workers) = codes "resume"
 word_of (Audit inputs name set) = codes "audit"
-word_of (Gen n name workers) = codes "gen"
+word_of (Gen stages name workers) = codes "gen"
 
 -- ---- what stands behind it
 
@@ -24,11 +26,17 @@ word_of (Gen n name workers) = codes "gen"
 abbrev pub entry : List Row → Text → Text
 entry rows id = unwrap_or (first_of id rows) []
 
--- the number of an option, its default included, as unsigned numbers of 32 bits are read
-pub record HasNumber (rows : List Row) (id : Text) (n : ℕ) : Type 0 where
+-- the number that an argument or an option has, its default included, as unsigned numbers of 32 bits are read
+pub record IsNumber (rows : List Row) (id : Text) (n : ℕ) : Type 0 where
   pub text : Text
   pub said : one_of id rows ≡ Some text
   pub reads : ParsesUnsigned {E = ParseIntError} 32 10 text (Ok n)
+
+-- the same within the bounds that `clap` was told
+pub record HasNumber (rows : List Row) (id : Text) (low high n : ℕ) : Type 0 where
+  pub number : IsNumber rows id n
+  pub least : low ≤ n
+  pub most : n ≤ high
 
 -- the names of the four input files
 pub record HasInputs (rows : List Row) (inputs : Inputs) : Type 0 where
@@ -42,34 +50,45 @@ pub record HasLists (rows : List Row) (flip_cycles pulse_cycles : List ℕ) : Ty
   pub flips : IsCycleList 16 (entry rows (codes "flips")) flip_cycles
   pub pulses : IsCycleList 4 (entry rows (codes "pulses")) pulse_cycles
 
--- the interval, with the bounds that `clap` was told
-pub record HasFtti (rows : List Row) (ftti : ℕ) : Type 0 where
-  pub number : HasNumber rows (codes "ftti") ftti
-  pub most : ftti ≤ 4096
+-- the interval, in cycles
+abbrev pub HasFtti : List Row → ℕ → Type 0
+HasFtti rows ftti = HasNumber rows (codes "ftti") 0 4096 ftti
 
--- the settings of a campaign
-pub record HasSettings (rows : List Row) (set : Settings) : Type 0 where
+-- the ASIL that a campaign is told
+abbrev pub HasAsil : List Row → Asil → Type 0
+HasAsil rows asil = entry rows (codes "asil") ≡ asil_word asil
+
+-- the settings of a plan, with an ASIL of which this holds
+pub record HasSettings (rows : List Row) (Fits : Asil → Type 0) (set : Settings) : Type 0 where
   pub ftti : HasFtti rows set.ftti
   pub lists : HasLists rows set.flips set.pulses
-  pub asil : entry rows (codes "asil") ≡ asil_word set.asil
+  pub asil : Fits set.asil
 
--- the number of workers, with its bounds likewise
-pub record HasWorkers (rows : List Row) (workers : ℕ) : Type 0 where
-  pub number : HasNumber rows (codes "workers") workers
-  pub some : 1 ≤ workers
-  pub most : workers ≤ 32
+-- the number of workers
+abbrev pub HasWorkers : List Row → ℕ → Type 0
+HasWorkers rows workers = HasNumber rows (codes "workers") 1 32 workers
+
+-- the number of stages of the generated campaign
+abbrev pub HasStages : List Row → ℕ → Type 0
+HasStages rows stages = HasNumber rows (codes "stages") 1 1000 stages
 
 -- the name of the result file, which is none of the input names
 pub record HasResult (rows : List Row) (inputs : Inputs) (result : Text) : Type 0 where
   pub name : result ≡ entry rows (codes "result")
   pub other : IsOther result inputs
 
--- what stands behind the command's word says this; of a command that isn't built nothing does
+-- what `run` and `resume` say alike
+abbrev pub HasCampaign : List Row → Inputs → Text → Settings → ℕ → Type 0
+HasCampaign rows inputs result set workers = HasInputs rows inputs × HasResult rows inputs result × HasSettings rows (HasAsil rows) set × HasWorkers rows workers
+
+-- what stands behind the command's word says this; an audit is told no ASIL, and its settings have D
 abbrev pub SaidBy : List Row → Command → Type 0
 SaidBy rows (Classes netlist workload) = (netlist ≡ entry rows (codes "netlist")) × (workload ≡ entry rows (codes "workload"))
 SaidBy rows (Check inputs flips pulses) = HasInputs rows inputs × HasLists rows flips pulses
-SaidBy rows (Run inputs result set workers) = HasInputs rows inputs × HasResult rows inputs result × HasSettings rows set × HasWorkers rows workers
-SaidBy rows _ = ⊥
+SaidBy rows (Run inputs result set workers) = HasCampaign rows inputs result set workers
+SaidBy rows (Resume inputs result set workers) = HasCampaign rows inputs result set workers
+SaidBy rows (Audit inputs result set) = HasInputs rows inputs × HasResult rows inputs result × HasSettings rows (λ asil. asil ≡ D) set
+SaidBy rows (Gen stages result workers) = HasStages rows stages × (result ≡ entry rows (codes "result")) × HasWorkers rows workers
 
 -- ---- commands
 
@@ -80,6 +99,10 @@ IsMet met command = (rows : List Row) × (met ≡ Some (word_of command, rows)) 
 -- `clap` states no fault of the words, and the subcommand that it states is this command
 abbrev pub IsCommand : List Text → Command → Type 0
 IsCommand words command = (fault_of fmeda_app words ≡ []) × IsMet (subcommand_of fmeda_app words) command
+
+-- the words are no other command than this one
+abbrev pub IsAlone : List Text → Command → Type 0
+IsAlone words command = (other : Command) → IsCommand words other → other ≡ command
 
 -- the words are no command
 abbrev pub IsNoCommand : List Text → Type 0

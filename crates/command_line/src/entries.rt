@@ -5,7 +5,7 @@ ghost use Rattle.fmeda_report.specs.Words.{asil_word};
 ghost use Rattle.metric_sums.specs.declared.Asil.{Asil as Level};
 ghost use Rattle.command_line.specs.Asks.{names_of, IsRead};
 ghost use Rattle.command_line.specs.Commands.{IsOther};
-ghost use Rattle.command_line.specs.Words.{entry, HasFtti, HasInputs, HasNumber, HasResult, HasSettings, HasWorkers};
+ghost use Rattle.command_line.specs.Words.{entry, HasAsil, HasFtti, HasInputs, HasNumber, HasResult, HasSettings, HasStages, HasWorkers, IsNumber};
 
 use crate::cycles::read_cycles;
 use crate::read::{InputNames, WordsRefusal};
@@ -13,10 +13,6 @@ use campaign_plan::Settings;
 use clap::ArgMatches;
 use metric_sums::Asil;
 use std::alloc::Global;
-
-const MOST_FTTI: u32 = 4096;
-
-const MOST_WORKERS: u32 = 32;
 
 pub(crate) const MOST_FLIPS: usize = 16;
 
@@ -44,14 +40,47 @@ pub(crate) fn inputs_of<'a>(matches: &ArgMatches<'a>) -> InputNames<'a>
     }
 }
 
-// The number of an option.
-fn number_of(matches: &ArgMatches, id: &str) -> Result<u32, WordsRefusal>
-    ensures { IsRead (HasNumber (rows_of (found_of matches.now)) id.now) result }
+// The number of an argument or of an option.
+fn parsed_of(matches: &ArgMatches, id: &str) -> Result<u32, WordsRefusal>
+    ensures { IsRead (IsNumber (rows_of (found_of matches.now)) id.now) result }
 {
     match matches.get_one::<u32>(id) {
         Some(number) => Ok(number),
         None => Err(WordsRefusal::Usage),
     }
+}
+
+// The same within its bounds.
+fn number_of(matches: &ArgMatches, id: &str, low: u32, high: u32) -> Result<u32, WordsRefusal>
+    ensures { IsRead (HasNumber (rows_of (found_of matches.now)) id.now low high) result }
+{
+    let number = parsed_of(matches, id)?;
+    if low <= number && number <= high {
+        Ok(number)
+    } else {
+        Err(WordsRefusal::Usage)
+    }
+}
+
+// The interval.
+fn ftti_of(matches: &ArgMatches) -> Result<u32, WordsRefusal>
+    ensures { IsRead (HasFtti (rows_of (found_of matches.now))) result }
+{
+    number_of(matches, "ftti", 0, 4096)
+}
+
+/// The number of workers.
+pub(crate) fn workers_of(matches: &ArgMatches) -> Result<u32, WordsRefusal>
+    ensures { IsRead (HasWorkers (rows_of (found_of matches.now))) result }
+{
+    number_of(matches, "workers", 1, 32)
+}
+
+/// The number of stages of the generated campaign.
+pub(crate) fn stages_of(matches: &ArgMatches) -> Result<u32, WordsRefusal>
+    ensures { IsRead (HasStages (rows_of (found_of matches.now))) result }
+{
+    number_of(matches, "stages", 1, 1000)
 }
 
 // The level that a text names.
@@ -66,46 +95,33 @@ fn level_of(text: &str) -> Option<Asil>
     }
 }
 
-// The interval, within its bounds.
-fn ftti_of(matches: &ArgMatches) -> Result<u32, WordsRefusal>
-    ensures { IsRead (HasFtti (rows_of (found_of matches.now))) result }
+/// The ASIL that a campaign is told.
+pub(crate) fn asil_of(matches: &ArgMatches) -> Result<Asil, WordsRefusal>
+    ensures { IsRead (HasAsil (rows_of (found_of matches.now))) result }
 {
-    let ftti = number_of(matches, "ftti")?;
-    if ftti <= MOST_FTTI {
-        Ok(ftti)
-    } else {
-        Err(WordsRefusal::Usage)
+    match level_of(entry_of(matches, "asil")) {
+        Some(asil) => Ok(asil),
+        None => Err(WordsRefusal::Usage),
     }
 }
 
-/// The number of workers, within its bounds.
-pub(crate) fn workers_of(matches: &ArgMatches) -> Result<u32, WordsRefusal>
-    ensures { IsRead (HasWorkers (rows_of (found_of matches.now))) result }
-{
-    let workers = number_of(matches, "workers")?;
-    if 1 <= workers && workers <= MOST_WORKERS {
-        Ok(workers)
-    } else {
-        Err(WordsRefusal::Usage)
-    }
-}
-
-/// The settings of a campaign.
-pub(crate) fn settings_of(alloc: Global, matches: &ArgMatches) -> Result<Settings, WordsRefusal>
-    ensures { IsRead (HasSettings (rows_of (found_of matches.now))) result }
+/// The settings of a plan with this ASIL.
+pub(crate) fn settings_of(
+    alloc: Global,
+    matches: &ArgMatches,
+    asil: Asil,
+) -> Result<Settings, WordsRefusal>
+    ensures { IsRead (HasSettings (rows_of (found_of matches.now)) (λ level. level ≡ asil)) result }
 {
     let ftti = ftti_of(matches)?;
     let flips = read_cycles(alloc, entry_of(matches, "flips"), MOST_FLIPS)?;
     let pulses = read_cycles(alloc, entry_of(matches, "pulses"), MOST_PULSES)?;
-    match level_of(entry_of(matches, "asil")) {
-        Some(asil) => Ok(Settings {
-            ftti,
-            flips,
-            pulses,
-            asil,
-        }),
-        None => Err(WordsRefusal::Usage),
-    }
+    Ok(Settings {
+        ftti,
+        flips,
+        pulses,
+        asil,
+    })
 }
 
 fn is_other(name: &str, inputs: &InputNames) -> bool

@@ -1,19 +1,21 @@
 // What the words ask for.
-ghost use Rattle.std.specs.Prelude.{◌≡◌, ◌≢◌, MatchResult, codes, map, string_bytes};
+ghost use Rattle.std.specs.Prelude.{◌≡◌, ◌≢◌, IfOk, MatchResult, codes, map, string_bytes};
 ghost use Rattle.clap.specs.Words.{found_of, rows_of, subcommand_rows_of};
-ghost use Rattle.command_line.specs.Words.{IsCommand};
-ghost use Rattle.command_line.specs.Asks.{told_by, AsksMet, IsRefusal, IsSaid};
+ghost use Rattle.command_line.specs.Words.{IsAlone, IsCommand};
+ghost use Rattle.command_line.specs.Asks.{told_by, AreCampaign, AsksMet, IsRefusal, IsSaid};
 ghost use Rattle.command_line.specs.declared.read.WordsRefusal.TheVariants.{Memory};
 
 use crate::cycles::read_cycles;
 use crate::entries::{
-    MOST_FLIPS, MOST_PULSES, entry_of, inputs_of, result_of, settings_of, workers_of,
+    MOST_FLIPS, MOST_PULSES, asil_of, entry_of, inputs_of, result_of, settings_of, stages_of,
+    workers_of,
 };
 use crate::table::fmeda_command;
 use campaign_plan::Settings;
 use clap::ArgMatches;
 use clap::error::ErrorKind;
 use fault_list::Flips;
+use metric_sums::Asil;
 use std::alloc::{AllocError, Global};
 
 /// The names of the four input files.
@@ -46,6 +48,34 @@ pub enum Asked<'a> {
         settings: Settings,
         workers: u32,
     },
+    /// End the campaign of which `result`, which is none of the inputs, has rows.
+    Resume {
+        inputs: InputNames<'a>,
+        result: &'a str,
+        settings: Settings,
+        workers: u32,
+    },
+    /// Simulate each row of `result`, which is none of the inputs, again. The settings have ASIL D, since no word tells it.
+    Audit {
+        inputs: InputNames<'a>,
+        result: &'a str,
+        settings: Settings,
+    },
+    /// Run a campaign over generated files of 1 to 1,000 stages; `result` may have any name.
+    Gen {
+        stages: u32,
+        result: &'a str,
+        workers: u32,
+    },
+}
+
+// What `run` and `resume` are told alike.
+#[derive(Drop)]
+struct CampaignWords<'a> {
+    inputs: InputNames<'a>,
+    result: &'a str,
+    settings: Settings,
+    workers: u32,
 }
 
 /// Why there is no command.
@@ -86,19 +116,84 @@ fn check_of<'a>(alloc: Global, matches: &ArgMatches<'a>) -> Result<Asked<'a>, Wo
     })
 }
 
-fn run_of<'a>(alloc: Global, matches: &ArgMatches<'a>) -> Result<Asked<'a>, WordsRefusal>
-    ensures { IsSaid (codes "run") (rows_of (found_of matches.now)) result }
+fn campaign_of<'a>(
+    alloc: Global,
+    matches: &ArgMatches<'a>,
+) -> Result<CampaignWords<'a>, WordsRefusal>
+    ensures { AreCampaign (rows_of (found_of matches.now)) result }
 {
     let inputs = inputs_of(matches);
     let Some(result) = result_of(matches, &inputs) else {
         return Err(WordsRefusal::Usage);
     };
-    let settings = settings_of(alloc, matches)?;
+    let asil = asil_of(matches)?;
+    let settings = settings_of(alloc, matches, asil)?;
     let workers = workers_of(matches)?;
+    Ok(CampaignWords {
+        inputs,
+        result,
+        settings,
+        workers,
+    })
+}
+
+fn run_of<'a>(alloc: Global, matches: &ArgMatches<'a>) -> Result<Asked<'a>, WordsRefusal>
+    ensures { IsSaid (codes "run") (rows_of (found_of matches.now)) result }
+{
+    let CampaignWords {
+        inputs,
+        result,
+        settings,
+        workers,
+    } = campaign_of(alloc, matches)?;
     Ok(Asked::Run {
         inputs,
         result,
         settings,
+        workers,
+    })
+}
+
+fn resume_of<'a>(alloc: Global, matches: &ArgMatches<'a>) -> Result<Asked<'a>, WordsRefusal>
+    ensures { IsSaid (codes "resume") (rows_of (found_of matches.now)) result }
+{
+    let CampaignWords {
+        inputs,
+        result,
+        settings,
+        workers,
+    } = campaign_of(alloc, matches)?;
+    Ok(Asked::Resume {
+        inputs,
+        result,
+        settings,
+        workers,
+    })
+}
+
+fn audit_of<'a>(alloc: Global, matches: &ArgMatches<'a>) -> Result<Asked<'a>, WordsRefusal>
+    ensures { IsSaid (codes "audit") (rows_of (found_of matches.now)) result }
+{
+    let inputs = inputs_of(matches);
+    let Some(result) = result_of(matches, &inputs) else {
+        return Err(WordsRefusal::Usage);
+    };
+    let settings = settings_of(alloc, matches, Asil::D)?;
+    Ok(Asked::Audit {
+        inputs,
+        result,
+        settings,
+    })
+}
+
+fn gen_of<'a>(matches: &ArgMatches<'a>) -> Result<Asked<'a>, WordsRefusal>
+    ensures { IsSaid (codes "gen") (rows_of (found_of matches.now)) result }
+{
+    let stages = stages_of(matches)?;
+    let workers = workers_of(matches)?;
+    Ok(Asked::Gen {
+        stages,
+        result: entry_of(matches, "result"),
         workers,
     })
 }
@@ -114,6 +209,9 @@ fn asked_of<'a>(alloc: Global, matches: &ArgMatches<'a>) -> Result<Asked<'a>, Wo
         "classes" => classes_of(inner),
         "check" => check_of(alloc, inner),
         "run" => run_of(alloc, inner),
+        "resume" => resume_of(alloc, inner),
+        "audit" => audit_of(alloc, inner),
+        "gen" => gen_of(inner),
         _ => Err(WordsRefusal::Usage),
     }
 }
@@ -130,7 +228,8 @@ fn refusal_of(kind: ErrorKind) -> WordsRefusal
 
 /// The command that the words are; the first word is the program's name.
 pub fn read_words<'a>(alloc: Global, words: &'a [String]) -> Result<Asked<'a>, WordsRefusal>
-    ensures { MatchResult result (λ a. IsCommand (map string_bytes words.entry.now) (told_by a)) (IsRefusal (map string_bytes words.entry.now)) }
+    ensures reads { MatchResult result (λ a. IsCommand (map string_bytes words.entry.now) (told_by a)) (IsRefusal (map string_bytes words.entry.now)) }
+    ensures alone { IfOk result (λ a. IsAlone (map string_bytes words.entry.now) (told_by a)) }
 {
     let Ok(command) = fmeda_command(alloc) else {
         return Err(WordsRefusal::Memory);

@@ -1,8 +1,8 @@
 // The table of commands.
 ghost use Rattle.std.specs.Prelude.{◌≡◌, ◌∷◌, [], IfOk, codes, false};
-ghost use Rattle.clap.specs.Words.{app_of, rule_of};
+ghost use Rattle.clap.specs.Words.{app_of, new_app, rule_of};
 ghost use Rattle.clap.specs.declared.builder.command.Command.TheViews.{out-Command};
-ghost use Rattle.command_line.specs.Table.{campaign_rules, check_app, classes_app, fmeda_app, input_rules, list_rules, named, number, option, result_rules, run_app, with_rules};
+ghost use Rattle.command_line.specs.Table.{bounded, check_app, classes_app, fmeda_app, gen_app, input_rules, list_rules, named, option, result_rules, with_campaign, with_plan, with_rules, workers_rule};
 
 use clap::{Arg, Command, value_parser};
 use std::alloc::{AllocError, Global};
@@ -22,17 +22,24 @@ fn option_arg<'a>(alloc: Global, id: &'a str, value: &'a str) -> Arg<'a>
 }
 
 fn ftti_arg<'a>(alloc: Global) -> Arg<'a>
-    ensures rule { rule_of result ≡ number (codes "ftti") (codes "0") 0 4096 }
+    ensures rule { rule_of result ≡ bounded (option (codes "ftti") (codes "0")) 0 4096 }
     ensures local { result.global ≡ false }
 {
     option_arg(alloc, "ftti", "0").value_parser(value_parser!(u32).range(0..=4096))
 }
 
 fn workers_arg<'a>(alloc: Global) -> Arg<'a>
-    ensures rule { rule_of result ≡ number (codes "workers") (codes "1") 1 32 }
+    ensures rule { rule_of result ≡ workers_rule }
     ensures local { result.global ≡ false }
 {
     option_arg(alloc, "workers", "1").value_parser(value_parser!(u32).range(1..=32))
+}
+
+fn stages_arg<'a>(alloc: Global) -> Arg<'a>
+    ensures rule { rule_of result ≡ bounded (named (codes "stages")) 1 1000 }
+    ensures local { result.global ≡ false }
+{
+    named_arg(alloc, "stages").value_parser(value_parser!(u32).range(1..=1000))
 }
 
 fn classes_command<'a>(alloc: Global) -> Result<Command<'a>, AllocError>
@@ -86,24 +93,35 @@ fn with_result<'a>(alloc: Global, command: Command<'a>) -> Result<Command<'a>, A
     command.arg(result)?.arg(ftti_arg(alloc))
 }
 
-// What else a campaign is told.
-fn with_campaign<'a>(alloc: Global, command: Command<'a>) -> Result<Command<'a>, AllocError>
-    requires { (out-Command command).has_globals ≡ false }
-    ensures app { IfOk result (λ c. app_of c ≡ with_rules (app_of command.entry) campaign_rules) }
+// What `audit` and campaigns are told alike.
+fn plan_command<'a>(alloc: Global, name: &'a str) -> Result<Command<'a>, AllocError>
+    ensures app { IfOk result (λ c. app_of c ≡ with_plan (new_app name.entry.now)) }
     ensures local { IfOk result (λ c. (out-Command c).has_globals ≡ false) }
 {
+    let command = with_inputs(alloc, Command::new(alloc, name))?;
+    let command = with_result(alloc, command)?;
+    with_lists(alloc, command)
+}
+
+// `run` or `resume`.
+fn campaign_command<'a>(alloc: Global, name: &'a str) -> Result<Command<'a>, AllocError>
+    ensures app { IfOk result (λ c. app_of c ≡ with_campaign (new_app name.entry.now)) }
+    ensures local { IfOk result (λ c. (out-Command c).has_globals ≡ false) }
+{
+    let command = plan_command(alloc, name)?;
     let asil = option_arg(alloc, "asil", "D");
     command.arg(workers_arg(alloc))?.arg(asil)
 }
 
-fn run_command<'a>(alloc: Global) -> Result<Command<'a>, AllocError>
-    ensures app { IfOk result (λ c. app_of c ≡ run_app) }
+fn gen_command<'a>(alloc: Global) -> Result<Command<'a>, AllocError>
+    ensures app { IfOk result (λ c. app_of c ≡ gen_app) }
     ensures local { IfOk result (λ c. (out-Command c).has_globals ≡ false) }
 {
-    let command = with_inputs(alloc, Command::new(alloc, "run"))?;
-    let command = with_result(alloc, command)?;
-    let command = with_lists(alloc, command)?;
-    with_campaign(alloc, command)
+    let result = named_arg(alloc, "result");
+    Command::new(alloc, "gen")
+        .arg(stages_arg(alloc))?
+        .arg(result)?
+        .arg(workers_arg(alloc))
 }
 
 /// The program with its commands.
@@ -112,10 +130,16 @@ pub(crate) fn fmeda_command<'a>(alloc: Global) -> Result<Command<'a>, AllocError
 {
     let classes = classes_command(alloc)?;
     let check = check_command(alloc)?;
-    let run = run_command(alloc)?;
+    let run = campaign_command(alloc, "run")?;
+    let resume = campaign_command(alloc, "resume")?;
+    let audit = plan_command(alloc, "audit")?;
+    let generated = gen_command(alloc)?;
     Command::new(alloc, "fmeda")
         .subcommand_required(true)
         .subcommand(classes)?
         .subcommand(check)?
-        .subcommand(run)
+        .subcommand(run)?
+        .subcommand(resume)?
+        .subcommand(audit)?
+        .subcommand(generated)
 }

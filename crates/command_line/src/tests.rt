@@ -8,6 +8,9 @@ enum Answer {
     Classes,
     Check,
     Run,
+    Resume,
+    Audit,
+    Gen,
     Usage,
     Memory,
 }
@@ -26,6 +29,9 @@ fn asked(alloc: Global, line: &str) -> Result<Answer, AllocError> {
         Ok(Asked::Classes { .. }) => Answer::Classes,
         Ok(Asked::Check { .. }) => Answer::Check,
         Ok(Asked::Run { .. }) => Answer::Run,
+        Ok(Asked::Resume { .. }) => Answer::Resume,
+        Ok(Asked::Audit { .. }) => Answer::Audit,
+        Ok(Asked::Gen { .. }) => Answer::Gen,
         Err(WordsRefusal::Usage) => Answer::Usage,
         Err(WordsRefusal::Memory) => Answer::Memory,
     })
@@ -54,6 +60,21 @@ fn words_that_are_a_command(rt: HostRuntime) -> Result<(), AllocError> {
             Answer::Run,
         ),
         ("fmeda run --ftti=-0 n w r p res", Answer::Run),
+        ("fmeda resume n w r p res", Answer::Resume),
+        (
+            "fmeda resume --flips=3 n --workers 2 w r p res",
+            Answer::Resume,
+        ),
+        ("fmeda resume n w r p --asil=C -- -res", Answer::Resume),
+        ("fmeda audit n w r p res", Answer::Audit),
+        (
+            "fmeda audit --ftti 4096 --pulses=0,1 n w r p res",
+            Answer::Audit,
+        ),
+        ("fmeda audit -- n w r p --help", Answer::Audit),
+        ("fmeda gen 1 res", Answer::Gen),
+        ("fmeda gen --workers=32 1000 1000", Answer::Gen),
+        ("fmeda gen +007 -- --version", Answer::Gen),
     ] {
         assert_eq!(rt; asked(rt.alloc(), line)?, command);
     }
@@ -74,9 +95,19 @@ fn words_that_are_none(rt: HostRuntime) -> Result<(), AllocError> {
         "fmeda check n w r",
         "fmeda check n w r -p",
         "fmeda check n w r p --ftti 1",
-        "fmeda resume n w r p res",
-        "fmeda audit n w r p res",
-        "fmeda gen 1 res",
+        "fmeda resume",
+        "fmeda resume n w r p",
+        "fmeda resum n w r p res",
+        "fmeda resume n w r p res -h",
+        "fmeda audit n w r p res res",
+        "fmeda audit --version",
+        "fmeda gen",
+        "fmeda gen 1",
+        "fmeda gen res 1",
+        "fmeda gen -1 res",
+        "fmeda gen 1 res --flips 1",
+        "fmeda --workers 2 gen 1 res",
+        "fmeda -- gen 1 res",
     ] {
         assert_eq!(rt; asked(rt.alloc(), line)?, Answer::Usage);
     }
@@ -108,6 +139,15 @@ fn options_that_are_refused(rt: HostRuntime) -> Result<(), AllocError> {
         "fmeda run n w r p res --ftti 1.5",
         "fmeda run n w r p res --asil b",
         "fmeda run n w r p res --asil A",
+        "fmeda resume n w r p w",
+        "fmeda resume n w r p res --asil",
+        "fmeda audit n w r p r",
+        "fmeda audit n w r p res --asil D",
+        "fmeda audit n w r p res --workers 1",
+        "fmeda gen 0 res",
+        "fmeda gen 1001 res",
+        "fmeda gen 1 res --workers 0",
+        "fmeda gen 1 res --work 2",
     ] {
         assert_eq!(rt; asked(rt.alloc(), line)?, Answer::Usage);
     }
@@ -115,12 +155,12 @@ fn options_that_are_refused(rt: HostRuntime) -> Result<(), AllocError> {
 }
 
 #[test]
-fn what_the_words_of_a_campaign_say(rt: HostRuntime) -> Result<(), AllocError> {
-    let words = words_of(
+fn what_the_words_say(rt: HostRuntime) -> Result<(), AllocError> {
+    let run = words_of(
         rt.alloc(),
         "fmeda run n w r p res --ftti +5 --flips 1,20 --pulses 7 --workers 007 --asil C",
     )?;
-    match read_words(rt.alloc(), words.as_slice()) {
+    match read_words(rt.alloc(), run.as_slice()) {
         Ok(
             Asked::Run {
                 inputs,
@@ -137,6 +177,24 @@ fn what_the_words_of_a_campaign_say(rt: HostRuntime) -> Result<(), AllocError> {
             assert!(rt; settings.pulses.as_slice() == [7].as_slice());
         }
         _ => panic!(&rt; "no campaign"),
+    }
+    let audit = words_of(rt.alloc(), "fmeda audit n w r p res --ftti 3")?;
+    match read_words(rt.alloc(), audit.as_slice()) {
+        Ok(Asked::Audit { settings, .. }) => {
+            assert_eq!(rt; (settings.ftti, settings.asil), (3, Asil::D));
+        }
+        _ => panic!(&rt; "no audit"),
+    }
+    let generated = words_of(rt.alloc(), "fmeda gen 20 res --workers 4")?;
+    match read_words(rt.alloc(), generated.as_slice()) {
+        Ok(
+            Asked::Gen {
+                stages,
+                workers,
+                ..
+            },
+        ) => assert_eq!(rt; (stages, workers), (20, 4)),
+        _ => panic!(&rt; "no generated campaign"),
     }
     Ok(())
 }

@@ -1,0 +1,101 @@
+-- Words are one command at most.
+use Rattle.std.proofs.Common.{◌≡◌, ◌∙◌, ℕ, List, sym, refl, ap, subst, Some, Option, codes}
+use Rattle.std.specs.Prelude.{bytes_eq, false}
+use Rattle.fm_base.proofs.Distinct.{is_same}
+use Rattle.fm_base.proofs.Tests.{clash}
+use Rattle.std.specs.Str.Parse.{digits_value, without_leading_plus}
+use Rattle.clap.specs.Words.{Row, Text, subcommand_of}
+use Rattle.campaign_plan.specs.declared.Settings.{Settings}
+use Rattle.metric_sums.specs.declared.Asil.{Asil}
+use Rattle.metric_sums.specs.declared.Asil.TheVariants.{B, C, D}
+use Rattle.fmeda_report.specs.Words.{asil_word}
+use Rattle.command_line.specs.Commands.{Command, Classes, Check, Run, Resume, Audit, Gen, Inputs}
+use Rattle.command_line.specs.Words.{entry, HasAsil, HasCampaign, HasInputs, HasSettings, HasWorkers, IsCommand, IsMet, IsNumber, SaidBy, word_of}
+use Rattle.command_line.specs.Table.{fmeda_app}
+use Rattle.command_line.proofs.CycleLists.{same_cycles}
+
+pub some_same : {T : Type 0} (p q : T) → Some p ≡ Some q → p ≡ q
+some_same p q e = cc
+
+-- texts that are told apart aren't equal
+pub apart : (a b : Text) → bytes_eq a b ≡ false → a ≡ b → ⊥
+apart a b e same = clash (bytes_eq a b) (ap (bytes_eq a) (sym same) ∙ is_same a) e
+
+-- ---- the parts
+
+pub same_inputs : (rows : List Row) (a b : Inputs) → HasInputs rows a → HasInputs rows b → a ≡ b
+same_inputs rows a b p q = λ i. record {
+  netlist = (p.netlist ∙ sym q.netlist) i;
+  workload = (p.workload ∙ sym q.workload) i;
+  rates = (p.rates ∙ sym q.rates) i;
+  points = (p.points ∙ sym q.points) i;
+}
+
+-- a level has a word of its own
+pub same_asil : (a b : Asil) → asil_word a ≡ asil_word b → a ≡ b
+same_asil B B e = refl
+same_asil C C e = refl
+same_asil D D e = refl
+same_asil a b e = absurd (apart (asil_word a) (asil_word b) refl e)
+
+-- a text is read as one number
+same_number : (rows : List Row) (id : Text) (a b : ℕ) → IsNumber rows id a → IsNumber rows id b → a ≡ b
+same_number rows id a b p q =
+    let text : p.text ≡ q.text = some_same p.text q.text (sym p.said ∙ q.said) in
+    p.reads.1 ∙ ap (λ t. digits_value 10 (without_leading_plus t)) text ∙ sym q.reads.1
+
+same_settings : (rows : List Row) (Fits : Asil → Type 0) → ((a b : Asil) → Fits a → Fits b → a ≡ b) → (a b : Settings) → HasSettings rows Fits a → HasSettings rows Fits b → a ≡ b
+same_settings rows Fits asil a b p q =
+    let ftti : a.ftti ≡ b.ftti = same_number rows (codes "ftti") a.ftti b.ftti p.ftti.number q.ftti.number in
+    let flips : a.flips ≡ b.flips = same_cycles 16 (entry rows (codes "flips")) a.flips b.flips p.lists.flips q.lists.flips in
+    let pulses : a.pulses ≡ b.pulses = same_cycles 4 (entry rows (codes "pulses")) a.pulses b.pulses p.lists.pulses q.lists.pulses in
+    let level : a.asil ≡ b.asil = asil a.asil b.asil p.asil q.asil in
+    λ i. record { ftti = ftti i; flips = flips i; pulses = pulses i; asil = level i }
+
+same_workers : (rows : List Row) (a b : ℕ) → HasWorkers rows a → HasWorkers rows b → a ≡ b
+same_workers rows a b p q = same_number rows (codes "workers") a b p.number q.number
+
+-- ---- the whole
+
+same_campaign : (rows : List Row) (make : Inputs → Text → Settings → ℕ → Command) (i j : Inputs) (r s : Text) (a b : Settings) (n m : ℕ) → HasCampaign rows i r a n → HasCampaign rows j s b m
+    → make i r a n ≡ make j s b m
+same_campaign rows make i j r s a b n m p q =
+    let inputs : i ≡ j = same_inputs rows i j p.0 q.0 in
+    let name : r ≡ s = p.1.name ∙ sym q.1.name in
+    let set : a ≡ b = same_settings rows (HasAsil rows) (λ x y told said. same_asil x y (sym told ∙ said)) a b p.2 q.2 in
+    let workers : n ≡ m = same_workers rows n m p.3 q.3 in
+    λ t. make (inputs t) (name t) (set t) (workers t)
+
+-- one command of a word is said
+same_said : (rows : List Row) (a b : Command) → word_of a ≡ word_of b → SaidBy rows a → SaidBy rows b → a ≡ b
+same_said rows (Classes netlist workload) (Classes other work) e p q = λ t. Classes ((p.0 ∙ sym q.0) t) ((p.1 ∙ sym q.1) t)
+same_said rows (Check i flips pulses) (Check j others more) e p q =
+    let inputs : i ≡ j = same_inputs rows i j p.0 q.0 in
+    let flip_cycles : flips ≡ others = same_cycles 16 (entry rows (codes "flips")) flips others p.1.flips q.1.flips in
+    let pulse_cycles : pulses ≡ more = same_cycles 4 (entry rows (codes "pulses")) pulses more p.1.pulses q.1.pulses in
+    λ t. Check (inputs t) (flip_cycles t) (pulse_cycles t)
+same_said rows (Run i r a n) (Run j s b m) e p q = same_campaign rows Run i j r s a b n m p q
+same_said rows (Resume i r a n) (Resume j s b m) e p q = same_campaign rows Resume i j r s a b n m p q
+same_said rows (Audit i r a) (Audit j s b) e p q =
+    let inputs : i ≡ j = same_inputs rows i j p.0 q.0 in
+    let name : r ≡ s = p.1.name ∙ sym q.1.name in
+    let set : a ≡ b = same_settings rows (λ asil. asil ≡ D) (λ x y left right. left ∙ sym right) a b p.2 q.2 in
+    λ t. Audit (inputs t) (name t) (set t)
+same_said rows (Gen stages r n) (Gen others s m) e p q =
+    let count : stages ≡ others = same_number rows (codes "stages") stages others p.0.number q.0.number in
+    let name : r ≡ s = p.1 ∙ sym q.1 in
+    let workers : n ≡ m = same_workers rows n m p.2 q.2 in
+    λ t. Gen (count t) (name t) (workers t)
+same_said rows a b e p q = absurd (apart (word_of a) (word_of b) refl e)
+
+-- what was met is one command at most
+same_met : (met : Option (Text × List Row)) (a b : Command) → IsMet met a → IsMet met b → a ≡ b
+same_met met a b p q =
+    let both : (word_of a, p.0) ≡ (word_of b, q.0) = some_same (word_of a, p.0) (word_of b, q.0) (sym p.1 ∙ q.1) in
+    let word : word_of a ≡ word_of b = ap (λ (w : Text × List Row). w.0) both in
+    let rows : p.0 ≡ q.0 = ap (λ (w : Text × List Row). w.1) both in
+    same_said q.0 a b word (subst (λ (r : List Row). SaidBy r a) rows p.2) q.2
+
+-- words are one command at most
+pub same_command : (words : List Text) (a b : Command) → IsCommand words a → IsCommand words b → a ≡ b
+same_command words a b p q = same_met (subcommand_of fmeda_app words) a b p.1 q.1
