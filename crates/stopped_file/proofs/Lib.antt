@@ -1,0 +1,4 @@
+pub mod Cutting
+pub mod KeptPrefix
+pub mod TrueLanes
+pub mod GoingOn
