@@ -18,7 +18,7 @@ use Rattle.fmeda_top.specs.declared.refused.Refused.{Refused}
 use Rattle.fmeda_top.specs.declared.refused.Refused.TheVariants.{By, Looped}
 use Rattle.fmeda_top.specs.RefusalLines.{refusal_line}
 use Rattle.fmeda_top.specs.Said.{IsSaid}
-use Rattle.fmeda_top.specs.Ends.{Shelves, IsCircuitOf, IsRefusal, RefusedAs, KeepsAll, name_of, DoneAs, FaultAs, FaultSaid, OutFaultAs, AreNames, AfterRefusal, AtDone, AfterResultFault, AfterOutFault}
+use Rattle.fmeda_top.specs.Ends.{Shelves, IsCircuitOf, IsRefusal, RefusedAs, KeepsAll, name_of, netlist_told, DoneAs, FaultAs, FaultSaid, OutFaultAs, AreNames, AfterRefusal, AtDone, AfterResultFault, AfterOutFault}
 use Rattle.fmeda_top.specs.Causes.{Counts, Checked, CommandEnds, EndsInOrder, EndsBy, ReadsRose, WritesRose, WordsEnd}
 use Rattle.fmeda_top.specs.Steps.{status_of, HasItsNets, IsPlain, IsOfWords, IsSaidOf, RefusedInOrder, ObservedAs, ClassesAs, TextAs}
 use Rattle.fmeda_top.specs.declared.observed.Observed.{Observed}
@@ -104,7 +104,7 @@ plain_refusal told (By ended) nets = by_status ended nets
 -- a command that was refused, with its line
 pub refused_ends : (command : Command) (ended : Status) (before after : Shelves) (n : Counts) (w0 w1 : Option Bytes)
     → IsRefusal ended → KeepsAll before after → (ended ≡ status.Memory) ⊎ RefusedInOrder command before n.reads_before n.reads_after ended
-    → IsSaidOf (before (name_of command which.Netlist)) w0 w1 n.out_before n.out_after (name_of command) ended
+    → IsSaidOf (netlist_told command before) w0 w1 n.out_before n.out_after (name_of command) ended
     → CommandEnds command ended before after n w0 w1
 refused_ends command ended before after n w0 w1 refusal keeps why (c, circuit, said) = record {
   cause = by_why why;
@@ -298,53 +298,56 @@ words_said told w0 w1 f0 f1 file ended said netlist workload rates points result
 
 -- the words were refused, with their line
 pub words_refused : (before after : Shelves) (w0 w1 : Option Bytes) (f0 f1 : ℕ) (ended said_of : Status) → KeepsAll before after → ended ≡ said_of
-    → ((told : Told) → IsSaidOf told w0 w1 f0 f1 no_names said_of) → RefusedAs no_names ended before after w0 w1 f0 f1
+    → ((told : Told) → IsSaidOf told w0 w1 f0 f1 no_names said_of) → RefusedAs no_names None ended before after w0 w1 f0 f1
 words_refused before after w0 w1 f0 f1 ended said_of keeps is said =
-    let own = subst (λ s. IsSaidOf (before []) w0 w1 f0 f1 no_names s) (sym is) (said (before [])) in
+    let own = subst (λ s. IsSaidOf None w0 w1 f0 f1 no_names s) (sym is) (said None) in
     record { files = keeps; c = own.0; circuit = own.1; line = own.2.0 }
 
-names_are : (words : List Bytes) (command : Command) → IsCommand words command → (ended : Status) → AreNames words ended (name_of command)
-names_are words command is status.Usage = tt
-names_are words command is status.Memory = tt
-names_are words command is status.Done = (command, is, refl)
-names_are words command is (status.Netlist fault) = (command, is, refl)
-names_are words command is (status.Loop walk) = (command, is, refl)
-names_are words command is (status.Rates fault) = (command, is, refl)
-names_are words command is (status.MissingRate net name) = (command, is, refl)
-names_are words command is (status.IdleRate part permanent) = (command, is, refl)
-names_are words command is (status.Points fault) = (command, is, refl)
-names_are words command is (status.Workload fault) = (command, is, refl)
-names_are words command is (status.TooLarge large) = (command, is, refl)
-names_are words command is (status.Foreign found own) = (command, is, refl)
-names_are words command is (status.BadRow number why) = (command, is, refl)
-names_are words command is (status.Disagrees batch kept computed) = (command, is, refl)
-names_are words command is (status.ReadFault own) = (command, is, refl)
-names_are words command is (status.WriteFault place) = (command, is, refl)
+names_are : (words : List Bytes) (command : Command) → IsCommand words command → (shelf : Shelves) (ended : Status)
+    → AreNames words shelf ended (name_of command) (netlist_told command shelf)
+names_are words command is shelf status.Usage = tt
+names_are words command is shelf status.Memory = tt
+names_are words command is shelf status.Done = (command, is, refl, refl)
+names_are words command is shelf (status.Netlist fault) = (command, is, refl, refl)
+names_are words command is shelf (status.Loop walk) = (command, is, refl, refl)
+names_are words command is shelf (status.Rates fault) = (command, is, refl, refl)
+names_are words command is shelf (status.MissingRate net name) = (command, is, refl, refl)
+names_are words command is shelf (status.IdleRate part permanent) = (command, is, refl, refl)
+names_are words command is shelf (status.Points fault) = (command, is, refl, refl)
+names_are words command is shelf (status.Workload fault) = (command, is, refl, refl)
+names_are words command is shelf (status.TooLarge large) = (command, is, refl, refl)
+names_are words command is shelf (status.Foreign found own) = (command, is, refl, refl)
+names_are words command is shelf (status.BadRow number why) = (command, is, refl, refl)
+names_are words command is shelf (status.Disagrees batch kept computed) = (command, is, refl, refl)
+names_are words command is shelf (status.ReadFault own) = (command, is, refl, refl)
+names_are words command is shelf (status.WriteFault place) = (command, is, refl, refl)
 
 -- what a call has done at Done, by the words
 pub after_done : (words : List Bytes) (ended : Status) (before after : Shelves) (n : Counts) (w0 w1 : Option Bytes) → WordsEnd words ended before after n w0 w1
     → AtDone ended words before after w0 w1
-after_done words ended before after n w0 w1 (inl (command, is, ends)) = λ e. (command, is, ends.done e)
+after_done words ended before after n w0 w1 (inl (command, is, alone, ends)) = λ e. (command, is, ends.done e)
 after_done words ended before after n w0 w1 (inr (inl (none, usage, refused))) = λ e. let bad : status.Usage ≡ status.Done = sym usage ∙ e in cc bad
 after_done words ended before after n w0 w1 (inr (inr (memory, refused))) = λ e. let bad : status.Memory ≡ status.Done = sym memory ∙ e in cc bad
 
 -- what holds after a fault of RESULT
 pub after_result_fault : (words : List Bytes) (ended : Status) (before after : Shelves) (n : Counts) (w0 w1 : Option Bytes) → WordsEnd words ended before after n w0 w1
     → AfterResultFault ended words before after w0 w1 n.out_before n.out_after
-after_result_fault words ended before after n w0 w1 (inl (command, is, ends)) = λ e. let f = ends.result_fault e in (command, is, f.0, f.1)
+after_result_fault words ended before after n w0 w1 (inl (command, is, alone, ends)) = λ e. let f = ends.result_fault e in (command, is, f.0, f.1)
 after_result_fault words ended before after n w0 w1 (inr (inl (none, usage, refused))) = λ e. let bad : status.Usage ≡ status.WriteFault to.Result = sym usage ∙ e in cc bad
 after_result_fault words ended before after n w0 w1 (inr (inr (memory, refused))) = λ e. let bad : status.Memory ≡ status.WriteFault to.Result = sym memory ∙ e in cc bad
 
 -- what holds after a fault of `out`
 pub after_out_fault : (words : List Bytes) (ended : Status) (before after : Shelves) (n : Counts) (w0 w1 : Option Bytes) → WordsEnd words ended before after n w0 w1
     → AfterOutFault ended words before after w0 w1
-after_out_fault words ended before after n w0 w1 (inl (command, is, ends)) = λ e. (command, is, ends.out_fault e)
+after_out_fault words ended before after n w0 w1 (inl (command, is, alone, ends)) = λ e. (command, is, ends.out_fault e)
 after_out_fault words ended before after n w0 w1 (inr (inl (none, usage, refused))) = λ e. let bad : status.Usage ≡ status.WriteFault to.Out = sym usage ∙ e in cc bad
 after_out_fault words ended before after n w0 w1 (inr (inr (memory, refused))) = λ e. let bad : status.Memory ≡ status.WriteFault to.Out = sym memory ∙ e in cc bad
 
 -- what holds after a refusal, by the words
 pub after_refusal : (words : List Bytes) (ended : Status) (before after : Shelves) (n : Counts) (w0 w1 : Option Bytes) → WordsEnd words ended before after n w0 w1
     → AfterRefusal ended words before after w0 w1 n.out_before n.out_after
-after_refusal words ended before after n w0 w1 (inl (command, is, ends)) = λ refusal. (name_of command, names_are words command is ended, ends.refused refusal)
-after_refusal words ended before after n w0 w1 (inr (inl (none, usage, refused))) = λ refusal. (no_names, subst (λ s. AreNames words s no_names) (sym usage) tt, refused)
-after_refusal words ended before after n w0 w1 (inr (inr (memory, refused))) = λ refusal. (no_names, subst (λ s. AreNames words s no_names) (sym memory) tt, refused)
+after_refusal words ended before after n w0 w1 (inl (command, is, alone, ends)) = λ refusal. (name_of command, netlist_told command before, names_are words command is before ended, ends.refused refusal)
+after_refusal words ended before after n w0 w1 (inr (inl (none, usage, refused))) =
+    λ refusal. (no_names, None, subst (λ s. AreNames words before s no_names None) (sym usage) tt, refused)
+after_refusal words ended before after n w0 w1 (inr (inr (memory, refused))) =
+    λ refusal. (no_names, None, subst (λ s. AreNames words before s no_names None) (sym memory) tt, refused)

@@ -9,5 +9,11 @@ mod ClassText
 mod PlanOrder
 mod PlanEnding
 mod CheckText
+mod CampaignEnding
 mod RunEnding
+mod BegunOrder
+mod SampleEnding
+mod ResumeEnding
+mod AuditEnding
 mod Limits
+mod Causing

@@ -2,24 +2,36 @@
 use Rattle.std.proofs.Common.{◌≡◌, ℕ, ◌<◌, ◌≤◌, List, arith}
 use Rattle.fm_base.specs.Names.{Bytes}
 use Rattle.command_line.specs.Commands.{Command, Inputs, Classes, Check, Run, Resume, Audit, Gen}
-use Rattle.command_line.specs.Words.{IsCommand, SaidBy}
+use Rattle.command_line.specs.Words.{IsCommand, SaidBy, HasSettings, HasCampaign, HasAsil}
 use Rattle.clap.specs.Words.{Row}
+use Rattle.metric_sums.specs.declared.Asil.{Asil}
+use Rattle.metric_sums.specs.declared.Asil.TheVariants.{D}
 use Rattle.campaign_plan.specs.declared.Settings.{Settings}
+use Rattle.campaign_plan.specs.Kept.{AreSettings}
 use Rattle.fmeda_top.specs.PlanSteps.{IsFit}
 
 check_fit : (rows : List Row) (inputs : Inputs) (flips pulses : List ℕ) → SaidBy rows (Check inputs flips pulses) → IsFit (Check inputs flips pulses)
 check_fit rows inputs flips pulses (names, lists) = (lists.flips.within, lists.pulses.within)
 
-run_fit : (rows : List Row) (inputs : Inputs) (name : Bytes) (set : Settings) (workers : ℕ) → SaidBy rows (Run inputs name set workers) → IsFit (Run inputs name set workers)
-run_fit rows inputs name set workers (names, other, settings, crew) =
-    let some : 0 < workers = omega (arith, crew.some) in
-    (record { ftti = settings.ftti.most; flips = settings.lists.flips.within; pulses = settings.lists.pulses.within }, some, crew.most)
+settings_fit : (rows : List Row) (Fits : Asil → Type 0) (set : Settings) → HasSettings rows Fits set → AreSettings set
+settings_fit rows Fits set has = record { ftti = has.ftti.most; flips = has.lists.flips.within; pulses = has.lists.pulses.within }
+
+campaign_fit : (rows : List Row) (inputs : Inputs) (name : Bytes) (set : Settings) (workers : ℕ) → HasCampaign rows inputs name set workers
+    → AreSettings set × (0 < workers) × (workers ≤ 32)
+campaign_fit rows inputs name set workers (names, other, settings, crew) =
+    let some : 0 < workers = omega (arith, crew.least) in (settings_fit rows (HasAsil rows) set settings, some, crew.most)
+
+audit_fit : (rows : List Row) (inputs : Inputs) (name : Bytes) (set : Settings) → SaidBy rows (Audit inputs name set) → IsFit (Audit inputs name set)
+audit_fit rows inputs name set (names, other, settings) = settings_fit rows (λ asil. asil ≡ D) set settings
+
+gen_fit : (rows : List Row) (stages : ℕ) (name : Bytes) (workers : ℕ) → SaidBy rows (Gen stages name workers) → IsFit (Gen stages name workers)
+gen_fit rows stages name workers (sizes, result, crew) = let some : 0 < workers = omega (arith, crew.least) in (sizes.least, sizes.most, some, crew.most)
 
 -- the settings and the workers of a command are within their limits
 pub is_fit : (words : List Bytes) (command : Command) → IsCommand words command → IsFit command
 is_fit words (Classes netlist workload) is = tt
 is_fit words (Check inputs flips pulses) (clean, (rows, met, said)) = check_fit rows inputs flips pulses said
-is_fit words (Run inputs name set workers) (clean, (rows, met, said)) = run_fit rows inputs name set workers said
-is_fit words (Resume inputs name set workers) is = tt
-is_fit words (Audit inputs name set) is = tt
-is_fit words (Gen n name workers) is = tt
+is_fit words (Run inputs name set workers) (clean, (rows, met, said)) = campaign_fit rows inputs name set workers said
+is_fit words (Resume inputs name set workers) (clean, (rows, met, said)) = campaign_fit rows inputs name set workers said
+is_fit words (Audit inputs name set) (clean, (rows, met, said)) = audit_fit rows inputs name set said
+is_fit words (Gen stages name workers) (clean, (rows, met, said)) = gen_fit rows stages name workers said

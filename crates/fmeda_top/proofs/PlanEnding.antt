@@ -20,13 +20,20 @@ use Rattle.fmeda_top.specs.Causes.{Counts, Checked, CommandEnds}
 use Rattle.fmeda_top.specs.Steps.{status_of, HasItsNets, IsSaidOf, RefusedInOrder, TextAs}
 use Rattle.fmeda_top.specs.PlanSteps.{PlanChecked, PlanRefused, PlannedAs, PlanTextAs, AreHeld, bytes_of}
 use Rattle.fmeda_top.proofs.Ending.{said_since, text_ends}
+use Rattle.fmeda_top.proofs.PlanOrder.{are_held, plan_checked}
 
 -- a command over a plan, after its files were read
 pub plan_told : (shelf : Shelves) (before after : Bytes → ℕ) (inputs : Inputs) (set : Settings) (text : Analysis → Bytes) (w0 w1 : Option Bytes) (f0 f1 : ℕ) (made : Planned)
     → PlannedAs shelf before after inputs set (Ok made) → (ended : Status) → TextAs w0 w1 f0 f1 (text made.plan) (Ok ended)
     → PlanTextAs shelf before after inputs set text w0 w1 f0 f1 (Ok ended)
-plan_told shelf before after inputs set text w0 w1 f0 f1 made (held, plan, order, checked, same) ended told =
-    (made.plan, bytes_of made.files, held, plan, checked before after, told)
+plan_told shelf before after inputs set text w0 w1 f0 f1 made (read, plan, order, loops, same) ended told = (
+  made.plan,
+  bytes_of made.files,
+  are_held shelf inputs (bytes_of made.files) read,
+  plan,
+  plan_checked inputs set shelf before after (bytes_of made.files) made.plan read plan loops,
+  told,
+)
 
 pub inputs_at : (file : Which → Bytes) (inputs : Inputs) (result : Bytes) → file which.Netlist ≡ inputs.netlist → file which.Workload ≡ inputs.workload
     → file which.Rates ≡ inputs.rates → file which.Points ≡ inputs.points → file which.Result ≡ result → (own : Which) → file own ≡ name_in inputs result own

@@ -26,7 +26,7 @@ use Rattle.fmeda_top.specs.FirstRefusal.{unless, refusal_of_plan, status_of_plan
 use Rattle.fmeda_top.specs.Ends.{Shelves, HoldsInputs, name_in}
 use Rattle.fmeda_top.specs.Causes.{ReadFits, FaultRose, InputsFit}
 use Rattle.fmeda_top.specs.Steps.{StepAs, NetlistAs, IsPlain}
-use Rattle.fmeda_top.specs.PlanSteps.{PlanChecked, PlanRefused, AreHeld}
+use Rattle.fmeda_top.specs.PlanSteps.{PlanChecked, PlanRefused, AreRead, AreHeld}
 use Rattle.fmeda_top.proofs.InOrder.{rose_from, fits_from, some_fit, loops_none, held_is}
 
 -- a refusal in a call is one in a longer call
@@ -230,24 +230,25 @@ module _ (inputs : Inputs) (set : Settings) (shelf : Shelves) (before after : By
               })
 
           -- nothing refused
-          pub plan_checked : (p : Analysis) → to_plan c set runs table goals ≡ Ok p → PlanChecked inputs set shelf before after None
-          plan_checked p is =
-              let reads : Reads = all_read files [] in
-              record {
-                reads = reads;
-                fit = record { netlist = net.0; workload = work.0; rates = rates.0; points = points.0 };
-                walk = None;
-                loops = loops;
-                first = ap refusal_in (made reads refl refl refl refl ∙ is);
-              }
-
           pub plan_made : (p : Analysis) → to_plan c set runs table goals ≡ Ok p → HasNoLoop p.circuit → IsPlanOf set files p
           plan_made p is free = record { plan = made (all_read files []) refl refl refl refl ∙ is; no_loop = free }
 
-          pub plan_held : AreHeld shelf inputs files
-          plan_held = λ held told. λ j. record {
-            netlist = held_is (shelf (name which.Netlist)) held.netlist net_bytes net.0 told.netlist j;
-            workload = held_is (shelf (name which.Workload)) held.workload work_bytes work.0 told.workload j;
-            rates = held_is (shelf (name which.Rates)) held.rates rate_bytes rates.0 told.rates j;
-            points = held_is (shelf (name which.Points)) held.points point_bytes points.0 told.points j;
-          }
+-- files that were read are those that are told to be held
+pub are_held : (shelf : Shelves) (inputs : Inputs) (files : Files) → AreRead shelf inputs files → AreHeld shelf inputs files
+are_held shelf inputs files read = λ held told. λ j. record {
+  netlist = held_is (shelf inputs.netlist) held.netlist files.netlist read.netlist told.netlist j;
+  workload = held_is (shelf inputs.workload) held.workload files.workload read.workload told.workload j;
+  rates = held_is (shelf inputs.rates) held.rates files.rates read.rates told.rates j;
+  points = held_is (shelf inputs.points) held.points files.points read.points told.points j;
+}
+
+-- over them nothing refuses a plan that was made
+pub plan_checked : (inputs : Inputs) (set : Settings) (shelf : Shelves) (before after : Bytes → ℕ) (files : Files) (p : Analysis)
+    → AreRead shelf inputs files → IsPlanOf set files p → IsLoopAnswer (Some files.netlist) None → PlanChecked inputs set shelf before after None
+plan_checked inputs set shelf before after files p read plan loops = record {
+  reads = all_read files [];
+  fit = record { netlist = read.netlist; workload = read.workload; rates = read.rates; points = read.points };
+  walk = None;
+  loops = loops;
+  first = ap refusal_in plan.plan;
+}

@@ -105,7 +105,7 @@ pub runs_begin : (c : Circuit) → Begins which.Workload (workload_step c) (runs
 unfolding workload_step
 runs_begin c got = refl
 
-no_read_fault : {A E : Type 0} (told : E → Status) (expected : Result A E) (other : Which) → ((fault : E) → told fault ≡ status.ReadFault other → ⊥)
+pub no_read_fault : {A E : Type 0} (told : E → Status) (expected : Result A E) (other : Which) → ((fault : E) → told fault ≡ status.ReadFault other → ⊥)
     → or_refuse told expected ≡ Err (status.ReadFault other) → ⊥
 no_read_fault told (Ok x) other never e = let bad : Ok x ≡ Err (status.ReadFault other) = e in cc bad
 no_read_fault told (Err fault) other never e = never fault (err_same (Err (told fault)) (told fault) (status.ReadFault other) refl e)
@@ -276,7 +276,7 @@ step_plain {A = A} own step next told before after ended begins plain (inr (got,
         let same : other ≡ ended = err_same (step got) other ended (begins got ∙ ap (λ r. r >>= next) e) is in
         subst IsPlain same (plain_at_most own got other e)
 
-told_plain : {A E : Type 0} (told : E → Status) (r : Result A E) (ended : Status) → ((fault : E) → IsPlain (told fault)) → or_refuse told r ≡ Err ended → IsPlain ended
+pub told_plain : {A E : Type 0} (told : E → Status) (r : Result A E) (ended : Status) → ((fault : E) → IsPlain (told fault)) → or_refuse told r ≡ Err ended → IsPlain ended
 told_plain told (Ok x) ended plain e = let bad : Ok x ≡ Err ended = e in cc bad
 told_plain {A = A} told (Err fault) ended plain e = subst IsPlain (ap (why {A = A}) e) (plain fault)
 
@@ -289,11 +289,16 @@ points_plain c told before after ended refused =
     step_plain which.Points (points_step c) (points_next c) told before after ended (points_begin c)
     (λ bytes e is. told_plain status.Points (points_of c bytes) e (λ fault. tt) is) refused
 
+-- what a step gives of a file is made of the file's bytes
+pub step_value : {A : Type 0} (own : Which) (step : Option Bytes → Result A Status) (next : Bytes → Result A Status) (bytes : Bytes) (x : A)
+    → Begins own step next → step (Some bytes) ≡ Ok x → next bytes ≡ Ok x
+step_value own step next bytes x begins is = by_read (at_most own (Some bytes)) refl
+  where
+    by_read : (r : Result Bytes Status) → at_most own (Some bytes) ≡ r → next bytes ≡ Ok x
+    by_read (Ok whole) e = ap next (at_most_same own bytes whole e) ∙ sym (begins (Some bytes) ∙ ap (λ r. r >>= next) e) ∙ is
+    by_read (Err other) e = let bad : Err other ≡ Ok x = sym (begins (Some bytes) ∙ ap (λ r. r >>= next) e) ∙ is in cc bad
+
 -- the runs that the workload's step gives are those of the netlist
 pub step_runs_fit : (c : Circuit) (bytes : Bytes) (runs : List Run) → workload_step c (Some bytes) ≡ Ok runs → AreRunsFor c runs
-step_runs_fit c bytes runs is = by_read (at_most which.Workload (Some bytes)) refl
-  where
-    by_read : (r : Result Bytes Status) → at_most which.Workload (Some bytes) ≡ r → AreRunsFor c runs
-    by_read (Ok whole) e =
-        runs_fit c whole runs (told_given status.Workload (workload_of c whole) runs (sym (runs_begin c (Some bytes) ∙ ap (λ r. r >>= runs_next c) e) ∙ is))
-    by_read (Err other) e = let bad : Err other ≡ Ok runs = sym (runs_begin c (Some bytes) ∙ ap (λ r. r >>= runs_next c) e) ∙ is in cc bad
+step_runs_fit c bytes runs is =
+    runs_fit c bytes runs (told_given status.Workload (workload_of c bytes) runs (step_value which.Workload (workload_step c) (runs_next c) bytes runs (runs_begin c) is))

@@ -1,5 +1,5 @@
 -- Which status may come. Counts of faults are compared with the call's own entry.
-use Rattle.std.specs.Prelude.{◌≡◌, ◌⊎◌, ℕ, List, [], Option, Some, None, unwrap_or}
+use Rattle.std.specs.Prelude.{◌≡◌, ◌↔◌, ◌⊎◌, ℕ, List, [], Option, Some, None, unwrap_or}
 use Rattle.circuit.specs.declared.parts.NetId.{NetId}
 use Rattle.fm_shelf.specs.Shelf.{Told, NowHas, Rose}
 use Rattle.fmeda_top.specs.declared.status.Status.{Status}
@@ -8,10 +8,10 @@ use Rattle.fmeda_top.specs.declared.status.Which.{Which}
 use Rattle.fmeda_top.specs.declared.status.Which.TheVariants as which
 use Rattle.fmeda_top.specs.declared.status.WriteTo.TheVariants as to
 use Rattle.command_line.specs.Commands.{Command, Classes, Check, Run, Resume, Audit, Gen}
-use Rattle.command_line.specs.Words.{IsCommand, IsNoCommand}
-use Rattle.fmeda_top.specs.Files.{Reads}
-use Rattle.fmeda_top.specs.FirstRefusal.{IsLoopAnswer, first_refusal}
-use Rattle.fmeda_top.specs.Ends.{Shelves, name_of, IsRefusal, DoneAs, RefusedAs, FaultAs, FaultSaid, OutFaultAs}
+use Rattle.command_line.specs.Words.{IsAlone, IsCommand, IsNoCommand}
+use Rattle.fmeda_top.specs.Files.{Reads, all_read}
+use Rattle.fmeda_top.specs.FirstRefusal.{IsLoopAnswer, first_refusal, generated}
+use Rattle.fmeda_top.specs.Ends.{Shelves, name_of, IsRefusal, DoneAs, netlist_told, RefusedAs, FaultAs, FaultSaid, OutFaultAs}
 use Rattle.fmeda_top.specs.Named.{no_names}
 use Rattle.fm_base.specs.Names.{Bytes}
 
@@ -52,7 +52,7 @@ pub record InputsFit (shelf : Shelves) (before after : Bytes → ℕ) (name : Wh
   pub rates : NameFits shelf before after (name which.Rates) reads.rates
   pub points : NameFits shelf before after (name which.Points) reads.points
 
--- the same of each file that a command reads
+-- the same of each file that a command reads; `gen` has the generated texts in their place
 abbrev pub ReadsFit : Shelves → (before after : Bytes → ℕ) → Command → Reads → Type 0
 ReadsFit shelf before after (Classes netlist workload) reads =
     NameFits shelf before after netlist reads.netlist × NameFits shelf before after workload reads.workload
@@ -62,7 +62,7 @@ ReadsFit shelf before after (Resume inputs name set workers) reads =
     InputsFit shelf before after (name_of (Resume inputs name set workers)) reads × NameFits shelf before after name reads.result
 ReadsFit shelf before after (Audit inputs name set) reads =
     InputsFit shelf before after (name_of (Audit inputs name set)) reads × NameFits shelf before after name reads.result
-ReadsFit shelf before after (Gen n_stages name workers) reads = Unit {0}
+ReadsFit shelf before after (Gen n name workers) reads = reads ≡ all_read (generated n) []
 
 -- THE ORDER OF THE CHECKS: over what the call has read, this is the first refusal, or there is none
 pub record Checked (command : Command) (shelf : Shelves) (before after : Bytes → ℕ) (refusal : Option Status) : Type 0 where
@@ -87,24 +87,26 @@ pub record EndsInOrder (command : Command) (ended : Status) (shelf : Shelves) (n
   pub ends : EndsBy refusal ended n (name_of command which.Result)
   pub fault : (which : Which) → ended ≡ status.ReadFault which → ReadsRose n (name_of command which)
 
--- WHY A CALL ENDS SO: Usage exactly where the words are no command; for a command the checks decide; and memory may run out in place of either
+-- Usage is the answer exactly where the words are no command; of the command that they are, the checks decide
+pub record EndsByWords (ended : Status) (words : List Bytes) (shelf : Shelves) (n : Counts) : Type 0 where
+  pub usage : (ended ≡ status.Usage) ↔ IsNoCommand words
+  pub order : (command : Command) → IsCommand words command → EndsInOrder command ended shelf n
+
+-- WHY A CALL ENDS SO: by its words and what was read, and memory may run out in place of either
 abbrev pub HasCause : Status → List Bytes → Shelves → Counts → Type 0
-HasCause ended words shelf n =
-    (IsNoCommand words × (ended ≡ status.Usage))
-    ⊎ ((command : Command) × IsCommand words command × EndsInOrder command ended shelf n)
-    ⊎ (ended ≡ status.Memory)
+HasCause ended words shelf n = EndsByWords ended words shelf n ⊎ (ended ≡ status.Memory)
 
 -- how a command has ended, in its cause and in what it has done
 pub record CommandEnds (command : Command) (ended : Status) (before after : Shelves) (n : Counts) (out_before out_after : Option Bytes) : Type 0 where
   pub cause : EndsInOrder command ended before n ⊎ (ended ≡ status.Memory)
   pub done : ended ≡ status.Done → DoneAs command before after out_before out_after
-  pub refused : IsRefusal ended → RefusedAs (name_of command) ended before after out_before out_after n.out_before n.out_after
+  pub refused : IsRefusal ended → RefusedAs (name_of command) (netlist_told command before) ended before after out_before out_after n.out_before n.out_after
   pub result_fault : ended ≡ status.WriteFault to.Result → FaultAs command before after × FaultSaid (name_of command) out_before out_after n.out_before n.out_after
   pub out_fault : ended ≡ status.WriteFault to.Out → OutFaultAs command before after out_before out_after
 
 -- how a call has ended: as its command; or the words are none; or there was no memory to read them
 abbrev pub WordsEnd : List Bytes → Status → Shelves → Shelves → Counts → (out_before out_after : Option Bytes) → Type 0
 WordsEnd words ended before after n out_before out_after =
-    ((command : Command) × IsCommand words command × CommandEnds command ended before after n out_before out_after)
-    ⊎ (IsNoCommand words × (ended ≡ status.Usage) × RefusedAs no_names ended before after out_before out_after n.out_before n.out_after)
-    ⊎ ((ended ≡ status.Memory) × RefusedAs no_names ended before after out_before out_after n.out_before n.out_after)
+    ((command : Command) × IsCommand words command × IsAlone words command × CommandEnds command ended before after n out_before out_after)
+    ⊎ (IsNoCommand words × (ended ≡ status.Usage) × RefusedAs no_names None ended before after out_before out_after n.out_before n.out_after)
+    ⊎ ((ended ≡ status.Memory) × RefusedAs no_names None ended before after out_before out_after n.out_before n.out_after)

@@ -176,25 +176,32 @@ IsRefusal status.Done = ⊥
 IsRefusal (status.WriteFault to) = ⊥
 IsRefusal _ = Unit {0}
 
--- the names by the words; for words that are no command the line names no file
-abbrev pub AreNames : List Bytes → Status → (Which → Bytes) → Type 0
-AreNames words status.Usage names = Unit {0}
-AreNames words status.Memory names = Unit {0}
-AreNames words _ names = (command : Command) × IsCommand words command × (names ≡ name_of command)
+-- the netlist of a command, as far as it is told: the generated one, or that of its file
+abbrev pub netlist_told : Command → Shelves → Told
+netlist_told (Gen n name workers) shelf = Some (Some (generated n).netlist)
+netlist_told command shelf = shelf (name_of command which.Netlist)
 
--- the circuit that the netlist's file stands for, where the file is told
+-- the names of the files and the netlist by the words; the line of words that are no command, and of want of memory, shows neither
+abbrev pub AreNames : List Bytes → Shelves → Status → (Which → Bytes) → Told → Type 0
+AreNames words shelf status.Usage names netlist = Unit {0}
+AreNames words shelf status.Memory names netlist = Unit {0}
+AreNames words shelf _ names netlist =
+    (command : Command) × IsCommand words command × (names ≡ name_of command) × (netlist ≡ netlist_told command shelf)
+
+-- the circuit that the netlist stands for, where its bytes are told
 abbrev pub IsCircuitOf : Told → Circuit → Type 0
 IsCircuitOf told c = (bytes : Bytes) → told ≡ Some (Some bytes) → (d : Circuit) → netlist_of bytes ≡ Ok d → c ≡ d
 
 -- AFTER A REFUSAL: no file has changed, and the refusal's line was written, or a prefix of it where `out` failed
-pub record RefusedAs (names : Which → Bytes) (ended : Status) (before after : Shelves) (out_before out_after : Option Bytes) (faults_before faults_after : ℕ) : Type 0 where
+pub record RefusedAs (names : Which → Bytes) (netlist : Told) (ended : Status) (before after : Shelves) (out_before out_after : Option Bytes) (faults_before faults_after : ℕ) : Type 0 where
   pub files : KeepsAll before after
   pub c : Circuit
-  pub circuit : IsCircuitOf (before (names which.Netlist)) c
+  pub circuit : IsCircuitOf netlist c
   pub line : Wrote out_before out_after (refusal_line names c ended)
       ⊎ (Rose faults_before faults_after × HasPrefix out_before out_after (refusal_line names c ended))
 
--- after a refusal this holds, with the names of the words
+-- after a refusal this holds, with the names and the netlist of the words
 abbrev pub AfterRefusal : Status → List Bytes → Shelves → Shelves → Option Bytes → Option Bytes → ℕ → ℕ → Type 0
 AfterRefusal ended words before after out_before out_after faults_before faults_after =
-    IsRefusal ended → (names : Which → Bytes) × AreNames words ended names × RefusedAs names ended before after out_before out_after faults_before faults_after
+    IsRefusal ended → (names : Which → Bytes) × (netlist : Told) × AreNames words before ended names netlist
+    × RefusedAs names netlist ended before after out_before out_after faults_before faults_after

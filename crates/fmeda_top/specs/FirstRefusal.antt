@@ -10,6 +10,7 @@ use Rattle.rate_table.specs.RatesFile.{rates_of}
 use Rattle.rate_table.specs.Table.{RateTable}
 use Rattle.alarm_points.specs.declared.Points.{Points}
 use Rattle.alarm_points.specs.PointsFile.{points_of}
+use Rattle.campaign_plan.specs.declared.Outcome.{Outcome}
 use Rattle.campaign_plan.specs.declared.Settings.{Settings}
 use Rattle.campaign_plan.specs.declared.PlanRefusal.{PlanRefusal}
 use Rattle.campaign_plan.specs.declared.PlanRefusal.TheVariants as plan
@@ -141,21 +142,19 @@ result_step own p bytes = do
   whole ← at_most which.Result bytes
   or_refuse status_of_back (kept own p whole)
 
--- a row keeps other planes than the batch truly has
-abbrev pub is_wrong : Analysis → Row → Bool
-is_wrong p row =
-    let planes = true_planes p row.batch in
-    not ((row.danger == planes.danger) && (row.noticed == planes.noticed))
+-- a row keeps other planes than those that its batch is given
+abbrev pub is_wrong : (ℕ → Outcome) → Row → Bool
+is_wrong planes row = not ((row.danger == (planes row.batch).danger) && (row.noticed == (planes row.batch).noticed))
 
 -- the status of such a row
-abbrev pub disagreement : Analysis → Option Row → Option Status
-disagreement p None = None
-disagreement p (Some row) =
-    Some (status.Disagrees row.batch (record { danger = row.danger; noticed = row.noticed }) (true_planes p row.batch))
+abbrev pub disagreement : (ℕ → Outcome) → Option Row → Option Status
+disagreement planes None = None
+disagreement planes (Some row) =
+    Some (status.Disagrees row.batch (record { danger = row.danger; noticed = row.noticed }) (planes row.batch))
 
--- AUDIT: the first row whose planes aren't the true ones
+-- AUDIT: the first row whose planes aren't those that its batch truly has
 unfoldable pub audit_step : Analysis → KeptRows → Result KeptRows Status
-audit_step p k = unless (disagreement p (find (is_wrong p) k.rows)) k
+audit_step p k = unless (disagreement (true_planes p) (find (is_wrong (true_planes p)) k.rows)) k
 
 -- the refusal of steps, if they refuse
 abbrev pub refusal_in : {A : Type 0} → Result A Status → Option Status

@@ -10,3 +10,5 @@ pub mod Steps
 pub mod Simulated
 pub mod ClassLines
 pub mod PlanSteps
+pub mod BegunSteps
+pub mod Samples

@@ -2,13 +2,13 @@
 use Rattle.std.specs.Prelude.{◌≡◌, ◌⊎◌, ◌<◌, ◌≤◌, ℕ, List, [], ◌∷◌, codes, Option, Some, None, Result, Ok, Err}
 use Rattle.circuit.specs.declared.parts.NetId.{NetId}
 use Rattle.circuit.specs.Order.{IsOrder}
-use Rattle.fm_shelf.specs.Shelf.{Told, Rose}
+use Rattle.fm_shelf.specs.Shelf.{Told, NowHas, Rose}
 use Rattle.campaign_plan.specs.declared.Settings.{Settings}
 use Rattle.campaign_plan.specs.Analysis.{Analysis}
 use Rattle.command_line.specs.declared.read.InputNames.{InputNames}
 use Rattle.campaign_plan.specs.Kept.{AreSettings}
 use Rattle.fault_list.specs.Faults.{AreCycles}
-use Rattle.command_line.specs.Commands.{Inputs, Command, Check, Run}
+use Rattle.command_line.specs.Commands.{Inputs, Command, Check, Run, Resume, Audit, Gen}
 use Rattle.fmeda_top.specs.declared.status.Status.{Status}
 use Rattle.fmeda_top.specs.declared.status.Status.TheVariants as status
 use Rattle.fmeda_top.specs.declared.status.Which.{Which}
@@ -25,6 +25,7 @@ use Rattle.fmeda_top.specs.RefusalLines.{refused}
 use Rattle.fmeda_top.specs.Said.{IsSaid}
 use Rattle.campaign_run.specs.declared.run.End.{End}
 use Rattle.campaign_run.specs.declared.run.End.TheVariants as end
+use Rattle.campaign_run.specs.declared.run.Text.{Text}
 use Rattle.campaign_run.specs.declared.run.Text.TheVariants.{Report}
 use Rattle.campaign_run.specs.Ran.{Campaign}
 use Rattle.campaign_run.specs.Starting.{nothing}
@@ -52,15 +53,22 @@ pub record PlanRefused (inputs : Inputs) (set : Settings) (shelf : Shelves) (bef
   pub checked : PlanChecked inputs set shelf before after (Some ended)
   pub fault : (result : Bytes) (which : Which) → ended ≡ status.ReadFault which → Rose (before (name_in inputs result which)) (after (name_in inputs result which))
 
+-- these bytes were read of the four files: they are what each holds, where that is told
+pub record AreRead (shelf : Shelves) (inputs : Inputs) (files : Files) : Type 0 where
+  pub netlist : NowHas (shelf inputs.netlist) files.netlist
+  pub workload : NowHas (shelf inputs.workload) files.workload
+  pub rates : NowHas (shelf inputs.rates) files.rates
+  pub points : NowHas (shelf inputs.points) files.points
+
 -- the four files are told to hold these bytes, where they are told
 abbrev pub AreHeld : Shelves → Inputs → Files → Type 0
 AreHeld shelf inputs files = (held : Files) → HoldsInputs shelf inputs held → held ≡ files
 
--- the plan of the four files, where nothing refuses it, whatever the counts; or the refusal
+-- the plan of the four files that were read, where nothing refuses it; or the refusal
 abbrev pub PlannedAs : Shelves → (before after : Bytes → ℕ) → Inputs → Settings → Result Planned Refused → Type 0
 PlannedAs shelf before after inputs set (Ok made) =
-    AreHeld shelf inputs (bytes_of made.files) × IsPlanOf set (bytes_of made.files) made.plan × IsOrder made.plan.circuit made.order
-    × ((b a : Bytes → ℕ) → PlanChecked inputs set shelf b a None) × (made.plan.settings ≡ set)
+    AreRead shelf inputs (bytes_of made.files) × IsPlanOf set (bytes_of made.files) made.plan × IsOrder made.plan.circuit made.order
+    × IsLoopAnswer (Some made.files.netlist) None × (made.plan.settings ≡ set)
 PlannedAs shelf before after inputs set (Err refused) =
     ((status_of refused ≡ status.Memory) ⊎ PlanRefused inputs set shelf before after (status_of refused))
     × HasItsNets (shelf inputs.netlist) refused
@@ -79,6 +87,9 @@ PlanTextAs shelf before after inputs set text out_before out_after faults_before
 abbrev pub IsFit : Command → Type 0
 IsFit (Check inputs flips pulses) = AreCycles 16 flips × AreCycles 4 pulses
 IsFit (Run inputs result set workers) = AreSettings set × (0 < workers) × (workers ≤ 32)
+IsFit (Resume inputs result set workers) = AreSettings set × (0 < workers) × (workers ≤ 32)
+IsFit (Audit inputs result set) = AreSettings set
+IsFit (Gen stages result workers) = (1 ≤ stages) × (stages ≤ 1000) × (0 < workers) × (workers ≤ 32)
 IsFit _ = Unit {0}
 
 -- what a command says at the end of its campaign: nothing where it has written its text, or the line of a refusal
@@ -91,6 +102,10 @@ EndSaid end.NoMemory ended before after faults_before faults_after names =
 EndSaid end.ResultFault ended before after faults_before faults_after names =
     (ended ≡ status.WriteFault to.Result) × IsSaid before after faults_before faults_after (refused (codes "cannot write" ∷ names which.Result ∷ []))
 
--- the campaign of `run`: it keeps nothing of its result file, and writes the report
+-- the campaign of a plan that keeps nothing of its result file, and writes this text
+abbrev pub begun_anew : Planned → (name own : Bytes) → Text → Campaign
+begun_anew planned name own text = record { name = name; own = own; p = planned.plan; k = nothing; text = text }
+
+-- the campaign of `run`, which writes the report
 abbrev pub run_of : Planned → (name own : Bytes) → Campaign
-run_of planned name own = record { name = name; own = own; p = planned.plan; k = nothing; text = Report }
+run_of planned name own = begun_anew planned name own Report

@@ -59,6 +59,10 @@ faults_line p = line (codes "faults" ∷ decimal (fault_count p) ∷ codes "batc
 unfoldable pub check_text : Analysis → Bytes
 check_text p = netlist_line p.circuit ++ (workload_line p.runs ++ (rates_line p.rates ++ (points_line p.points ++ faults_line p)))
 
+-- so many rows agree, of so many batches
+abbrev pub audit_line : (rows batches : ℕ) → Bytes
+audit_line rows batches = line (codes "audit" ∷ decimal rows ∷ codes "of" ∷ decimal batches ∷ codes "rows agree" ∷ [])
+
 -- the line of `audit` for so many whole rows
 unfoldable pub audit_text : ℕ → Analysis → Bytes
-audit_text rows p = line (codes "audit" ∷ decimal rows ∷ codes "of" ∷ decimal (batch_count p) ∷ codes "rows agree" ∷ [])
+audit_text rows p = audit_line rows (batch_count p)

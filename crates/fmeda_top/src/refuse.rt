@@ -89,9 +89,9 @@ pub fn refuse<O: Sink>(out: &mut O, names: &FileNames, nets: &[Name], status: &S
         Status::Foreign { found, own } => refuse_foreign(
             out,
             b"foreign result file, found",
-            found.as_slice(),
+            found.bytes(),
             b"own",
-            own.as_slice(),
+            own.bytes(),
         ),
         Status::BadRow { number, why } => refuse_bad_row(out, *number, *why),
         Status::Disagrees {

@@ -2,14 +2,14 @@
 ghost use Rattle.std.specs.Prelude.{◌≡◌, ◌≤◌, ◌<◌, ℕ, List, length};
 ghost use Rattle.fm_shelf.specs.Shelf.{held_in};
 ghost use Rattle.circuit.specs.Order.{IsOrder};
-ghost use Rattle.campaign_plan.specs.Kept.{AreSettings};
+ghost use Rattle.campaign_plan.specs.Kept.{AreSettings, IsPlan};
 ghost use Rattle.result_file.specs.KeptRows.{header_len};
 ghost use Rattle.command_line.specs.Commands.{Run};
 ghost use Rattle.campaign_run.specs.Ran.{HasRun};
 ghost use Rattle.fmeda_top.specs.Causes.{CommandEnds};
 ghost use Rattle.fmeda_top.specs.FirstRefusal.{own_header};
 ghost use Rattle.fmeda_top.specs.Named.{name_by};
-ghost use Rattle.fmeda_top.specs.PlanSteps.{EndSaid, bytes_of, names_of, run_of};
+ghost use Rattle.fmeda_top.specs.PlanSteps.{EndSaid, begun_anew, bytes_of, names_of};
 
 use crate::ended::Ended;
 use crate::names::FileNames;
@@ -29,10 +29,11 @@ use std::sync::Wait;
 use std::thread::Threads;
 use worker_gate::Gate;
 
-// The header line of the result file of a plan.
-fn own_line(planned: &Planned) -> Line
+/// The header line of the result file of a plan.
+pub(crate) fn own_line(planned: &Planned) -> Line
     ensures text { result ≡ own_header planned.now.plan.settings (bytes_of planned.now.files) planned.now.plan }
     ensures len { length result ≡ header_len }
+    ensures plan { IsPlan planned.now.plan }
 {
     let files = &planned.files;
     let digest = own_digest(
@@ -45,12 +46,18 @@ fn own_line(planned: &Planned) -> Line
     header(&digest, planned.plan.batches())
 }
 
-// The campaign of a plan, which begins its result file anew.
-fn run_planned<R: Threads + Wait + Sync, F: Shelf + Send + Drop, O: Sink, G: Gate + Sync>(
+/// The campaign of a plan, which begins its result file anew and writes this text at its end.
+pub(crate) fn run_planned<
+    R: Threads + Wait + Sync,
+    F: Shelf + Send + Drop,
+    O: Sink,
+    G: Gate + Sync,
+>(
     rt: &R,
     alloc: Global,
     planned: &Planned,
     own: &Line,
+    text: Text,
     shelf: F,
     out: &mut O,
     gate: &G,
@@ -60,7 +67,7 @@ fn run_planned<R: Threads + Wait + Sync, F: Shelf + Send + Drop, O: Sink, G: Gat
     requires order { IsOrder planned.now.plan.circuit planned.now.order }
     requires own { length own.now ≡ header_len }
     requires workers { (0 < workers) × (workers ≤ 32) }
-    ensures { HasRun result.end (run_of planned.now rows.now own.now)
+    ensures { HasRun result.end (begun_anew planned.now rows.now own.now text)
         (record { files = held_in (F.files shelf) (F.rest_absent shelf); faults = F.write_faults shelf; out = O.written out.old; out_faults = O.faults out.old })
         (record { files = held_in (F.files result.shelf) (F.rest_absent result.shelf); faults = F.write_faults result.shelf; out = O.written out.new; out_faults = O.faults out.new }) }
 {
@@ -70,23 +77,12 @@ fn run_planned<R: Threads + Wait + Sync, F: Shelf + Send + Drop, O: Sink, G: Gat
     };
     let (plan, order) = (&planned.plan, &planned.order);
     run_campaign(
-        rt,
-        alloc,
-        plan,
-        order,
-        own,
-        kept,
-        Text::Report,
-        workers,
-        shelf,
-        rows,
-        out,
-        gate,
+        rt, alloc, plan, order, own, kept, text, workers, shelf, rows, out, gate,
     )
 }
 
-// Writes the line of how a campaign has ended, if it has one, and answers its status.
-fn say_end<O: Sink>(out: &mut O, names: &FileNames, end: End) -> Status
+/// Writes the line of how a campaign has ended, if it has one, and answers its status.
+pub(crate) fn say_end<O: Sink>(out: &mut O, names: &FileNames, end: End) -> Status
     ensures { EndSaid end result (O.written out.old) (O.written out.new) (O.faults out.old) (O.faults out.new) (name_by names.now) }
 {
     match end {
@@ -137,7 +133,18 @@ pub fn run<R: Threads + Wait + Sync, F: Shelf + Send + Drop, O: Sink, G: Gate + 
     match read_plan(alloc, &mut shelf, inputs, settings) {
         Ok(planned) => {
             let own = own_line(&planned);
-            let ran = run_planned(rt, alloc, &planned, &own, shelf, out, gate, rows, workers);
+            let ran = run_planned(
+                rt,
+                alloc,
+                &planned,
+                &own,
+                Text::Report,
+                shelf,
+                out,
+                gate,
+                rows,
+                workers,
+            );
             let status = say_end(out, &names, ran.end);
             Ended {
                 status,

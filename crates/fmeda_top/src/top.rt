@@ -8,12 +8,15 @@ ghost use Rattle.fmeda_top.specs.PlanSteps.{IsFit};
 ghost use Rattle.fmeda_top.specs.Named.{no_names};
 ghost use Rattle.fmeda_top.specs.Ends.{AfterOutFault, AfterRefusal, AfterResultFault, AtDone};
 
+use crate::audit::audit;
 use crate::check::check;
 use crate::classes::classes;
 use crate::ended::Ended;
+use crate::generate::generate;
 use crate::names::FileNames;
 use crate::refuse::say_refused;
 use crate::refused::Refused;
+use crate::resume::resume;
 use crate::run::run;
 use crate::status::Status;
 use command_line::{Asked, WordsRefusal, read_words};
@@ -67,6 +70,28 @@ fn run_asked<R: Threads + Wait + Sync, F: Shelf + Send + Drop, O: Sink, G: Gate 
         } => run(
             rt, alloc, shelf, out, gate, &inputs, result, settings, workers,
         ),
+        Asked::Resume {
+            inputs,
+            result,
+            settings,
+            workers,
+        } => resume(
+            rt, alloc, shelf, out, gate, &inputs, result, settings, workers,
+        ),
+        Asked::Audit {
+            inputs,
+            result,
+            settings,
+        } => {
+            let mut shelf = shelf;
+            let status = audit(alloc, &mut shelf, out, &inputs, result, settings);
+            Ended { status, shelf }
+        }
+        Asked::Gen {
+            stages,
+            result,
+            workers,
+        } => generate(rt, alloc, shelf, out, gate, stages, result, workers),
     }
 }
 

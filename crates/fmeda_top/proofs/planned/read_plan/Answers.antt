@@ -8,8 +8,9 @@ use Rattle.fmeda_top.specs.declared.status.Which.TheVariants as which
 use Rattle.fmeda_top.specs.FirstRefusal.{workload_step, rates_step, points_step}
 use Rattle.fmeda_top.specs.PlanSteps.{names_of}
 use Rattle.fmeda_top.proofs.Ending.{keeps_all}
+use Rattle.fmeda_top.proofs.InOrder.{loops_none}
 use Rattle.fmeda_top.proofs.Taken.{step_runs_fit, runs_plain, rates_plain, points_plain}
-use Rattle.fmeda_top.proofs.PlanOrder.{step_on, plan_netlist, plan_runs, plan_rates, plan_points, plan_refused, plan_checked, plan_made, plan_held, plan_plain, plan_never, plan_same}
+use Rattle.fmeda_top.proofs.PlanOrder.{step_on, plan_netlist, plan_runs, plan_rates, plan_points, plan_refused, plan_made, plan_plain, plan_never, plan_same}
 use Rattle.fmeda_top.proofs.planned.read_plan.Goals as goal
 
 pub returns-in_err-net-clause-read : goal.returns-in_err-net-clause-read
@@ -102,23 +103,18 @@ returns-in_err-plan-clause-read g c =
 pub returns-clause-read : goal.returns-clause-read
 returns-clause-read g c =
     let made = plan_same _ c.in_ok-plan.plan c.in_ok-plan.ensures in (
-      plan_held (names_of c.args.inputs.now) c.args.set (held_in (g.F.Shelf.files c.args.shelf.now) (g.F.Shelf.rest_absent c.args.shelf.now))
-          (g.F.Shelf.read_faults c.args.shelf.now) (g.F.Shelf.read_faults c.read_goals.new.shelf) c.in_ok-net.field-0.bytes c.in_ok-net.field-0.net (c.in_ok-net.ensures.read.0, c.in_ok-net.ensures.read.1) c.in_ok-net.ensures.read.2
-          c.in_ok-work.field-0.bytes c.in_ok-work.field-0.value (
+      record {
+        netlist = c.in_ok-net.ensures.read.0;
+        workload =
             subst (λ told. NowHas told c.in_ok-work.field-0.bytes) (keeps_all (g.F.Shelf.files c.args.shelf.now) (g.F.Shelf.files c.read_netlist.new.shelf) (g.F.Shelf.rest_absent c.args.shelf.now) (g.F.Shelf.rest_absent c.read_netlist.new.shelf)
-                (c.in_ok-net.ensures.files) (c.in_ok-net.ensures.rest) c.args.inputs.now.workload.now) c.in_ok-work.ensures.read.0,
-            c.in_ok-work.ensures.read.1,
-          )
-          c.in_ok-parts.field-0.bytes c.in_ok-parts.field-0.value (
+            (c.in_ok-net.ensures.files) (c.in_ok-net.ensures.rest) c.args.inputs.now.workload.now) c.in_ok-work.ensures.read.0;
+        rates =
             subst (λ told. NowHas told c.in_ok-parts.field-0.bytes) (keeps_all (g.F.Shelf.files c.args.shelf.now) (g.F.Shelf.files c.read_runs.new.shelf) (g.F.Shelf.rest_absent c.args.shelf.now) (g.F.Shelf.rest_absent c.read_runs.new.shelf)
-                (c.in_ok-work.ensures.files ∙ c.in_ok-net.ensures.files) (c.in_ok-work.ensures.rest ∙ c.in_ok-net.ensures.rest) c.args.inputs.now.rates.now) c.in_ok-parts.ensures.read.0,
-            c.in_ok-parts.ensures.read.1,
-          )
-          c.in_ok-goals.field-0.bytes c.in_ok-goals.field-0.value (
+            (c.in_ok-work.ensures.files ∙ c.in_ok-net.ensures.files) (c.in_ok-work.ensures.rest ∙ c.in_ok-net.ensures.rest) c.args.inputs.now.rates.now) c.in_ok-parts.ensures.read.0;
+        points =
             subst (λ told. NowHas told c.in_ok-goals.field-0.bytes) (keeps_all (g.F.Shelf.files c.args.shelf.now) (g.F.Shelf.files c.read_parts.new.shelf) (g.F.Shelf.rest_absent c.args.shelf.now) (g.F.Shelf.rest_absent c.read_parts.new.shelf)
-                (c.in_ok-parts.ensures.files ∙ c.in_ok-work.ensures.files ∙ c.in_ok-net.ensures.files) (c.in_ok-parts.ensures.rest ∙ c.in_ok-work.ensures.rest ∙ c.in_ok-net.ensures.rest) c.args.inputs.now.points.now) c.in_ok-goals.ensures.read.0,
-            c.in_ok-goals.ensures.read.1,
-          ),
+            (c.in_ok-parts.ensures.files ∙ c.in_ok-work.ensures.files ∙ c.in_ok-net.ensures.files) (c.in_ok-parts.ensures.rest ∙ c.in_ok-work.ensures.rest ∙ c.in_ok-net.ensures.rest) c.args.inputs.now.points.now) c.in_ok-goals.ensures.read.0;
+      },
       plan_made (names_of c.args.inputs.now) c.args.set (held_in (g.F.Shelf.files c.args.shelf.now) (g.F.Shelf.rest_absent c.args.shelf.now))
           (g.F.Shelf.read_faults c.args.shelf.now) (g.F.Shelf.read_faults c.read_goals.new.shelf) c.in_ok-net.field-0.bytes c.in_ok-net.field-0.net (c.in_ok-net.ensures.read.0, c.in_ok-net.ensures.read.1) c.in_ok-net.ensures.read.2
           c.in_ok-work.field-0.bytes c.in_ok-work.field-0.value (
@@ -137,23 +133,7 @@ returns-clause-read g c =
             c.in_ok-goals.ensures.read.1,
           ) _ c.in_ok-plan.ensures (subst HasNoLoop (ap (λ p. p.circuit) (sym made)) c.in_ok-net.ensures.read.2),
       subst (λ d. IsOrder d c.in_ok-net.field-0.order) (ap (λ p. p.circuit) (sym made)) c.in_ok-net.ensures.read.3,
-      λ b a. plan_checked (names_of c.args.inputs.now) c.args.set (held_in (g.F.Shelf.files c.args.shelf.now) (g.F.Shelf.rest_absent c.args.shelf.now))
-          b a c.in_ok-net.field-0.bytes c.in_ok-net.field-0.net (c.in_ok-net.ensures.read.0, c.in_ok-net.ensures.read.1) c.in_ok-net.ensures.read.2
-          c.in_ok-work.field-0.bytes c.in_ok-work.field-0.value (
-            subst (λ told. NowHas told c.in_ok-work.field-0.bytes) (keeps_all (g.F.Shelf.files c.args.shelf.now) (g.F.Shelf.files c.read_netlist.new.shelf) (g.F.Shelf.rest_absent c.args.shelf.now) (g.F.Shelf.rest_absent c.read_netlist.new.shelf)
-                (c.in_ok-net.ensures.files) (c.in_ok-net.ensures.rest) c.args.inputs.now.workload.now) c.in_ok-work.ensures.read.0,
-            c.in_ok-work.ensures.read.1,
-          )
-          c.in_ok-parts.field-0.bytes c.in_ok-parts.field-0.value (
-            subst (λ told. NowHas told c.in_ok-parts.field-0.bytes) (keeps_all (g.F.Shelf.files c.args.shelf.now) (g.F.Shelf.files c.read_runs.new.shelf) (g.F.Shelf.rest_absent c.args.shelf.now) (g.F.Shelf.rest_absent c.read_runs.new.shelf)
-                (c.in_ok-work.ensures.files ∙ c.in_ok-net.ensures.files) (c.in_ok-work.ensures.rest ∙ c.in_ok-net.ensures.rest) c.args.inputs.now.rates.now) c.in_ok-parts.ensures.read.0,
-            c.in_ok-parts.ensures.read.1,
-          )
-          c.in_ok-goals.field-0.bytes c.in_ok-goals.field-0.value (
-            subst (λ told. NowHas told c.in_ok-goals.field-0.bytes) (keeps_all (g.F.Shelf.files c.args.shelf.now) (g.F.Shelf.files c.read_parts.new.shelf) (g.F.Shelf.rest_absent c.args.shelf.now) (g.F.Shelf.rest_absent c.read_parts.new.shelf)
-                (c.in_ok-parts.ensures.files ∙ c.in_ok-work.ensures.files ∙ c.in_ok-net.ensures.files) (c.in_ok-parts.ensures.rest ∙ c.in_ok-work.ensures.rest ∙ c.in_ok-net.ensures.rest) c.args.inputs.now.points.now) c.in_ok-goals.ensures.read.0,
-            c.in_ok-goals.ensures.read.1,
-          ) _ c.in_ok-plan.ensures,
+      loops_none c.in_ok-net.field-0.bytes c.in_ok-net.field-0.net c.in_ok-net.ensures.read.1 c.in_ok-net.ensures.read.2,
       ap (λ p. p.settings) made,
     )
 

@@ -55,7 +55,7 @@ returns-in-IdleRate g c = λ k names. said_as _ _ _ _ (name_by c.args.names.now)
 
 pub returns-in-Foreign : goal.returns-in-Foreign
 unfolding refusal_line
-returns-in-Foreign g c = λ k names. said_as _ _ _ _ (name_by c.args.names.now) k c.args.status.now _ c.in-Foreign.is (words_said _ _ _ _ _ _ (ap₂ (λ (f o : Bytes). codes "foreign result file, found" ∷ (shown_start f ++ codes ",") ∷ codes "own" ∷ take 88 o ∷ []) c.as_slice-in-Foreign.ensures c.as_slice-in-Foreign-2.ensures) c.refuse_foreign.ensures)
+returns-in-Foreign g c = λ k names. said_as _ _ _ _ (name_by c.args.names.now) k c.args.status.now _ c.in-Foreign.is (words_said _ _ _ _ _ _ (ap₂ (λ (f o : Bytes). codes "foreign result file, found" ∷ (shown_start f ++ codes ",") ∷ codes "own" ∷ take 88 o ∷ []) c.bytes.ensures c.bytes-in-Foreign.ensures) c.refuse_foreign.ensures)
 
 pub returns-in-BadRow : goal.returns-in-BadRow
 unfolding refusal_line
