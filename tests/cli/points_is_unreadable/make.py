@@ -1,0 +1,2 @@
+import os
+os.chmod("points.csv", 0)

@@ -1,0 +1,1 @@
+open("points.csv", "a").truncate(2**26 + 1)

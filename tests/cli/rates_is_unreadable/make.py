@@ -1,0 +1,2 @@
+import os
+os.chmod("rates.csv", 0)

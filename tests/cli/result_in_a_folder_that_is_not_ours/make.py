@@ -1,0 +1,2 @@
+import os
+os.chmod(".", 0o555)

@@ -1,0 +1,2 @@
+import os
+os.chmod("res", 0o444)

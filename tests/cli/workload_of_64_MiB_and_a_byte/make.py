@@ -1,0 +1,1 @@
+open("dup.csv", "a").truncate(2**26 + 1)

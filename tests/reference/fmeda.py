@@ -1,0 +1,150 @@
+#!/usr/bin/env python3
+"""A slow second program with the words, texts and exit statuses of `fmeda`, on one thread. It serves to check expected values."""
+import pathlib
+import re
+import sys
+
+sys.path.insert(0, str(pathlib.Path(__file__).resolve().parent))
+import campaign as c
+import tables
+from campaign import Refused
+
+USAGE = Refused(2, b"usage")
+OPTIONS = {"classes": "", "check": "flips pulses", "run": "ftti flips pulses workers asil", "resume": "ftti flips pulses workers asil",
+           "audit": "ftti flips pulses", "gen": "workers"}
+PLACES = {"classes": 2, "check": 4, "run": 5, "resume": 5, "audit": 5, "gen": 2}
+
+
+def number(text, least, most):
+    if re.fullmatch(r"\+?[0-9]+|-0+", text) is None or not least <= int(text) <= most:
+        raise USAGE
+    return int(text)
+
+
+def cycles(text, most):
+    if text == "none":
+        return []
+    parts = text.split(",")
+    if any(re.fullmatch("0|[1-9][0-9]{0,4}", p) is None for p in parts):
+        raise USAGE
+    found = [int(p) for p in parts]
+    if len(found) > most or found[-1] > 65535 or any(a >= b for a, b in zip(found, found[1:])):
+        raise USAGE
+    return found
+
+
+def words_of(words):
+    if not words or words[0] not in PLACES:
+        raise USAGE
+    command, names, said, rest = words[0], [], {}, list(words[1:])
+    while rest:
+        word = rest.pop(0)
+        if not word.startswith("--"):
+            if word.startswith("-"):
+                raise USAGE
+            names.append(word)
+            continue
+        option, has_value, value = word[2:].partition("=")
+        if option not in OPTIONS[command].split() or option in said or not has_value and not rest:
+            raise USAGE
+        said[option] = value if has_value else rest.pop(0)
+    if len(names) != PLACES[command]:
+        raise USAGE
+    if PLACES[command] == 5 and names[4] in names[:4]:
+        raise USAGE
+    said = {"ftti": "0", "flips": "none", "pulses": "none", "workers": "1", "asil": "D", **said}
+    said["ftti"], said["workers"] = number(said["ftti"], 0, 4096), number(said["workers"], 1, 32)
+    said["flips"], said["pulses"] = cycles(said["flips"], 16), cycles(said["pulses"], 4)
+    if said["asil"] not in ("B", "C", "D"):
+        raise USAGE
+    if command == "gen":
+        names[0] = number(names[0], 1, 1000)
+    return command, names, said
+
+
+def classes(netlist, workload):
+    net = c.read_netlist(c.held(netlist), c.MOST_OUTPUTS)
+    try:
+        runs = tables.read_workload(c.held(workload), net)
+    except tables.RowFault as fault:
+        raise c.row_fault(fault)
+    faults = c.faults_of(net, [], [])
+    if len(faults) > c.MOST_FAULTS:
+        raise Refused(10, b"more than 1048576 faults")
+    danger, noticed = c.outcomes(net, faults, runs, [(b"", None, net.outputs)], [], 0)
+    shown = [c.fault_name(net, f) + b" " + c.class_of(danger >> i & 1, noticed >> i & 1, "mission", False, True).encode() for i, f in enumerate(faults)]
+    return b"\n".join(shown + [f"end {len(faults)}".encode(), b""])
+
+
+def check(plan):
+    net, (goals, alarms) = plan.net, (plan.goals, plan.alarms)
+    return (f"netlist nets {len(net.names)} inputs {len(net.inputs)} tables {len(net.tables)} latches {len(net.latches)}\n"
+            f"workload workloads {len(plan.runs)} cycles {sum(len(r[2]) for r in plan.runs)}\n"
+            f"rates parts {len(plan.parts)} units {sum(p[3] + p[4] for p in plan.parts)}\n"
+            f"points observe {sum(len(g[2]) for g in goals)} alarm {len(alarms)}\n"
+            f"faults {len(plan.faults)} batches {plan.batches}\n").encode()
+
+
+def write(name, text):
+    try:
+        with open(name, "wb") as file:
+            file.write(text)
+    except OSError:
+        raise Refused(21, b"cannot write " + name.encode())
+
+
+def generated(n):
+    lines = [".model pipe", ".inputs d", ".outputs q e"]
+    for i in range(1, n + 1):
+        for copy, stage in (("a", "m"), ("b", "n")):
+            lines += [f".names {'d' if i == 1 else copy + str(i - 1)} {stage}{i}", "0 1", f".latch {stage}{i} {copy}{i} 0"]
+    lines += [f".names a{n} q", "1 1", f".names a{n} b{n} e", "10 1", "01 1", ".end", ""]
+    work = ["workload,kind,d"] + [f"w,mission,{int(t % 3 == 0)}" for t in range(n + 8)] + [""]
+    rates = ("pattern,part,role,covered,permanent,transient\nd,in,mission,no,1,0\nq,main,mission,yes,6,3\nm*,main,mission,yes,6,3\n"
+             "a*,main,mission,yes,6,3\n*,shadow,mechanism,no,6,3\n")
+    return ["\n".join(lines).encode(), "\n".join(work).encode(), rates.encode(), b"kind,net\nobserve,q\nalarm,e\n"]
+
+
+def done(command, names, said):
+    """The text of Done."""
+    if command == "classes":
+        return classes(*names)
+    if command == "gen":
+        texts = generated(names[0])
+        net = c.read_netlist(texts[0])
+        plan = c.plan_of(c.Plan(), texts, net, tables.read_workload(texts[1], net), *tables.read_rates(texts[2]),
+                         *tables.read_points(texts[3], net), [1], [], 0, "D")
+        planes = c.true_planes(plan)
+        write(names[1], c.result_text(plan, planes, sorted(planes)))
+        return "\n".join([f"gen {names[0]}", c.head_line(plan), *c.metric_lines(plan, c.total(plan, planes)), "end", ""]).encode()
+    plan = c.make_plan(names[:4], said["flips"], said["pulses"], said["ftti"], said["asil"])
+    if command == "check":
+        return check(plan)
+    if command == "run":
+        planes = c.true_planes(plan)
+        write(names[4], c.result_text(plan, planes, sorted(planes)))
+        return c.report(plan, planes)
+    text = c.held(names[4])
+    kept, whole = c.read_result(plan, text)
+    planes = c.true_planes(plan)
+    if command == "audit":
+        for batch, found in kept.items():
+            if found != planes[batch]:
+                raise Refused(13, f"batch {batch} kept {found[0]:016x} {found[1]:016x} computed {planes[batch][0]:016x} {planes[batch][1]:016x}".encode())
+        return f"audit {len(kept)} of {plan.batches} rows agree\n".encode()
+    planes.update(kept)
+    write(names[4], c.result_text(plan, planes, list(kept) + [b for b in range(plan.batches) if b not in kept]))
+    return c.report(plan, planes)
+
+
+def main(words):
+    try:
+        text, status = done(*words_of(words)), 0
+    except Refused as refused:
+        text, status = refused.line, refused.status
+    sys.stdout.buffer.write(text)
+    return status
+
+
+if __name__ == "__main__":
+    sys.exit(main(sys.argv[1:]))
