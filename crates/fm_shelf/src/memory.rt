@@ -30,7 +30,7 @@ impl MemorySink {
     /// A sink with room for `capacity` bytes. The calls of the given numbers, from 1, fail, and so does a write past the room.
     /// No later call takes memory.
     pub fn new(alloc: Global, capacity: u64, failing: Calls) -> Result<Self, AllocError>
-        ensures { IfOk result (λ s. (s.bytes.items ≡ []) × (s.calls ≡ 0) × (s.failures ≡ 0)) }
+        ensures { IfOk result (λ s. (s.bytes.items ≡ []) × (s.capacity ≡ capacity) × (s.failing ≡ failing) × (s.calls ≡ 0) × (s.failures ≡ 0)) }
     {
         Ok(MemorySink {
             bytes: Vec::with_capacity(alloc, capacity as usize)?,
@@ -349,7 +349,7 @@ impl MemoryShelf {
         capacity: u64,
         failing: Calls,
     ) -> Result<Self, AllocError>
-        ensures { IfOk result (λ m. IsFresh files m) }
+        ensures { IfOk result (λ m. IsFresh files capacity failing 0 m) }
     {
         MemoryShelf::tearing(alloc, files, capacity, failing, 0)
     }
@@ -363,7 +363,7 @@ impl MemoryShelf {
         failing: Calls,
         taken: u64,
     ) -> Result<Self, AllocError>
-        ensures { IfOk result (λ m. IsFresh files m) }
+        ensures { IfOk result (λ m. IsFresh files capacity failing taken m) }
     {
         let entries = entries_of(alloc, files.as_slice(), capacity)?;
         let mut spares = Vec::with_capacity(alloc, SPARES)?;

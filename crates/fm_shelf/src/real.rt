@@ -48,7 +48,9 @@ pub struct FileShelf<'a, R: Files + Sync> {
 
 impl<'a, R: Files + Sync> FileShelf<'a, R> {
     /// The files that this runtime opens. Nothing is opened before the first call.
-    pub fn new(rt: &'a R) -> Self {
+    pub fn new(rt: &'a R) -> Self
+        ensures { (result.failed_reads ≡ 0) × (result.failed_writes ≡ 0) }
+    {
         FileShelf {
             rt,
             failed_reads: 0,
@@ -107,7 +109,9 @@ pub struct OutSink<'a, R: Print> {
 
 impl<'a, R: Print> OutSink<'a, R> {
     /// The standard output of this runtime.
-    pub fn new(rt: &'a R) -> Self {
+    pub fn new(rt: &'a R) -> Self
+        ensures { result.failures ≡ 0 }
+    {
         OutSink { rt, failures: 0 }
     }
 }

@@ -1,3 +1,5 @@
+ghost use Rattle.std.specs.Prelude.{◌≡◌};
+
 use crate::gate::Gate;
 use std::sync::atomic::{AtomicBool, AtomicU64, Ordering};
 
@@ -14,12 +16,16 @@ pub struct PairGate {
 
 impl PairGate {
     /// A gate that nobody has called. The first caller looks for the second at most 100,000,000 times.
-    pub fn new() -> PairGate {
+    pub fn new() -> PairGate
+        ensures { result.looks ≡ 100000000 }
+    {
         PairGate::with_looks(LOOKS)
     }
 
     /// The same, with another number of looks.
-    pub(crate) fn with_looks(looks: u64) -> PairGate {
+    pub(crate) fn with_looks(looks: u64) -> PairGate
+        ensures { result.looks ≡ looks }
+    {
         PairGate {
             looks,
             calls: AtomicU64::new(0),
