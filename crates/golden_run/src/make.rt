@@ -1,5 +1,5 @@
 // The golden run of a workload.
-ghost use Rattle.std.specs.Prelude.{◌≡◌, ◌<◌, ◌+◌, [], ℕ, IfOk, length, take};
+ghost use Rattle.std.specs.Prelude.{◌≡◌, ◌<◌, ◌+◌, ◌++◌, [], ℕ, IfOk, OnOk, length, take};
 ghost use Rattle.circuit.specs.After.{IsAfter};
 ghost use Rattle.circuit.specs.Trace.{vector_at};
 ghost use Rattle.circuit.specs.Order.{IsOrder};
@@ -7,27 +7,27 @@ ghost use Rattle.cycle_sim.specs.Sim.{IsMadeFor};
 ghost use Rattle.workload.specs.Runs.{cycles_of, run_at};
 ghost use Rattle.workload.specs.declared.run.Run.{Run};
 ghost use Rattle.alarm_points.specs.PointsKept.{ArePointsFor};
-ghost use Rattle.golden_run.specs.Recording.{all_readings, reading_of, readings_of};
+ghost use Rattle.golden_run.specs.Recording.{all_values, values_at, values_of};
 
-use crate::reading::{Reading, alarm_values, observed_values};
+use crate::bits::Bits;
+use crate::points::{point_count, push_points};
 use crate::values::Golden;
 use alarm_points::Points;
 use circuit::netlist::Netlist;
 use cycle_sim::sim::Sim;
-use fm_list::Seq;
 use netlist_levels::Order;
 use std::alloc::{AllocError, Global};
 use workload::run::Workload;
 
-// Simulates the next cycle without faults, and reads the points.
-fn next_reading(
-    alloc: Global,
+// Simulates the next cycle without faults, and adds the values of the points.
+fn push_next(
     net: &Netlist,
     order: &Order,
     vector: &[bool],
     points: &Points,
     sim: &mut Sim,
-) -> Result<Reading, AllocError>
+    values: &mut Bits,
+) -> Result<(), AllocError>
     requires made { IsMadeFor net.now order.now sim.old }
     requires few { sim.old.moment.cycle < 65536 }
     requires points { ArePointsFor net.now points.now }
@@ -35,16 +35,14 @@ fn next_reading(
     ensures cycle { sim.new.moment.cycle ≡ sim.old.moment.cycle + 1 }
     ensures step { (run : Run) (t : ℕ) → t < cycles_of run → vector.now ≡ vector_at run.vectors t → IsAfter net.now [] (take t run.vectors) sim.old.moment
         → IsAfter net.now [] (take (t + 1) run.vectors) sim.new.moment }
-    ensures reading { (run : Run) (t : ℕ) → t < cycles_of run → vector.now ≡ vector_at run.vectors t → IsAfter net.now [] (take t run.vectors) sim.old.moment
-        → IfOk result (λ reading. reading ≡ reading_of net.now points.now run t) }
+    ensures values { (run : Run) (t : ℕ) → t < cycles_of run → vector.now ≡ vector_at run.vectors t → IsAfter net.now [] (take t run.vectors) sim.old.moment
+        → OnOk result (values.new ≡ values.old ++ values_at net.now points.now run t) }
 {
     sim.cycle(net, order, vector, &[]);
-    let observed = observed_values(alloc, sim, points.goals.as_slice())?;
-    let alarm = alarm_values(alloc, sim, points.alarm.as_slice())?;
-    Ok(Reading { observed, alarm })
+    push_points(sim, points, values)
 }
 
-fn readings_in(
+fn values_in(
     alloc: Global,
     net: &Netlist,
     order: &Order,
@@ -52,39 +50,40 @@ fn readings_in(
     run: u32,
     points: &Points,
     sim: &mut Sim,
-) -> Result<Seq<Reading>, AllocError>
+) -> Result<Bits, AllocError>
     requires made { IsMadeFor net.now order.now sim.old }
     requires run { run < length work.now }
     requires points { ArePointsFor net.now points.now }
     ensures made { IsMadeFor net.now order.now sim.new }
-    ensures readings { IfOk result (λ readings. readings ≡ readings_of net.now points.now (run_at work.now run)) }
+    ensures values { IfOk result (λ values. values ≡ values_of net.now points.now (run_at work.now run)) }
 {
-    let mut readings = Seq::new(alloc);
+    let cycles = work.cycles(run);
+    let room = (cycles as usize).saturating_mul(point_count(points));
+    let mut values = Bits::with_room(alloc, room)?;
     sim.start();
-    for t in 0..work.cycles(run) {
-        let vector = work.vector(run, t);
-        readings.push(next_reading(alloc, net, order, vector, points, sim)?)?;
+    for t in 0..cycles {
+        push_next(net, order, work.vector(run, t), points, sim, &mut values)?;
     }
-    Ok(readings)
+    Ok(values)
 }
 
-fn readings_for(
+fn values_for(
     alloc: Global,
     net: &Netlist,
     order: &Order,
     work: &Workload,
     points: &Points,
-) -> Result<Vec<Seq<Reading>>, AllocError>
+) -> Result<Vec<Bits>, AllocError>
     requires order { IsOrder net.now order.now }
     requires points { ArePointsFor net.now points.now }
-    ensures { IfOk result (λ readings. readings.items ≡ all_readings (record { circuit = net.now; runs = work.now; points = points.now })) }
+    ensures { IfOk result (λ values. values.items ≡ all_values (record { circuit = net.now; runs = work.now; points = points.now })) }
 {
     let mut sim = Sim::new(alloc, net, order)?;
-    let mut readings = Vec::new(alloc);
+    let mut values = Vec::new(alloc);
     for run in 0..work.runs() {
-        readings.push(readings_in(alloc, net, order, work, run, points, &mut sim)?)?;
+        values.push(values_in(alloc, net, order, work, run, points, &mut sim)?)?;
     }
-    Ok(readings)
+    Ok(values)
 }
 
 /// The golden run of a workload, at these points.
@@ -99,6 +98,6 @@ pub fn golden(
     requires points { ArePointsFor net.now points.now }
     ensures { IfOk result (λ made. made ≡ record { circuit = net.now; runs = work.now; points = points.now }) }
 {
-    let readings = readings_for(alloc, net, order, work, points)?;
-    Ok(Golden::from_readings(net, work, points, readings))
+    let values = values_for(alloc, net, order, work, points)?;
+    Ok(Golden::from_values(net, work, points, values))
 }

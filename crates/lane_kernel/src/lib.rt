@@ -15,3 +15,4 @@ mod wide;
 mod word;
 
 pub use lanes::{Lanes, Lanes4};
+pub use word::Word;

@@ -1,8 +1,8 @@
-use Rattle.std.proofs.Common.{◌≡◌, ◌++◌, [], ◌∷◌, ◌<◌, ◌≤◌, List, length, get_or, map, take, ap, sym, ◌∙◌, append_assoc, arith}
+use Rattle.std.proofs.Common.{◌++◌, [], ◌∷◌, ◌≤◌, List, length, get_or, map, take, ap, sym, ◌∙◌, append_assoc}
 use Rattle.std.proofs.lemmas.List.{map_more, take_all}
 use Rattle.circuit.specs.declared.parts.NetId.{NetId}
 use Rattle.circuit.specs.Trace.{trace}
-use Rattle.golden_run.proofs.reading.push_values.Goals as goal
+use Rattle.golden_run.proofs.points.push_values.Goals as goal
 
 pub loop-net-preserved : goal.loop-net-preserved
 loop-net-preserved c = λ vectors t after last are.

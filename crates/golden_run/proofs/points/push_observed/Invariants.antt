@@ -1,4 +1,4 @@
-use Rattle.std.proofs.Common.{◌≡◌, ◌+◌, [], ℕ, Bool, List, length, map, take}
+use Rattle.std.proofs.Common.{◌≡◌, ◌+◌, ◌++◌, [], ℕ, Bool, List, length, map, take}
 use Rattle.std.specs.Prelude.{flat_map}
 use Rattle.std.specs.List.{All}
 use Rattle.circuit.specs.declared.parts.NetId.{NetId}
@@ -6,11 +6,11 @@ use Rattle.circuit.specs.After.{IsAfter}
 use Rattle.circuit.specs.Sound.{IsNet}
 use Rattle.circuit.specs.Trace.{trace}
 use Rattle.alarm_points.specs.declared.Goal.{Goal}
-use Rattle.golden_run.proofs.reading.observed_values.Given as goal
+use Rattle.golden_run.proofs.points.push_observed.Given as goal
 
--- the values of the goals so far
+-- the values of the goals so far are added
 abbrev pub invariant-loop-goal : goal.invariant-loop-goal
 invariant-loop-goal l =
     (vectors : List (List Bool)) (t : ℕ) → IsAfter l.sim.circuit [] vectors l.sim.moment → t + 1 ≡ length vectors
     → All (λ (goal : Goal). All (IsNet l.sim.circuit) goal.observe) l.goals
-    → l.values ≡ map (λ (net : NetId). trace l.sim.circuit [] vectors t net.0) (flat_map (λ (goal : Goal). goal.observe) (take l.goal-index l.goals))
+    → l.values ≡ l.initial.values ++ map (λ (net : NetId). trace l.sim.circuit [] vectors t net.0) (flat_map (λ (goal : Goal). goal.observe) (take l.goal-index l.goals))

@@ -4,7 +4,7 @@ use Rattle.circuit.specs.declared.parts.NetId.{NetId}
 use Rattle.circuit.specs.After.{IsAfter}
 use Rattle.circuit.specs.Sound.{IsNet}
 use Rattle.circuit.specs.Trace.{trace}
-use Rattle.golden_run.proofs.reading.push_values.Given as goal
+use Rattle.golden_run.proofs.points.push_values.Given as goal
 
 -- the values of the nets so far are added
 abbrev pub invariant-loop-net : goal.invariant-loop-net

@@ -1,4 +1,4 @@
-use Rattle.std.proofs.Common.{◌≡◌, ℕ, ◌+◌, ◌++◌, [], ◌∷◌, ◌<◌, ◌≤◌, List, length, get_or, map, take, ap, sym, ◌∙◌, subst, arith}
+use Rattle.std.proofs.Common.{◌≡◌, ℕ, ◌+◌, ◌++◌, [], ◌∷◌, ◌<◌, ◌≤◌, List, length, get_or, map, take, ap, sym, ◌∙◌, subst, append_assoc}
 use Rattle.std.specs.Prelude.{flat_map}
 use Rattle.std.specs.List.{All}
 use Rattle.std.proofs.lemmas.List.{append-nil, map-append, take_all, take_more}
@@ -7,7 +7,7 @@ use Rattle.circuit.specs.declared.parts.NetId.{NetId}
 use Rattle.circuit.specs.Sound.{IsNet}
 use Rattle.circuit.specs.Trace.{trace}
 use Rattle.alarm_points.specs.declared.Goal.{Goal}
-use Rattle.golden_run.proofs.reading.observed_values.Goals as goal
+use Rattle.golden_run.proofs.points.push_observed.Goals as goal
 
 -- the points of one goal more
 more_points : (goals : List Goal) (i : ℕ) (own : Goal) → i < length goals → own ≡ get_or goals i own
@@ -28,13 +28,15 @@ loop-goal-preserved c = λ vectors t after last are.
     subst (λ (g : Goal). All (IsNet c.args.sim.now.circuit) g.observe) (sym c.goal-item.is) (are i own c.loop-goal-test.true) in
     c.in_ok-push_values.ensures vectors t after last (subst (All (IsNet c.args.sim.now.circuit)) (sym c.as_slice.ensures) inside)
     ∙ ap (λ values. values ++ map f c.as_slice.result.now) (c.loop-goal.invariant vectors t after last are)
-    ∙ ap (λ nets. map f (points (take i goals)) ++ map f nets) c.as_slice.ensures
-    ∙ sym (map-append f (points (take i goals)) own.observe)
-    ∙ ap (map f) (sym (more_points goals i own c.loop-goal-test.true c.goal-item.is))
+    ∙ ap (λ nets. (c.args.values.now ++ map f (points (take i goals))) ++ map f nets) c.as_slice.ensures
+    ∙ append_assoc c.args.values.now (map f (points (take i goals))) (map f own.observe)
+    ∙ ap (λ values. c.args.values.now ++ values)
+    (sym (map-append f (points (take i goals)) own.observe)
+    ∙ ap (map f) (sym (more_points goals i own c.loop-goal-test.true c.goal-item.is)))
 
 pub returns : goal.returns
 returns c = λ vectors t after last are.
     let goals = c.args.goals.now in
     let done : length goals ≤ c.loop-goal.goal-index = c.loop-goal-test.false in
     c.loop-goal.invariant vectors t after last are
-    ∙ ap (λ (held : List Goal). map (λ (net : NetId). trace c.args.sim.now.circuit [] vectors t net.0) (flat_map (λ (goal : Goal). goal.observe) held)) (take_all c.loop-goal.goal-index goals done)
+    ∙ ap (λ (held : List Goal). c.args.values.now ++ map (λ (net : NetId). trace c.args.sim.now.circuit [] vectors t net.0) (flat_map (λ (goal : Goal). goal.observe) held)) (take_all c.loop-goal.goal-index goals done)
