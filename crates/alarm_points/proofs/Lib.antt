@@ -6,4 +6,3 @@ pub mod LentWords
 pub mod Listing
 pub mod Whole
 pub mod Fits
-pub mod FourSound

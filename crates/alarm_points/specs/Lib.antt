@@ -6,4 +6,3 @@ pub mod Outputs
 pub mod FourWatches
 pub mod LentWindows
 pub mod Listed
-pub mod FourInputs

@@ -6,8 +6,6 @@ mod header;
 mod interval;
 mod listed;
 pub mod outputs;
-#[cfg(test)]
-mod tests;
 pub mod window;
 pub mod windows;
 pub mod windows4;

@@ -11,6 +11,3 @@ mod rows;
 mod sizes;
 
 pub use read::read_blif;
-
-#[cfg(test)]
-mod tests;

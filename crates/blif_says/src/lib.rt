@@ -10,6 +10,4 @@ mod position;
 mod rows;
 pub mod says;
 pub mod statement;
-#[cfg(test)]
-mod tests;
 mod words;

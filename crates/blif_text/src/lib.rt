@@ -42,6 +42,3 @@ pub struct NetlistFault {
     pub line: u32,
     pub kind: NetlistKind,
 }
-
-#[cfg(test)]
-mod tests;

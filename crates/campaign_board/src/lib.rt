@@ -14,6 +14,3 @@ pub use headed::Headed;
 pub use law::boards_are_results;
 pub use missing::{BatchList, missing_batches};
 pub use shared::{NoShared, Seat, Shared};
-
-#[cfg(test)]
-mod tests;

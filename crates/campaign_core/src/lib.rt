@@ -11,6 +11,3 @@ pub use laws::{
     sums_are_from_scratch,
 };
 pub use machine::{Core, StepRefusal, step};
-
-#[cfg(test)]
-mod tests;

@@ -17,6 +17,3 @@ pub use kinds::{
 };
 pub use seat::Seat;
 pub use view::View;
-
-#[cfg(test)]
-mod tests;

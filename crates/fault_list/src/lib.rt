@@ -10,8 +10,6 @@ ghost use Rattle.fm_base.specs.Planes.{lanes};
 ghost use Rattle.fm_shelf.specs.Shelf.{HasPrefix, Rose, told_more};
 
 mod name;
-#[cfg(test)]
-mod tests;
 
 use circuit::netlist::Netlist;
 use circuit::parts::{Fault, NetId};

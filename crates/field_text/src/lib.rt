@@ -10,9 +10,6 @@ ghost use Rattle.field_text.specs.Plain.{is_decimal_of, plain_number};
 
 use itoa::Buffer;
 
-#[cfg(test)]
-mod tests;
-
 // Whether a byte may stand in a label.
 fn is_label_byte(b: u8) -> bool
     ensures { result ≡ is_label_byte b }

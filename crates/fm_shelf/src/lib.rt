@@ -6,6 +6,4 @@ pub mod memory;
 pub mod real;
 pub mod shelf;
 pub mod sure;
-#[cfg(test)]
-mod tests;
 pub mod whole;

@@ -4,4 +4,3 @@ pub mod Building
 pub mod Whole
 pub mod Headers
 pub mod Fits
-pub mod TwoSound

@@ -2,4 +2,3 @@ pub mod RunsKept
 pub mod Runs
 pub mod WorkloadFile
 pub mod Built
-pub mod TwoInputs

@@ -1,0 +1,17 @@
+use Rattle.std.proofs.Common.{[]}
+use Rattle.std.specs.String.{string_bytes}
+use Rattle.board_rows.proofs.board.play.Given as goal
+
+-- what the board begins with, from the callee's arguments
+abbrev pub ghosts-play_over : goal.ghosts-play_over
+ghosts-play_over g a = record {
+  start = record {
+    entries = a.entries.now;
+    header = a.own.now;
+    name = string_bytes a.name.now;
+    rows = [];
+    files = g.F.Shelf.files a.shelf;
+    rest_absent = g.F.Shelf.rest_absent a.shelf;
+    faults = g.F.Shelf.write_faults a.shelf (string_bytes a.name.now);
+  };
+}
