@@ -1,6 +1,6 @@
 -- How `audit` ends.
-use Rattle.std.proofs.Common.{◌≡◌, ◌∙◌, ap, ap₂, sym, refl, subst, ℕ, List, [], length, Ok, Err, inl, inr}
-use Rattle.std.specs.Prelude.{◌⊎◌, Option, Some, None, Result, find}
+use Rattle.std.proofs.Common.{◌≡◌, ◌∙◌, ap, ap₂, sym, refl, subst, ℕ, List, length, Ok, Err, inl, inr}
+use Rattle.std.specs.Prelude.{◌⊎◌, Option, Some, None, find}
 use Rattle.fm_base.specs.Names.{Bytes}
 use Rattle.campaign_plan.specs.declared.Outcome.{Outcome}
 use Rattle.campaign_plan.specs.declared.Settings.{Settings}
@@ -9,26 +9,29 @@ use Rattle.campaign_plan.specs.Batches.{true_planes}
 use Rattle.result_file.specs.declared.KeptRows.{KeptRows}
 use Rattle.result_file.specs.declared.Row.{Row}
 use Rattle.command_line.specs.Commands.{Command, Audit, Inputs}
-use Rattle.fmeda_top.specs.declared.status.Status.{Status}
-use Rattle.fmeda_top.specs.declared.status.Status.TheVariants as status
-use Rattle.fmeda_top.specs.declared.status.Which.{Which}
-use Rattle.fmeda_top.specs.declared.refused.Refused.{Refused}
-use Rattle.fmeda_top.specs.declared.refused.Refused.TheVariants.{By, Looped}
-use Rattle.fmeda_top.specs.declared.begun.Begun.{Begun}
-use Rattle.fmeda_top.specs.Files.{Files, all_read}
-use Rattle.fmeda_top.specs.FirstRefusal.{first_refusal, refusal_in, audited_of, audit_step, is_wrong, disagreement, unless, IsPlanOf, own_header}
-use Rattle.fmeda_top.specs.Simulated.{Simulated, planes_of}
-use Rattle.fmeda_top.specs.Texts.{audit_line, audit_text}
-use Rattle.fmeda_top.specs.Ends.{Shelves, Holds, HoldsInputs, KeepsAll}
-use Rattle.fmeda_top.specs.Causes.{Counts, Checked, CommandEnds}
-use Rattle.fmeda_top.specs.Steps.{status_of, IsPlain, HasItsNets, RefusedInOrder, TextAs}
-use Rattle.fmeda_top.specs.PlanSteps.{bytes_of}
-use Rattle.fmeda_top.specs.BegunSteps.{KeptRefused, BegunAs, ChecksAs, AreAudited, AuditAs}
+use Rattle.refusal_text.specs.declared.status.Status.{Status}
+use Rattle.refusal_text.specs.declared.status.Status.TheVariants as status
+use Rattle.refusal_text.specs.declared.status.Which.{Which}
+use Rattle.refusal_text.specs.declared.refused.Refused.{Refused}
+use Rattle.refusal_text.specs.declared.refused.Refused.TheVariants.{By, Looped}
+use Rattle.command_steps.specs.declared.begun.Begun.{Begun}
+use Rattle.command_steps.specs.Files.{Files, all_read}
+use Rattle.command_steps.specs.FirstRefusal.{first_refusal, refusal_in, audited_of, audit_step, is_wrong, disagreement, unless, IsPlanOf}
+use Rattle.command_text.specs.Simulated.{Simulated, planes_of}
+use Rattle.command_text.specs.Texts.{audit_line, audit_text}
+use Rattle.command_steps.specs.Held.{Shelves, KeepsAll}
+use Rattle.fmeda_top.specs.Causes.{Counts, CommandEnds}
+use Rattle.command_steps.specs.Checked.{Checked}
+use Rattle.refusal_text.specs.Refusals.{status_of, IsPlain, HasItsNets}
+use Rattle.command_steps.specs.Steps.{RefusedInOrder}
+use Rattle.fmeda_top.specs.Tried.{TextAs, ChecksAs, AreAudited, AuditAs}
+use Rattle.command_steps.specs.PlanSteps.{bytes_of}
+use Rattle.command_steps.specs.BegunSteps.{KeptRefused, BegunAs}
 use Rattle.fmeda_top.proofs.Ending.{text_ends}
-use Rattle.fmeda_top.proofs.Taken.{why}
-use Rattle.fmeda_top.proofs.InOrder.{held_is}
-use Rattle.fmeda_top.proofs.PlanOrder.{are_held}
-use Rattle.fmeda_top.proofs.BegunOrder.{audited_made, audited_refused}
+use Rattle.command_steps.proofs.Taken.{why}
+use Rattle.command_steps.proofs.InOrder.{held_is}
+use Rattle.command_steps.proofs.PlanOrder.{are_held}
+use Rattle.command_steps.proofs.BegunOrder.{audited_made, audited_refused}
 
 pub audit_is : (rows : ℕ) (p : Analysis) → audit_line rows (batch_count p) ≡ audit_text rows p
 unfolding audit_text

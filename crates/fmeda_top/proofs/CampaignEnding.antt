@@ -1,5 +1,5 @@
 -- How a command with a campaign ends.
-use Rattle.std.proofs.Common.{◌≡◌, ◌∙◌, ap, sym, refl, subst, ℕ, List, [], ◌∷◌, codes, inl, inr}
+use Rattle.std.proofs.Common.{◌≡◌, ◌∙◌, ap, sym, refl, subst, ℕ, [], ◌∷◌, codes, inl}
 use Rattle.std.specs.Prelude.{◌⊎◌, Option, None}
 use Rattle.fm_base.specs.Names.{Bytes}
 use Rattle.fm_shelf.specs.Shelf.{told_more, HasPrefix, Rose}
@@ -8,15 +8,17 @@ use Rattle.campaign_run.specs.declared.run.End.TheVariants as end
 use Rattle.campaign_run.specs.Outside.{KeepsOthers}
 use Rattle.campaign_run.specs.Ran.{HasRun, IsReported, IsLeft, Seen, Campaign, text_of}
 use Rattle.command_line.specs.Commands.{Command, Inputs}
-use Rattle.fmeda_top.specs.declared.status.Status.{Status}
-use Rattle.fmeda_top.specs.declared.status.Status.TheVariants as status
-use Rattle.fmeda_top.specs.declared.status.Which.{Which}
-use Rattle.fmeda_top.specs.declared.status.Which.TheVariants as which
-use Rattle.fmeda_top.specs.Ends.{Shelves, DoneAs, FaultAs, name_in, name_of, netlist_told}
-use Rattle.fmeda_top.specs.Causes.{Counts, Checked, CommandEnds}
-use Rattle.fmeda_top.specs.Steps.{IsSaidOf}
-use Rattle.fmeda_top.specs.RefusalLines.{refused}
-use Rattle.fmeda_top.specs.PlanSteps.{EndSaid}
+use Rattle.refusal_text.specs.declared.status.Status.{Status}
+use Rattle.refusal_text.specs.declared.status.Status.TheVariants as status
+use Rattle.refusal_text.specs.declared.status.Which.{Which}
+use Rattle.refusal_text.specs.declared.status.Which.TheVariants as which
+use Rattle.command_steps.specs.Held.{Shelves, name_in, name_of}
+use Rattle.fmeda_top.specs.Ends.{DoneAs, FaultAs, netlist_told}
+use Rattle.fmeda_top.specs.Causes.{Counts, CommandEnds}
+use Rattle.command_steps.specs.Checked.{Checked}
+use Rattle.refusal_text.specs.Refusals.{IsSaidOf}
+use Rattle.refusal_text.specs.RefusalLines.{refused}
+use Rattle.fmeda_top.specs.Campaigns.{EndSaid}
 use Rattle.fmeda_top.proofs.Ending.{refused_ends, ends_done, ends_torn, ends_left}
 use Rattle.fmeda_top.proofs.PlanEnding.{inputs_at}
 

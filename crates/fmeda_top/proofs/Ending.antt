@@ -1,82 +1,29 @@
 -- How a command ends: after its text, or with the line of a refusal.
-use Rattle.std.proofs.Common.{◌≡◌, ◌∙◌, ap, ap₂, sym, refl, subst, ℕ, ◌≤◌, Bool, List, [], Ok, Err, inl, inr, arith}
+use Rattle.std.proofs.Common.{◌≡◌, ◌∙◌, ap, sym, refl, subst, ℕ, List, [], Ok, Err, inl, inr}
 use Rattle.std.specs.Prelude.{◌⊎◌, Option, Some, None, Result}
 use Rattle.fm_base.specs.Names.{Bytes}
-use Rattle.fm_shelf.specs.Shelf.{Told, told_more, held_in, HasPrefix, Rose}
-use Rattle.circuit.specs.Circuit.{Circuit}
-use Rattle.circuit.specs.declared.parts.NetId.{NetId}
-use Rattle.blif_text.specs.declared.NetlistFault.{NetlistFault}
-use Rattle.blif_model.specs.Net.{netlist_of}
+use Rattle.fm_shelf.specs.Shelf.{Told, told_more, Rose}
 use Rattle.command_line.specs.Commands.{Command, Classes}
-use Rattle.command_line.specs.Words.{IsCommand, IsNoCommand}
-use Rattle.fmeda_top.specs.declared.status.Status.{Status}
-use Rattle.fmeda_top.specs.declared.status.Status.TheVariants as status
-use Rattle.fmeda_top.specs.declared.status.Which.{Which}
-use Rattle.fmeda_top.specs.declared.status.Which.TheVariants as which
-use Rattle.fmeda_top.specs.declared.status.WriteTo.TheVariants as to
-use Rattle.fmeda_top.specs.declared.refused.Refused.{Refused}
-use Rattle.fmeda_top.specs.declared.refused.Refused.TheVariants.{By, Looped}
-use Rattle.fmeda_top.specs.RefusalLines.{refusal_line}
-use Rattle.fmeda_top.specs.Said.{IsSaid}
-use Rattle.fmeda_top.specs.Ends.{Shelves, IsCircuitOf, IsRefusal, RefusedAs, KeepsAll, name_of, netlist_told, DoneAs, FaultAs, FaultSaid, OutFaultAs, AreNames, AfterRefusal, AtDone, AfterResultFault, AfterOutFault}
-use Rattle.fmeda_top.specs.Causes.{Counts, Checked, CommandEnds, EndsInOrder, EndsBy, ReadsRose, WritesRose, WordsEnd}
-use Rattle.fmeda_top.specs.Steps.{status_of, HasItsNets, IsPlain, IsOfWords, IsSaidOf, RefusedInOrder, ObservedAs, ClassesAs, TextAs}
-use Rattle.fmeda_top.specs.declared.observed.Observed.{Observed}
-use Rattle.fmeda_top.specs.declared.names.FileNames.{FileNames}
-use Rattle.fmeda_top.specs.Named.{no_names}
-use Rattle.fmeda_top.specs.Texts.{classes_plan, classes_text}
-use Rattle.fmeda_top.proofs.Taken.{ok_same}
-
--- a circuit without nets
-abbrev pub no_circuit : Circuit
-no_circuit = record { names = []; drivers = []; tables = []; latches = []; inputs = []; outputs = [] }
-
--- the bytes that are told
-abbrev bytes_in : Told → Bytes
-bytes_in None = []
-bytes_in (Some None) = []
-bytes_in (Some (Some bytes)) = bytes
-
--- the circuit that a netlist's file stands for, or any other
-pub some_circuit : (told : Told) → (c : Circuit) × IsCircuitOf told c
-some_circuit None = (no_circuit, λ bytes e d got. let bad : None ≡ Some (Some bytes) = e in cc bad)
-some_circuit (Some None) = (no_circuit, λ bytes e d got. let bad : Some None ≡ Some (Some bytes) = e in cc bad)
-some_circuit (Some (Some held)) = by_netlist (netlist_of held) refl
-  where
-    by_netlist : (r : Result Circuit NetlistFault) → netlist_of held ≡ r → (c : Circuit) × IsCircuitOf (Some (Some held)) c
-    by_netlist (Ok c) is = (c, λ bytes e d got. let same : held ≡ bytes = ap bytes_in e in ok_same (netlist_of held) c d is (ap netlist_of same ∙ got))
-    by_netlist (Err fault) is = (
-      no_circuit,
-      λ bytes e d got.
-          let same : held ≡ bytes = ap bytes_in e in let bad : Err fault ≡ Ok d = sym is ∙ ap netlist_of same ∙ got in cc bad,
-    )
-
--- the line of a plain refusal is the same for every circuit
-plain_line : (file : Which → Bytes) (c d : Circuit) (ended : Status) → IsPlain ended → refusal_line file c ended ≡ refusal_line file d ended
-unfolding refusal_line
-plain_line file c d status.Done plain = refl
-plain_line file c d status.Usage plain = refl
-plain_line file c d (status.Netlist fault) plain = refl
-plain_line file c d (status.Loop walk) plain = absurd plain
-plain_line file c d (status.Rates fault) plain = refl
-plain_line file c d (status.MissingRate net name) plain = refl
-plain_line file c d (status.IdleRate part permanent) plain = refl
-plain_line file c d (status.Points fault) plain = refl
-plain_line file c d (status.Workload fault) plain = refl
-plain_line file c d (status.TooLarge large) plain = refl
-plain_line file c d (status.Foreign found own) plain = refl
-plain_line file c d (status.BadRow number why) plain = refl
-plain_line file c d (status.Disagrees batch kept computed) plain = refl
-plain_line file c d (status.ReadFault own) plain = refl
-plain_line file c d (status.WriteFault place) plain = refl
-plain_line file c d status.Memory plain = refl
-
--- the line of a plain refusal, whatever the circuit
-pub said_plain : (told : Told) (w0 w1 : Option Bytes) (f0 f1 : ℕ) (file : Which → Bytes) (ended : Status) → IsPlain ended
-    → ((c : Circuit) → c.names ≡ [] → IsSaid w0 w1 f0 f1 (refusal_line file c ended)) → IsSaidOf told w0 w1 f0 f1 file ended
-said_plain told w0 w1 f0 f1 file ended plain said =
-    let some = some_circuit told in
-    (some.0, some.1, subst (λ text. IsSaid w0 w1 f0 f1 text) (plain_line file no_circuit some.0 ended plain) (said no_circuit refl))
+use Rattle.command_line.specs.Words.{IsCommand}
+use Rattle.refusal_text.specs.declared.status.Status.{Status}
+use Rattle.refusal_text.specs.declared.status.Status.TheVariants as status
+use Rattle.refusal_text.specs.declared.status.Which.{Which}
+use Rattle.refusal_text.specs.declared.status.Which.TheVariants as which
+use Rattle.refusal_text.specs.declared.status.WriteTo.TheVariants as to
+use Rattle.refusal_text.specs.declared.refused.Refused.{Refused}
+use Rattle.refusal_text.specs.declared.refused.Refused.TheVariants.{By, Looped}
+use Rattle.command_steps.specs.Held.{Shelves, KeepsAll, name_of}
+use Rattle.fmeda_top.specs.Ends.{IsRefusal, RefusedAs, netlist_told, DoneAs, FaultAs, FaultSaid, OutFaultAs, AreNames, AfterRefusal, AtDone, AfterResultFault, AfterOutFault}
+use Rattle.fmeda_top.specs.Causes.{Counts, CommandEnds, EndsInOrder, WritesRose, WordsEnd}
+use Rattle.command_steps.specs.Checked.{Checked}
+use Rattle.refusal_text.specs.Refusals.{status_of, HasItsNets, IsPlain, IsSaidOf}
+use Rattle.fmeda_top.specs.Words.{IsOfWords}
+use Rattle.command_steps.specs.Steps.{RefusedInOrder, ObservedAs}
+use Rattle.fmeda_top.specs.Tried.{ClassesAs, TextAs}
+use Rattle.command_steps.specs.declared.observed.Observed.{Observed}
+use Rattle.refusal_text.specs.Named.{no_names}
+use Rattle.command_steps.specs.FirstRefusal.{classes_plan}
+use Rattle.command_text.specs.Texts.{classes_text}
 
 -- a refusal is none of the ends that write
 pub plain_refusal : (told : Told) (refused : Refused) → HasItsNets told refused → IsRefusal (status_of refused)
@@ -156,19 +103,6 @@ text_ends command ended before after n w0 w1 text checked (inr (is, prefix, rose
   where
     other_place : status.WriteFault to.Out ≡ status.WriteFault to.Result → ⊥
     other_place e = subst is_out e tt
-
--- the line of a refusal by its status
-pub said_by : (told : Told) (w0 w1 : Option Bytes) (f0 f1 : ℕ) (file : Which → Bytes) (refused : Refused) (ended : Status) → refused ≡ By ended → HasItsNets told refused
-    → ((c : Circuit) → c.names ≡ [] → IsSaid w0 w1 f0 f1 (refusal_line file c ended)) → IsSaidOf told w0 w1 f0 f1 file (status_of refused)
-said_by told w0 w1 f0 f1 file refused ended is nets said =
-    subst (λ r. IsSaidOf told w0 w1 f0 f1 file (status_of r)) (sym is) (said_plain told w0 w1 f0 f1 file ended (subst (HasItsNets told) is nets) said)
-
--- the line of a loop
-pub said_looped : (told : Told) (w0 w1 : Option Bytes) (f0 f1 : ℕ) (file : Which → Bytes) (refused : Refused) (walk : List NetId) (net : Circuit) → refused ≡ Looped walk net
-    → HasItsNets told refused → ((c : Circuit) → c.names ≡ net.names → IsSaid w0 w1 f0 f1 (refusal_line file c (status.Loop walk)))
-    → IsSaidOf told w0 w1 f0 f1 file (status_of refused)
-said_looped told w0 w1 f0 f1 file refused walk net is nets said =
-    subst (λ r. IsSaidOf told w0 w1 f0 f1 file (status_of r)) (sym is) (net, subst (HasItsNets told) is nets, said net refl)
 
 -- `classes` after its files were read
 pub classes_tried : (shelf : Shelves) (before after : Bytes → ℕ) (n w : Bytes) (w0 w1 : Option Bytes) (f0 f1 : ℕ) (made : Observed)
@@ -256,10 +190,6 @@ pub classes_end : (before after : Shelves) (n : Counts) (netlist workload : Byte
 classes_end before after n netlist workload w0 w1 ended keeps (p, plan, no_loop, checked, text) =
     text_ends (Classes netlist workload) ended before after n w0 w1 (classes_text p) checked text
     (λ w is. (keeps, λ files held runs. (p, plan files held runs, no_loop, is)))
-
--- a shelf of the same files
-pub keeps_all : (files0 files1 : List (Bytes × Bytes)) (rest0 rest1 : Bool) → files1 ≡ files0 → rest1 ≡ rest0 → KeepsAll (held_in files0 rest0) (held_in files1 rest1)
-keeps_all files0 files1 rest0 rest1 files rest = λ name. ap₂ (λ f r. held_in f r name) files rest
 
 -- ---- the words themselves
 

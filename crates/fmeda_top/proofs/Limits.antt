@@ -8,7 +8,7 @@ use Rattle.metric_sums.specs.declared.Asil.{Asil}
 use Rattle.metric_sums.specs.declared.Asil.TheVariants.{D}
 use Rattle.campaign_plan.specs.declared.Settings.{Settings}
 use Rattle.campaign_plan.specs.Kept.{AreSettings}
-use Rattle.fmeda_top.specs.PlanSteps.{IsFit}
+use Rattle.fmeda_top.specs.Words.{IsFit}
 
 check_fit : (rows : List Row) (inputs : Inputs) (flips pulses : List ℕ) → SaidBy rows (Check inputs flips pulses) → IsFit (Check inputs flips pulses)
 check_fit rows inputs flips pulses (names, lists) = (lists.flips.within, lists.pulses.within)

@@ -1,26 +1,27 @@
 -- How a command over a plan ends.
-use Rattle.std.proofs.Common.{◌≡◌, ◌∙◌, ap, sym, refl, subst, ℕ, List, [], Ok, Err, inl, inr}
+use Rattle.std.proofs.Common.{◌≡◌, ◌∙◌, sym, refl, subst, ℕ, List, [], Ok, inl, inr}
 use Rattle.std.specs.Prelude.{◌⊎◌, Option, Some, None, Result}
 use Rattle.fm_base.specs.Names.{Bytes}
 use Rattle.fm_shelf.specs.Shelf.{Told}
 use Rattle.campaign_plan.specs.declared.Settings.{Settings}
 use Rattle.campaign_plan.specs.Analysis.{Analysis}
-use Rattle.command_line.specs.Commands.{Command, Check, Inputs, settings_of}
-use Rattle.fmeda_top.specs.declared.status.Status.{Status}
-use Rattle.fmeda_top.specs.declared.status.Status.TheVariants as status
-use Rattle.fmeda_top.specs.declared.status.Which.{Which}
-use Rattle.fmeda_top.specs.declared.status.Which.TheVariants as which
-use Rattle.fmeda_top.specs.declared.refused.Refused.{Refused}
-use Rattle.fmeda_top.specs.declared.planned.Planned.{Planned}
-use Rattle.fmeda_top.specs.Files.{Files}
-use Rattle.fmeda_top.specs.FirstRefusal.{first_refusal, refusal_in, plan_of, IsPlanOf}
-use Rattle.fmeda_top.specs.Texts.{check_text}
-use Rattle.fmeda_top.specs.Ends.{Shelves, KeepsAll, HoldsInputs, name_in, name_of}
-use Rattle.fmeda_top.specs.Causes.{Counts, Checked, CommandEnds}
-use Rattle.fmeda_top.specs.Steps.{status_of, HasItsNets, IsSaidOf, RefusedInOrder, TextAs}
-use Rattle.fmeda_top.specs.PlanSteps.{PlanChecked, PlanRefused, PlannedAs, PlanTextAs, AreHeld, bytes_of}
+use Rattle.command_line.specs.Commands.{Check, Inputs, settings_of}
+use Rattle.refusal_text.specs.declared.status.Status.{Status}
+use Rattle.refusal_text.specs.declared.status.Status.TheVariants as status
+use Rattle.refusal_text.specs.declared.status.Which.{Which}
+use Rattle.refusal_text.specs.declared.status.Which.TheVariants as which
+use Rattle.command_steps.specs.declared.planned.Planned.{Planned}
+use Rattle.command_steps.specs.FirstRefusal.{first_refusal, refusal_in, plan_of, IsPlanOf}
+use Rattle.command_text.specs.Texts.{check_text}
+use Rattle.command_steps.specs.Held.{Shelves, KeepsAll, name_in}
+use Rattle.fmeda_top.specs.Causes.{Counts, CommandEnds}
+use Rattle.command_steps.specs.Checked.{Checked}
+use Rattle.refusal_text.specs.Refusals.{IsSaidOf}
+use Rattle.command_steps.specs.Steps.{RefusedInOrder}
+use Rattle.fmeda_top.specs.Tried.{TextAs, PlanTextAs}
+use Rattle.command_steps.specs.PlanSteps.{PlanChecked, PlanRefused, PlannedAs, bytes_of}
 use Rattle.fmeda_top.proofs.Ending.{said_since, text_ends}
-use Rattle.fmeda_top.proofs.PlanOrder.{are_held, plan_checked}
+use Rattle.command_steps.proofs.PlanOrder.{are_held, plan_checked}
 
 -- a command over a plan, after its files were read
 pub plan_told : (shelf : Shelves) (before after : Bytes → ℕ) (inputs : Inputs) (set : Settings) (text : Analysis → Bytes) (w0 w1 : Option Bytes) (f0 f1 : ℕ) (made : Planned)

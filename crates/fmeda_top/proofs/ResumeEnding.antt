@@ -14,20 +14,22 @@ use Rattle.campaign_run.specs.Reported.{ResumedAs}
 use Rattle.campaign_run.specs.Ran.{IsReported, IsLeft}
 use Rattle.stopped_file.specs.Stopped.{StoppedAreTakenUp}
 use Rattle.command_line.specs.Commands.{Command, Resume, Inputs}
-use Rattle.fmeda_top.specs.declared.status.Status.{Status}
-use Rattle.fmeda_top.specs.declared.status.Status.TheVariants as status
-use Rattle.fmeda_top.specs.declared.begun.Begun.{Begun}
-use Rattle.fmeda_top.specs.Files.{Files, all_read}
-use Rattle.fmeda_top.specs.FirstRefusal.{first_refusal, refusal_in, kept_of, plan_of, IsPlanOf, own_header}
-use Rattle.fmeda_top.specs.Ends.{Shelves, Holds, HoldsInputs, IsStopped, Resumed, ResumesStopped, StoppedResuming}
-use Rattle.fmeda_top.specs.Causes.{Checked}
-use Rattle.fmeda_top.specs.Steps.{RefusedInOrder}
-use Rattle.fmeda_top.specs.PlanSteps.{bytes_of}
-use Rattle.fmeda_top.specs.BegunSteps.{KeptRefused, BegunAs, resumed_of}
-use Rattle.fmeda_top.proofs.Taken.{ok_same}
-use Rattle.fmeda_top.proofs.InOrder.{held_is}
-use Rattle.fmeda_top.proofs.PlanOrder.{are_held}
-use Rattle.fmeda_top.proofs.BegunOrder.{kept_made, rows_kept}
+use Rattle.refusal_text.specs.declared.status.Status.{Status}
+use Rattle.refusal_text.specs.declared.status.Status.TheVariants as status
+use Rattle.command_steps.specs.declared.begun.Begun.{Begun}
+use Rattle.command_steps.specs.Files.{Files, all_read}
+use Rattle.command_steps.specs.FirstRefusal.{first_refusal, refusal_in, kept_of, plan_of, IsPlanOf, own_header}
+use Rattle.command_steps.specs.Held.{Shelves, Holds, HoldsInputs}
+use Rattle.fmeda_top.specs.Ends.{IsStopped, Resumed, ResumesStopped, StoppedResuming}
+use Rattle.command_steps.specs.Checked.{Checked}
+use Rattle.command_steps.specs.Steps.{RefusedInOrder}
+use Rattle.command_steps.specs.PlanSteps.{bytes_of}
+use Rattle.command_steps.specs.BegunSteps.{KeptRefused, BegunAs}
+use Rattle.fmeda_top.specs.Campaigns.{resumed_of}
+use Rattle.refusal_text.proofs.Refusals.{ok_same}
+use Rattle.command_steps.proofs.InOrder.{held_is}
+use Rattle.command_steps.proofs.PlanOrder.{are_held}
+use Rattle.command_steps.proofs.BegunOrder.{kept_made, rows_kept}
 use Rattle.fmeda_top.proofs.CampaignEnding.{DoesWhenReported, LeavesWhenStopped}
 
 first_of_resume : (walk : _) (inputs : Inputs) (name : Bytes) (set : Settings) (workers : ℕ) (reads : _)

@@ -9,16 +9,18 @@ use Rattle.campaign_run.specs.Reported.{HasReported}
 use Rattle.campaign_run.specs.Left.{LeftPrefix}
 use Rattle.campaign_run.specs.Ran.{IsLeft}
 use Rattle.command_line.specs.Commands.{Command, Run, Inputs}
-use Rattle.fmeda_top.specs.declared.status.Status.{Status}
-use Rattle.fmeda_top.specs.declared.status.Status.TheVariants as status
-use Rattle.fmeda_top.specs.declared.planned.Planned.{Planned}
-use Rattle.fmeda_top.specs.Files.{Files}
-use Rattle.fmeda_top.specs.FirstRefusal.{first_refusal, refusal_in, plan_of, IsPlanOf, own_header}
-use Rattle.fmeda_top.specs.Ends.{Shelves, HoldsInputs, StoppedCampaign}
-use Rattle.fmeda_top.specs.Causes.{Checked}
-use Rattle.fmeda_top.specs.Steps.{RefusedInOrder}
-use Rattle.fmeda_top.specs.PlanSteps.{PlanChecked, PlanRefused, PlannedAs, bytes_of, run_of}
-use Rattle.fmeda_top.proofs.PlanOrder.{are_held, plan_checked}
+use Rattle.refusal_text.specs.declared.status.Status.{Status}
+use Rattle.refusal_text.specs.declared.status.Status.TheVariants as status
+use Rattle.command_steps.specs.declared.planned.Planned.{Planned}
+use Rattle.command_steps.specs.Files.{Files}
+use Rattle.command_steps.specs.FirstRefusal.{first_refusal, refusal_in, plan_of, IsPlanOf, own_header}
+use Rattle.command_steps.specs.Held.{Shelves, HoldsInputs}
+use Rattle.fmeda_top.specs.Ends.{StoppedCampaign}
+use Rattle.command_steps.specs.Checked.{Checked}
+use Rattle.command_steps.specs.Steps.{RefusedInOrder}
+use Rattle.command_steps.specs.PlanSteps.{PlanChecked, PlanRefused, PlannedAs, bytes_of}
+use Rattle.fmeda_top.specs.Campaigns.{run_of}
+use Rattle.command_steps.proofs.PlanOrder.{are_held, plan_checked}
 use Rattle.fmeda_top.proofs.CampaignEnding.{DoesWhenReported, LeavesWhenStopped}
 
 first_of_run : (walk : _) (inputs : Inputs) (name : Bytes) (set : Settings) (workers : ℕ) (reads : _)

@@ -1,11 +1,10 @@
 -- How `gen` ends.
-use Rattle.std.proofs.Common.{◌≡◌, ◌∙◌, ap, sym, refl, subst, ℕ, Ok, List, [], inl, inr, ◌<◌, arith, rules}
+use Rattle.std.proofs.Common.{◌≡◌, ◌∙◌, ap, sym, refl, subst, ℕ, Ok, List, [], inl, inr, ◌<◌, arith}
 use Rattle.std.specs.Prelude.{◌⊎◌, Option, Some, None}
 use Rattle.fm_base.specs.Names.{Bytes}
-use Rattle.fm_shelf.specs.Shelf.{Told, NowHas, Rose}
+use Rattle.fm_shelf.specs.Shelf.{Rose}
 use Rattle.circuit.specs.declared.parts.NetId.{NetId}
 use Rattle.campaign_plan.specs.Batches.{true_planes}
-use Rattle.campaign_plan.specs.Kept.{AreSettings}
 use Rattle.fmeda_report.specs.Report.{summary}
 use Rattle.sample_gen.specs.Sample.{netlist_text, workload_text, rates_text, points_text}
 use Rattle.campaign_run.specs.declared.run.Text.TheVariants.{Summary}
@@ -13,17 +12,19 @@ use Rattle.campaign_run.specs.Reported.{HasReported}
 use Rattle.campaign_run.specs.Left.{LeftPrefix}
 use Rattle.campaign_run.specs.Ran.{IsLeft}
 use Rattle.command_line.specs.Commands.{Command, Gen, Inputs}
-use Rattle.fmeda_top.specs.declared.status.Status.{Status}
-use Rattle.fmeda_top.specs.declared.status.Status.TheVariants as status
-use Rattle.fmeda_top.specs.declared.planned.Planned.{Planned}
-use Rattle.fmeda_top.specs.Files.{Files, Reads, all_read}
-use Rattle.fmeda_top.specs.FirstRefusal.{first_refusal, refusal_in, plan_of, IsPlanOf, IsLoopAnswer, own_header, generated, generated_settings}
-use Rattle.fmeda_top.specs.Ends.{Shelves, StoppedCampaign, name_in}
-use Rattle.fmeda_top.specs.Causes.{Checked, ReadFits, InputsFit}
-use Rattle.fmeda_top.specs.Steps.{RefusedInOrder}
-use Rattle.fmeda_top.specs.PlanSteps.{PlanChecked, PlanRefused, PlannedAs, AreRead, bytes_of, begun_anew}
-use Rattle.fmeda_top.specs.Samples.{never, sample_names, sample_shelf}
-use Rattle.fmeda_top.proofs.PlanOrder.{plan_is}
+use Rattle.refusal_text.specs.declared.status.Status.{Status}
+use Rattle.refusal_text.specs.declared.status.Status.TheVariants as status
+use Rattle.command_steps.specs.declared.planned.Planned.{Planned}
+use Rattle.command_steps.specs.Files.{Files, Reads, all_read}
+use Rattle.command_steps.specs.FirstRefusal.{first_refusal, refusal_in, plan_of, IsPlanOf, IsLoopAnswer, own_header, generated, generated_settings}
+use Rattle.command_steps.specs.Held.{Shelves, name_in}
+use Rattle.fmeda_top.specs.Ends.{StoppedCampaign}
+use Rattle.command_steps.specs.Checked.{Checked, ReadFits, InputsFit}
+use Rattle.command_steps.specs.Steps.{RefusedInOrder}
+use Rattle.command_steps.specs.PlanSteps.{PlanRefused, PlannedAs, AreRead, bytes_of}
+use Rattle.fmeda_top.specs.Campaigns.{begun_anew}
+use Rattle.command_steps.specs.Samples.{never, sample_names, sample_shelf}
+use Rattle.command_steps.proofs.PlanOrder.{plan_is}
 use Rattle.fmeda_top.proofs.CampaignEnding.{DoesWhenReported, LeavesWhenStopped}
 
 -- ---- what was read of the generated texts
@@ -135,10 +136,6 @@ module _ (n : ℕ) (name : Bytes) (workers : ℕ) where
           plan = plan;
           left = subst (λ o. LeftPrefix o made.plan (true_planes made.plan) (after name)) header part.0;
         })
-
--- the settings of `gen` lie within their limits
-pub sample_settings_fit : AreSettings generated_settings
-sample_settings_fit = record { ftti = omega arith; flips = record { few = omega arith; rising = search rules; small = search rules }; pulses = record { few = omega arith; rising = search rules; small = search rules } }
 
 -- the names of the files that `gen` doesn't have
 abbrev pub no_inputs : Inputs

@@ -9,39 +9,25 @@ use Rattle.campaign_plan.specs.Batches.{Entry, true_planes}
 use Rattle.result_file.specs.declared.KeptRows.{KeptRows}
 use Rattle.result_file.specs.ResultText.{result_text}
 use Rattle.result_file.specs.KeptRows.{kept}
-use Rattle.blif_model.specs.Net.{netlist_of}
 use Rattle.fmeda_report.specs.Report.{report, true_report, summary}
-use Rattle.fmeda_top.specs.declared.status.Status.{Status}
-use Rattle.fmeda_top.specs.declared.status.Status.TheVariants as status
-use Rattle.fmeda_top.specs.declared.status.WriteTo.TheVariants as to
-use Rattle.fmeda_top.specs.declared.status.Which.{Which}
-use Rattle.fmeda_top.specs.declared.status.Which.TheVariants as which
-use Rattle.fmeda_top.specs.RefusalLines.{refused, refusal_line}
-use Rattle.command_line.specs.Commands.{Command, Classes, Check, Run, Resume, Audit, Gen, Inputs, settings_of}
+use Rattle.refusal_text.specs.declared.status.Status.{Status}
+use Rattle.refusal_text.specs.declared.status.Status.TheVariants as status
+use Rattle.refusal_text.specs.declared.status.WriteTo.TheVariants as to
+use Rattle.refusal_text.specs.declared.status.Which.{Which}
+use Rattle.refusal_text.specs.declared.status.Which.TheVariants as which
+use Rattle.refusal_text.specs.RefusalLines.{refused, refusal_line}
+use Rattle.command_line.specs.Commands.{Command, Classes, Check, Run, Resume, Audit, Gen, settings_of}
 use Rattle.command_line.specs.Words.{IsCommand}
-use Rattle.fmeda_top.specs.Files.{Files, all_read}
-use Rattle.fmeda_top.specs.Texts.{classes_text, check_text, audit_text}
-use Rattle.fmeda_top.specs.FirstRefusal.{IsPlanOf, classes_plan_of, audited_of, own_header, generated, generated_settings}
+use Rattle.command_steps.specs.Files.{Files, all_read}
+use Rattle.command_text.specs.Texts.{classes_text, check_text, audit_text}
+use Rattle.command_steps.specs.FirstRefusal.{IsPlanOf, classes_plan_of, audited_of, own_header, generated, generated_settings}
 use Rattle.fm_base.specs.Names.{Bytes}
-pub use Rattle.campaign_run.specs.Outside.{Shelves, KeepsOthers, Wrote}
+use Rattle.campaign_run.specs.Outside.{KeepsOthers, Wrote}
 use Rattle.campaign_run.specs.Found.{IsPart, kept_or_true}
 use Rattle.campaign_run.specs.Reported.{HasReported, ResumedAs}
 use Rattle.campaign_run.specs.Left.{LeftPrefix, BeginsAs}
-
--- the shelf tells that a file holds these bytes
-abbrev pub Holds : Shelves → Bytes → Bytes → Type 0
-Holds shelf name bytes = shelf name ≡ Some (Some bytes)
-
--- the shelf tells the bytes of the four inputs
-pub record HoldsInputs (shelf : Shelves) (inputs : Inputs) (files : Files) : Type 0 where
-  pub netlist : Holds shelf inputs.netlist files.netlist
-  pub workload : Holds shelf inputs.workload files.workload
-  pub rates : Holds shelf inputs.rates files.rates
-  pub points : Holds shelf inputs.points files.points
-
--- no file has changed
-abbrev pub KeepsAll : Shelves → Shelves → Type 0
-KeepsAll before after = (name : Bytes) → after name ≡ before name
+use Rattle.command_steps.specs.Held.{Shelves, Holds, HoldsInputs, KeepsAll, name_of}
+use Rattle.refusal_text.specs.Refusals.{IsCircuitOf}
 
 -- a campaign over these bytes
 pub record RanCampaign (files : Files) (set : Settings) (text : Analysis → Bytes) (after : Told) (out_before out_after : Option Bytes) : Type 0 where
@@ -131,23 +117,6 @@ FaultAs (Audit inputs name set) before after = ⊥
 FaultAs (Gen n name workers) before after =
     KeepsOthers before after name × ((after name ≡ before name) ⊎ StoppedCampaign (generated n) generated_settings (after name))
 
--- the name of each file by the words of a command
-abbrev pub name_in : Inputs → Bytes → Which → Bytes
-name_in inputs result which.Netlist = inputs.netlist
-name_in inputs result which.Workload = inputs.workload
-name_in inputs result which.Rates = inputs.rates
-name_in inputs result which.Points = inputs.points
-name_in inputs result which.Result = result
-
--- the name of each file of a command; those that it doesn't have are empty
-abbrev pub name_of : Command → Which → Bytes
-name_of (Classes netlist workload) = name_in (record { netlist = netlist; workload = workload; rates = []; points = [] }) []
-name_of (Check inputs flips pulses) = name_in inputs []
-name_of (Run inputs name set workers) = name_in inputs name
-name_of (Resume inputs name set workers) = name_in inputs name
-name_of (Audit inputs name set) = name_in inputs name
-name_of (Gen n name workers) = name_in (record { netlist = []; workload = []; rates = []; points = [] }) name
-
 -- the line of a fault of RESULT was written, or a prefix of it where `out` failed
 abbrev pub FaultSaid : (Which → Bytes) → (out_before out_after : Option Bytes) → (faults_before faults_after : ℕ) → Type 0
 FaultSaid names out_before out_after faults_before faults_after =
@@ -187,10 +156,6 @@ AreNames words shelf status.Usage names netlist = Unit {0}
 AreNames words shelf status.Memory names netlist = Unit {0}
 AreNames words shelf _ names netlist =
     (command : Command) × IsCommand words command × (names ≡ name_of command) × (netlist ≡ netlist_told command shelf)
-
--- the circuit that the netlist stands for, where its bytes are told
-abbrev pub IsCircuitOf : Told → Circuit → Type 0
-IsCircuitOf told c = (bytes : Bytes) → told ≡ Some (Some bytes) → (d : Circuit) → netlist_of bytes ≡ Ok d → c ≡ d
 
 -- AFTER A REFUSAL: no file has changed, and the refusal's line was written, or a prefix of it where `out` failed
 pub record RefusedAs (names : Which → Bytes) (netlist : Told) (ended : Status) (before after : Shelves) (out_before out_after : Option Bytes) (faults_before faults_after : ℕ) : Type 0 where

@@ -4,25 +4,22 @@ ghost use Rattle.fm_shelf.specs.Shelf.{held_in};
 ghost use Rattle.circuit.specs.Order.{IsOrder};
 ghost use Rattle.campaign_plan.specs.Kept.{AreSettings};
 ghost use Rattle.command_line.specs.Commands.{Audit};
-ghost use Rattle.fmeda_report.specs.Sends.{Sends};
 ghost use Rattle.fmeda_top.specs.Causes.{CommandEnds};
-ghost use Rattle.fmeda_top.specs.FirstRefusal.{is_wrong, disagreement};
-ghost use Rattle.fmeda_top.specs.Simulated.{planes_of};
-ghost use Rattle.fmeda_top.specs.Texts.{audit_line};
-ghost use Rattle.fmeda_top.specs.PlanSteps.{names_of};
-ghost use Rattle.fmeda_top.specs.BegunSteps.{AuditAs, ChecksAs};
+ghost use Rattle.command_steps.specs.FirstRefusal.{is_wrong, disagreement};
+ghost use Rattle.command_text.specs.Simulated.{planes_of};
+ghost use Rattle.command_steps.specs.PlanSteps.{names_of};
+ghost use Rattle.fmeda_top.specs.Tried.{AuditAs, ChecksAs};
 
-use crate::begun::{Begun, read_begun};
-use crate::names::FileNames;
-use crate::refuse::say_refused;
-use crate::refused::Refused;
-use crate::simulator::Simulator;
-use crate::status::{Status, after_text};
 use campaign_plan::{Outcome, Settings};
 use command_line::InputNames;
-use fm_shelf::shelf::{Failed, Shelf, Sink};
-use fmeda_report::lines::write_line;
-use fmeda_report::words::number_word;
+use command_steps::begun::{Begun, read_begun};
+use command_text::audit_text::write_audit;
+use command_text::simulator::Simulator;
+use fm_shelf::shelf::{Shelf, Sink};
+use refusal_text::names::FileNames;
+use refusal_text::refuse::say_refused;
+use refusal_text::refused::Refused;
+use refusal_text::status::{Status, after_text};
 use result_file::Row;
 use std::alloc::Global;
 
@@ -79,22 +76,6 @@ fn check_rows(alloc: Global, begun: &Begun) -> Result<(), Refused>
         Some(refusal) => Err(Refused::By(refusal)),
         None => Ok(()),
     }
-}
-
-// Writes that so many rows agree, of so many batches.
-fn write_audit<O: Sink>(rows: usize, batches: u32, out: &mut O) -> Result<(), Failed>
-    ensures { Sends (O.written out.old) (O.written out.new) (O.faults out.old) (O.faults out.new) (audit_line rows batches) result }
-{
-    write_line(
-        out,
-        &[
-            b"audit",
-            number_word(rows as u64).bytes(),
-            b"of",
-            number_word(u64::from(batches)).bytes(),
-            b"rows agree",
-        ],
-    )
 }
 
 // Reads the files, checks the rows and writes that they agree, or says why not.

@@ -3,21 +3,22 @@ ghost use Rattle.std.specs.Prelude.{◌≡◌, ℕ, List};
 ghost use Rattle.fm_shelf.specs.Shelf.{held_in};
 ghost use Rattle.fault_list.specs.Faults.{AreCycles};
 ghost use Rattle.command_line.specs.Commands.{Check, settings_of};
-ghost use Rattle.fmeda_top.specs.Texts.{check_text};
+ghost use Rattle.command_text.specs.Texts.{check_text};
 ghost use Rattle.fmeda_top.specs.Causes.{CommandEnds};
-ghost use Rattle.fmeda_top.specs.PlanSteps.{PlanTextAs, names_of};
+ghost use Rattle.fmeda_top.specs.Tried.{PlanTextAs};
+ghost use Rattle.command_steps.specs.PlanSteps.{names_of};
 
-use crate::check_text::write_check;
-use crate::names::FileNames;
-use crate::planned::read_plan;
-use crate::refuse::say_refused;
-use crate::refused::Refused;
-use crate::status::{Status, after_text};
 use campaign_plan::Settings;
 use command_line::InputNames;
+use command_steps::planned::read_plan;
+use command_text::check_text::write_check;
 use fault_list::Flips;
 use fm_shelf::shelf::{Shelf, Sink};
 use metric_sums::Asil;
+use refusal_text::names::FileNames;
+use refusal_text::refuse::say_refused;
+use refusal_text::refused::Refused;
+use refusal_text::status::{Status, after_text};
 use std::alloc::Global;
 
 // Reads the files and writes what a campaign over them would be, or says why not.

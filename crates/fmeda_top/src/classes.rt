@@ -6,21 +6,22 @@ ghost use Rattle.alarm_points.specs.PointsFile.{all_outputs};
 ghost use Rattle.alarm_points.specs.PointsKept.{ArePointsFor};
 ghost use Rattle.fault_list.specs.Faults.{faults_of};
 ghost use Rattle.command_line.specs.Commands.{Classes};
-ghost use Rattle.fmeda_top.specs.declared.status.Status.TheVariants.{Memory as MemoryStatus};
-ghost use Rattle.fmeda_top.specs.Texts.{classes_plan, classes_text};
+ghost use Rattle.refusal_text.specs.declared.status.Status.TheVariants.{Memory as MemoryStatus};
+ghost use Rattle.command_steps.specs.FirstRefusal.{classes_plan};
+ghost use Rattle.command_text.specs.Texts.{classes_text};
 ghost use Rattle.fmeda_top.specs.Causes.{CommandEnds};
-ghost use Rattle.fmeda_top.specs.Steps.{ClassesAs, TextAs};
+ghost use Rattle.fmeda_top.specs.Tried.{ClassesAs, TextAs};
 
-use crate::class_text::write_classes;
-use crate::names::FileNames;
-use crate::observed::{Observed, read_observed};
-use crate::refuse::say_refused;
-use crate::refused::Refused;
-use crate::simulator::Simulator;
-use crate::status::{Status, What, after_text};
 use circuit::netlist::Netlist;
+use command_steps::observed::{Observed, read_observed};
+use command_text::class_text::write_classes;
+use command_text::simulator::Simulator;
 use fault_list::{FaultList, FaultRefusal};
 use fm_shelf::shelf::{Shelf, Sink};
+use refusal_text::names::FileNames;
+use refusal_text::refuse::say_refused;
+use refusal_text::refused::Refused;
+use refusal_text::status::{Status, What, after_text};
 use std::alloc::Global;
 
 // A netlist has at most so many nets, so its stuck-at faults are never too many.

@@ -1,50 +1,34 @@
 // The command `run`.
-ghost use Rattle.std.specs.Prelude.{◌≡◌, ◌≤◌, ◌<◌, ℕ, List, length};
+ghost use Rattle.std.specs.Prelude.{◌≡◌, ◌≤◌, ◌<◌, length};
 ghost use Rattle.fm_shelf.specs.Shelf.{held_in};
 ghost use Rattle.circuit.specs.Order.{IsOrder};
-ghost use Rattle.campaign_plan.specs.Kept.{AreSettings, IsPlan};
+ghost use Rattle.campaign_plan.specs.Kept.{AreSettings};
 ghost use Rattle.result_file.specs.KeptRows.{header_len};
 ghost use Rattle.command_line.specs.Commands.{Run};
 ghost use Rattle.campaign_run.specs.Ran.{HasRun};
 ghost use Rattle.fmeda_top.specs.Causes.{CommandEnds};
-ghost use Rattle.fmeda_top.specs.FirstRefusal.{own_header};
-ghost use Rattle.fmeda_top.specs.Named.{name_by};
-ghost use Rattle.fmeda_top.specs.PlanSteps.{EndSaid, begun_anew, bytes_of, names_of};
+ghost use Rattle.refusal_text.specs.Named.{name_by};
+ghost use Rattle.fmeda_top.specs.Campaigns.{EndSaid, begun_anew};
+ghost use Rattle.command_steps.specs.PlanSteps.{names_of};
 
 use crate::ended::Ended;
-use crate::names::FileNames;
-use crate::planned::{Planned, read_plan};
-use crate::refuse::{refuse, say_refused};
-use crate::refused::Refused;
-use crate::status::{Status, WriteTo};
 use campaign_plan::Settings;
 use campaign_run::{End, Ran, Text, run_campaign};
 use command_line::InputNames;
+use command_steps::own::own_line;
+use command_steps::planned::{Planned, read_plan};
 use fm_base::Line;
 use fm_list::Seq;
 use fm_shelf::shelf::{Shelf, Sink};
-use result_file::{KeptRows, header, own_digest};
+use refusal_text::names::FileNames;
+use refusal_text::refuse::{refuse, say_refused};
+use refusal_text::refused::Refused;
+use refusal_text::status::{Status, WriteTo};
+use result_file::KeptRows;
 use std::alloc::Global;
 use std::sync::Wait;
 use std::thread::Threads;
 use worker_gate::Gate;
-
-/// The header line of the result file of a plan.
-pub(crate) fn own_line(planned: &Planned) -> Line
-    ensures text { result ≡ own_header planned.now.plan.settings (bytes_of planned.now.files) planned.now.plan }
-    ensures len { length result ≡ header_len }
-    ensures plan { IsPlan planned.now.plan }
-{
-    let files = &planned.files;
-    let digest = own_digest(
-        planned.plan.settings(),
-        files.netlist.as_slice(),
-        files.workload.as_slice(),
-        files.rates.as_slice(),
-        files.points.as_slice(),
-    );
-    header(&digest, planned.plan.batches())
-}
 
 /// The campaign of a plan, which begins its result file anew and writes this text at its end.
 pub(crate) fn run_planned<

@@ -7,15 +7,15 @@ use Rattle.rate_table.specs.declared.RatesKind.TheVariants as rate
 use Rattle.campaign_plan.specs.Analysis.{Analysis}
 use Rattle.result_file.specs.declared.RowFault.TheVariants as why
 use Rattle.blif_text.specs.declared.NetlistKind.TheVariants as netlist
-use Rattle.fmeda_top.specs.declared.status.Which.{Which}
-use Rattle.fmeda_top.specs.declared.status.Which.TheVariants as which
-use Rattle.fmeda_top.specs.declared.status.What.TheVariants as what
-use Rattle.fmeda_top.specs.declared.status.Status.TheVariants as status
-use Rattle.fmeda_top.specs.Files.{Reads, all_read}
+use Rattle.refusal_text.specs.declared.status.Which.{Which}
+use Rattle.refusal_text.specs.declared.status.Which.TheVariants as which
+use Rattle.refusal_text.specs.declared.status.What.TheVariants as what
+use Rattle.refusal_text.specs.declared.status.Status.TheVariants as status
+use Rattle.command_steps.specs.Files.{Reads, all_read}
 use Rattle.command_line.specs.Commands.{Inputs, settings_of, Check}
-use Rattle.fmeda_top.specs.Texts.{classes_plan, classes_text, check_text, audit_text}
-use Rattle.fmeda_top.specs.RefusalLines.{refusal_line}
-use Rattle.fmeda_top.specs.FirstRefusal.{first_refusal, plan_for}
+use Rattle.command_text.specs.Texts.{classes_text, check_text, audit_text}
+use Rattle.refusal_text.specs.RefusalLines.{refusal_line}
+use Rattle.command_steps.specs.FirstRefusal.{classes_plan, first_refusal, plan_for}
 use Rattle.worked_rows.specs.Circuits.{dup, net}
 use Rattle.worked_rows.specs.Files.{plan_of, dup_netlist, dup_workload, dup_rates, dup_points}
 

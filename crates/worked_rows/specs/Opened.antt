@@ -31,9 +31,9 @@ use Rattle.result_file.specs.ResultText.{header_text, row_text, result_rows}
 use Rattle.result_file.specs.KeptRows.{hex_value, row_fault as result_file_row_fault, kept}
 use Rattle.fmeda_report.specs.Report.{sizes_line, part_line, sum_lines, ratio_lines, target_lines, metric_lines, fault_line, report, summary}
 use Rattle.sample_gen.specs.Sample.{netlist_text, workload_text, rates_text, points_text}
-use Rattle.fmeda_top.specs.Texts.{classes_text, check_text, audit_text}
-use Rattle.fmeda_top.specs.RefusalLines.{refusal_line}
-use Rattle.fmeda_top.specs.FirstRefusal.{netlist_step, workload_step, rates_step, points_step, plan_for, plan_of, classes_plan_of, result_step, audit_step, kept_of, audited_of, first_refusal}
+use Rattle.command_text.specs.Texts.{classes_text, check_text, audit_text}
+use Rattle.refusal_text.specs.RefusalLines.{refusal_line}
+use Rattle.command_steps.specs.FirstRefusal.{netlist_step, workload_step, rates_step, points_step, plan_for, plan_of, classes_plan_of, result_step, audit_step, kept_of, audited_of, first_refusal}
 
 unfoldable pub opened : ⊤
 unfolding digits next_record records_from strip_bom val raw_state below some_below firsts first_where first_after plane_below hex lines_of placed bare joined wide_line statement_of directive_line table_line line_fault kind_of is_inside table_above plane_above file_models models_of items_of rows_below formals formal_inputs instances reaches has_nest sum_over_instances walk enter steps_from net_of visits_of clock_names nets_of drives_of model_fault two_models unknown_model bad_formal unbound recursive too_deep too_large walk_fault two_clocks marks_of bad_clock main_inputs clock_read two_drivers undriven bad_net netlist_of circuit_of input_names_of table_names_of latch_names_of output_names_of drivers_of faults_for header_fault row_fault workloads runs_of_rows alarm_points_row_fault points_of_rows goes_unalarmed units_of rate_table_row_fault rates_of_rows is_dangerous is_noticed weight plan_refusal outcome_of own_sums header_text row_text result_rows hex_value result_file_row_fault kept sizes_line part_line sum_lines ratio_lines target_lines metric_lines fault_line report summary netlist_text workload_text rates_text points_text classes_text check_text audit_text refusal_line netlist_step workload_step rates_step points_step plan_for plan_of classes_plan_of result_step audit_step kept_of audited_of first_refusal

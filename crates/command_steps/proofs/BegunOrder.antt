@@ -1,0 +1,151 @@
+-- The order of the checks of a campaign that was begun: those of its plan, and then those of its result file.
+use Rattle.std.proofs.Common.{◌≡◌, ◌∙◌, ap, sym, refl, subst, ℕ, List, [], Ok, Err, inl, inr}
+use Rattle.std.specs.Prelude.{Option, Some, None, Result, ◌⊎◌}
+use Rattle.fm_base.specs.Names.{Bytes}
+use Rattle.fm_shelf.specs.Shelf.{Told, Rose}
+use Rattle.circuit.specs.declared.parts.NetId.{NetId}
+use Rattle.campaign_plan.specs.declared.Settings.{Settings}
+use Rattle.campaign_plan.specs.Analysis.{Analysis}
+use Rattle.result_file.specs.declared.KeptRows.{KeptRows}
+use Rattle.result_file.specs.declared.ResultRefusal.{ResultRefusal}
+use Rattle.result_file.specs.declared.ResultRefusal.TheVariants as back
+use Rattle.result_file.specs.KeptRows.{kept}
+use Rattle.command_line.specs.Commands.{Inputs}
+use Rattle.refusal_text.specs.declared.status.Status.{Status}
+use Rattle.refusal_text.specs.declared.status.Status.TheVariants as status
+use Rattle.refusal_text.specs.declared.status.Which.{Which}
+use Rattle.refusal_text.specs.declared.status.Which.TheVariants as which
+use Rattle.command_steps.specs.declared.planned.Planned.{Planned}
+use Rattle.command_steps.specs.Files.{Files, Reads, all_read, files_of}
+use Rattle.command_steps.specs.FirstRefusal.{or_refuse, plan_of, result_step, audit_step, kept_of, audited_of, own_header, refusal_in, status_of_back, IsPlanOf, ◌>>=◌}
+use Rattle.command_steps.specs.Held.{Shelves, name_in}
+use Rattle.command_steps.specs.Steps.{StepAs}
+use Rattle.refusal_text.specs.Refusals.{IsPlain}
+use Rattle.command_steps.specs.PlanSteps.{PlanRefused, PlannedAs, bytes_of}
+use Rattle.command_steps.specs.BegunSteps.{KeptRefused}
+use Rattle.command_steps.proofs.Taken.{Begins, SaysMore, no_read_fault, step_plain, told_plain, told_given, step_value}
+use Rattle.command_steps.proofs.InOrder.{some_fit}
+use Rattle.command_steps.proofs.PlanOrder.{plan_is}
+
+-- ---- RESULT
+
+abbrev pub rows_next : Bytes → Analysis → Bytes → Result KeptRows Status
+rows_next own p whole = or_refuse status_of_back (kept own p whole)
+
+pub rows_begin : (own : Bytes) (p : Analysis) → Begins which.Result (result_step own p) (rows_next own p)
+unfolding result_step
+rows_begin own p got = refl
+
+back_plain : (fault : ResultRefusal) → IsPlain (status_of_back fault)
+back_plain (back.Foreign found own) = tt
+back_plain (back.BadRow number why) = tt
+
+back_never : (other : Which) (fault : ResultRefusal) → status_of_back fault ≡ status.ReadFault other → ⊥
+back_never other (back.Foreign found own) e = let bad : status.Foreign found own ≡ status.ReadFault other = e in cc bad
+back_never other (back.BadRow number why) e = let bad : status.BadRow number why ≡ status.ReadFault other = e in cc bad
+
+pub rows_more : (own : Bytes) (p : Analysis) → SaysMore (rows_next own p)
+rows_more own p bytes other e = no_read_fault status_of_back (kept own p bytes) other (back_never other) e
+
+-- a refusal of the result file is a plain one
+pub rows_plain : (own : Bytes) (p : Analysis) (told : Told) (before after : ℕ) (ended : Status) → StepAs which.Result (result_step own p) told before after (Err ended) → IsPlain ended
+rows_plain own p told before after ended refused =
+    step_plain which.Result (result_step own p) (rows_next own p) told before after ended (rows_begin own p)
+    (λ bytes e is. told_plain status_of_back (kept own p bytes) e back_plain is) refused
+
+-- the rows of a file that was read are those that are kept of its bytes
+pub rows_kept : (own : Bytes) (p : Analysis) (bytes : Bytes) (k : KeptRows) → result_step own p (Some bytes) ≡ Ok k → kept own p bytes ≡ Ok k
+rows_kept own p bytes k is = told_given status_of_back (kept own p bytes) k (step_value which.Result (result_step own p) (rows_next own p) bytes k (rows_begin own p) is)
+
+-- ---- the steps
+
+plan_only : (walk : Option (List NetId)) (set : Settings) (reads : Reads) (result : Option Bytes) → plan_of walk set (record reads { result = result }) ≡ plan_of walk set reads
+plan_only walk set reads result = plan_is walk set (record reads { result = result }) ∙ sym (plan_is walk set reads)
+
+abbrev rows_of : Settings → Reads → Analysis → Result KeptRows Status
+rows_of set reads p = result_step (own_header set (files_of reads) p) p reads.result
+
+kept_is : (walk : Option (List NetId)) (set : Settings) (reads : Reads) → kept_of walk set reads ≡ (plan_of walk set reads >>= rows_of set reads)
+unfolding kept_of
+kept_is walk set reads = refl
+
+abbrev checked_of : Settings → Reads → Analysis → Result KeptRows Status
+checked_of set reads p = rows_of set reads p >>= (λ k. audit_step p k)
+
+audited_is : (walk : Option (List NetId)) (set : Settings) (reads : Reads) → audited_of walk set reads ≡ (plan_of walk set reads >>= checked_of set reads)
+unfolding audited_of
+audited_is walk set reads = refl
+
+-- what is refused before the rows are simulated is refused by an audit too
+pub audited_refused : (walk : Option (List NetId)) (set : Settings) (reads : Reads) (ended : Status) → kept_of walk set reads ≡ Err ended → audited_of walk set reads ≡ Err ended
+audited_refused walk set reads ended is = audited_is walk set reads ∙ by_plan (plan_of walk set reads) (sym (kept_is walk set reads) ∙ is)
+  where
+    by_rows : (p : Analysis) (r : Result KeptRows Status) → r ≡ Err ended → (r >>= (λ k. audit_step p k)) ≡ Err ended
+    by_rows p r e = ap (λ x. x >>= (λ k. audit_step p k)) e
+
+    by_plan : (r : Result Analysis Status) → (r >>= rows_of set reads) ≡ Err ended → (r >>= checked_of set reads) ≡ Err ended
+    by_plan (Ok p) e = by_rows p (rows_of set reads p) e
+    by_plan (Err other) e = e
+
+abbrev some_or : Status → Option Status → Status
+some_or default None = default
+some_or default (Some refusal) = refusal
+
+why_refused : (r : Result Analysis Status) (ended : Status) → refusal_in r ≡ Some ended → r ≡ Err ended
+why_refused (Ok p) ended e = let bad : None ≡ Some ended = e in cc bad
+why_refused (Err other) ended e = ap (λ s. Err (some_or other s)) e
+
+-- the rows of a plan that was made
+pub kept_made : (set : Settings) (files : Files) (p : Analysis) (own : Bytes) (got : Option Bytes) → IsPlanOf set files p → own ≡ own_header set files p
+    → kept_of None set (record (all_read files []) { result = got }) ≡ result_step own p got
+kept_made set files p own got plan own_is =
+    let reads : Reads = record (all_read files []) { result = got } in
+    kept_is None set reads ∙ ap (λ r. r >>= rows_of set reads) (plan_only None set (all_read files []) got ∙ plan.plan) ∙ ap (λ o. result_step o p got) (sym own_is)
+
+-- and these rows, simulated again
+pub audited_made : (set : Settings) (files : Files) (p : Analysis) (own : Bytes) (got : Option Bytes) (k : KeptRows) → IsPlanOf set files p → own ≡ own_header set files p
+    → result_step own p got ≡ Ok k → audited_of None set (record (all_read files []) { result = got }) ≡ audit_step p k
+audited_made set files p own got k plan own_is is =
+    let reads : Reads = record (all_read files []) { result = got } in
+    audited_is None set reads ∙ ap (λ r. r >>= checked_of set reads) (plan_only None set (all_read files []) got ∙ plan.plan)
+    ∙ ap (λ o. result_step o p got >>= (λ k. audit_step p k)) (sym own_is) ∙ ap (λ r. r >>= (λ k. audit_step p k)) is
+
+module _ (inputs : Inputs) (name : Bytes) (set : Settings) (shelf : Shelves) (before after : Bytes → ℕ) where
+  abbrev Answer : Status → Type 0
+  Answer ended = (ended ≡ status.Memory) ⊎ KeptRefused inputs name set shelf before after ended
+
+  -- the plan was refused
+  pub begun_planned : (ended : Status) → (ended ≡ status.Memory) ⊎ PlanRefused inputs set shelf before after ended → Answer ended
+  begun_planned ended (inl memory) = inl memory
+  begun_planned ended (inr refused) =
+      let checked = refused.checked in
+      let rows = some_fit (shelf name) (before name) (after name) in
+      let reads : Reads = record checked.reads { result = rows.0 } in
+      inr (record {
+        reads = reads;
+        fit = record { netlist = checked.fit.netlist; workload = checked.fit.workload; rates = checked.fit.rates; points = checked.fit.points };
+        result = rows.1;
+        walk = checked.walk;
+        loops = checked.loops;
+        refused = kept_is checked.walk set reads
+            ∙ ap (λ r. r >>= rows_of set reads) (plan_only checked.walk set checked.reads rows.0 ∙ why_refused (plan_of checked.walk set checked.reads) ended checked.first);
+        fault = refused.fault name;
+      })
+
+  module _ (made : Planned) (planned : PlannedAs shelf before after inputs set (Ok made)) (own : Bytes) (own_is : own ≡ own_header set (bytes_of made.files) made.plan) where
+    abbrev files : Files
+    files = bytes_of made.files
+
+    -- the result file was refused
+    pub begun_rows : (ended : Status) → StepAs which.Result (result_step own made.plan) (shelf name) (before name) (after name) (Err ended) → Answer ended
+    begun_rows ended (inl memory) = inl memory
+    begun_rows ended (inr (got, fits, is, fault)) = inr (record {
+      reads = record (all_read files []) { result = got };
+      fit = record { netlist = planned.0.netlist; workload = planned.0.workload; rates = planned.0.rates; points = planned.0.points };
+      result = fits;
+      walk = None;
+      loops = planned.3;
+      refused = kept_made set files made.plan own got planned.1 own_is ∙ is;
+      fault = λ other e.
+          let f = fault other e in subst (λ w. Rose (before (name_in inputs name w)) (after (name_in inputs name w))) (sym f.0) f.1;
+    })

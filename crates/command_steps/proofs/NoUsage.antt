@@ -1,0 +1,153 @@
+-- No check refuses by Usage.
+use Rattle.std.proofs.Common.{◌≡◌, ◌≢◌, ◌^◌, ℕ, Bool, true, false, List, [], length}
+use Rattle.std.specs.Prelude.{Option, Some, None, Result, Ok, Err, find, if◌then◌else◌, nat_lt}
+use Rattle.fm_base.specs.Names.{Bytes}
+use Rattle.circuit.specs.declared.parts.NetId.{NetId}
+use Rattle.circuit.specs.Circuit.{Circuit}
+use Rattle.blif_model.specs.Net.{netlist_of}
+use Rattle.workload.specs.WorkloadFile.{workload_of}
+use Rattle.rate_table.specs.RatesFile.{rates_of}
+use Rattle.alarm_points.specs.PointsFile.{points_of}
+use Rattle.campaign_plan.specs.declared.Settings.{Settings}
+use Rattle.campaign_plan.specs.declared.PlanRefusal.{PlanRefusal}
+use Rattle.campaign_plan.specs.declared.PlanRefusal.TheVariants as plan
+use Rattle.campaign_plan.specs.declared.Outcome.{Outcome}
+use Rattle.campaign_plan.specs.Batches.{true_planes}
+use Rattle.campaign_plan.specs.Analysis.{Analysis}
+use Rattle.campaign_plan.specs.PlanFaults.{plan_refusal}
+use Rattle.result_file.specs.declared.KeptRows.{KeptRows}
+use Rattle.result_file.specs.declared.ResultRefusal.{ResultRefusal}
+use Rattle.result_file.specs.declared.ResultRefusal.TheVariants as back
+use Rattle.result_file.specs.declared.Row.{Row}
+use Rattle.result_file.specs.KeptRows.{kept}
+use Rattle.command_line.specs.Commands.{Command, Classes, Check, Run as RunCommand, Resume, Audit, Gen, settings_of}
+use Rattle.refusal_text.specs.declared.status.Status.{Status}
+use Rattle.refusal_text.specs.declared.status.Status.TheVariants as status
+use Rattle.refusal_text.specs.declared.status.Which.{Which}
+use Rattle.refusal_text.specs.declared.status.Which.TheVariants as which
+use Rattle.refusal_text.specs.declared.status.What.TheVariants as what
+use Rattle.command_steps.specs.Files.{Reads, all_read, files_of}
+use Rattle.command_steps.specs.FirstRefusal.{at_most, unless, or_refuse, netlist_step, outputs_step, workload_step, rates_step, points_step, plan_for, plan_of, classes_plan_of, loop_refusal, refusal_of_plan, status_of_back, result_step, own_header, is_wrong, disagreement, audit_step, kept_of, audited_of, refusal_in, generated, generated_settings, first_refusal, ◌>>=◌}
+
+-- ---- no check answers Usage
+
+-- a step that doesn't refuse by Usage
+abbrev Spares : {A : Type 0} → Result A Status → Type 0
+Spares (Ok x) = Unit {0}
+Spares (Err ended) = ended ≢ status.Usage
+
+then_spares : {A B : Type 0} (r : Result A Status) (next : A → Result B Status) → Spares r → ((x : A) → Spares (next x)) → Spares (r >>= next)
+then_spares (Ok x) next first rest = rest x
+then_spares (Err ended) next first rest = first
+
+told_spares : {A E : Type 0} (told : E → Status) (r : Result A E) → ((e : E) → told e ≢ status.Usage) → Spares (or_refuse told r)
+told_spares told (Ok x) other = tt
+told_spares told (Err e) other = other e
+
+short_spares : (own : Which) (bytes : Bytes) (long : Bool) → Spares (unless (if long then Some (status.TooLarge (what.File own)) else None) bytes)
+short_spares own bytes true = λ e. let bad : status.TooLarge (what.File own) ≡ status.Usage = e in cc bad
+short_spares own bytes false = tt
+
+read_spares : (own : Which) (got : Option Bytes) → Spares (at_most own got)
+read_spares own None = λ e. let bad : status.ReadFault own ≡ status.Usage = e in cc bad
+read_spares own (Some bytes) = short_spares own bytes (nat_lt (2 ^ 26) (length bytes))
+
+-- a file that is read and told
+file_spares : {A E : Type 0} (own : Which) (got : Option Bytes) (told : E → Status) (answer : Bytes → Result A E) → ((e : E) → told e ≢ status.Usage)
+    → Spares (at_most own got >>= (λ whole. or_refuse told (answer whole)))
+file_spares own got told answer other =
+    then_spares (at_most own got) (λ whole. or_refuse told (answer whole)) (read_spares own got) (λ whole. told_spares told (answer whole) other)
+
+loop_spares : (walk : Option (List NetId)) (c : Circuit) → Spares (unless (loop_refusal walk) c)
+loop_spares None c = tt
+loop_spares (Some nets) c = λ e. let bad : status.Loop nets ≡ status.Usage = e in cc bad
+
+netlist_spares : (walk : Option (List NetId)) (got : Option Bytes) → Spares (netlist_step walk got)
+unfolding netlist_step
+netlist_spares walk got =
+    then_spares (at_most which.Netlist got) (λ whole. or_refuse status.Netlist (netlist_of whole) >>= (λ c. unless (loop_refusal walk) c)) (read_spares which.Netlist got)
+    (λ whole. then_spares (or_refuse status.Netlist (netlist_of whole)) (λ c. unless (loop_refusal walk) c)
+    (told_spares status.Netlist (netlist_of whole) (λ f e. let bad : status.Netlist f ≡ status.Usage = e in cc bad)) (loop_spares walk))
+
+workload_spares : (c : Circuit) (got : Option Bytes) → Spares (workload_step c got)
+unfolding workload_step
+workload_spares c got = file_spares which.Workload got status.Workload (workload_of c) (λ f e. let bad : status.Workload f ≡ status.Usage = e in cc bad)
+
+rates_spares : (got : Option Bytes) → Spares (rates_step got)
+unfolding rates_step
+rates_spares got = file_spares which.Rates got status.Rates rates_of (λ f e. let bad : status.Rates f ≡ status.Usage = e in cc bad)
+
+points_spares : (c : Circuit) (got : Option Bytes) → Spares (points_step c got)
+unfolding points_step
+points_spares c got = file_spares which.Points got status.Points (points_of c) (λ f e. let bad : status.Points f ≡ status.Usage = e in cc bad)
+
+refused_spares : (refusal : Option PlanRefusal) (p : Analysis) → Spares (unless (refusal_of_plan refusal) p)
+refused_spares None p = tt
+refused_spares (Some plan.TooManyFaults) p = λ e. let bad : status.TooLarge what.Faults ≡ status.Usage = e in cc bad
+refused_spares (Some (plan.MissingRate net name)) p = λ e. let bad : status.MissingRate net name ≡ status.Usage = e in cc bad
+refused_spares (Some (plan.IdleRate part permanent)) p = λ e. let bad : status.IdleRate part permanent ≡ status.Usage = e in cc bad
+refused_spares (Some plan.Memory) p = λ e. let bad : status.Memory ≡ status.Usage = e in cc bad
+
+plan_for_spares : (c : Circuit) (set : Settings) (reads : Reads) → Spares (plan_for c set reads)
+unfolding plan_for
+plan_for_spares c set reads =
+    then_spares (workload_step c reads.workload) _ (workload_spares c reads.workload)
+    (λ runs. then_spares (rates_step reads.rates) _ (rates_spares reads.rates)
+    (λ rates. then_spares (points_step c reads.points) _ (points_spares c reads.points)
+    (λ points. let p : Analysis = record { circuit = c; runs = runs; rates = rates; points = points; settings = set } in refused_spares (plan_refusal p) p)))
+
+plan_spares : (walk : Option (List NetId)) (set : Settings) (reads : Reads) → Spares (plan_of walk set reads)
+unfolding plan_of
+plan_spares walk set reads = then_spares (netlist_step walk reads.netlist) (λ c. plan_for c set reads) (netlist_spares walk reads.netlist) (λ c. plan_for_spares c set reads)
+
+few_spares : (c : Circuit) (many : Bool) → Spares (unless (if many then Some (status.TooLarge what.Outputs) else None) c)
+few_spares c true = λ e. let bad : status.TooLarge what.Outputs ≡ status.Usage = e in cc bad
+few_spares c false = tt
+
+classes_spares : (walk : Option (List NetId)) (reads : Reads) → Spares (classes_plan_of walk reads)
+unfolding classes_plan_of
+classes_spares walk reads =
+    then_spares (netlist_step walk reads.netlist) _ (netlist_spares walk reads.netlist)
+    (λ c. then_spares (outputs_step c) _ (few_spares c (nat_lt 1024 (length c.outputs)))
+    (λ counted. then_spares (workload_step counted reads.workload) _ (workload_spares counted reads.workload) (λ runs. tt)))
+
+back_other : (why : ResultRefusal) → status_of_back why ≢ status.Usage
+back_other (back.Foreign found own) e = let bad : status.Foreign found own ≡ status.Usage = e in cc bad
+back_other (back.BadRow number why) e = let bad : status.BadRow number why ≡ status.Usage = e in cc bad
+
+result_spares : (own : Bytes) (p : Analysis) (got : Option Bytes) → Spares (result_step own p got)
+unfolding result_step
+result_spares own p got = file_spares which.Result got status_of_back (kept own p) back_other
+
+row_spares : (planes : ℕ → Outcome) (k : KeptRows) (wrong : Option Row) → Spares (unless (disagreement planes wrong) k)
+row_spares planes k None = tt
+row_spares planes k (Some row) = λ e. cc
+
+audit_spares : (p : Analysis) (k : KeptRows) → Spares (audit_step p k)
+unfolding audit_step
+audit_spares p k = row_spares (true_planes p) k (find (is_wrong (true_planes p)) k.rows)
+
+kept_spares : (walk : Option (List NetId)) (set : Settings) (reads : Reads) → Spares (kept_of walk set reads)
+unfolding kept_of
+kept_spares walk set reads =
+    then_spares (plan_of walk set reads) _ (plan_spares walk set reads) (λ p. result_spares (own_header set (files_of reads) p) p reads.result)
+
+audited_spares : (walk : Option (List NetId)) (set : Settings) (reads : Reads) → Spares (audited_of walk set reads)
+unfolding audited_of
+audited_spares walk set reads =
+    then_spares (plan_of walk set reads) _ (plan_spares walk set reads)
+    (λ p. then_spares (result_step (own_header set (files_of reads) p) p reads.result) _ (result_spares (own_header set (files_of reads) p) p reads.result) (λ k. audit_spares p k))
+
+in_other : {A : Type 0} (r : Result A Status) → Spares r → refusal_in r ≢ Some status.Usage
+in_other (Ok x) spares e = cc
+in_other (Err ended) spares e = let same : ended ≡ status.Usage = cc in spares same
+
+pub no_usage : (walk : Option (List NetId)) (command : Command) (reads : Reads) → first_refusal walk command reads ≢ Some status.Usage
+unfolding first_refusal
+no_usage walk (Classes netlist workload) reads = in_other (classes_plan_of walk reads) (classes_spares walk reads)
+no_usage walk (Check inputs flips pulses) reads = in_other (plan_of walk (settings_of flips pulses) reads) (plan_spares walk (settings_of flips pulses) reads)
+no_usage walk (RunCommand inputs name set workers) reads = in_other (plan_of walk set reads) (plan_spares walk set reads)
+no_usage walk (Resume inputs name set workers) reads = in_other (kept_of walk set reads) (kept_spares walk set reads)
+no_usage walk (Audit inputs name set) reads = in_other (audited_of walk set reads) (audited_spares walk set reads)
+no_usage walk (Gen n name workers) reads =
+    in_other (plan_of walk generated_settings (all_read (generated n) [])) (plan_spares walk generated_settings (all_read (generated n) []))

@@ -1,0 +1,256 @@
+-- The order of the checks of a plan, step by step.
+use Rattle.std.proofs.Common.{◌≡◌, ◌∙◌, ap, sym, refl, subst, ℕ, ◌≤◌, List, [], Ok, Err, inl, inr}
+use Rattle.std.specs.Prelude.{Option, Some, None, Result, ◌⊎◌}
+use Rattle.fm_base.specs.Names.{Bytes}
+use Rattle.fm_shelf.specs.Shelf.{Told, NowHas, Rose}
+use Rattle.circuit.specs.declared.parts.NetId.{NetId}
+use Rattle.circuit.specs.Circuit.{Circuit}
+use Rattle.circuit.specs.Loop.{HasNoLoop}
+use Rattle.workload.specs.declared.run.Run.{Run}
+use Rattle.alarm_points.specs.declared.Points.{Points}
+use Rattle.rate_table.specs.Table.{RateTable}
+use Rattle.campaign_plan.specs.declared.Settings.{Settings}
+use Rattle.campaign_plan.specs.Analysis.{Analysis}
+use Rattle.command_line.specs.Commands.{Inputs}
+use Rattle.refusal_text.specs.declared.status.Status.{Status}
+use Rattle.refusal_text.specs.declared.status.Status.TheVariants as status
+use Rattle.refusal_text.specs.declared.status.Which.{Which}
+use Rattle.refusal_text.specs.declared.status.Which.TheVariants as which
+use Rattle.command_steps.specs.Files.{Files, Reads, all_read}
+use Rattle.campaign_plan.specs.declared.PlanRefusal.{PlanRefusal}
+use Rattle.campaign_plan.specs.declared.PlanRefusal.TheVariants as plan
+use Rattle.campaign_plan.specs.PlanFaults.{plan_refusal}
+use Rattle.refusal_text.specs.declared.status.What.TheVariants as what
+use Rattle.refusal_text.proofs.Refusals.{ok_same}
+use Rattle.command_steps.proofs.Taken.{why}
+use Rattle.command_steps.specs.FirstRefusal.{unless, refusal_of_plan, status_of_plan, workload_step, rates_step, points_step, plan_step, netlist_step, plan_of, plan_for, refusal_in, IsLoopAnswer, IsPlanOf, ◌>>=◌}
+use Rattle.command_steps.specs.Held.{Shelves, name_in}
+use Rattle.command_steps.specs.Checked.{FaultRose}
+use Rattle.command_steps.specs.Steps.{StepAs, NetlistAs}
+use Rattle.refusal_text.specs.Refusals.{IsPlain}
+use Rattle.command_steps.specs.PlanSteps.{PlanChecked, PlanRefused, AreRead, AreHeld}
+use Rattle.command_steps.proofs.InOrder.{rose_from, fits_from, some_fit, loops_none, held_is}
+
+-- a refusal in a call is one in a longer call
+pub step_since : {A : Type 0} (own : Which) (step : Option Bytes → Result A Status) (told : Told) (b0 b a a1 : ℕ) (ended : Status) → b0 ≤ b → a ≤ a1
+    → StepAs own step told b a (Err ended) → StepAs own step told b0 a1 (Err ended)
+step_since own step told b0 b a a1 ended le le1 (inl memory) = inl memory
+step_since own step told b0 b a a1 ended le le1 (inr (got, fits, is, fault)) =
+    inr (got, fits_from told b0 b a a1 got le le1 fits, is, λ other e. let f = fault other e in (f.0, rose_from b0 b a a1 le le1 f.1))
+
+pub netlist_since : (told : Told) (b0 b a a1 : ℕ) (ended : Status) → b0 ≤ b → a ≤ a1 → NetlistAs told b a (Err ended) → NetlistAs told b0 a1 (Err ended)
+netlist_since told b0 b a a1 ended le le1 (inl memory) = inl memory
+netlist_since told b0 b a a1 ended le le1 (inr (got, walk, fits, loops, is, fault)) =
+    inr (got, walk, fits_from told b0 b a a1 got le le1 fits, loops, is, λ other e. let f = fault other e in (f.0, rose_from b0 b a a1 le le1 f.1))
+
+-- the same on a shelf that tells the same
+pub step_on : {A : Type 0} (own : Which) (step : Option Bytes → Result A Status) (told now : Told) (b0 b a a1 : ℕ) (ended : Status) → now ≡ told → b0 ≤ b → a ≤ a1
+    → StepAs own step now b a (Err ended) → StepAs own step told b0 a1 (Err ended)
+step_on own step told now b0 b a a1 ended same le le1 refused =
+    step_since own step told b0 b a a1 ended le le1 (subst (λ t. StepAs own step t b a (Err ended)) same refused)
+
+-- why a plan isn't made
+by_plan : (r : Option PlanRefusal) (p : Analysis) (ended : Status) → unless (refusal_of_plan r) p ≡ Err ended → IsPlain ended × ((own : Which) → ended ≡ status.ReadFault own → ⊥)
+by_plan None p ended e = let bad : Ok p ≡ Err ended = e in cc bad
+by_plan (Some refusal) p ended e = subst (λ s. IsPlain s × ((own : Which) → s ≡ status.ReadFault own → ⊥)) (ap (why {A = Analysis}) e) (by_refusal refusal)
+  where
+    by_refusal : (refusal : PlanRefusal) → IsPlain (status_of_plan refusal) × ((own : Which) → status_of_plan refusal ≡ status.ReadFault own → ⊥)
+    by_refusal plan.TooManyFaults = (tt, λ own is. let bad : status.TooLarge what.Faults ≡ status.ReadFault own = is in cc bad)
+    by_refusal (plan.MissingRate net name) = (tt, λ own is. let bad : status.MissingRate net name ≡ status.ReadFault own = is in cc bad)
+    by_refusal (plan.IdleRate part permanent) = (tt, λ own is. let bad : status.IdleRate part permanent ≡ status.ReadFault own = is in cc bad)
+    by_refusal plan.Memory = (tt, λ own is. let bad : status.Memory ≡ status.ReadFault own = is in cc bad)
+
+pub plan_plain : (p : Analysis) (ended : Status) → (ended ≡ status.Memory) ⊎ (plan_step p ≡ Err ended) → IsPlain ended
+plan_plain p ended (inl memory) = subst IsPlain (sym memory) tt
+plan_plain p ended (inr is) = (by_plan (plan_refusal p) p ended is).0
+
+pub plan_never : (p : Analysis) (ended : Status) → (ended ≡ status.Memory) ⊎ (plan_step p ≡ Err ended) → (own : Which) → ended ≡ status.ReadFault own → ⊥
+plan_never p ended (inl memory) own e = let bad : status.Memory ≡ status.ReadFault own = sym memory ∙ e in cc bad
+plan_never p ended (inr is) own e = (by_plan (plan_refusal p) p ended is).1 own e
+
+-- a plan that was made is of what it was made of
+pub plan_same : (p made : Analysis) → plan_step p ≡ Ok made → made ≡ p
+plan_same p made e = by_refusal (plan_refusal p) e
+  where
+    by_refusal : (r : Option PlanRefusal) → unless (refusal_of_plan r) p ≡ Ok made → made ≡ p
+    by_refusal None is = ok_same (Ok made) made p refl (sym is)
+    by_refusal (Some refusal) is = let bad : Err (status_of_plan refusal) ≡ Ok made = is in cc bad
+
+-- a step of a file that was taken
+abbrev pub IsTaken : {A : Type 0} → Told → (Option Bytes → Result A Status) → Bytes → A → Type 0
+IsTaken told step bytes x = NowHas told bytes × (step (Some bytes) ≡ Ok x)
+
+-- the steps behind each
+abbrev to_plan : Circuit → Settings → List Run → RateTable → Points → Result Analysis Status
+to_plan c set runs rates points = plan_step (record { circuit = c; runs = runs; rates = rates; points = points; settings = set })
+
+abbrev after_rates : Circuit → Settings → Reads → List Run → RateTable → Result Analysis Status
+after_rates c set reads runs rates = points_step c reads.points >>= (λ points. to_plan c set runs rates points)
+
+abbrev after_runs : Circuit → Settings → Reads → List Run → Result Analysis Status
+after_runs c set reads runs = rates_step reads.rates >>= (λ rates. after_rates c set reads runs rates)
+
+abbrev after_net : Settings → Reads → Circuit → Result Analysis Status
+after_net set reads c = workload_step c reads.workload >>= (λ runs. after_runs c set reads runs)
+
+for_is : (c : Circuit) (set : Settings) (reads : Reads) → plan_for c set reads ≡ after_net set reads c
+unfolding plan_for
+for_is c set reads = refl
+
+of_is : (walk : Option (List NetId)) (set : Settings) (reads : Reads) → plan_of walk set reads ≡ (netlist_step walk reads.netlist >>= (λ c. plan_for c set reads))
+unfolding plan_of
+of_is walk set reads = refl
+
+pub plan_is : (walk : Option (List NetId)) (set : Settings) (reads : Reads) → plan_of walk set reads ≡ (netlist_step walk reads.netlist >>= after_net set reads)
+plan_is walk set reads = of_is walk set reads ∙ (λ j. netlist_step walk reads.netlist >>= (λ c. for_is c set reads j))
+
+-- the four names
+module _ (inputs : Inputs) (set : Settings) (shelf : Shelves) (before after : Bytes → ℕ) where
+  abbrev name : Which → Bytes
+  name = name_in inputs []
+
+  abbrev Taken : {A : Type 0} → Which → (Option Bytes → Result A Status) → Bytes → A → Type 0
+  Taken own step bytes x = IsTaken (shelf (name own)) step bytes x
+
+  abbrev Step : {A : Type 0} → Which → (Option Bytes → Result A Status) → Status → Type 0
+  Step own step ended = StepAs own step (shelf (name own)) (before (name own)) (after (name own)) (Err ended)
+
+  abbrev Answer : Status → Type 0
+  Answer ended = (ended ≡ status.Memory) ⊎ PlanRefused inputs set shelf before after ended
+
+  rose_of : (result : Bytes) (own : Which) (ended : Status) → FaultRose own (before (name_in inputs result own)) (after (name_in inputs result own)) ended
+      → (other : Which) → ended ≡ status.ReadFault other → Rose (before (name_in inputs result other)) (after (name_in inputs result other))
+  rose_of result own ended fault = λ other e.
+      let f = fault other e in subst (λ w. Rose (before (name_in inputs result w)) (after (name_in inputs result w))) (sym f.0) f.1
+
+  -- the netlist was refused
+  pub plan_netlist : (ended : Status) → NetlistAs (shelf (name which.Netlist)) (before (name which.Netlist)) (after (name which.Netlist)) (Err ended) → Answer ended
+  plan_netlist ended (inl memory) = inl memory
+  plan_netlist ended (inr (got, walk, fits, loops, is, fault)) =
+      let work = some_fit (shelf (name which.Workload)) (before (name which.Workload)) (after (name which.Workload)) in
+      let rates = some_fit (shelf (name which.Rates)) (before (name which.Rates)) (after (name which.Rates)) in
+      let points = some_fit (shelf (name which.Points)) (before (name which.Points)) (after (name which.Points)) in
+      let reads : Reads = record { netlist = got; workload = work.0; rates = rates.0; points = points.0; result = None } in
+      inr (record {
+        checked = record {
+          reads = reads;
+          fit = record { netlist = fits; workload = work.1; rates = rates.1; points = points.1 };
+          walk = walk;
+          loops = loops;
+          first = ap refusal_in (plan_is walk set reads ∙ ap (λ r. r >>= after_net set reads) is);
+        };
+        fault = λ result. rose_of result which.Netlist ended fault;
+      })
+
+  module _ (net_bytes : Bytes) (c : Circuit) (net : Taken which.Netlist (netlist_step None) net_bytes c) (no_loop : HasNoLoop c) where
+    abbrev loops : IsLoopAnswer (Some net_bytes) None
+    loops = loops_none net_bytes c net.1 no_loop
+
+    -- the workload was refused
+    pub plan_runs : (ended : Status) → Step which.Workload (workload_step c) ended → Answer ended
+    plan_runs ended (inl memory) = inl memory
+    plan_runs ended (inr (got, fits, is, fault)) =
+        let rates = some_fit (shelf (name which.Rates)) (before (name which.Rates)) (after (name which.Rates)) in
+        let points = some_fit (shelf (name which.Points)) (before (name which.Points)) (after (name which.Points)) in
+        let reads : Reads = record { netlist = Some net_bytes; workload = got; rates = rates.0; points = points.0; result = None } in
+        inr (record {
+          checked = record {
+            reads = reads;
+            fit = record { netlist = net.0; workload = fits; rates = rates.1; points = points.1 };
+            walk = None;
+            loops = loops;
+            first = ap refusal_in (plan_is None set reads ∙ ap (λ r. r >>= after_net set reads) net.1 ∙ ap (λ r. r >>= after_runs c set reads) is);
+          };
+          fault = λ result. rose_of result which.Workload ended fault;
+        })
+
+    module _ (work_bytes : Bytes) (runs : List Run) (work : Taken which.Workload (workload_step c) work_bytes runs) where
+      -- the rates were refused
+      pub plan_rates : (ended : Status) → Step which.Rates rates_step ended → Answer ended
+      plan_rates ended (inl memory) = inl memory
+      plan_rates ended (inr (got, fits, is, fault)) =
+          let points = some_fit (shelf (name which.Points)) (before (name which.Points)) (after (name which.Points)) in
+          let reads : Reads = record { netlist = Some net_bytes; workload = Some work_bytes; rates = got; points = points.0; result = None } in
+          inr (record {
+            checked = record {
+              reads = reads;
+              fit = record { netlist = net.0; workload = work.0; rates = fits; points = points.1 };
+              walk = None;
+              loops = loops;
+              first = ap refusal_in (plan_is None set reads ∙ ap (λ r. r >>= after_net set reads) net.1 ∙ ap (λ r. r >>= after_runs c set reads) work.1
+                  ∙ ap (λ r. r >>= after_rates c set reads runs) is);
+            };
+            fault = λ result. rose_of result which.Rates ended fault;
+          })
+
+      module _ (rate_bytes : Bytes) (table : RateTable) (rates : Taken which.Rates rates_step rate_bytes table) where
+        -- the points were refused
+        pub plan_points : (ended : Status) → Step which.Points (points_step c) ended → Answer ended
+        plan_points ended (inl memory) = inl memory
+        plan_points ended (inr (got, fits, is, fault)) =
+            let reads : Reads = record { netlist = Some net_bytes; workload = Some work_bytes; rates = Some rate_bytes; points = got; result = None } in
+            inr (record {
+              checked = record {
+                reads = reads;
+                fit = record { netlist = net.0; workload = work.0; rates = rates.0; points = fits };
+                walk = None;
+                loops = loops;
+                first = ap refusal_in (plan_is None set reads ∙ ap (λ r. r >>= after_net set reads) net.1 ∙ ap (λ r. r >>= after_runs c set reads) work.1
+                    ∙ ap (λ r. r >>= after_rates c set reads runs) rates.1 ∙ ap (λ r. r >>= to_plan c set runs table) is);
+              };
+              fault = λ result. rose_of result which.Points ended fault;
+            })
+
+        module _ (point_bytes : Bytes) (goals : Points) (points : Taken which.Points (points_step c) point_bytes goals) where
+          abbrev files : Files
+          files = record { netlist = net_bytes; workload = work_bytes; rates = rate_bytes; points = point_bytes }
+
+          -- what the steps come to, whichever other files were read
+          made : (reads : Reads) → reads.netlist ≡ Some net_bytes → reads.workload ≡ Some work_bytes → reads.rates ≡ Some rate_bytes → reads.points ≡ Some point_bytes
+              → plan_of None set reads ≡ to_plan c set runs table goals
+          made reads n w r p =
+              plan_is None set reads ∙ ap (λ x. x >>= after_net set reads) (ap (netlist_step None) n ∙ net.1)
+              ∙ ap (λ x. x >>= after_runs c set reads) (ap (workload_step c) w ∙ work.1)
+              ∙ ap (λ x. x >>= after_rates c set reads runs) (ap rates_step r ∙ rates.1)
+              ∙ ap (λ x. x >>= to_plan c set runs table) (ap (points_step c) p ∙ points.1)
+
+          -- the plan was refused
+          pub plan_refused : (ended : Status) → ((own : Which) → ended ≡ status.ReadFault own → ⊥)
+              → (ended ≡ status.Memory) ⊎ (to_plan c set runs table goals ≡ Err ended) → Answer ended
+          plan_refused ended never (inl memory) = inl memory
+          plan_refused ended never (inr is) =
+              let reads : Reads = all_read files [] in
+              inr (record {
+                checked = record {
+                  reads = reads;
+                  fit = record { netlist = net.0; workload = work.0; rates = rates.0; points = points.0 };
+                  walk = None;
+                  loops = loops;
+                  first = ap refusal_in (made reads refl refl refl refl ∙ is);
+                };
+                fault = λ result own e. absurd (never own e);
+              })
+
+          -- nothing refused
+          pub plan_made : (p : Analysis) → to_plan c set runs table goals ≡ Ok p → HasNoLoop p.circuit → IsPlanOf set files p
+          plan_made p is free = record { plan = made (all_read files []) refl refl refl refl ∙ is; no_loop = free }
+
+-- files that were read are those that are told to be held
+pub are_held : (shelf : Shelves) (inputs : Inputs) (files : Files) → AreRead shelf inputs files → AreHeld shelf inputs files
+are_held shelf inputs files read = λ held told. λ j. record {
+  netlist = held_is (shelf inputs.netlist) held.netlist files.netlist read.netlist told.netlist j;
+  workload = held_is (shelf inputs.workload) held.workload files.workload read.workload told.workload j;
+  rates = held_is (shelf inputs.rates) held.rates files.rates read.rates told.rates j;
+  points = held_is (shelf inputs.points) held.points files.points read.points told.points j;
+}
+
+-- over them nothing refuses a plan that was made
+pub plan_checked : (inputs : Inputs) (set : Settings) (shelf : Shelves) (before after : Bytes → ℕ) (files : Files) (p : Analysis)
+    → AreRead shelf inputs files → IsPlanOf set files p → IsLoopAnswer (Some files.netlist) None → PlanChecked inputs set shelf before after None
+plan_checked inputs set shelf before after files p read plan loops = record {
+  reads = all_read files [];
+  fit = record { netlist = read.netlist; workload = read.workload; rates = read.rates; points = read.points };
+  walk = None;
+  loops = loops;
+  first = ap refusal_in plan.plan;
+}

@@ -1,0 +1,212 @@
+-- The order of the checks. Each step gives what it reads, or the refusal; a line is reached only where no line above it refuses.
+use Rattle.std.specs.Prelude.{◌≡◌, ℕ, ◌^◌, Bool, not, ◌&&◌, List, [], ◌∷◌, length, Option, Some, None, Result, Ok, Err, find, if◌then◌else◌, nat_lt, ◌==◌, true, false, codes}
+use Rattle.circuit.specs.declared.parts.NetId.{NetId}
+use Rattle.circuit.specs.Circuit.{Circuit}
+use Rattle.circuit.specs.Loop.{HasNoLoop, AnswersLoops}
+use Rattle.blif_model.specs.Net.{netlist_of}
+use Rattle.workload.specs.declared.run.Run.{Run}
+use Rattle.workload.specs.WorkloadFile.{workload_of}
+use Rattle.rate_table.specs.RatesFile.{rates_of}
+use Rattle.rate_table.specs.Table.{RateTable}
+use Rattle.alarm_points.specs.declared.Points.{Points}
+use Rattle.alarm_points.specs.PointsFile.{points_of, all_outputs}
+use Rattle.campaign_plan.specs.declared.Outcome.{Outcome}
+use Rattle.campaign_plan.specs.declared.Settings.{Settings}
+use Rattle.campaign_plan.specs.declared.PlanRefusal.{PlanRefusal}
+use Rattle.campaign_plan.specs.declared.PlanRefusal.TheVariants as plan
+use Rattle.campaign_plan.specs.Analysis.{Analysis, batch_count}
+use Rattle.campaign_plan.specs.PlanFaults.{plan_refusal}
+use Rattle.campaign_plan.specs.Batches.{true_planes}
+use Rattle.result_file.specs.declared.KeptRows.{KeptRows}
+use Rattle.result_file.specs.declared.ResultRefusal.{ResultRefusal}
+use Rattle.result_file.specs.declared.ResultRefusal.TheVariants as back
+use Rattle.result_file.specs.declared.Row.{Row}
+use Rattle.result_file.specs.ResultText.{own_digest, header_text}
+use Rattle.result_file.specs.KeptRows.{kept}
+use Rattle.sample_gen.specs.Sample.{netlist_text, workload_text, rates_text, points_text}
+use Rattle.refusal_text.specs.declared.status.Status.{Status}
+use Rattle.refusal_text.specs.declared.status.Status.TheVariants as status
+use Rattle.refusal_text.specs.declared.status.Which.{Which}
+use Rattle.refusal_text.specs.declared.status.Which.TheVariants as which
+use Rattle.refusal_text.specs.declared.status.What.TheVariants as what
+use Rattle.command_line.specs.Commands.{Command, Classes, Check, Run as RunCommand, Resume, Audit, Gen, settings_of}
+use Rattle.command_steps.specs.Files.{Files, Reads, all_read, files_of}
+use Rattle.fm_base.specs.Names.{Bytes}
+use Rattle.metric_sums.specs.declared.Role.TheVariants.{Mission}
+
+-- one part of role mission that isn't covered, for all nets
+abbrev pub one_part : RateTable
+one_part = record {
+  patterns = record { name = []; star = true; part = 0 } ∷ [];
+  parts = record { name = codes "all"; role = Mission; covered = false; permanent = 0; transient = 0 } ∷ [];
+}
+
+-- the plan of `classes`: all outputs observed, no alarm, no flips, no pulses and one uncovered mission part
+abbrev pub classes_plan : Circuit → List Run → Analysis
+classes_plan c runs = record { circuit = c; runs = runs; rates = one_part; points = all_outputs c; settings = settings_of [] [] }
+
+-- a step after another: it is reached where the other gave something
+infixl 10 ◌>>=◌
+abbrev pub ◌>>=◌ : {A B : Type 0} → Result A Status → (A → Result B Status) → Result B Status
+(Ok x) >>= next = next x
+(Err refusal) >>= next = Err refusal
+
+-- an answer, whose refusal is told as a status
+abbrev pub or_refuse : {A E : Type 0} → (E → Status) → Result A E → Result A Status
+or_refuse told (Ok x) = Ok x
+or_refuse told (Err e) = Err (told e)
+
+-- the value, unless there is a refusal
+abbrev pub unless : {A : Type 0} → Option Status → A → Result A Status
+unless None x = Ok x
+unless (Some refusal) x = Err refusal
+
+-- a file that was read, of at most 2^26 bytes
+abbrev pub at_most : Which → Option Bytes → Result Bytes Status
+at_most which None = Err (status.ReadFault which)
+at_most which (Some bytes) = unless (if nat_lt (2 ^ 26) (length bytes) then Some (status.TooLarge (what.File which)) else None) bytes
+
+-- a circuit without a loop, where `walk` is what is answered of loops
+abbrev pub loop_refusal : Option (List NetId) → Option Status
+loop_refusal None = None
+loop_refusal (Some walk) = Some (status.Loop walk)
+
+-- NETLIST
+unfoldable pub netlist_step : Option (List NetId) → Option Bytes → Result Circuit Status
+netlist_step walk bytes = do
+  whole ← at_most which.Netlist bytes
+  c ← or_refuse status.Netlist (netlist_of whole)
+  unless (loop_refusal walk) c
+
+-- at most 1,024 outputs, in `classes`
+abbrev pub outputs_step : Circuit → Result Circuit Status
+outputs_step c = unless (if nat_lt 1024 (length c.outputs) then Some (status.TooLarge what.Outputs) else None) c
+
+-- WORKLOAD
+unfoldable pub workload_step : Circuit → Option Bytes → Result (List Run) Status
+workload_step c bytes = do
+  whole ← at_most which.Workload bytes
+  or_refuse status.Workload (workload_of c whole)
+
+-- RATES
+unfoldable pub rates_step : Option Bytes → Result RateTable Status
+rates_step bytes = do
+  whole ← at_most which.Rates bytes
+  or_refuse status.Rates (rates_of whole)
+
+-- POINTS
+unfoldable pub points_step : Circuit → Option Bytes → Result Points Status
+points_step c bytes = do
+  whole ← at_most which.Points bytes
+  or_refuse status.Points (points_of c whole)
+
+-- the status of a refusal of the plan
+abbrev pub status_of_plan : PlanRefusal → Status
+status_of_plan plan.TooManyFaults = status.TooLarge what.Faults
+status_of_plan (plan.MissingRate net name) = status.MissingRate net name
+status_of_plan (plan.IdleRate part permanent) = status.IdleRate part permanent
+status_of_plan plan.Memory = status.Memory
+
+-- too many faults, a missing rate, an idle rate
+abbrev pub refusal_of_plan : Option PlanRefusal → Option Status
+refusal_of_plan None = None
+refusal_of_plan (Some refusal) = Some (status_of_plan refusal)
+
+-- TOO MANY FAULTS, A MISSING RATE, AN IDLE RATE
+abbrev pub plan_step : Analysis → Result Analysis Status
+plan_step p = unless (refusal_of_plan (plan_refusal p)) p
+
+-- the plan of a netlist and three more files, or the first refusal
+unfoldable pub plan_for : Circuit → Settings → Reads → Result Analysis Status
+plan_for c set reads = do
+  runs ← workload_step c reads.workload
+  rates ← rates_step reads.rates
+  points ← points_step c reads.points
+  plan_step (record { circuit = c; runs = runs; rates = rates; points = points; settings = set })
+
+-- the plan of four files, or the first refusal
+unfoldable pub plan_of : Option (List NetId) → Settings → Reads → Result Analysis Status
+plan_of walk set reads = do
+  c ← netlist_step walk reads.netlist
+  plan_for c set reads
+
+-- the plan of `classes`, or the first refusal
+unfoldable pub classes_plan_of : Option (List NetId) → Reads → Result Analysis Status
+classes_plan_of walk reads = do
+  c ← netlist_step walk reads.netlist
+  counted ← outputs_step c
+  runs ← workload_step counted reads.workload
+  Ok (classes_plan counted runs)
+
+-- the plan's own header over these files
+abbrev pub own_header : Settings → Files → Analysis → Bytes
+own_header set files p = header_text (own_digest set files.netlist files.workload files.rates files.points) (batch_count p)
+
+-- the status of a refusal of RESULT
+abbrev pub status_of_back : ResultRefusal → Status
+status_of_back (back.Foreign found own) = status.Foreign found own
+status_of_back (back.BadRow number why) = status.BadRow number why
+
+-- RESULT
+unfoldable pub result_step : Bytes → Analysis → Option Bytes → Result KeptRows Status
+result_step own p bytes = do
+  whole ← at_most which.Result bytes
+  or_refuse status_of_back (kept own p whole)
+
+-- a row keeps other planes than those that its batch is given
+abbrev pub is_wrong : (ℕ → Outcome) → Row → Bool
+is_wrong planes row = not ((row.danger == (planes row.batch).danger) && (row.noticed == (planes row.batch).noticed))
+
+-- the status of such a row
+abbrev pub disagreement : (ℕ → Outcome) → Option Row → Option Status
+disagreement planes None = None
+disagreement planes (Some row) =
+    Some (status.Disagrees row.batch (record { danger = row.danger; noticed = row.noticed }) (planes row.batch))
+
+-- AUDIT: the first row whose planes aren't those that its batch truly has
+unfoldable pub audit_step : Analysis → KeptRows → Result KeptRows Status
+audit_step p k = unless (disagreement (true_planes p) (find (is_wrong (true_planes p)) k.rows)) k
+
+-- the refusal of steps, if they refuse
+abbrev pub refusal_in : {A : Type 0} → Result A Status → Option Status
+refusal_in (Ok x) = None
+refusal_in (Err refusal) = Some refusal
+
+-- the rows that `resume` and `audit` keep
+unfoldable pub kept_of : Option (List NetId) → Settings → Reads → Result KeptRows Status
+kept_of walk set reads = do
+  p ← plan_of walk set reads
+  result_step (own_header set (files_of reads) p) p reads.result
+
+-- the rows that `audit` has found right
+unfoldable pub audited_of : Option (List NetId) → Settings → Reads → Result KeptRows Status
+audited_of walk set reads = do
+  p ← plan_of walk set reads
+  k ← result_step (own_header set (files_of reads) p) p reads.result
+  audit_step p k
+
+-- the generated texts
+abbrev pub generated : ℕ → Files
+generated n = record { netlist = netlist_text n; workload = workload_text n; rates = rates_text; points = points_text }
+
+-- the settings of `gen`: flips in cycle 1, and no pulses
+abbrev pub generated_settings : Settings
+generated_settings = settings_of (1 ∷ []) []
+
+-- the first refusal of a command, over what was read
+unfoldable pub first_refusal : Option (List NetId) → Command → Reads → Option Status
+first_refusal walk (Classes netlist workload) reads = refusal_in (classes_plan_of walk reads)
+first_refusal walk (Check inputs flips pulses) reads = refusal_in (plan_of walk (settings_of flips pulses) reads)
+first_refusal walk (RunCommand inputs name set workers) reads = refusal_in (plan_of walk set reads)
+first_refusal walk (Resume inputs name set workers) reads = refusal_in (kept_of walk set reads)
+first_refusal walk (Audit inputs name set) reads = refusal_in (audited_of walk set reads)
+first_refusal walk (Gen n name workers) reads = refusal_in (plan_of walk generated_settings (all_read (generated n) []))
+
+-- `walk` is what is answered of loops, where the file was read and is a netlist
+abbrev pub IsLoopAnswer : Option Bytes → Option (List NetId) → Type 0
+IsLoopAnswer got walk = (bytes : Bytes) (c : Circuit) → at_most which.Netlist got ≡ Ok bytes → netlist_of bytes ≡ Ok c → AnswersLoops c walk
+
+-- the plan of four files, in which no step refuses
+pub record IsPlanOf (set : Settings) (files : Files) (p : Analysis) : Type 0 where
+  pub plan : plan_of None set (all_read files []) ≡ Ok p
+  pub no_loop : HasNoLoop p.circuit

@@ -1,0 +1,44 @@
+-- The files of a command: their names, and what a shelf tells of them.
+use Rattle.std.specs.Prelude.{◌≡◌, [], Some}
+use Rattle.fm_shelf.specs.Shelf.{Told}
+use Rattle.refusal_text.specs.declared.status.Which.{Which}
+use Rattle.refusal_text.specs.declared.status.Which.TheVariants as which
+use Rattle.command_line.specs.Commands.{Command, Classes, Check, Run, Resume, Audit, Gen, Inputs}
+use Rattle.command_steps.specs.Files.{Files}
+use Rattle.fm_base.specs.Names.{Bytes}
+
+-- what is told of each file of a shelf
+abbrev pub Shelves : Type 0
+Shelves = Bytes → Told
+
+-- the shelf tells that a file holds these bytes
+abbrev pub Holds : Shelves → Bytes → Bytes → Type 0
+Holds shelf name bytes = shelf name ≡ Some (Some bytes)
+
+-- the shelf tells the bytes of the four inputs
+pub record HoldsInputs (shelf : Shelves) (inputs : Inputs) (files : Files) : Type 0 where
+  pub netlist : Holds shelf inputs.netlist files.netlist
+  pub workload : Holds shelf inputs.workload files.workload
+  pub rates : Holds shelf inputs.rates files.rates
+  pub points : Holds shelf inputs.points files.points
+
+-- no file has changed
+abbrev pub KeepsAll : Shelves → Shelves → Type 0
+KeepsAll before after = (name : Bytes) → after name ≡ before name
+
+-- the name of each file by the words of a command
+abbrev pub name_in : Inputs → Bytes → Which → Bytes
+name_in inputs result which.Netlist = inputs.netlist
+name_in inputs result which.Workload = inputs.workload
+name_in inputs result which.Rates = inputs.rates
+name_in inputs result which.Points = inputs.points
+name_in inputs result which.Result = result
+
+-- the name of each file of a command; those that it doesn't have are empty
+abbrev pub name_of : Command → Which → Bytes
+name_of (Classes netlist workload) = name_in (record { netlist = netlist; workload = workload; rates = []; points = [] }) []
+name_of (Check inputs flips pulses) = name_in inputs []
+name_of (Run inputs name set workers) = name_in inputs name
+name_of (Resume inputs name set workers) = name_in inputs name
+name_of (Audit inputs name set) = name_in inputs name
+name_of (Gen n name workers) = name_in (record { netlist = []; workload = []; rates = []; points = [] }) name

@@ -1,6 +1,0 @@
-use Rattle.std.proofs.Common.{◌≡◌, take}
-use Rattle.fmeda_top.proofs.CheckText.{points_of}
-use Rattle.fmeda_top.proofs.check_text.observation_points.Given as goal
-
-abbrev pub invariant-loop-goal : goal.invariant-loop-goal
-invariant-loop-goal l = l.count ≡ points_of (take l.goal-index l.goals)

@@ -1,4 +1,0 @@
-use Rattle.fmeda_top.proofs.simulator.Simulator.outcome.Given as goal
-
-abbrev pub ghosts-counted_outcome : goal.ghosts-counted_outcome
-ghosts-counted_outcome a = record { name = a.blank.name; parts = a.blank.parts }

@@ -1,0 +1,73 @@
+-- What a command has written when it was tried, or its refusal.
+use Rattle.std.specs.Prelude.{◌≡◌, ◌⊎◌, ℕ, Option, None, Result, Ok, Err, length}
+use Rattle.circuit.specs.Loop.{HasNoLoop}
+use Rattle.fm_shelf.specs.Shelf.{Rose, told_more, HasPrefix}
+use Rattle.command_line.specs.Commands.{Classes, Inputs, Audit}
+use Rattle.campaign_plan.specs.Analysis.{Analysis}
+use Rattle.refusal_text.specs.declared.status.Status.{Status}
+use Rattle.refusal_text.specs.declared.status.Status.TheVariants as status
+use Rattle.refusal_text.specs.declared.refused.Refused.{Refused}
+use Rattle.refusal_text.specs.declared.refused.Refused.TheVariants.{By, Looped}
+use Rattle.command_steps.specs.Files.{Files, all_read}
+use Rattle.command_steps.specs.Held.{Shelves, Holds, HoldsInputs}
+use Rattle.command_steps.specs.Checked.{Checked}
+use Rattle.command_text.specs.Texts.{classes_text, audit_text}
+use Rattle.refusal_text.specs.declared.status.WriteTo.TheVariants as to
+use Rattle.fm_base.specs.Names.{Bytes}
+use Rattle.campaign_plan.specs.declared.Settings.{Settings}
+use Rattle.command_steps.specs.FirstRefusal.{IsPlanOf, audited_of, audit_step}
+use Rattle.refusal_text.specs.RefusalLines.{refused}
+use Rattle.refusal_text.specs.Refusals.{status_of, HasItsNets}
+use Rattle.result_file.specs.declared.KeptRows.{KeptRows}
+use Rattle.command_steps.specs.Steps.{RefusedInOrder, IsClassesPlan}
+use Rattle.command_steps.specs.PlanSteps.{AreHeld, PlanChecked, PlanRefused}
+
+-- the text of Done went out, or a prefix of it where `out` failed; or nothing was written, for want of memory
+abbrev pub TextAs : (written_before written_after : Option Bytes) → (faults_before faults_after : ℕ) → Bytes → Result Status Refused → Type 0
+TextAs before after faults_before faults_after text (Ok ended) =
+    ((ended ≡ status.Done) × (after ≡ told_more before text))
+    ⊎ ((ended ≡ status.WriteFault to.Out) × HasPrefix before after text × Rose faults_before faults_after)
+TextAs before after faults_before faults_after text (Err refused) =
+    (refused ≡ By status.Memory) × (after ≡ before) × (faults_after ≡ faults_before)
+
+-- `classes` was tried: it has written its text, or it was refused and has written nothing
+abbrev pub ClassesAs : Shelves → (before after : Bytes → ℕ) → (netlist workload : Bytes) → (written_before written_after : Option Bytes) → (faults_before faults_after : ℕ)
+    → Result Status Refused → Type 0
+ClassesAs shelf before after netlist workload out_before out_after faults_before faults_after (Ok ended) =
+    (p : Analysis) × IsClassesPlan shelf netlist workload p × HasNoLoop p.circuit × Checked (Classes netlist workload) shelf before after None
+    × TextAs out_before out_after faults_before faults_after (classes_text p) (Ok ended)
+ClassesAs shelf before after netlist workload out_before out_after faults_before faults_after (Err refused) =
+    ((status_of refused ≡ status.Memory) ⊎ RefusedInOrder (Classes netlist workload) shelf before after (status_of refused))
+    × HasItsNets (shelf netlist) refused × (out_after ≡ out_before) × (faults_after ≡ faults_before)
+
+-- a command over a plan was tried: it has written this text of the plan, or it was refused and has written nothing
+abbrev pub PlanTextAs : Shelves → (before after : Bytes → ℕ) → Inputs → Settings → (Analysis → Bytes) → (written_before written_after : Option Bytes)
+    → (faults_before faults_after : ℕ) → Result Status Refused → Type 0
+PlanTextAs shelf before after inputs set text out_before out_after faults_before faults_after (Ok ended) =
+    (p : Analysis) × (files : Files) × AreHeld shelf inputs files × IsPlanOf set files p × PlanChecked inputs set shelf before after None
+    × TextAs out_before out_after faults_before faults_after (text p) (Ok ended)
+PlanTextAs shelf before after inputs set text out_before out_after faults_before faults_after (Err refused) =
+    ((status_of refused ≡ status.Memory) ⊎ PlanRefused inputs set shelf before after (status_of refused))
+    × HasItsNets (shelf inputs.netlist) refused × (out_after ≡ out_before) × (faults_after ≡ faults_before)
+
+-- all rows have the planes that their batches truly have, or the first that hasn't is refused
+abbrev pub ChecksAs : Analysis → KeptRows → Result (Unit {0}) Refused → Type 0
+ChecksAs p k (Ok done) = audit_step p k ≡ Ok k
+ChecksAs p k (Err (By ended)) = (ended ≡ status.Memory) ⊎ (audit_step p k ≡ Err ended)
+ChecksAs p k (Err (Looped walk net)) = ⊥
+
+-- the files of `audit` stand for this plan, and these rows of it were found right
+abbrev pub AreAudited : Shelves → Inputs → Bytes → Settings → Analysis → KeptRows → Type 0
+AreAudited shelf inputs name set p k =
+    (files : Files) (bytes : Bytes) → HoldsInputs shelf inputs files → Holds shelf name bytes
+    → IsPlanOf set files p × (audited_of None set (all_read files bytes) ≡ Ok k)
+
+-- `audit` was tried: it has written its line, or it was refused and has written nothing
+abbrev pub AuditAs : Shelves → (before after : Bytes → ℕ) → Inputs → Bytes → Settings → (written_before written_after : Option Bytes)
+    → (faults_before faults_after : ℕ) → Result Status Refused → Type 0
+AuditAs shelf before after inputs name set out_before out_after faults_before faults_after (Ok ended) =
+    (p : Analysis) × (k : KeptRows) × AreAudited shelf inputs name set p k × Checked (Audit inputs name set) shelf before after None
+    × TextAs out_before out_after faults_before faults_after (audit_text (length k.rows) p) (Ok ended)
+AuditAs shelf before after inputs name set out_before out_after faults_before faults_after (Err refused) =
+    ((status_of refused ≡ status.Memory) ⊎ RefusedInOrder (Audit inputs name set) shelf before after (status_of refused))
+    × HasItsNets (shelf inputs.netlist) refused × (out_after ≡ out_before) × (faults_after ≡ faults_before)

@@ -1,0 +1,22 @@
+-- What the words of a call ask for, and refusals of the words themselves.
+use Rattle.command_line.specs.Commands.{Command, Check, Run, Resume, Audit, Gen}
+use Rattle.refusal_text.specs.declared.status.Status.{Status}
+use Rattle.refusal_text.specs.declared.status.Status.TheVariants as status
+use Rattle.std.specs.Prelude.{◌<◌, ◌≤◌}
+use Rattle.campaign_plan.specs.Kept.{AreSettings}
+use Rattle.fault_list.specs.Faults.{AreCycles}
+
+-- the settings and the number of workers of a command lie within their limits
+abbrev pub IsFit : Command → Type 0
+IsFit (Check inputs flips pulses) = AreCycles 16 flips × AreCycles 4 pulses
+IsFit (Run inputs result set workers) = AreSettings set × (0 < workers) × (workers ≤ 32)
+IsFit (Resume inputs result set workers) = AreSettings set × (0 < workers) × (workers ≤ 32)
+IsFit (Audit inputs result set) = AreSettings set
+IsFit (Gen stages result workers) = (1 ≤ stages) × (stages ≤ 1000) × (0 < workers) × (workers ≤ 32)
+IsFit _ = Unit {0}
+
+-- a refusal of the words themselves
+abbrev pub IsOfWords : Status → Type 0
+IsOfWords status.Usage = Unit {0}
+IsOfWords status.Memory = Unit {0}
+IsOfWords _ = ⊥
