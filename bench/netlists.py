@@ -134,6 +134,34 @@ def many_patterns(folder, nets, patterns):
     put(folder, "p.csv", ["kind,net", f"observe,{name(nets - INPUTS - 1, 16)}"])
 
 
+def limits(folder, inputs, cycles, patterns=1, points=1):
+    """A netlist of `inputs` inputs and their buffers, with tables of so many rows."""
+    ins, outs = [f"in{i}" for i in range(inputs)], [f"out{i}" for i in range(inputs)]
+
+    def lines():
+        yield ".model limits"
+        yield ".inputs " + " ".join(ins)
+        yield ".outputs " + " ".join(outs)
+        for i, o in zip(ins, outs):
+            yield f".names {i} {o}"
+            yield "1 1"
+        yield ".end"
+
+    put(folder, "n.blif", lines())
+    bits = ["," + ",".join("01"[(i * i + t) % 3 == 0] for i in range(inputs)) for t in range(3)]
+    put(folder, "w.csv", ["workload,kind," + ",".join(ins), *(f"w,mission{bits[t % 3]}" for t in range(cycles))])
+    put(folder, "r.csv", [RATES.rstrip(), *(f"none{i}*,rest,mission,no,1,0" for i in range(patterns - 1)), "*,rest,mission,no,1,0"])
+    put(folder, "p.csv", ["kind,net", *(f"observe,{o}" for o in (outs + ins)[:points])])
+
+
+def wide_campaign(folder, nets):
+    """`nets` nets with 512 observation points and 512 alarms, and a short workload."""
+    flat(folder, nets, 16)
+    put(folder, "w.csv", ["workload,kind," + ",".join(name(10**6 + i, 16) for i in range(INPUTS)), *("w,mission" + f",{t % 2}" * INPUTS for t in range(2))])
+    put(folder, "r.csv", [RATES.rstrip(), "*,rest,mission,yes,1,0"])
+    put(folder, "p.csv", ["kind,net", *(f"{'observe' if i % 2 else 'alarm'},{name(i, 16)}" for i in range(1024))])
+
+
 def many_faults(folder, nets):
     """`nets` inputs of a mechanism, of which nothing is seen: with two pulse cycles there are 4 faults a net, half of them latent."""
     names = [f"n{i}" for i in range(nets)]
@@ -179,9 +207,9 @@ def system(folder, pairs, cycles):
 
     put(folder, "n.blif", lines())
     work = (EXAMPLE / "workload.csv").read_text().split("\n")
-    # The two cycles of reset are left out; each state starts at 0.
-    drive = [row for row in work[1:] if row.startswith("drive")][2:2 + cycles]
-    put(folder, "w.csv", [work[0], *drive])
+    # The two cycles of reset are left out; each state starts at 0. The rows stand again and again until there are enough.
+    drive = [row for row in work[1:] if row.startswith("drive")][2:]
+    put(folder, "w.csv", [work[0], *(drive[t % len(drive)] for t in range(cycles))])
     put(folder, "r.csv", [RATES.rstrip(), "$*,constants,other,no,0,0", *(f"p{k}.u_main.*,main,mission,yes,12,0" for k in range(min(pairs, 100))), "*,rest,mechanism,no,12,0"])
     put(folder, "p.csv", ["kind,net", *(f"observe,p{k}.torque[{i}]" for k in range(pairs) for i in range(2, 8)), *(f"alarm,p{k}.alarm" for k in range(pairs))])
 
