@@ -1,7 +1,7 @@
 -- Nets that no fault names, cycles without a pulse, and forces that were set in order.
-use Rattle.std.proofs.Common.{◌≡◌, ℕ, zero, suc, ◌+◌, ◌<◌, ◌==◌, ◌||◌, ◌&&◌, Bool, true, false, not, cond, List, [], ◌∷◌, length, drop, get_or, refl, ap, sym, ◌∙◌, Option}
-use Rattle.std.proofs.lemmas.List.{drop_more}
-use Rattle.std.proofs.lemmas.Bool.{true≢false}
+use Rattle.std.proofs.Common.{◌≡◌, inl, inr, ℕ, zero, suc, ◌+◌, ◌<◌, ◌==◌, ◌||◌, ◌&&◌, Bool, true, false, not, cond, List, [], ◌∷◌, length, drop, set, get_or, refl, ap, sym, ◌∙◌, Option}
+use Rattle.std.proofs.lemmas.List.{drop_more, get_or_default, get_or-set_same, get_or-set_other}
+use Rattle.std.proofs.lemmas.Bool.{cases_eq, true≢false}
 use Rattle.std.specs.List.{list_any}
 use Rattle.circuit.specs.declared.parts.Fault.{Fault}
 use Rattle.circuit.specs.declared.parts.Fault.TheVariants.{Stuck, Flip, Pulse}
@@ -21,6 +21,10 @@ and_false : (b : Bool) → (b && false) ≡ false
 and_false true = refl
 and_false false = refl
 
+pub or_false : (b : Bool) → (b || false) ≡ b
+or_false true = refl
+or_false false = refl
+
 pub merged : (a b s f : Bool) → cond b s (cond a s f) ≡ cond (a || b) s f
 merged true true s f = refl
 merged true false s f = refl
@@ -30,6 +34,15 @@ merged false false s f = refl
 pub armed : (b s f : Bool) → (b ≡ false → f ≡ s) → cond b s f ≡ s
 armed true s f e = refl
 armed false s f e = e refl
+
+-- an item is stored that has the value of the one at its place
+pub stored_same : {X : Type 0} (value : X → Bool) (xs : List X) (at n : ℕ) (old new d : X) → at < length xs → value new ≡ value (get_or xs at old)
+    → value (get_or (set xs at new) n d) ≡ value (get_or xs n d)
+stored_same value xs at n old new d within same =
+    elim (cases_eq n at) [
+      | inl e ↦ rw e (ap value (get_or-set_same xs at new d within) ∙ same ∙ ap value (get_or_default xs at old d within))
+      | inr apart ↦ ap value (get_or-set_other xs at n new d apart)
+    ]
 
 pub named_more : (loads : List (List (Option Fault))) (i n : ℕ) → i < length loads
     → named (drop i loads) n ≡ (names (get_or loads i []) n || named (drop (i + 1) loads) n)
@@ -60,12 +73,16 @@ off_pulse n t (Stuck net value) e = refl
 off_pulse n t (Flip latch cycle) e = refl
 off_pulse n t (Pulse net cycle) e = ap (λ b. b && (cycle == t)) e
 
--- no fault of any lane changes a net that none names
+-- no fault changes a net that none names
+pub lane_free : (faults : List Fault) (t n : ℕ) (own : Bool) → list_any (is_on n) faults ≡ false → affected faults t n own ≡ own
+lane_free faults t n own e =
+    ap (λ b. forced faults n (inverted b own)) (none_passes (is_pulse_on n t) (is_on n) (off_pulse n t) faults e) ∙ forced_free faults n own e
+
+pub lane_unnamed : (loads : List (List (Option Fault))) (k n : ℕ) → named loads n ≡ false → names (get_or loads k []) n ≡ false
+lane_unnamed loads k n e = lane_fails (λ faults. names faults n) refl loads k e
+
 pub affected_free : (loads : List (List (Option Fault))) (k t n : ℕ) (own : Bool) → named loads n ≡ false → affected (faults_of loads k) t n own ≡ own
-affected_free loads k t n own e =
-    let free = lane_fails (λ faults. names faults n) refl loads k e in
-    ap (λ b. forced (faults_of loads k) n (inverted b own)) (none_passes (is_pulse_on n t) (is_on n) (off_pulse n t) (faults_of loads k) free)
-    ∙ forced_free (faults_of loads k) n own free
+affected_free loads k t n own e = lane_free (faults_of loads k) t n own (lane_unnamed loads k n e)
 
 other_cycle : (n t : ℕ) (fault : Fault) → is_pulse_in t fault ≡ false → is_pulse_on n t fault ≡ false
 other_cycle n t (Stuck net value) e = refl

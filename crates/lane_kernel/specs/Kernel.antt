@@ -4,7 +4,7 @@ use Rattle.circuit.specs.Trace.{first_state}
 use Rattle.lane_kernel.specs.declared.kernel.Kernel.{Kernel}
 use Rattle.lane_kernel.specs.Bank.{Bank}
 use Rattle.lane_kernel.specs.Gates.{AreNarrowRuns, AreOps, IsNext, IsProgram}
-use Rattle.lane_kernel.specs.Loads.{AreIdle, AreSteady, IsUnnamed, has_transients}
+use Rattle.lane_kernel.specs.Loads.{AreIdle, AreMarks, AreSteady, IsUnnamed, has_transients}
 
 -- a kernel as contracts see it
 abbrev pub bank_of : {W : Type 0} → Kernel W → Bank W
@@ -25,6 +25,7 @@ pub record IsKernel {W : Type 0} (lanes : ℕ) (bit : W → ℕ → Bool) (s : K
   pub loads : length s.loads.items ≡ lanes
   pub transient : s.transient ≡ has_transients s.loads.items
   pub marks : length s.marks.items ≡ length s.circuit.value.drivers
+  pub marked : AreMarks s.loads.items s.marks.items
   pub next : IsNext (length s.gates.items) s.next.items
   pub narrow : AreNarrowRuns s.gates.items s.next.items
   pub quiet : IsUnnamed s.loads.items s.gates.items s.next.items

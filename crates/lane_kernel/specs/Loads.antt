@@ -4,6 +4,7 @@ use Rattle.std.specs.List.{list_any}
 use Rattle.circuit.specs.declared.parts.Fault.{Fault}
 use Rattle.circuit.specs.declared.parts.Fault.TheVariants.{Stuck, Flip, Pulse}
 use Rattle.circuit.specs.Effects.{affected, is_permanent}
+use Rattle.circuit.specs.Value.{bit_at}
 use Rattle.lane_kernel.specs.declared.force.Force.{Force}
 use Rattle.lane_kernel.specs.declared.gate.Gate.{Gate}
 use Rattle.lane_kernel.specs.Gates.{force_value, gate_at}
@@ -37,10 +38,14 @@ abbrev pub IsUnnamed : List (List (Option Fault)) → List Gate → List ℕ →
 IsUnnamed loads gates next =
     (from j : ℕ) → from < length gates → from ≤ j → j < slice_index_or next from 0 → named loads (gate_at gates j).to ≡ false
 
--- the forces leave each net as it is that no fault names
+-- marks stand at the nets that faults name, and at no others
+abbrev pub AreMarks : List (List (Option Fault)) → List Bool → Type 0
+AreMarks loads marks = (n : ℕ) → n < length marks → bit_at marks n ≡ named loads n
+
+-- in each lane the forces leave each net as it is that no fault of this lane names
 abbrev pub AreIdle : {W : Type 0} → ℕ → (W → ℕ → Bool) → List (List (Option Fault)) → List (Force W) → Type 0
 AreIdle {W} lanes bit loads forces =
-    (k n : ℕ) (d : Force W) (own : Bool) → k < lanes → n < length forces → named loads n ≡ false → force_value bit k (slice_index_or forces n d) own ≡ own
+    (k n : ℕ) (d : Force W) (own : Bool) → k < lanes → n < length forces → names (slice_index_or loads k []) n ≡ false → force_value bit k (slice_index_or forces n d) own ≡ own
 
 -- the fault is a pulse of this cycle
 abbrev pub is_pulse_in : ℕ → Fault → Bool

@@ -1,13 +1,14 @@
 // What faults do to a net, lane by lane.
-ghost use Rattle.std.specs.Prelude.{◌≡◌, ◌<◌, ℕ, Bool, length, slice_index_or};
+ghost use Rattle.std.specs.Prelude.{◌≡◌, ◌≢◌, ◌<◌, [], ℕ, Bool, IfOk, length, slice_index_or};
 ghost use Rattle.circuit.specs.Effects.{affected, forced, has_pulse};
 ghost use Rattle.lane_kernel.specs.declared.force.Force.{Force};
 ghost use Rattle.lane_kernel.specs.Gates.{force_value};
-ghost use Rattle.lane_kernel.specs.Loads.{faults_of, somes};
+ghost use Rattle.lane_kernel.specs.Loads.{AreIdle, somes};
 
 use crate::word::Word;
 use circuit::meaning::turned;
 use circuit::parts::{Fault, NetId};
+use std::alloc::{AllocError, Global};
 
 /// What a net's own word becomes: `base`, with its own bit added without carry where `slope` is set.
 #[derive(Clone, Copy)]
@@ -24,6 +25,18 @@ pub fn idle<W: Word>() -> Force<W>
         base: W::all(false),
         slope: W::all(true),
     }
+}
+
+/// Forces that leave the words of so many nets as they are.
+pub fn idle_forces<W: Word>(alloc: Global, nets: usize) -> Result<Vec<Force<W>>, AllocError>
+    ensures count { IfOk result (λ forces. length forces.items ≡ nets) }
+    ensures idle { IfOk result (λ forces. AreIdle W.lanes W.lane_bit [] forces.items) }
+{
+    let mut forces = Vec::with_capacity(alloc, nets)?;
+    for n in 0..nets {
+        forces.push(idle())?;
+    }
+    Ok(forces)
 }
 
 /// The word that is read of a net with this own word.
@@ -74,18 +87,23 @@ pub fn value_under(faults: &[Option<Fault>], cycle: u32, net: NetId, own: bool) 
     stuck_value(faults, net, turned(is_pulsed(faults, net, cycle), own))
 }
 
-/// What the faults of all lanes do to a net in a cycle.
-pub fn force_of<W: Word>(loads: &[[Option<Fault>; 2]], cycle: u32, net: NetId) -> Force<W>
-    requires { length loads.now ≡ W.lanes }
-    ensures { (k : ℕ) (own : Bool) → k < W.lanes → force_value W.lane_bit k result own ≡ affected (faults_of loads.now k) cycle net.0 own }
+/// The force that does in one lane what the lane's faults do to a net in a cycle, and in the others what it did.
+pub fn with_lane<W: Word>(
+    force: &Force<W>,
+    faults: &[Option<Fault>],
+    cycle: u32,
+    lane: u32,
+    net: NetId,
+) -> Force<W>
+    requires { lane < W.lanes }
+    ensures own { (own : Bool) → force_value W.lane_bit lane result own ≡ affected (somes faults.now) cycle net.0 own }
+    ensures others { (k : ℕ) (own : Bool) → k < W.lanes → k ≢ lane
+        → force_value W.lane_bit k result own ≡ force_value W.lane_bit k force.now own }
 {
-    let mut base = W::all(false);
-    let mut slope = W::all(false);
-    for k in 0..W::count() {
-        let low = value_under(&loads[k as usize], cycle, net, false);
-        let high = value_under(&loads[k as usize], cycle, net, true);
-        base = base.put(k, low);
-        slope = slope.put(k, low != high);
+    let low = value_under(faults, cycle, net, false);
+    let high = value_under(faults, cycle, net, true);
+    Force {
+        base: force.base.put(lane, low),
+        slope: force.slope.put(lane, low != high),
     }
-    Force { base, slope }
 }

@@ -8,9 +8,9 @@ ghost use Rattle.lane_kernel.specs.Kernel.{IsKernel, bank_of};
 ghost use Rattle.circuit.specs.Value.{bit_at};
 
 use crate::cycle::run;
-use crate::force::{Force, idle};
+use crate::force::{Force, idle_forces};
 use crate::gate::{Gate, Masks};
-use crate::load::{arm_for, is_some_transient, place, prepare};
+use crate::load::{arm_for, disarm_all, is_some_transient, place, prepare, unmark_all};
 use crate::program::{make_gates, make_ops};
 use crate::source::{take_first, word_at};
 use crate::word::Word;
@@ -61,10 +61,10 @@ impl<W: Word> Kernel<W> {
         let loads = vec![in alloc; [None, None]; W::count() as usize]?;
         let mut marks = vec![in alloc; false; nets]?;
         let mut next = vec![in alloc; 0; gates.len()]?;
-        let mut forces = vec![in alloc; idle(); nets]?;
+        let forces = idle_forces(alloc, nets)?;
         let raw = vec![in alloc; W::all(false); starts.len()]?;
         let words = vec![in alloc; W::all(false); nets]?;
-        prepare(&gates, &loads, &mut marks, &mut next, &mut forces);
+        prepare(&gates, &loads, &mut marks, &mut next);
         let transient = is_some_transient(&loads);
         Ok(Kernel {
             circuit: Snapshot::of(netlist),
@@ -95,14 +95,10 @@ impl<W: Word> Kernel<W> {
         ensures others { (j : ℕ) (d : List (Option Fault)) → (j < from) ⊎ (from + length faults.now ≤ j)
             → slice_index_or self.new.loads.items j d ≡ slice_index_or self.old.loads.items j d }
     {
+        unmark_all(&self.loads, &mut self.marks);
+        disarm_all(&self.loads, &mut self.forces);
         place(&mut self.loads, from, faults);
-        prepare(
-            &self.gates,
-            &self.loads,
-            &mut self.marks,
-            &mut self.next,
-            &mut self.forces,
-        );
+        prepare(&self.gates, &self.loads, &mut self.marks, &mut self.next);
         self.transient = is_some_transient(&self.loads);
         self.stale = true;
     }

@@ -1,14 +1,14 @@
 // What the faults of all lanes make of the flat arrays.
-ghost use Rattle.std.specs.Prelude.{◌≡◌, ◌<◌, ◌≤◌, ◌+◌, ◌==◌, ◌||◌, ◌⊎◌, ℕ, Bool, false, not, List, Option, length, slice_index_or, if◌then◌else◌};
+ghost use Rattle.std.specs.Prelude.{◌≡◌, ◌≢◌, ◌<◌, ◌≤◌, ◌+◌, ◌==◌, ◌||◌, ◌⊎◌, ℕ, Bool, false, not, List, [], Option, length, slice_index_or, if◌then◌else◌};
 ghost use Rattle.std.specs.List.{list_any};
 ghost use Rattle.circuit.specs.declared.parts.Fault.{Fault};
 ghost use Rattle.circuit.specs.Effects.{affected, is_permanent};
 ghost use Rattle.circuit.specs.Value.{bit_at};
 ghost use Rattle.lane_kernel.specs.declared.force.Force.{Force};
 ghost use Rattle.lane_kernel.specs.Gates.{AreInside, AreNarrowRuns, IsNext, force_value, gate_at};
-ghost use Rattle.lane_kernel.specs.Loads.{AreIdle, AreSteady, IsUnnamed, faults_of, has_pulses, has_transients, is_pulse_in, named, names, somes};
+ghost use Rattle.lane_kernel.specs.Loads.{AreIdle, AreMarks, AreSteady, IsUnnamed, faults_of, has_pulses, has_transients, is_pulse_in, named, names, somes};
 
-use crate::force::{Force, force_of, idle};
+use crate::force::{Force, idle, with_lane};
 use crate::gate::Gate;
 use crate::word::Word;
 use circuit::meaning::bit;
@@ -54,6 +54,37 @@ fn mark_all(loads: &[[Option<Fault>; 2]], marks: &mut [bool])
     }
 }
 
+fn unmark(marks: &mut [bool], net: NetId)
+    ensures { (n : ℕ) → n < length marks.old → bit_at marks.new n ≡ (if net.0 == n then false else bit_at marks.old n) }
+{
+    let at = net.0 as usize;
+    if at < marks.len() {
+        marks[at] = false;
+    }
+}
+
+fn unmark_lane(faults: &[Option<Fault>], marks: &mut [bool])
+    ensures { (n : ℕ) → n < length marks.old → bit_at marks.new n ≡ (if names faults.now n then false else bit_at marks.old n) }
+{
+    for fault in faults {
+        match fault {
+            Some(Fault::Stuck(net, _)) => unmark(marks, *net),
+            Some(Fault::Pulse(net, _)) => unmark(marks, *net),
+            _ => {}
+        }
+    }
+}
+
+/// Takes the marks of all faults away.
+pub fn unmark_all(loads: &[[Option<Fault>; 2]], marks: &mut [bool])
+    requires { AreMarks loads.now marks.old }
+    ensures { AreMarks [] marks.new }
+{
+    for faults in loads {
+        unmark_lane(faults, marks);
+    }
+}
+
 // Sets the places where a walk pauses: those of marked nets and of wide tables.
 fn fill_next(gates: &[Gate], marks: &[bool], next: &mut [usize])
     requires { length next.old ≡ length gates.now }
@@ -72,66 +103,90 @@ fn fill_next(gates: &[Gate], marks: &[bool], next: &mut [usize])
     }
 }
 
-fn arm<W: Word>(loads: &[[Option<Fault>; 2]], cycle: u32, net: NetId, forces: &mut [Force<W>])
-    requires { length loads.now ≡ W.lanes }
-    ensures { (k n : ℕ) (d : Force W) (own : Bool) → k < W.lanes → n < length forces.old
-        → force_value W.lane_bit k (slice_index_or forces.new n d) own
-        ≡ (if net.0 == n then affected (faults_of loads.now k) cycle n own else force_value W.lane_bit k (slice_index_or forces.old n d) own) }
+// Sets what is read of a net in a lane to what the lane's faults make of it in a cycle.
+fn arm<W: Word>(
+    faults: &[Option<Fault>],
+    cycle: u32,
+    lane: u32,
+    net: NetId,
+    forces: &mut [Force<W>],
+)
+    requires { lane < W.lanes }
+    ensures own { (n : ℕ) (d : Force W) (own : Bool) → n < length forces.old
+        → force_value W.lane_bit lane (slice_index_or forces.new n d) own
+        ≡ (if net.0 == n then affected (somes faults.now) cycle n own else force_value W.lane_bit lane (slice_index_or forces.old n d) own) }
+    ensures others { (k n : ℕ) (d : Force W) (own : Bool) → k < W.lanes → k ≢ lane → n < length forces.old
+        → force_value W.lane_bit k (slice_index_or forces.new n d) own ≡ force_value W.lane_bit k (slice_index_or forces.old n d) own }
 {
     let at = net.0 as usize;
     if at < forces.len() {
-        forces[at] = force_of(loads, cycle, net);
+        forces[at] = with_lane(&forces[at], faults, cycle, lane, net);
     }
 }
 
-fn arm_lane<W: Word>(
-    loads: &[[Option<Fault>; 2]],
-    cycle: u32,
-    faults: &[Option<Fault>],
-    forces: &mut [Force<W>],
-)
-    requires { length loads.now ≡ W.lanes }
-    ensures { (k n : ℕ) (d : Force W) (own : Bool) → k < W.lanes → n < length forces.old
-        → force_value W.lane_bit k (slice_index_or forces.new n d) own
-        ≡ (if names faults.now n then affected (faults_of loads.now k) cycle n own else force_value W.lane_bit k (slice_index_or forces.old n d) own) }
+// The same on each net that a fault of the lane may change.
+fn arm_lane<W: Word>(faults: &[Option<Fault>], cycle: u32, lane: u32, forces: &mut [Force<W>])
+    requires { lane < W.lanes }
+    ensures own { (n : ℕ) (d : Force W) (own : Bool) → n < length forces.old
+        → force_value W.lane_bit lane (slice_index_or forces.new n d) own
+        ≡ (if names faults.now n then affected (somes faults.now) cycle n own else force_value W.lane_bit lane (slice_index_or forces.old n d) own) }
+    ensures others { (k n : ℕ) (d : Force W) (own : Bool) → k < W.lanes → k ≢ lane → n < length forces.old
+        → force_value W.lane_bit k (slice_index_or forces.new n d) own ≡ force_value W.lane_bit k (slice_index_or forces.old n d) own }
 {
     for fault in faults {
         match fault {
-            Some(Fault::Stuck(net, _)) => arm(loads, cycle, *net, forces),
-            Some(Fault::Pulse(net, _)) => arm(loads, cycle, *net, forces),
+            Some(Fault::Stuck(net, _)) => arm(faults, cycle, lane, *net, forces),
+            Some(Fault::Pulse(net, _)) => arm(faults, cycle, lane, *net, forces),
             _ => {}
         }
     }
 }
 
-// Sets the forces on each net that a fault of some lane may change to those of a cycle.
+// Sets the forces in each lane, on each net that a fault of the lane may change, to those of a cycle.
 fn arm_all<W: Word>(loads: &[[Option<Fault>; 2]], cycle: u32, forces: &mut [Force<W>])
     requires { length loads.now ≡ W.lanes }
     ensures { (k n : ℕ) (d : Force W) (own : Bool) → k < W.lanes → n < length forces.old
         → force_value W.lane_bit k (slice_index_or forces.new n d) own
-        ≡ (if named loads.now n then affected (faults_of loads.now k) cycle n own else force_value W.lane_bit k (slice_index_or forces.old n d) own) }
+        ≡ (if names (slice_index_or loads.now k []) n then affected (faults_of loads.now k) cycle n own else force_value W.lane_bit k (slice_index_or forces.old n d) own) }
+{
+    for lane in 0..W::count() {
+        arm_lane(&loads[lane as usize], cycle, lane, forces);
+    }
+}
+
+// Leaves a net as it is.
+fn disarm<W: Word>(net: NetId, forces: &mut [Force<W>])
+    ensures { (k n : ℕ) (d : Force W) (own : Bool) → k < W.lanes → n < length forces.old
+        → force_value W.lane_bit k (slice_index_or forces.new n d) own
+        ≡ (if net.0 == n then own else force_value W.lane_bit k (slice_index_or forces.old n d) own) }
+{
+    let at = net.0 as usize;
+    if at < forces.len() {
+        forces[at] = idle();
+    }
+}
+
+fn disarm_lane<W: Word>(faults: &[Option<Fault>], forces: &mut [Force<W>])
+    ensures { (k n : ℕ) (d : Force W) (own : Bool) → k < W.lanes → n < length forces.old
+        → force_value W.lane_bit k (slice_index_or forces.new n d) own
+        ≡ (if names faults.now n then own else force_value W.lane_bit k (slice_index_or forces.old n d) own) }
+{
+    for fault in faults {
+        match fault {
+            Some(Fault::Stuck(net, _)) => disarm(*net, forces),
+            Some(Fault::Pulse(net, _)) => disarm(*net, forces),
+            _ => {}
+        }
+    }
+}
+
+/// Leaves each net as it is, where the forces changed only nets that faults name.
+pub fn disarm_all<W: Word>(loads: &[[Option<Fault>; 2]], forces: &mut [Force<W>])
+    requires { AreIdle W.lanes W.lane_bit loads.now forces.old }
+    ensures { AreIdle W.lanes W.lane_bit [] forces.new }
 {
     for faults in loads {
-        arm_lane(loads, cycle, faults, forces);
-    }
-}
-
-// Leaves each net as it is.
-fn disarm<W: Word>(forces: &mut [Force<W>])
-    ensures { (k n : ℕ) (d : Force W) (own : Bool) → k < W.lanes → n < length forces.old
-        → force_value W.lane_bit k (slice_index_or forces.new n d) own ≡ own }
-{
-    for force in forces.iter_mut() {
-        *force = idle();
-    }
-}
-
-// Takes all marks away.
-fn unmark(marks: &mut [bool])
-    ensures { (n : ℕ) → n < length marks.old → bit_at marks.new n ≡ false }
-{
-    for mark in marks.iter_mut() {
-        *mark = false;
+        disarm_lane(faults, forces);
     }
 }
 
@@ -206,23 +261,16 @@ pub fn arm_for<W: Word>(
     pulses
 }
 
-/// Sets pauses for the faults of all lanes, and forces that leave each net as it is.
-pub fn prepare<W: Word>(
-    gates: &[Gate],
-    loads: &[[Option<Fault>; 2]],
-    marks: &mut [bool],
-    next: &mut [usize],
-    forces: &mut [Force<W>],
-)
+/// Sets marks and pauses for the faults of all lanes, where nothing is marked.
+pub fn prepare(gates: &[Gate], loads: &[[Option<Fault>; 2]], marks: &mut [bool], next: &mut [usize])
     requires inside { AreInside (length marks.old) gates.now }
     requires same { length next.old ≡ length gates.now }
+    requires bare { AreMarks [] marks.old }
+    ensures marks { AreMarks loads.now marks.new }
     ensures next { IsNext (length gates.now) next.new }
     ensures quiet { IsUnnamed loads.now gates.now next.new }
     ensures narrow { AreNarrowRuns gates.now next.new }
-    ensures idle { AreIdle W.lanes W.lane_bit loads.now forces.new }
 {
-    unmark(marks);
     mark_all(loads, marks);
     fill_next(gates, marks, next);
-    disarm(forces);
 }

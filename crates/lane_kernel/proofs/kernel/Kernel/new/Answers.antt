@@ -1,4 +1,4 @@
-use Rattle.std.proofs.Common.{◌≡◌, length, map, ap, sym, ◌∙◌, subst, arith}
+use Rattle.std.proofs.Common.{◌≡◌, length, map, refl, ap, sym, ◌∙◌, subst, arith}
 use Rattle.std.proofs.lemmas.Grind.{common_steps}
 use Rattle.std.proofs.lemmas.Bool.{true≢false}
 use Rattle.std.proofs.lemmas.List.{length-map}
@@ -7,7 +7,7 @@ use Rattle.circuit.specs.declared.parts.Latch.{Latch}
 use Rattle.circuit.specs.Circuit.{Circuit}
 use Rattle.circuit.specs.Trace.{first_state}
 use Rattle.lane_kernel.specs.Gates.{AreNarrowRuns, IsNext, IsProgram}
-use Rattle.lane_kernel.specs.Loads.{AreIdle, IsUnnamed, has_transients}
+use Rattle.lane_kernel.specs.Loads.{AreMarks, IsUnnamed, has_transients}
 use Rattle.lane_kernel.proofs.kernel.Kernel.new.Goals as goal
 
 pub returns-clause-kernel : goal.returns-clause-kernel
@@ -22,7 +22,6 @@ returns-clause-kernel g c =
     ap length starts ∙ length-map c.of.result.value.latches (λ (latch : Latch). latch.start) in
     let marks : (with_items c.in_ok-marks.marks c.prepare.new.marks).items ≡ c.prepare.new.marks = grind (arith, common_steps) in
     let next : (with_items c.in_ok-next.next c.prepare.new.next).items ≡ c.prepare.new.next = grind (arith, common_steps) in
-    let forces : (with_items c.in_ok-forces.forces c.prepare.new.forces).items ≡ c.prepare.new.forces = grind (arith, common_steps) in
     let nets : c.nets-nets.result ≡ length c.of.result.value.drivers = c.nets-nets.ensures.count ∙ ap (λ (m : Circuit). length m.drivers) (sym circuit) in
     record {
       program =
@@ -33,16 +32,15 @@ returns-clause-kernel g c =
       loads = omega (arith, c.in_ok-loads.loads.ok.0, c.in_ok-loads.ensures.len, c.count.ensures);
       transient = c.is_some_transient-transient.ensures ∙ ap has_transients c.deref-3.ensures.value;
       marks = ap length marks ∙ c.prepare.auto.marks ∙ ap length c.deref_mut.ensures.value ∙ omega (arith, c.in_ok-marks.marks.ok.0, c.in_ok-marks.ensures.len, nets);
+      marked = subst (AreMarks loads) (sym marks) (subst (λ ls. AreMarks ls c.prepare.new.marks) c.deref-2.ensures.value c.prepare.ensures.marks);
       next = subst (IsNext (length gates)) (sym next) (subst (λ gs. IsNext (length gs) c.prepare.new.next) c.deref.ensures.value c.prepare.ensures.next);
       narrow = subst (AreNarrowRuns gates) (sym next) (subst (λ gs. AreNarrowRuns gs c.prepare.new.next) c.deref.ensures.value c.prepare.ensures.narrow);
       quiet =
           subst (IsUnnamed loads gates) (sym next)
           (subst (λ ls. IsUnnamed ls gates c.prepare.new.next) c.deref-2.ensures.value
           (subst (λ gs. IsUnnamed c.deref-2.result.now gs c.prepare.new.next) c.deref.ensures.value c.prepare.ensures.quiet));
-      forces = ap length forces ∙ c.prepare.auto.forces ∙ ap length c.deref_mut-3.ensures.value ∙ omega (arith, c.in_ok-forces.forces.ok.0, c.in_ok-forces.ensures.len, nets);
-      idle =
-          subst (AreIdle g.W.Word.lanes g.W.Word.lane_bit loads) (sym forces)
-          (subst (λ ls. AreIdle g.W.Word.lanes g.W.Word.lane_bit ls c.prepare.new.forces) c.deref-2.ensures.value c.prepare.ensures.idle);
+      forces = c.in_ok-forces.ensures.count ∙ nets;
+      idle = λ k n d own lt within free. c.in_ok-forces.ensures.idle k n d own lt within refl;
       steady = λ fresh. absurd (true≢false fresh);
       raw = omega (arith, c.in_ok-raw.raw.ok.0, c.in_ok-raw.ensures.len, c.len-2.ensures, c.in_ok-starts.starts.ok.0, held);
       words = omega (arith, c.in_ok-words.words.ok.0, c.in_ok-words.ensures.len, nets);
