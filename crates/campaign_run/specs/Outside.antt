@@ -1,11 +1,7 @@
 -- What is seen of the files and of the output.
 use Rattle.std.specs.Prelude.{◌≡◌, ◌≢◌, Option}
-use Rattle.fm_shelf.specs.Shelf.{Told, told_more}
+use Rattle.fm_shelf.specs.Shelf.{Shelves, told_more}
 use Rattle.fm_base.specs.Names.{Bytes}
-
--- what is told of each file of a shelf
-abbrev pub Shelves : Type 0
-Shelves = Bytes → Told
 
 -- files of other names are as at entry
 abbrev pub KeepsOthers : Shelves → Shelves → Bytes → Type 0

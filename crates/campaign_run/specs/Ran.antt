@@ -1,6 +1,6 @@
 -- How a campaign has ended.
 use Rattle.std.specs.Prelude.{◌≡◌, ◌⊎◌, ◌≤◌, ℕ, take, Option}
-use Rattle.fm_shelf.specs.Shelf.{Told, bytes_of, told_more, HasPrefix, Rose}
+use Rattle.fm_shelf.specs.Shelf.{Shelves, Told, bytes_of, told_more, HasPrefix, Rose}
 use Rattle.campaign_plan.specs.declared.Outcome.{Outcome}
 use Rattle.campaign_plan.specs.Analysis.{Analysis}
 use Rattle.result_file.specs.declared.KeptRows.{KeptRows}
@@ -11,7 +11,7 @@ use Rattle.campaign_run.specs.declared.run.Text.{Text}
 use Rattle.campaign_run.specs.declared.run.Text.TheVariants.{Report, Summary}
 use Rattle.campaign_run.specs.declared.run.End.{End}
 use Rattle.campaign_run.specs.declared.run.End.TheVariants.{Done, NoMemory, ResultFault, OutFault}
-use Rattle.campaign_run.specs.Outside.{Shelves, KeepsOthers}
+use Rattle.campaign_run.specs.Outside.{KeepsOthers}
 use Rattle.campaign_run.specs.Found.{kept_or_true}
 use Rattle.campaign_run.specs.Reported.{HasReported, BeginsWith}
 use Rattle.campaign_run.specs.Left.{LeftPrefix, BeginsAs}

@@ -1,12 +1,10 @@
 -- Planes are known by their bits.
-use Rattle.std.proofs.Common.{◌≡◌, ℕ, zero, suc, ◌^◌, ◌<◌, Bool, true, false, List, refl, ap, ap₂, sym, ◌∙◌, arith}
-use Rattle.std.specs.Prelude.{◌==◌, if◌then◌else◌}
+use Rattle.std.proofs.Common.{◌≡◌, ℕ, zero, suc, ◌^◌, ◌<◌, Bool, List, refl, ap, ap₂, sym, ◌∙◌, arith}
+use Rattle.std.specs.Prelude.{◌==◌}
 use Rattle.std.specs.Int.{bit_at}
-use Rattle.std.proofs.lemmas.Nat.{or_lt, pow_pos}
 use Rattle.std.proofs.lemmas.Nat.Bits.{bit_at-lt, same_from_bits_below}
-use Rattle.std.proofs.Math.Nat.{pow-suc}
-use Rattle.fm_base.specs.Planes.{bit, plane_below, plane_of}
-use Rattle.fm_base.proofs.Bits.{bit-plane_of}
+use Rattle.fm_base.specs.Planes.{bit, plane_of}
+use Rattle.fm_base.proofs.Bits.{bit-plane_of, plane_small}
 use Rattle.circuit.specs.declared.parts.Fault.{Fault}
 use Rattle.circuit.specs.Circuit.{Circuit}
 use Rattle.workload.specs.declared.run.Run.{Run}
@@ -14,17 +12,6 @@ use Rattle.alarm_points.specs.declared.Points.{Points}
 use Rattle.campaign_plan.specs.declared.Outcome.{Outcome}
 use Rattle.campaign_plan.specs.Danger.{is_dangerous, is_noticed}
 use Rattle.classifier.specs.Planes.{HasPlanes, planes_of}
-
-lane_small : (b : Bool) (n : ℕ) → (if b then 2 ^ n else 0) < 2 ^ suc n
-lane_small true n = omega (arith, pow-suc 2 n, pow_pos n)
-lane_small false n = omega (arith, pow_pos (suc n))
-
-plane_small : (n : ℕ) (test : ℕ → Bool) → plane_below n test < 2 ^ n
-unfolding plane_below
-plane_small zero test = omega (arith, pow_pos zero)
-plane_small (suc n) test =
-    let below : plane_below n test < 2 ^ suc n = omega (arith, plane_small n test, pow-suc 2 n, pow_pos n) in
-    or_lt (suc n) (plane_below n test) (if test n then 2 ^ n else 0) below (lane_small (test n) n)
 
 same_one : (x y : ℕ) → x < 2 → y < 2 → (x == 1) ≡ (y == 1) → x ≡ y
 same_one zero zero p q e = refl

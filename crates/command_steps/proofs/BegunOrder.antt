@@ -2,7 +2,7 @@
 use Rattle.std.proofs.Common.{◌≡◌, ◌∙◌, ap, sym, refl, subst, ℕ, List, [], Ok, Err, inl, inr}
 use Rattle.std.specs.Prelude.{Option, Some, None, Result, ◌⊎◌}
 use Rattle.fm_base.specs.Names.{Bytes}
-use Rattle.fm_shelf.specs.Shelf.{Told, Rose}
+use Rattle.fm_shelf.specs.Shelf.{Shelves, Told, Rose}
 use Rattle.circuit.specs.declared.parts.NetId.{NetId}
 use Rattle.campaign_plan.specs.declared.Settings.{Settings}
 use Rattle.campaign_plan.specs.Analysis.{Analysis}
@@ -18,7 +18,7 @@ use Rattle.refusal_text.specs.declared.status.Which.TheVariants as which
 use Rattle.command_steps.specs.declared.planned.Planned.{Planned}
 use Rattle.command_steps.specs.Files.{Files, Reads, all_read, files_of}
 use Rattle.command_steps.specs.FirstRefusal.{or_refuse, plan_of, result_step, audit_step, kept_of, audited_of, own_header, refusal_in, status_of_back, IsPlanOf, ◌>>=◌}
-use Rattle.command_steps.specs.Held.{Shelves, name_in}
+use Rattle.command_steps.specs.Held.{name_in}
 use Rattle.command_steps.specs.Steps.{StepAs}
 use Rattle.refusal_text.specs.Refusals.{IsPlain}
 use Rattle.command_steps.specs.PlanSteps.{PlanRefused, PlannedAs, bytes_of}

@@ -2,7 +2,7 @@
 use Rattle.std.proofs.Common.{◌≡◌, ◌∙◌, ap, sym, refl, subst, ℕ, ◌≤◌, ◌<◌, List, [], arith, inl, inr}
 use Rattle.std.specs.Prelude.{Option, Some, None, Result, Ok, Err, ◌⊎◌}
 use Rattle.fm_base.specs.Names.{Bytes}
-use Rattle.fm_shelf.specs.Shelf.{Told, NowHas, Rose}
+use Rattle.fm_shelf.specs.Shelf.{Shelves, Told, NowHas, Rose}
 use Rattle.circuit.specs.declared.parts.NetId.{NetId}
 use Rattle.circuit.specs.Circuit.{Circuit}
 use Rattle.circuit.specs.Loop.{HasNoLoop}
@@ -15,7 +15,7 @@ use Rattle.refusal_text.specs.declared.status.What.TheVariants as what
 use Rattle.command_steps.specs.Files.{Reads, all_read}
 use Rattle.command_steps.specs.FirstRefusal.{unless, or_refuse, workload_step, outputs_step, netlist_step, classes_plan_of, first_refusal, refusal_in, IsLoopAnswer, ◌>>=◌, classes_plan}
 use Rattle.campaign_plan.specs.Analysis.{Analysis}
-use Rattle.command_steps.specs.Held.{Shelves, name_of}
+use Rattle.command_steps.specs.Held.{name_of}
 use Rattle.command_steps.specs.Checked.{ReadFits, Checked}
 use Rattle.command_steps.specs.Steps.{StepAs, NetlistAs, RefusedInOrder, IsClassesPlan}
 use Rattle.command_steps.proofs.Taken.{netlist_begin, netlist_next}

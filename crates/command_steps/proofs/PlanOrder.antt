@@ -2,7 +2,7 @@
 use Rattle.std.proofs.Common.{◌≡◌, ◌∙◌, ap, sym, refl, subst, ℕ, ◌≤◌, List, [], Ok, Err, inl, inr}
 use Rattle.std.specs.Prelude.{Option, Some, None, Result, ◌⊎◌}
 use Rattle.fm_base.specs.Names.{Bytes}
-use Rattle.fm_shelf.specs.Shelf.{Told, NowHas, Rose}
+use Rattle.fm_shelf.specs.Shelf.{Shelves, Told, NowHas, Rose}
 use Rattle.circuit.specs.declared.parts.NetId.{NetId}
 use Rattle.circuit.specs.Circuit.{Circuit}
 use Rattle.circuit.specs.Loop.{HasNoLoop}
@@ -24,7 +24,7 @@ use Rattle.refusal_text.specs.declared.status.What.TheVariants as what
 use Rattle.refusal_text.proofs.Refusals.{ok_same}
 use Rattle.command_steps.proofs.Taken.{why}
 use Rattle.command_steps.specs.FirstRefusal.{unless, refusal_of_plan, status_of_plan, workload_step, rates_step, points_step, plan_step, netlist_step, plan_of, plan_for, refusal_in, IsLoopAnswer, IsPlanOf, ◌>>=◌}
-use Rattle.command_steps.specs.Held.{Shelves, name_in}
+use Rattle.command_steps.specs.Held.{name_in}
 use Rattle.command_steps.specs.Checked.{FaultRose}
 use Rattle.command_steps.specs.Steps.{StepAs, NetlistAs}
 use Rattle.refusal_text.specs.Refusals.{IsPlain}

@@ -1,7 +1,7 @@
 -- What was read of the files of a command, and the first refusal over it. Counts of faults are compared with the call's own entry.
 use Rattle.std.specs.Prelude.{◌≡◌, ◌⊎◌, ℕ, List, [], Option, Some, None}
 use Rattle.circuit.specs.declared.parts.NetId.{NetId}
-use Rattle.fm_shelf.specs.Shelf.{Told, NowHas, Rose}
+use Rattle.fm_shelf.specs.Shelf.{Shelves, Told, NowHas, Rose}
 use Rattle.refusal_text.specs.declared.status.Status.{Status}
 use Rattle.refusal_text.specs.declared.status.Status.TheVariants as status
 use Rattle.refusal_text.specs.declared.status.Which.{Which}
@@ -9,7 +9,7 @@ use Rattle.refusal_text.specs.declared.status.Which.TheVariants as which
 use Rattle.command_line.specs.Commands.{Command, Classes, Check, Run, Resume, Audit, Gen}
 use Rattle.command_steps.specs.Files.{Reads, all_read}
 use Rattle.command_steps.specs.FirstRefusal.{IsLoopAnswer, first_refusal, generated}
-use Rattle.command_steps.specs.Held.{Shelves, name_of}
+use Rattle.command_steps.specs.Held.{name_of}
 use Rattle.fm_base.specs.Names.{Bytes}
 
 -- what was read is what the file holds, where that is told; where nothing was read, the file is told to be absent, or a read of its name has failed

@@ -1,15 +1,11 @@
 -- The files of a command: their names, and what a shelf tells of them.
 use Rattle.std.specs.Prelude.{◌≡◌, [], Some}
-use Rattle.fm_shelf.specs.Shelf.{Told}
+use Rattle.fm_shelf.specs.Shelf.{Shelves}
 use Rattle.refusal_text.specs.declared.status.Which.{Which}
 use Rattle.refusal_text.specs.declared.status.Which.TheVariants as which
 use Rattle.command_line.specs.Commands.{Command, Classes, Check, Run, Resume, Audit, Gen, Inputs}
 use Rattle.command_steps.specs.Files.{Files}
 use Rattle.fm_base.specs.Names.{Bytes}
-
--- what is told of each file of a shelf
-abbrev pub Shelves : Type 0
-Shelves = Bytes → Told
 
 -- the shelf tells that a file holds these bytes
 abbrev pub Holds : Shelves → Bytes → Bytes → Type 0

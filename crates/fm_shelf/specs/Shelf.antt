@@ -7,6 +7,10 @@ use Rattle.std.specs.Str.{bytes_eq}
 abbrev pub Told : Type 0
 Told = Option (Option (List ℕ))
 
+-- what is told of each file, by its name
+abbrev pub Shelves : Type 0
+Shelves = List ℕ → Told
+
 -- what the listed files and the word on all others tell of a name
 abbrev pub held_in : List (List ℕ × List ℕ) → Bool → List ℕ → Told
 held_in [] rest_absent name = if rest_absent then Some None else None

@@ -1,6 +1,6 @@
 -- What a call of the program has done when it ends. Each promise is of files whose content the shelf tells.
 use Rattle.std.specs.Prelude.{◌≡◌, ◌⊎◌, ℕ, List, [], ◌∷◌, codes, length, take, Option, Some, None, Ok}
-use Rattle.fm_shelf.specs.Shelf.{Told, told_more, HasPrefix, Rose}
+use Rattle.fm_shelf.specs.Shelf.{Shelves, Told, told_more, HasPrefix, Rose}
 use Rattle.circuit.specs.Loop.{HasNoLoop}
 use Rattle.circuit.specs.Circuit.{Circuit}
 use Rattle.campaign_plan.specs.declared.Settings.{Settings}
@@ -26,7 +26,7 @@ use Rattle.campaign_run.specs.Outside.{KeepsOthers, Wrote}
 use Rattle.campaign_run.specs.Found.{IsPart, kept_or_true}
 use Rattle.campaign_run.specs.Reported.{HasReported, ResumedAs}
 use Rattle.campaign_run.specs.Left.{LeftPrefix, BeginsAs}
-use Rattle.command_steps.specs.Held.{Shelves, Holds, HoldsInputs, KeepsAll, name_of}
+use Rattle.command_steps.specs.Held.{Holds, HoldsInputs, KeepsAll, name_of}
 use Rattle.refusal_text.specs.Refusals.{IsCircuitOf}
 
 -- a campaign over these bytes

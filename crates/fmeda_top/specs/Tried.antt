@@ -1,7 +1,7 @@
 -- What a command has written when it was tried, or its refusal.
 use Rattle.std.specs.Prelude.{◌≡◌, ◌⊎◌, ℕ, Option, None, Result, Ok, Err, length}
 use Rattle.circuit.specs.Loop.{HasNoLoop}
-use Rattle.fm_shelf.specs.Shelf.{Rose, told_more, HasPrefix}
+use Rattle.fm_shelf.specs.Shelf.{Shelves, Rose, told_more, HasPrefix}
 use Rattle.command_line.specs.Commands.{Classes, Inputs, Audit}
 use Rattle.campaign_plan.specs.Analysis.{Analysis}
 use Rattle.refusal_text.specs.declared.status.Status.{Status}
@@ -9,7 +9,7 @@ use Rattle.refusal_text.specs.declared.status.Status.TheVariants as status
 use Rattle.refusal_text.specs.declared.refused.Refused.{Refused}
 use Rattle.refusal_text.specs.declared.refused.Refused.TheVariants.{By, Looped}
 use Rattle.command_steps.specs.Files.{Files, all_read}
-use Rattle.command_steps.specs.Held.{Shelves, Holds, HoldsInputs}
+use Rattle.command_steps.specs.Held.{Holds, HoldsInputs}
 use Rattle.command_steps.specs.Checked.{Checked}
 use Rattle.command_text.specs.Texts.{classes_text, audit_text}
 use Rattle.refusal_text.specs.declared.status.WriteTo.TheVariants as to

@@ -44,7 +44,7 @@ no_entry : Entry
 no_entry = (0, record { danger = 0; noticed = 0 })
 
 -- the rows have the entries
-entries_are : (p : Analysis) (entries : List Entry) → map entry_of (result_rows p entries) ≡ entries
+pub entries_are : (p : Analysis) (entries : List Entry) → map entry_of (result_rows p entries) ≡ entries
 unfolding no_entry
 entries_are p entries =
     let many = length-result_rows p entries in

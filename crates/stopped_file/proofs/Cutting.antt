@@ -2,7 +2,7 @@
 use Rattle.std.proofs.Common.{◌≡◌, ℕ, zero, suc, ◌+◌, ◌-◌, ◌*◌, ◌/◌, ◌<◌, ◌≤◌, min, List, [], ◌∷◌, ◌++◌, map, length, take, drop, ap, sym, subst, ◌∙◌, arith, append_assoc, length-append}
 use Rattle.std.specs.Prelude.{All}
 use Rattle.std.specs.List.{flat_map}
-use Rattle.std.proofs.lemmas.List.{take-append-drop, take-take, take-map, length-take, length-drop, length-map, get_or-take, get_or-map, ext_get_or}
+use Rattle.std.proofs.lemmas.List.{take-append-drop, take-take, take-map, length-take, length-drop, get_or-take, ext_get_or}
 use Rattle.std.proofs.lemmas.List.Concat.{flat_map-append}
 use Rattle.std.proofs.lemmas.List.Elements.{All-take}
 use Rattle.std.proofs.Math.Seq.{take-append-add}
@@ -11,7 +11,6 @@ use Rattle.campaign_plan.specs.Analysis.{Analysis, batch_count}
 use Rattle.campaign_plan.specs.Batches.{Entry, batches, total, AreDistinct}
 use Rattle.result_file.specs.declared.Row.{Row}
 use Rattle.result_file.specs.ResultText.{row_text, row_of, row_at, result_rows, entry_at, result_text}
-use Rattle.result_file.specs.KeptRows.{entry_of}
 use Rattle.result_file.proofs.Whole.{no_row, length-rows}
 use Rattle.result_file.proofs.WrittenBack.{length-result_rows, row_is}
 use Rattle.stopped_file.specs.Prefixes.{whole_entries}
@@ -38,18 +37,6 @@ rows_first p entries m =
     let within : k < length entries = omega (arith, lower, firsts) in
     row_is p (take m entries) k lower ∙ row_first p entries m k under ∙ sym (row_is p entries k within)
     ∙ sym (get_or-take m (result_rows p entries) k no_row under)))
-
-abbrev no_entry : Entry
-no_entry = (0, record { danger = 0; noticed = 0 })
-
--- the rows have the entries
-pub entries_are : (p : Analysis) (entries : List Entry) → map entry_of (result_rows p entries) ≡ entries
-entries_are p entries =
-    let many : length (result_rows p entries) ≡ length entries = length-result_rows p entries in
-    let same : length (map entry_of (result_rows p entries)) ≡ length entries = length-map (result_rows p entries) entry_of ∙ many in
-    ext_get_or no_entry (map entry_of (result_rows p entries)) entries same
-    (λ k lt. (let lower : k < length entries = omega (arith, lt, same) in
-    get_or-map entry_of (result_rows p entries) k no_row no_entry (omega (arith, lower, many)) ∙ ap entry_of (row_is p entries k lower)))
 
 -- ---- the first of distinct batches
 

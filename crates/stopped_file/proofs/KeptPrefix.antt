@@ -14,9 +14,10 @@ use Rattle.campaign_plan.specs.Batches.{Entry, AreDistinct}
 use Rattle.result_file.specs.ResultText.{result_rows, result_text}
 use Rattle.result_file.specs.KeptRows.{kept, kept_unless, whole_pieces, row_fault, is_torn_header, FitsLanes, ReadsBack, ReadsBackOf}
 use Rattle.result_file.proofs.Pieces.{length-pieces, piece_at}
+use Rattle.result_file.proofs.WrittenBack.{entries_are}
 use Rattle.result_file.proofs.Keeping.{kept_torn, kept_own}
 use Rattle.stopped_file.specs.Prefixes.{whole_entries, whole_text, KeepsWholeRows, PrefixesKeepWholeRows}
-use Rattle.stopped_file.proofs.Cutting.{entries_are, distinct_first, length-text, cut_is}
+use Rattle.stopped_file.proofs.Cutting.{distinct_first, length-text, cut_is}
 
 -- ---- pieces of a file with more bytes behind
 

@@ -1,13 +1,11 @@
 -- The planes that a batch truly has fit a word, and are 0 where a lane holds no fault.
-use Rattle.std.proofs.Common.{◌≡◌, ℕ, zero, suc, ◌^◌, ◌+◌, ◌<◌, ◌≤◌, Bool, true, false, not, ◌&&◌, ◌||◌, List, [], ◌∷◌, refl, ap, sym, subst, ◌∙◌, arith}
-use Rattle.std.specs.Prelude.{All, if◌then◌else◌}
+use Rattle.std.proofs.Common.{◌≡◌, ℕ, zero, suc, ◌+◌, ◌<◌, ◌≤◌, Bool, true, false, not, ◌&&◌, ◌||◌, List, [], ◌∷◌, refl, ap, sym, subst, ◌∙◌, arith}
+use Rattle.std.specs.Prelude.{All}
 use Rattle.std.specs.List.{list_any}
-use Rattle.std.proofs.lemmas.Nat.{or_lt, pow_pos}
-use Rattle.std.proofs.Math.Nat.{pow-suc}
 use Rattle.std.proofs.lemmas.List.Elements.{All-weaker}
 use Rattle.fm_base.specs.Lists.{below}
-use Rattle.fm_base.specs.Planes.{bit, plane_below}
-use Rattle.fm_base.proofs.Bits.{bit-plane_of}
+use Rattle.fm_base.specs.Planes.{bit}
+use Rattle.fm_base.proofs.Bits.{bit-plane_of, plane_small}
 use Rattle.fault_list.specs.Faults.{fault_at, fault_number, is_used}
 use Rattle.campaign_plan.specs.declared.Outcome.{Outcome}
 use Rattle.campaign_plan.specs.Analysis.{Analysis, all_faults, fault_count}
@@ -15,17 +13,6 @@ use Rattle.campaign_plan.specs.Danger.{is_dangerous, is_noticed}
 use Rattle.campaign_plan.specs.Batches.{Entry, outcome_of, true_planes, AreTrue}
 use Rattle.result_file.specs.KeptRows.{FitsLanes}
 use Rattle.result_file.proofs.Lanes.{any_none, any_more}
-
-lane_small : (b : Bool) (n : ℕ) → (if b then 2 ^ n else 0) < 2 ^ suc n
-lane_small true n = omega (arith, pow-suc 2 n, pow_pos n)
-lane_small false n = omega (arith, pow_pos (suc n))
-
-plane_small : (n : ℕ) (test : ℕ → Bool) → plane_below n test < 2 ^ n
-unfolding plane_below
-plane_small zero test = omega (arith, pow_pos zero)
-plane_small (suc n) test =
-    let lower : plane_below n test < 2 ^ suc n = omega (arith, plane_small n test, pow-suc 2 n, pow_pos n) in
-    or_lt (suc n) (plane_below n test) (if test n then 2 ^ n else 0) lower (lane_small (test n) n)
 
 -- a lane's bit is that of a fault in it
 unused_clear : (used danger noticed : Bool) → (not used && ((used && danger) || (used && noticed))) ≡ false
