@@ -28,6 +28,7 @@ test:
 cases: build/fmeda
 	tests/cli/run build/fmeda
 	tests/cli/prefixes build/fmeda
+	tests/cli/memory build/fmeda
 	tests/cli/signals build/fmeda
 
 # Each example's report, and its netlist where yosys is installed.
