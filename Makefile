@@ -1,5 +1,5 @@
 # The program, a run of it on a real circuit, and all that CI runs.
-.PHONY: demo test cases examples install
+.PHONY: demo test cases edits examples install
 
 PREFIX ?= /usr/local
 
@@ -30,6 +30,10 @@ cases: build/fmeda
 	tests/cli/prefixes build/fmeda
 	tests/cli/memory build/fmeda
 	tests/cli/signals build/fmeda
+
+# Every edit that the prover must refuse, those that the gate leaves out too, in a copy of the repository; a verdict a line.
+edits:
+	tools/edits
 
 # Each example's report, and its netlist where yosys is installed.
 examples: build/fmeda
