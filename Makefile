@@ -3,10 +3,10 @@
 
 PREFIX ?= /usr/local
 
-# The proved program. Nothing is built of a crate that isn't proved.
+# The proved program, by all processors. Nothing is built of a crate that isn't proved.
 build/fmeda:
+	tools/build
 	mkdir -p build
-	cd crates/fmeda_cli && rt run -- classes data/dup.blif data/dup.csv > /dev/null
 	cp crates/fmeda_cli/out/fmeda_cli build/fmeda
 
 # A campaign over two cores in lockstep with a comparator, 3,312 faults in two threads: its report, then the first and the last
