@@ -1,3 +1,4 @@
+pub mod Alone
 pub mod Lanes
 pub mod PartNumbers
 pub mod Refusing

@@ -83,7 +83,7 @@ batch_weight p batch = sum_by (λ lane. weight p (fault_number batch lane)) (use
 abbrev pub cut : (ℕ → ℕ) → ℕ → ℕ → ℕ
 cut f n i = where_true (nat_lt i n) (f i)
 
-blocks : (f : ℕ → ℕ) (m : ℕ) → sum_up (λ b. sum_up (λ k. f (64 * b + k)) 64) m ≡ sum_up f (64 * m)
+pub blocks : (f : ℕ → ℕ) (m : ℕ) → sum_up (λ b. sum_up (λ k. f (64 * b + k)) 64) m ≡ sum_up f (64 * m)
 blocks f zero = sum_up-zero (λ b. sum_up (λ k. f (64 * b + k)) 64) ∙ sym (sum_up-zero f)
 blocks f (suc m) =
     let same : 64 * suc m ≡ 64 * m + 64 = omega arith in
@@ -127,7 +127,7 @@ own_within p batch planes =
     sums_within (lane_sums p batch planes) (λ lane. weight p (fault_number batch lane)) (used_lanes (fault_count p) batch)
     (λ lane. share_within (class_in_lane p batch planes lane) (is_permanent (fault_numbered p (fault_number batch lane))) (weight p (fault_number batch lane)))
 
-sum_by-map : {X Y : Type 0} (f : Y → ℕ) (g : X → Y) (xs : List X) → sum_by f (map g xs) ≡ sum_by (λ x. f (g x)) xs
+pub sum_by-map : {X Y : Type 0} (f : Y → ℕ) (g : X → Y) (xs : List X) → sum_by f (map g xs) ≡ sum_by (λ x. f (g x)) xs
 sum_by-map f g [] = refl
 sum_by-map f g (x ∷ xs) = omega (arith, sum_by-cons f (g x) (map g xs), sum_by-cons (λ x. f (g x)) x xs, sum_by-map f g xs)
 

@@ -6,3 +6,4 @@ pub mod Batches
 pub mod Kept
 pub mod Making
 pub mod Shares
+pub mod Laws

@@ -12,6 +12,7 @@ ghost use Rattle.campaign_plan.specs.Weights.{weight};
 ghost use Rattle.campaign_plan.specs.declared.PlanRefusal.TheVariants.{Memory};
 
 mod batch;
+mod law;
 mod numbers;
 mod shares;
 
@@ -20,6 +21,7 @@ pub use batch::{class_with, has_bit, own_sums};
 use circuit::netlist::Netlist;
 use circuit::parts::{Name, NetId};
 use fault_list::{FaultList, Flips};
+pub use law::{faults_are_alone, sums_are_consistent, weights_sum_to_rates};
 use metric_sums::Asil;
 use numbers::{Inputs, kept, list_faults, parts_of_faults, parts_of_nets};
 use rate_table::{Part, Rates};
