@@ -1,14 +1,11 @@
 -- Marks of models, from those of the models that they instance.
-use Rattle.std.proofs.Common.{◌≡◌, ℕ, zero, suc, ◌+◌, ◌-◌, ◌<◌, ◌≤◌, Bool, true, false, cond, ◌||◌, List, [], ◌∷◌, refl, ap, sym, ◌∙◌, add-zero, zero-add, map, arith}
+use Rattle.std.proofs.Common.{◌≡◌, ℕ, zero, suc, ◌+◌, ◌<◌, Bool, true, false, cond, ◌||◌, List, [], ◌∷◌, refl, ap, sym, ◌∙◌, add-zero, zero-add, map, arith}
 use Rattle.std.specs.Prelude.{Option, Some, None, bytes_eq, nat_lt, sum_by, slice_index_or, Vec}
 use Rattle.std.specs.List.{list_any}
 use Rattle.std.specs.Option.{option_map_or}
 use Rattle.std.specs.declared.alloc.Global.{Global}
 use Rattle.std.proofs.lemmas.Bool.{lt-ltb}
 use Rattle.std.proofs.lemmas.List.Sums.{sum_by-cons}
-use Rattle.fm_base.proofs.Tests.{and_both}
-use Rattle.std.specs.Cmp.Lexicographic.{pointwise}
-use mathlib.Core.Bool.{beq}
 use Rattle.fm_base.specs.Names.{Name}
 use Rattle.blif_model.specs.Models.{Item, Model, Instance, at_model, model_named, instances, has_nest, reaches}
 use Rattle.blif_counts.specs.Callees.{AllCallees, AreCallees, instances_in, number_at}
@@ -87,43 +84,13 @@ module _ (models : List Model) (cs : List (Vec ℕ Global)) (all : AllCallees mo
     abbrev reached : ℕ → List Bool
     reached steps = map (reaches models steps name) models
 
-    pub reach_first : (own marks : List Bool) → own ≡ map (λ m. bytes_eq m.name name) models → marks ≡ own → marks ≡ map (reaches models 0 name) models
-    unfolding reaches
-    reach_first own marks e f = f ∙ e
-
     module _ (own : List Bool) (e : own ≡ map (λ m. bytes_eq m.name name) models) where
-      further_reached : (steps : ℕ) → marks_after (reached steps) own cs ≡ reached (suc steps)
+      pub further_reached : (steps : ℕ) → marks_after (reached steps) own cs ≡ reached (suc steps)
       unfolding reaches instances
       further_reached steps = rw e (all_further models (reaches models steps name) (λ m. bytes_eq m.name name) models cs all)
 
-      pub reach_more : (steps : ℕ) (before now : List Bool) → before ≡ reached steps → now ≡ marks_after before own cs → now ≡ map (reaches models (steps + 1) name) models
-      reach_more steps before now f g =
-          let next : suc steps ≡ steps + 1 = omega arith in
-          g ∙ ap (λ (marks : List Bool). marks_after marks own cs) f ∙ further_reached steps ∙ ap reached next
-
-      stays : (more steps : ℕ) (marks : List Bool) → marks_after marks own cs ≡ marks → marks ≡ reached steps → marks ≡ reached (steps + more)
+      pub stays : (more steps : ℕ) (marks : List Bool) → marks_after marks own cs ≡ marks → marks ≡ reached steps → marks ≡ reached (steps + more)
       stays zero steps marks same f = f ∙ ap reached (sym (add-zero steps))
       stays (suc more) steps marks same f =
           let next : suc (steps + more) ≡ steps + suc more = omega arith in
           sym same ∙ ap (λ (ms : List Bool). marks_after ms own cs) (stays more steps marks same f) ∙ further_reached (steps + more) ∙ ap reached next
-
-      -- marks that a round leaves stay in all later ones
-      pub reach_end : (steps most : ℕ) (before now : List Bool) → steps ≤ most → now ≡ before → before ≡ reached steps → now ≡ marks_after before own cs → before ≡ map (reaches models most name) models
-      reach_end steps most before now h same f g =
-          let whole : steps + (most - steps) ≡ most = omega arith in
-          stays (most - steps) steps before (sym g ∙ same) f ∙ ap reached whole
-
-same_flag : (a b : Bool) → beq a b ≡ true → a ≡ b
-same_flag true true e = refl
-same_flag true false e = cc
-same_flag false true e = cc
-same_flag false false e = refl
-
--- marks that compare as equal
-pub same_marks : (a b : List Bool) → pointwise beq a b ≡ true → a ≡ b
-same_marks [] [] e = refl
-same_marks [] (y ∷ ys) e = cc
-same_marks (x ∷ xs) [] e = cc
-same_marks (x ∷ xs) (y ∷ ys) e =
-    let parts = and_both (beq x y) (pointwise beq xs ys) e in
-    ap (λ (z : Bool). z ∷ xs) (same_flag x y parts.0) ∙ ap (λ (more : List Bool). y ∷ more) (same_marks xs ys parts.1)

@@ -1,3 +1,4 @@
 pub mod Levels
 pub mod Rings
 pub mod Within
+pub mod Bounds

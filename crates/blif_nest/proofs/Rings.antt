@@ -1,8 +1,8 @@
 -- A model on a way back to it nests without end.
-use Rattle.std.proofs.Common.{subst, ◌≡◌, ℕ, zero, suc, ◌+◌, ◌<◌, Bool, true, false, cond, ◌||◌, inl, inr, List, [], ◌∷◌, ◌++◌, refl, ap, sym, ◌∙◌, append_assoc, length, map, take, drop, get_or, eq-eqb, Vec, Global, ◌≤◌, arith}
+use Rattle.std.proofs.Common.{subst, ◌≡◌, ℕ, zero, suc, ◌<◌, Bool, true, false, ◌||◌, inl, inr, List, [], ◌∷◌, ◌++◌, refl, ap, sym, ◌∙◌, append_assoc, length, map, take, drop, get_or, eq-eqb, Vec, Global, ◌≤◌, arith}
 use Rattle.std.specs.Prelude.{Option, Some, None, ◌==◌, bytes_eq, slice_index, slice_index_or}
-use Rattle.std.specs.List.{list_any, slice_get}
-use Rattle.std.specs.Option.{option_or}
+use Rattle.std.specs.List.{list_any, position_or_len, slice_get}
+use Rattle.std.specs.Option.{option_map_or, option_or}
 use Rattle.std.proofs.lemmas.List.{append-nil}
 use Rattle.fm_base.specs.Firsts.{first_after, first_where, given}
 use Rattle.fm_base.specs.Names.{Name}
@@ -11,18 +11,20 @@ use Rattle.fm_base.proofs.Distinct.{same_name, is_same}
 use Rattle.blif_text.specs.declared.NetlistFault.{NetlistFault}
 use Rattle.blif_text.specs.declared.NetlistKind.TheVariants.{TwoModels}
 use Rattle.blif_model.specs.LineFault.{at_line}
-use Rattle.blif_model.specs.Models.{Model, Instance, at_model, main_of, instances, has_nest, reaches}
+use Rattle.blif_model.specs.Models.{Model, Instance, at_model, main_of, model_named, instances, has_nest, reaches}
 use Rattle.blif_model.specs.ModelFault.{recursive, too_deep, two_models}
-use Rattle.std.proofs.lemmas.Bool.{cases_lt}
+use Rattle.std.proofs.lemmas.Bool.{cases_lt, eqb-true}
 use Rattle.components.specs.Graph.{AreComponents, AreEdges, Reaches, Way, target, targets}
 use Rattle.components.proofs.Ways.{along, edge, join}
 use Rattle.blif_counts.specs.Callees.{AllCallees, AreCallees}
+use Rattle.std.proofs.lemmas.List.Folds.{find_at}
+use Rattle.std.proofs.lemmas.List.Sums.{position_or_len_is}
+use Rattle.std.proofs.lemmas.Option.{get_or_from_slice_get, slice_get-get_or}
+use Rattle.blif_nest.proofs.Bounds.{reach_few}
 use Rattle.blif_nest.proofs.Levels.{any_callee}
 use Rattle.blif_model.proofs.FileNetlist.{no_answers}
 use Rattle.blif_says.specs.declared.models.ModelLines.{ModelLines}
 use Rattle.blif_says.specs.Grouped.{model_of, models_seen}
-use Rattle.blif_walk.proofs.Items.{drop_item}
-use Rattle.blif_ports.proofs.FirstLines.{none_left}
 use Rattle.blif_nest.specs.declared.lines.Nesting.TheVariants as nestings
 use Rattle.blif_ports.specs.Lines.{first_among}
 use Rattle.blif_nest.specs.Marks.{instance_fault, kind_of}
@@ -173,11 +175,145 @@ module _ (models : List Model) (callees : List (Vec ℕ Global)) (all : AllCalle
         clash (list_any (λ k. slice_index numbers k == slice_index numbers i) (targets callees i))
         (index_any (λ k. slice_index numbers k == slice_index numbers i) (targets callees i) idx.0 idx.1 (eq-eqb (slice_index numbers t) (slice_index numbers i) equal)) off)
 
+    -- ---- models of one component
+
+    at_index : {X : Type 0} (xs : List X) (k : ℕ) → k < length xs → (x : X) × (slice_get xs k ≡ Some x)
+    at_index [] k h = absurd (omega arith)
+    at_index (x ∷ xs) zero h = (x, refl)
+    at_index (x ∷ xs) (suc k) h = at_index xs k (omega arith)
+
+    marked_is : (test : Model → Bool) (ms : List Model) (j : ℕ) (z : Model) → slice_get ms j ≡ Some z → test z ≡ true → slice_index_or (map test ms) j false ≡ true
+    marked_is test [] zero z e f = cc
+    marked_is test [] (suc j) z e f = cc
+    marked_is test (m ∷ ms) zero z e f = let same : m ≡ z = cc in ap test same ∙ f
+    marked_is test (m ∷ ms) (suc j) z e f = marked_is test ms j z e f
+
+    -- a way to a model reaches its name
+    way_reaches : (n k i : ℕ) (y m : Model) → slice_get models k ≡ Some y → slice_get models i ≡ Some m → Way callees n k i → reaches models n m.name y ≡ true
+    unfolding Way reaches instances
+    way_reaches zero k i y m e f w =
+        let one : Some y ≡ Some m = sym e ∙ ap (slice_get models) w ∙ f in
+        let same : y ≡ m = cc in
+        ap (λ (z : Model). bytes_eq z.name m.name) same ∙ is_same m.name
+    way_reaches (suc n) k i y m e f w =
+        let t : ℕ = target callees k w.0 in
+        let long = callees_long models models callees all in
+        let h = within k w.0 w.1 in
+        let there = at_index models t (omega arith) in
+        let far = way_reaches n t i there.0 m there.1 f w.2 in
+        let any = index_any (λ j. slice_index_or (map (reaches models n m.name) models) j false) (targets callees k) w.0 w.1 (marked_is (reaches models n m.name) models t there.0 there.1 far) in
+        or_second (bytes_eq y.name m.name) (list_any (λ (j : Instance). at_model models j.name (reaches models n m.name) false) (instances y))
+        (any_callee models (reaches models n m.name) y.items (targets callees k) (at_callees models models callees k y all e) ∙ any)
+
+    -- an instance is an edge
+    edge_to : (i k q : ℕ) (m y : Model) (j : Instance) → slice_get models i ≡ Some m → slice_get models k ≡ Some y → slice_get (instances m) q ≡ Some j → model_named models j.name ≡ Some y
+        → (t : ℕ) × (t < length (targets callees i)) × (target callees i t ≡ k)
+    unfolding instances
+    edge_to i k q m y j e f at is =
+        let test : Model → Bool = λ (z : Model). bytes_eq z.name y.name in
+        let here : at_model models j.name test false ≡ true = ap (λ (o : Option Model). option_map_or test o false) is ∙ is_same y.name in
+        let any = list_at (λ (x : Instance). at_model models x.name test false) (instances m) q j at here in
+        let idx = any_index (λ t. slice_index_or (map test models) t false) (targets callees i) (sym (any_callee models test m.items (targets callees i) (at_callees models models callees i m all e)) ∙ any) in
+        let there = marked_model test models (target callees i idx.0) idx.2 in
+        (idx.0, idx.1, one_place (target callees i idx.0) k there.0 y there.1 f (same_name there.0.name y.name there.2))
+
+    -- the place of the first model of a name
+    abbrev place_named : Name → ℕ
+    place_named name = position_or_len (λ (z : Model). bytes_eq z.name name) models
+
+    -- the model of this name has this number
+    abbrev pub has_number : ℕ → Model → Bool
+    has_number n y = slice_index numbers (place_named y.name) == n
+
+    place_is : (k : ℕ) (y : Model) → slice_get models k ≡ Some y → place_named y.name ≡ k
+    place_is k y e =
+        let lt = some_within models k y e in
+        position_or_len_is (λ (z : Model). bytes_eq z.name y.name) models k y (omega arith)
+        (λ j h. false_of (bytes_eq (get_or models j y).name y.name) (λ is.
+        let there : slice_get models j ≡ Some (get_or models j y) = slice_get-get_or models j y (omega arith) in
+        let same = one_place j k (get_or models j y) y there e (same_name (get_or models j y).name y.name is) in
+        omega arith))
+        (λ h. ap (λ (z : Model). bytes_eq z.name y.name) (get_or_from_slice_get models k y y e) ∙ is_same y.name)
+
+    same_bool : (x y : Bool) → (x ≡ true → y ≡ true) → (y ≡ true → x ≡ true) → x ≡ y
+    same_bool true true f g = refl
+    same_bool true false f g = sym (f refl)
+    same_bool false true f g = g refl
+    same_bool false false f g = refl
+
+    module _ (i : ℕ) (m : Model) (here : slice_get models i ≡ Some m) where
+      abbrev own : ℕ
+      own = slice_index numbers i
+
+      abbrev back : Model → Bool
+      back = reaches models (length models) m.name
+
+      -- an instance has the number of the model where it reaches it
+      same_test : (k q : ℕ) (y : Model) (j : Instance) → slice_get models k ≡ Some y → slice_get (instances m) q ≡ Some j → model_named models j.name ≡ Some y → has_number own y ≡ back y
+      same_test k q y j e at is =
+          same_bool (has_number own y) (back y)
+          (λ f.
+          let numbered : slice_index numbers k ≡ own = ap (slice_index numbers) (sym (place_is k y e)) ∙ eqb-true (slice_index numbers (place_named y.name)) own f in
+          let long = callees_long models models callees all in
+          let in_k = some_within models k y e in
+          let in_i = some_within models i m here in
+          let way = comp.ring k i (omega arith) (omega arith) numbered in
+          reach_few models callees all m.name way.0 k y e (way_reaches way.0 k i y m e here way.1))
+          (λ f.
+          let way = reach_way (length models) m.name k y e f in
+          let same : way.0 ≡ i = one_place way.0 i way.1 m way.2 here way.3 in
+          let edge = edge_to i k q m y j here e at is in
+          let long = callees_long models models callees all in
+          let in_k = some_within models k y e in
+          let in_i = some_within models i m here in
+          let down = comp.down i edge.0 (omega arith) edge.1 in
+          let to = ap (slice_index numbers) edge.2 in
+          let up = way_down way.4.0 k way.0 (omega arith) way.4.1 in
+          let end = ap (slice_index numbers) same in
+          let equal : slice_index numbers k ≡ own = omega arith in
+          eq-eqb (slice_index numbers (place_named y.name)) own (ap (slice_index numbers) (place_is k y e) ∙ equal))
+
+      one_test : (q : ℕ) (j : Instance) → slice_get (instances m) q ≡ Some j → at_model models j.name (has_number own) false ≡ at_model models j.name back false
+      one_test q j at = by_found (model_named models j.name) refl
+        where
+          by_found : (o : Option Model) → model_named models j.name ≡ o → option_map_or (has_number own) o false ≡ option_map_or back o false
+          by_found None is = refl
+          by_found (Some y) is = same_test (position_or_len (λ (z : Model). bytes_eq z.name j.name) models) q y j (sym (find_at (λ (z : Model). bytes_eq z.name j.name) models) ∙ is) at is
+
+      alike : (f g : Instance → Bool) (v : Instance → NetlistFault) (xs : List Instance) → ((q : ℕ) (x : Instance) → slice_get xs q ≡ Some x → f x ≡ g x)
+          → first_where (λ x. given (f x) (v x)) xs ≡ first_where (λ x. given (g x) (v x)) xs
+      unfolding first_where
+      alike f g v [] same = refl
+      alike f g v (x ∷ xs) same =
+          ap (λ b. option_or (given b (v x)) (first_where (λ y. given (f y) (v y)) xs)) (same 0 x refl)
+          ∙ ap (option_or (given (g x) (v x))) (alike f g v xs (λ q y e. same (suc q) y e))
+
+      pub ring_lines : first_among (instance_fault models (λ y. slice_index numbers (position_or_len (λ (z : Model). bytes_eq z.name y.name) models) == slice_index numbers i) nestings.Recursive) m.items
+          ≡ first_among (instance_fault models (reaches models (length models) m.name) nestings.Recursive) m.items
+      unfolding instances
+      ring_lines = alike (λ (j : Instance). at_model models j.name (has_number own) false) (λ (j : Instance). at_model models j.name back false) (λ (j : Instance). at_line j.line (kind_of nestings.Recursive)) (instances m) one_test
+
+    pub numbers_marked : (n : ℕ) → map (λ k. k == n) numbers ≡ map (λ y. slice_index numbers (position_or_len (λ (z : Model). bytes_eq z.name y.name) models) == n) models
+    numbers_marked n =
+        let long = callees_long models models callees all in
+        let size = comp.sized in
+        marked_alike numbers models (λ (y : Model). slice_index numbers (place_named y.name) == n) (omega arith)
+        (λ k y e. ap (λ j. slice_index numbers j == n) (place_is k y e))
+      where
+        marked_alike : (ns : List ℕ) (ms : List Model) (g : Model → Bool) → length ns ≡ length ms → ((k : ℕ) (y : Model) → slice_get ms k ≡ Some y → g y ≡ (slice_index ns k == n)) → map (λ k. k == n) ns ≡ map g ms
+        marked_alike [] [] g e same = refl
+        marked_alike [] (m ∷ ms) g e same = absurd (omega arith)
+        marked_alike (k ∷ ns) [] g e same = absurd (omega arith)
+        marked_alike (k ∷ ns) (m ∷ ms) g e same = rw (same 0 m refl) (ap (λ (more : List Bool). (k == n) ∷ more) (marked_alike ns ms g (omega arith) (λ j y h. same (suc j) y h)))
+
 -- a model that is read by its place
 model_read : (lines : List ModelLines) (i : ℕ) (x : ModelLines) → i < length lines → x ≡ get_or lines i x → slice_get (models_seen lines) i ≡ Some (model_of x)
 model_read [] i x h is = absurd (omega arith)
 model_read (l ∷ lines) zero x h is = ap (λ (m : ModelLines). Some (model_of m)) (sym is)
 model_read (l ∷ lines) (suc i) x h is = model_read lines i x (omega arith) is
+
+pub model_here : (models : List Model) (lines : List ModelLines) → models_seen lines ≡ models → (i : ℕ) (x : ModelLines) → i < length lines → x ≡ get_or lines i x → slice_get models i ≡ Some (model_of x)
+model_here models lines seen i x h is = ap (λ (ms : List Model). slice_get ms i) (sym seen) ∙ model_read lines i x h is
 
 module _ (models : List Model) where
   -- a line of the model lies on a way back to it
@@ -192,43 +328,15 @@ module _ (models : List Model) where
   unfolding recursive instances
   recursive_by = refl
 
-  off_ring_none : (m : Model) → goes_back (length models) m ≡ false → holder_fault m ≡ None
+  pub off_ring_none : (m : Model) → list_any (λ (i : Instance). at_model models i.name (reaches models (length models) m.name) false) (instances m) ≡ false
+      → None ≡ first_among (instance_fault models (reaches models (length models) m.name) nestings.Recursive) m.items
   unfolding instances
   off_ring_none m e =
-      none_first (λ (i : Instance). at_model models i.name (reaches models (length models) m.name) false) (λ (i : Instance). at_line i.line (kind_of nestings.Recursive)) (instances m) e
+      sym (none_first (λ (i : Instance). at_model models i.name (reaches models (length models) m.name) false) (λ (i : Instance). at_line i.line (kind_of nestings.Recursive)) (instances m) e)
 
-  -- ---- model by model
-
-  -- a model is looked at only where it lies on a ring
-  holder_is : (m : Model) (on_ring : Bool) (found : Option NetlistFault) → (on_ring ≡ false → goes_back (length models) m ≡ false)
-      → found ≡ cond on_ring (holder_fault m) None → found ≡ holder_fault m
-  holder_is m true found off e = e
-  holder_is m false found off e = e ∙ sym (off_ring_none m (off refl))
-
-  module _ (lines : List ModelLines) (seen : models_seen lines ≡ models) (apart : two_models models ≡ None) where
-    abbrev left : ℕ → Option NetlistFault
-    left i = first_where holder_fault (models_seen (drop i lines))
-
-    pub ring_step : (callees : List (Vec ℕ Global)) → AllCallees models models callees → AreEdges callees → (numbers : List ℕ) → AreComponents callees numbers
-        → (i : ℕ) (x : ModelLines) (on_ring : Bool) (found : Option NetlistFault) → i < length lines → x ≡ get_or lines i x
-        → on_ring ≡ list_any (λ k. slice_index numbers k == slice_index numbers i) (targets callees i)
-        → found ≡ cond on_ring (holder_fault (model_of x)) None
-        → first_where holder_fault (models_seen (drop i lines)) ≡ option_or found (first_where holder_fault (models_seen (drop (i + 1) lines)))
-    unfolding first_where
-    ring_step callees all within numbers comp i x on_ring found h is ring e =
-        let rest : drop i lines ≡ x ∷ drop (i + 1) lines = drop_item lines i x h is in
-        let here = model_read lines i x h is in
-        let at = ap (λ (ms : List Model). slice_get ms i) (sym seen) ∙ here in
-        let off = off_ring models callees all within numbers comp apart i (model_of x) at in
-        ap (λ (ms : List ModelLines). first_where holder_fault (models_seen ms)) rest
-        ∙ ap (λ (o : Option NetlistFault). option_or o (left (i + 1))) (sym (holder_is (model_of x) on_ring found (λ f. off (sym ring ∙ f)) e))
-
-    pub ring_first : left 0 ≡ recursive models
+  module _ (lines : List ModelLines) (seen : models_seen lines ≡ models) where
+    pub ring_first : first_where holder_fault (models_seen (drop 0 lines)) ≡ recursive models
     ring_first = ap (first_where holder_fault) seen ∙ sym recursive_by
-
-    pub ring_end : (i : ℕ) → length lines ≤ i → left i ≡ None
-    unfolding first_where
-    ring_end i h = ap (λ (ms : List ModelLines). first_where holder_fault (models_seen ms)) (none_left lines i h)
 
   -- the main model
   pub deep_some : (m : Model) → Some m ≡ slice_get models 0 → first_among (instance_fault models (has_nest models 32) nestings.TooDeep) m.items ≡ too_deep models

@@ -1,5 +1,5 @@
 // Instances that nest without end, or too deep.
-ghost use Rattle.std.specs.Prelude.{◌≡◌, None, IfOk, if◌then◌else◌, length, map};
+ghost use Rattle.std.specs.Prelude.{◌≡◌, None, Some, IfOk, length, map, slice_get};
 ghost use Rattle.std.specs.Option.{option_or};
 ghost use Rattle.blif_model.specs.ModelFault.{recursive, too_deep, two_models};
 ghost use Rattle.blif_model.specs.Models.{has_nest, reaches};
@@ -11,8 +11,8 @@ ghost use Rattle.blif_nest.specs.Marks.{instance_fault};
 ghost use Rattle.blif_nest.specs.declared.lines.Nesting.TheVariants as nestings;
 
 use crate::lines::{Nesting, first_fault};
-use crate::rounds::{deep_marks, reaching_marks};
-use crate::same_ring::is_on_ring;
+use crate::rounds::deep_marks;
+use crate::same_ring::{is_on_ring, ring_marks};
 use blif_counts::callees::all_callees;
 use blif_says::models::ModelLines;
 use blif_text::NetlistFault;
@@ -20,21 +20,26 @@ use blif_walk::table::ModelTable;
 use components::components;
 use std::alloc::{AllocError, Global};
 
-/// The first line of a model on a way back to it. Only a model that instances one of its own component is looked at.
+/// The first line of the model at a place that instances a model of its component.
 fn ring_fault(
     alloc: Global,
     models: &ModelTable<'_, '_>,
     callees: &[Vec<usize>],
+    numbers: &[usize],
+    place: usize,
     model: &ModelLines<'_, '_>,
-    on_ring: bool,
 ) -> Result<Option<NetlistFault>, AllocError>
-    requires { AllCallees models.now models.now callees.now }
-    ensures { IfOk result (λ o. o ≡ (if on_ring then first_among (instance_fault models.now (reaches models.now (length models.now) (model_of model.now).name) nestings.Recursive) (model_of model.now).items else None)) }
+    requires callees { AllCallees models.now models.now callees.now }
+    requires within { AreEdges callees.now }
+    requires numbers { AreComponents callees.now numbers.now }
+    requires apart { two_models models.now ≡ None }
+    requires here { slice_get models.now place ≡ Some (model_of model.now) }
+    ensures { IfOk result (λ o. o ≡ first_among (instance_fault models.now (reaches models.now (length models.now) (model_of model.now).name) nestings.Recursive) (model_of model.now).items) }
 {
-    if !on_ring {
+    if !is_on_ring(callees, numbers, place) {
         return Ok(None);
     }
-    let marks = reaching_marks(alloc, models, callees, model.name)?;
+    let marks = ring_marks(alloc, numbers, place)?;
     Ok(first_fault(models, marks.as_slice(), Nesting::Recursive, model.items))
 }
 
@@ -52,8 +57,7 @@ fn recursive(
     ensures { IfOk result (λ o. o ≡ recursive models.now) }
 {
     for (place, model) in models.lines().iter().enumerate() {
-        let on_ring = is_on_ring(callees, numbers, place);
-        if let Some(fault) = ring_fault(alloc, models, callees, model, on_ring)? {
+        if let Some(fault) = ring_fault(alloc, models, callees, numbers, place, model)? {
             return Ok(Some(fault));
         }
     }

@@ -1,7 +1,7 @@
 // Marks of models, from those of the models that they instance.
-ghost use Rattle.std.specs.Prelude.{◌≡◌, IfOk, bytes_eq, false, length, map, slice_index_or};
+ghost use Rattle.std.specs.Prelude.{◌≡◌, IfOk, false, map, slice_index_or};
 ghost use Rattle.std.specs.List.{list_any};
-ghost use Rattle.blif_model.specs.Models.{has_nest, reaches};
+ghost use Rattle.blif_model.specs.Models.{has_nest};
 ghost use Rattle.blif_counts.specs.Callees.{AllCallees};
 ghost use Rattle.blif_nest.specs.Marks.{mark_after, marks_after};
 
@@ -69,35 +69,6 @@ pub fn deep_marks(
     let mut marks = all_marks(alloc, models.lines(), true)?;
     'rounds: for _depth in 0..32u32 {
         marks = marks_after(alloc, none.as_slice(), callees, marks.as_slice())?;
-    }
-    Ok(marks)
-}
-
-/// Which models have this name.
-fn named(alloc: Global, models: &[ModelLines<'_, '_>], name: &[u8]) -> Result<Vec<bool>, AllocError>
-    ensures { IfOk result (λ v. v.items ≡ map (λ m. bytes_eq m.name.now name.now) models.now) }
-{
-    models.iter().map(|model| model.name == name).collect(alloc)
-}
-
-/// Which models reach one of this name.
-pub fn reaching_marks(
-    alloc: Global,
-    models: &ModelTable<'_, '_>,
-    callees: &[Vec<usize>],
-    name: &[u8],
-) -> Result<Vec<bool>, AllocError>
-    requires { AllCallees models.now models.now callees.now }
-    ensures { IfOk result (λ v. v.items ≡ map (reaches models.now (length models.now) name.now) models.now) }
-{
-    let own = named(alloc, models.lines(), name)?;
-    let mut marks = Vec::from_slice(alloc, own.as_slice())?;
-    'rounds: for _steps in 0..own.len() {
-        let next = marks_after(alloc, own.as_slice(), callees, marks.as_slice())?;
-        if next.as_slice() == marks.as_slice() {
-            return Ok(marks);
-        }
-        marks = next;
     }
     Ok(marks)
 }
