@@ -11,6 +11,7 @@ ghost use Rattle.fm_base.specs.Lists.{same_bit};
 ghost use Rattle.fm_base.specs.Planes.{bit};
 ghost use Rattle.classifier.specs.Load.{lane_faults};
 
+use crate::noise::{Noise, SILENT};
 use crate::words::LaneWords;
 use circuit::parts::NetId;
 use golden_run::values::Golden;
@@ -83,43 +84,27 @@ pub fn differing<B: LaneWords>(
     differ
 }
 
-/// The lanes in which some of these alarms is 1 in a cycle of a run, and 0 in the golden run.
-pub fn raised_in<B: LaneWords>(
-    lanes: &B,
-    word: u32,
-    golden: &Golden,
-    run: u32,
-    t: u32,
-    nets: &[NetId],
-) -> u64
-    requires word { word < B.words }
-    requires run { run < length golden.now.runs }
-    requires cycle { t < cycles_of (run_at golden.now.runs run) }
-    requires few { length nets.now ≤ 1024 }
-    requires points { golden.now.points.alarm ≡ nets.now }
-    requires circuit { golden.now.circuit ≡ (B.load lanes.now).circuit }
-    requires nets { All (IsNet (B.load lanes.now).circuit) nets.now }
-    ensures { (k : ℕ) → k < 64 → B.IsAfter lanes.now (take (t + 1) (run_at golden.now.runs run).vectors)
-        → bit result k ≡ list_any (λ net. with_faults (B.load lanes.now).circuit (lane_faults (B.load lanes.now) word k) (run_at golden.now.runs run) t net
-        && not (golden_value (B.load lanes.now).circuit (run_at golden.now.runs run) t net)) nets.now }
+// The alarms so far, and those of one more net.
+fn louder(before: Noise, word: u64, golden: bool) -> Noise
+    ensures raised { (k : ℕ) → k < 64 → bit result.raised k ≡ (bit before.raised k || (bit word k && not golden)) }
+    ensures silenced { (k : ℕ) → k < 64 → bit result.silenced k ≡ (bit before.silenced k || (not (bit word k) && golden)) }
 {
-    let mut found = 0;
-    for (j, net) in nets.iter().enumerate() {
-        let own = golden.alarm(run, t, j as u32);
-        found = either_lanes(found, raised_lanes(word_of(lanes, word, *net), own));
+    Noise {
+        raised: either_lanes(before.raised, raised_lanes(word, golden)),
+        silenced: either_lanes(before.silenced, silenced_lanes(word, golden)),
     }
-    found
 }
 
-/// The lanes in which some of these alarms is 0 in a cycle of a run, and 1 in the golden run.
-pub fn silenced_in<B: LaneWords>(
+/// The lanes in which some of these alarms is 1 in a cycle of a run, and 0 in the golden run; and those in which some is 0, and 1
+/// in the golden run.
+pub fn noise_in<B: LaneWords>(
     lanes: &B,
     word: u32,
     golden: &Golden,
     run: u32,
     t: u32,
     nets: &[NetId],
-) -> u64
+) -> Noise
     requires word { word < B.words }
     requires run { run < length golden.now.runs }
     requires cycle { t < cycles_of (run_at golden.now.runs run) }
@@ -127,14 +112,17 @@ pub fn silenced_in<B: LaneWords>(
     requires points { golden.now.points.alarm ≡ nets.now }
     requires circuit { golden.now.circuit ≡ (B.load lanes.now).circuit }
     requires nets { All (IsNet (B.load lanes.now).circuit) nets.now }
-    ensures { (k : ℕ) → k < 64 → B.IsAfter lanes.now (take (t + 1) (run_at golden.now.runs run).vectors)
-        → bit result k ≡ list_any (λ net. not (with_faults (B.load lanes.now).circuit (lane_faults (B.load lanes.now) word k) (run_at golden.now.runs run) t net)
+    ensures raised { (k : ℕ) → k < 64 → B.IsAfter lanes.now (take (t + 1) (run_at golden.now.runs run).vectors)
+        → bit result.raised k ≡ list_any (λ net. with_faults (B.load lanes.now).circuit (lane_faults (B.load lanes.now) word k) (run_at golden.now.runs run) t net
+        && not (golden_value (B.load lanes.now).circuit (run_at golden.now.runs run) t net)) nets.now }
+    ensures silenced { (k : ℕ) → k < 64 → B.IsAfter lanes.now (take (t + 1) (run_at golden.now.runs run).vectors)
+        → bit result.silenced k ≡ list_any (λ net. not (with_faults (B.load lanes.now).circuit (lane_faults (B.load lanes.now) word k) (run_at golden.now.runs run) t net)
         && golden_value (B.load lanes.now).circuit (run_at golden.now.runs run) t net) nets.now }
 {
-    let mut found = 0;
+    let mut found = SILENT;
     for (j, net) in nets.iter().enumerate() {
         let own = golden.alarm(run, t, j as u32);
-        found = either_lanes(found, silenced_lanes(word_of(lanes, word, *net), own));
+        found = louder(found, word_of(lanes, word, *net), own);
     }
     found
 }

@@ -11,7 +11,7 @@ ghost use Rattle.classifier.specs.Load.{lane_faults};
 ghost use Rattle.classifier.specs.Seen.{HasSeen, HaveSeen, goal_at};
 
 use crate::noise::Noise;
-use crate::points::{differing, either_lanes, raised_in, silenced_in};
+use crate::points::{differing, either_lanes, noise_in};
 use crate::words::LaneWords;
 use alarm_points::windows::Windows;
 use alarm_points::{Goal, Points};
@@ -76,8 +76,7 @@ pub fn see_cycle<B: LaneWords>(
     ensures ftti { windows.new.ftti ≡ windows.old.ftti }
 {
     let alarms = points.alarm.as_slice();
-    let raised = raised_in(lanes, word, golden, run, t, alarms);
-    let silenced = silenced_in(lanes, word, golden, run, t, alarms);
+    let found = noise_in(lanes, word, golden, run, t, alarms);
     see_goals(
         lanes,
         word,
@@ -85,9 +84,9 @@ pub fn see_cycle<B: LaneWords>(
         run,
         t,
         points.goals.as_slice(),
-        raised,
+        found.raised,
         windows,
     );
-    noise.raised = either_lanes(noise.raised, raised);
-    noise.silenced = either_lanes(noise.silenced, silenced);
+    noise.raised = either_lanes(noise.raised, found.raised);
+    noise.silenced = either_lanes(noise.silenced, found.silenced);
 }

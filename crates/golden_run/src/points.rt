@@ -1,16 +1,16 @@
 // The points, and their values in one cycle.
 ghost use Rattle.std.specs.Prelude.{◌≡◌, ◌≤◌, ◌+◌, ◌++◌, [], ℕ, Bool, List, All, OnOk, flat_map, length, map};
-ghost use Rattle.circuit.specs.After.{IsAfter};
 ghost use Rattle.circuit.specs.Sound.{IsNet};
 ghost use Rattle.circuit.specs.Trace.{trace};
 ghost use Rattle.alarm_points.specs.PointsFile.{observed};
 ghost use Rattle.alarm_points.specs.PointsKept.{ArePointsFor};
+ghost use Rattle.golden_run.specs.Bare.{IsGoldenAfter};
 ghost use Rattle.golden_run.specs.Recording.{all_points};
 
 use crate::bits::Bits;
 use alarm_points::{Goal, Points};
 use circuit::parts::NetId;
-use cycle_sim::sim::Sim;
+use lane_kernel::{Lanes, Word};
 use std::alloc::AllocError;
 
 /// The number of observation points, over all goals.
@@ -33,34 +33,42 @@ pub fn point_count(points: &Points) -> usize
     observed_count(points) + points.alarm.len()
 }
 
-fn push_values(sim: &Sim, nets: &[NetId], values: &mut Bits) -> Result<(), AllocError>
-    ensures { (vectors : List (List Bool)) (t : ℕ) → IsAfter sim.now.circuit [] vectors sim.now.moment → t + 1 ≡ length vectors
-        → All (IsNet sim.now.circuit) nets.now
-        → OnOk result (values.new ≡ values.old ++ map (λ (net : NetId). trace sim.now.circuit [] vectors t net.0) nets.now) }
+// The golden value of a net in the last cycle.
+fn golden_bit(lanes: &Lanes, net: NetId) -> bool
+    ensures { (vectors : List (List Bool)) (t : ℕ) → IsGoldenAfter vectors lanes.now → t + 1 ≡ length vectors
+        → IsNet lanes.now.circuit net → result ≡ trace lanes.now.circuit [] vectors t net.0 }
+{
+    lanes.net(net).get(0)
+}
+
+fn push_values(lanes: &Lanes, nets: &[NetId], values: &mut Bits) -> Result<(), AllocError>
+    ensures { (vectors : List (List Bool)) (t : ℕ) → IsGoldenAfter vectors lanes.now → t + 1 ≡ length vectors
+        → All (IsNet lanes.now.circuit) nets.now
+        → OnOk result (values.new ≡ values.old ++ map (λ (net : NetId). trace lanes.now.circuit [] vectors t net.0) nets.now) }
 {
     for net in nets {
-        values.push(sim.net(*net))?;
+        values.push(golden_bit(lanes, *net))?;
     }
     Ok(())
 }
 
-fn push_observed(sim: &Sim, goals: &[Goal], values: &mut Bits) -> Result<(), AllocError>
-    ensures { (vectors : List (List Bool)) (t : ℕ) → IsAfter sim.now.circuit [] vectors sim.now.moment → t + 1 ≡ length vectors
-        → All (λ (goal : Goal). All (IsNet sim.now.circuit) goal.observe) goals.now
-        → OnOk result (values.new ≡ values.old ++ map (λ (net : NetId). trace sim.now.circuit [] vectors t net.0) (flat_map (λ (goal : Goal). goal.observe) goals.now)) }
+fn push_observed(lanes: &Lanes, goals: &[Goal], values: &mut Bits) -> Result<(), AllocError>
+    ensures { (vectors : List (List Bool)) (t : ℕ) → IsGoldenAfter vectors lanes.now → t + 1 ≡ length vectors
+        → All (λ (goal : Goal). All (IsNet lanes.now.circuit) goal.observe) goals.now
+        → OnOk result (values.new ≡ values.old ++ map (λ (net : NetId). trace lanes.now.circuit [] vectors t net.0) (flat_map (λ (goal : Goal). goal.observe) goals.now)) }
 {
     for goal in goals {
-        push_values(sim, goal.observe.as_slice(), values)?;
+        push_values(lanes, goal.observe.as_slice(), values)?;
     }
     Ok(())
 }
 
 /// Adds the values of all points: of the observation points, over the goals in order, and then of the alarm points.
-pub fn push_points(sim: &Sim, points: &Points, values: &mut Bits) -> Result<(), AllocError>
-    ensures { (vectors : List (List Bool)) (t : ℕ) → IsAfter sim.now.circuit [] vectors sim.now.moment → t + 1 ≡ length vectors
-        → ArePointsFor sim.now.circuit points.now
-        → OnOk result (values.new ≡ values.old ++ map (λ (net : NetId). trace sim.now.circuit [] vectors t net.0) (all_points points.now)) }
+pub fn push_points(lanes: &Lanes, points: &Points, values: &mut Bits) -> Result<(), AllocError>
+    ensures { (vectors : List (List Bool)) (t : ℕ) → IsGoldenAfter vectors lanes.now → t + 1 ≡ length vectors
+        → ArePointsFor lanes.now.circuit points.now
+        → OnOk result (values.new ≡ values.old ++ map (λ (net : NetId). trace lanes.now.circuit [] vectors t net.0) (all_points points.now)) }
 {
-    push_observed(sim, points.goals.as_slice(), values)?;
-    push_values(sim, points.alarm.as_slice(), values)
+    push_observed(lanes, points.goals.as_slice(), values)?;
+    push_values(lanes, points.alarm.as_slice(), values)
 }

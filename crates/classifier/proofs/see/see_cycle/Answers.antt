@@ -29,11 +29,11 @@ returns-clause-seen g c =
     let seen = c.requires.seen in
     let golden_points : c.args.golden.now.points ≡ points = c.requires.golden in
     let alarms : c.as_slice-alarms.result.now ≡ points.alarm = c.as_slice-alarms.ensures in
-    let loud : (k : ℕ) → k < 64 → bit c.raised_in-raised.result k ≡ is_raised load.circuit points (faults k) run t =
-    λ k lane. c.raised_in-raised.ensures k lane c.requires.after
+    let loud : (k : ℕ) → k < 64 → bit c.noise_in-found.result.raised k ≡ is_raised load.circuit points (faults k) run t =
+    λ k lane. c.noise_in-found.ensures.raised k lane c.requires.after
     ∙ ap (λ (nets : List NetId). list_any (λ (net : NetId). with_faults load.circuit (faults k) run t net && not (golden load.circuit run t net)) nets) alarms in
-    let silent : (k : ℕ) → k < 64 → bit c.silenced_in-silenced.result k ≡ is_silenced load.circuit points (faults k) run t =
-    λ k lane. c.silenced_in-silenced.ensures k lane c.requires.after
+    let silent : (k : ℕ) → k < 64 → bit c.noise_in-found.result.silenced k ≡ is_silenced load.circuit points (faults k) run t =
+    λ k lane. c.noise_in-found.ensures.silenced k lane c.requires.after
     ∙ ap (λ (nets : List NetId). list_any (λ (net : NetId). not (with_faults load.circuit (faults k) run t net) && golden load.circuit run t net) nets) alarms in
     record {
       made =

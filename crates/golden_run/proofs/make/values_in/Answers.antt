@@ -1,7 +1,7 @@
-use Rattle.std.proofs.Common.{◌≡◌, ◌+◌, ◌<◌, ◌++◌, [], List, Bool, suc, ap, sym, ◌∙◌, subst, arith}
+use Rattle.std.proofs.Common.{◌≡◌, ◌+◌, ◌<◌, ◌++◌, List, Bool, Option, suc, ap, sym, ◌∙◌, arith}
 use Rattle.std.specs.Prelude.{flat_map}
-use Rattle.circuit.specs.Circuit.{Circuit}
-use Rattle.circuit.specs.After.{IsAfter}
+use Rattle.circuit.specs.declared.parts.Fault.{Fault}
+use Rattle.lane_kernel.specs.Loads.{faults_of}
 use Rattle.workload.specs.Runs.{cycles_of, run_at}
 use Rattle.fm_base.specs.Lists.{below}
 use Rattle.golden_run.specs.Recording.{values_at}
@@ -10,17 +10,18 @@ use Rattle.golden_run.proofs.make.values_in.Goals as goal
 
 pub loop-t-init : goal.loop-t-init
 unfolding below
-loop-t-init c =
-    let same : c.start.new.self.circuit ≡ c.args.net.now = c.start.ensures.circuit ∙ c.requires.made.circuit in
-    record {
-      made = record { circuit = same; order = c.start.ensures.order ∙ c.requires.made.order };
-      cycle = c.start.ensures.cycle;
-      after = subst (λ (n : Circuit). IsAfter n [] [] c.start.new.self.moment) same (c.start.ensures.start []);
-      values = c.in_ok-values.ensures;
-    }
+loop-t-init g c = record {
+  made = record { circuit = c.start.ensures.keeps.circuit ∙ c.requires.made.circuit; order = c.start.ensures.keeps.order ∙ c.requires.made.order };
+  cycle = c.start.ensures.cycle;
+  after = record {
+    bare = ap (λ (loads : List (List (Option Fault))). faults_of loads 0) c.start.ensures.keeps.loads ∙ c.requires.bare;
+    after = c.start.ensures.start;
+  };
+  values = c.in_ok-values.ensures;
+}
 
 pub loop-t-preserved : goal.loop-t-preserved
-loop-t-preserved c =
+loop-t-preserved g c =
     let run = run_at c.args.work.now c.args.run in
     let t = c.loop-t.t in
     let f = values_at c.args.net.now c.args.points.now run in

@@ -19,14 +19,14 @@ more_points goals i own lt is =
 
 pub loop-goal-preserved : goal.loop-goal-preserved
 loop-goal-preserved c = λ vectors t after last are.
-    let f = λ (net : NetId). trace c.args.sim.now.circuit [] vectors t net.0 in
+    let f = λ (net : NetId). trace c.args.lanes.now.circuit [] vectors t net.0 in
     let goals = c.args.goals.now in
     let i = c.loop-goal.goal-index in
     let own = c.goal-item.result in
     let points = λ (held : List Goal). flat_map (λ (goal : Goal). goal.observe) held in
-    let inside : All (IsNet c.args.sim.now.circuit) own.observe =
-    subst (λ (g : Goal). All (IsNet c.args.sim.now.circuit) g.observe) (sym c.goal-item.is) (are i own c.loop-goal-test.true) in
-    c.in_ok-push_values.ensures vectors t after last (subst (All (IsNet c.args.sim.now.circuit)) (sym c.as_slice.ensures) inside)
+    let inside : All (IsNet c.args.lanes.now.circuit) own.observe =
+    subst (λ (g : Goal). All (IsNet c.args.lanes.now.circuit) g.observe) (sym c.goal-item.is) (are i own c.loop-goal-test.true) in
+    c.in_ok-push_values.ensures vectors t after last (subst (All (IsNet c.args.lanes.now.circuit)) (sym c.as_slice.ensures) inside)
     ∙ ap (λ values. values ++ map f c.as_slice.result.now) (c.loop-goal.invariant vectors t after last are)
     ∙ ap (λ nets. (c.args.values.now ++ map f (points (take i goals))) ++ map f nets) c.as_slice.ensures
     ∙ append_assoc c.args.values.now (map f (points (take i goals))) (map f own.observe)
@@ -39,4 +39,4 @@ returns c = λ vectors t after last are.
     let goals = c.args.goals.now in
     let done : length goals ≤ c.loop-goal.goal-index = c.loop-goal-test.false in
     c.loop-goal.invariant vectors t after last are
-    ∙ ap (λ (held : List Goal). c.args.values.now ++ map (λ (net : NetId). trace c.args.sim.now.circuit [] vectors t net.0) (flat_map (λ (goal : Goal). goal.observe) held)) (take_all c.loop-goal.goal-index goals done)
+    ∙ ap (λ (held : List Goal). c.args.values.now ++ map (λ (net : NetId). trace c.args.lanes.now.circuit [] vectors t net.0) (flat_map (λ (goal : Goal). goal.observe) held)) (take_all c.loop-goal.goal-index goals done)

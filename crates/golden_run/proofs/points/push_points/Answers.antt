@@ -12,13 +12,13 @@ use Rattle.golden_run.proofs.points.push_points.Goals as goal
 
 pub returns : goal.returns
 returns c = λ vectors t after last made.
-    let f = λ (net : NetId). trace c.args.sim.now.circuit [] vectors t net.0 in
+    let f = λ (net : NetId). trace c.args.lanes.now.circuit [] vectors t net.0 in
     let points = c.args.points.now in
     let old = c.args.values.now in
-    let goals : All (λ (goal : Goal). All (IsNet c.args.sim.now.circuit) goal.observe) c.as_slice.result.now =
-    subst (All (λ (goal : Goal). All (IsNet c.args.sim.now.circuit) goal.observe)) (sym c.as_slice.ensures) (λ k d within. (made.goals k d within).nets) in
-    let alarms : All (IsNet c.args.sim.now.circuit) c.as_slice-2.result.now =
-    subst (All (IsNet c.args.sim.now.circuit)) (sym c.as_slice-2.ensures) made.alarm in
+    let goals : All (λ (goal : Goal). All (IsNet c.args.lanes.now.circuit) goal.observe) c.as_slice.result.now =
+    subst (All (λ (goal : Goal). All (IsNet c.args.lanes.now.circuit) goal.observe)) (sym c.as_slice.ensures) (λ k d within. (made.goals k d within).nets) in
+    let alarms : All (IsNet c.args.lanes.now.circuit) c.as_slice-2.result.now =
+    subst (All (IsNet c.args.lanes.now.circuit)) (sym c.as_slice-2.ensures) made.alarm in
     let first : c.push_observed.new.values ≡ old ++ map f (observed points) =
     c.in_ok-push_observed.ensures vectors t after last goals
     ∙ ap (λ (gs : List Goal). old ++ map f (flat_map (λ (goal : Goal). goal.observe) gs)) c.as_slice.ensures in

@@ -1,0 +1,96 @@
+// The set, with a word of summary for each 64 words.
+ghost use Rattle.place_set.specs.Places.{has};
+ghost use Rattle.std.specs.Prelude.{◌≡◌, ◌<◌, ◌≤◌, ◌==◌, ℕ, false, true, IfOk, MatchOption, if◌then◌else◌};
+
+use crate::words::{clear_value, first_from, first_in, is_empty_word, set_value, value_in_words};
+use std::alloc::{AllocError, Global};
+use std::marker::Model;
+
+/// A set of places below a bound. Only `new` takes memory; a search passes over 4,096 places at a time that aren't in it.
+#[derive(Drop)]
+pub struct PlaceSet {
+    bound: u32,
+    // A bit for each place.
+    words: Vec<u64>,
+    // A bit for each word that isn't 0.
+    summary: Vec<u64>,
+}
+
+impl Model for PlaceSet {
+    ghost use Rattle.place_set.specs.Places.{IsSet, Places};
+
+    ghost Value = { Places };
+
+    ghost view = { λ s. record { bound = s.bound; words = s.words.items } };
+
+    ghost invariant = { λ s. IsSet s.bound s.words.items s.summary.items };
+}
+
+impl PlaceSet {
+    /// No places, of those below a bound.
+    pub fn new(alloc: Global, bound: u32) -> Result<Self, AllocError>
+        ensures bound { IfOk result (λ set. set.bound ≡ bound) }
+        ensures none { IfOk result (λ set. (p : ℕ) → has set p ≡ false) }
+    {
+        let count = bound as usize / 64 + 1;
+        Ok(PlaceSet {
+            bound,
+            words: vec![in alloc; 0; count]?,
+            summary: vec![in alloc; 0; count / 64 + 1]?,
+        })
+    }
+
+    /// The bound.
+    pub fn bound(&self) -> u32
+        ensures { result ≡ self.now.bound }
+    {
+        self.bound
+    }
+
+    /// Whether a place is in the set; one from the bound on isn't.
+    pub fn has(&self, place: usize) -> bool
+        ensures { result ≡ has self.now place }
+    {
+        value_in_words(&self.words, place)
+    }
+
+    /// Puts a place into the set, if it isn't there.
+    pub fn put(&mut self, place: usize)
+        requires { place < self.old.bound }
+        ensures bound { self.new.bound ≡ self.old.bound }
+        ensures has { (p : ℕ) → has self.new p ≡ (if p == place then true else has self.old p) }
+    {
+        set_value(&mut self.words, place);
+        set_value(&mut self.summary, place / 64);
+    }
+
+    /// Takes a place out of the set, if it is there.
+    pub fn remove(&mut self, place: usize)
+        requires { place < self.old.bound }
+        ensures bound { self.new.bound ≡ self.old.bound }
+        ensures has { (p : ℕ) → has self.new p ≡ (if p == place then false else has self.old p) }
+    {
+        clear_value(&mut self.words, place);
+        if is_empty_word(&self.words, place / 64) {
+            clear_value(&mut self.summary, place / 64);
+        }
+    }
+
+    /// The first place of the set from a place on.
+    pub fn next_from(&self, from: usize) -> Option<usize>
+        ensures { MatchOption result
+            ((p : ℕ) → from ≤ p → has self.now p ≡ false)
+            (λ q. (from ≤ q) × (q < self.now.bound) × (has self.now q ≡ true) × ((p : ℕ) → from ≤ p → p < q → has self.now p ≡ false)) }
+    {
+        if from / 64 >= self.words.len() {
+            return None;
+        }
+        match first_in(&self.words, from) {
+            Some(place) => Some(place),
+            None => match first_from(&self.summary, from / 64 + 1) {
+                Some(word) => first_in(&self.words, word * 64),
+                None => None,
+            },
+        }
+    }
+}

@@ -1,0 +1,74 @@
+// Truth values in words, 64 to a word.
+ghost use Rattle.std.specs.Prelude.{◌≡◌, ◌≢◌, ◌<◌, ◌≤◌, ◌*◌, ◌/◌, ◌==◌, ◌^◌, ℕ, false, true, length, slice_index, MatchOption, if◌then◌else◌};
+ghost use Rattle.place_set.specs.Places.{value_in};
+
+/// The value at a place; behind the end it is false.
+pub fn value_in_words(words: &[u64], place: usize) -> bool
+    ensures { result ≡ value_in words.now place }
+{
+    match words.get(place / 64) {
+        Some(word) => (*word >> (place % 64)) & 1 == 1,
+        None => false,
+    }
+}
+
+/// Sets the value at a place to true.
+pub fn set_value(words: &mut [u64], place: usize)
+    requires { place / 64 < length words.old }
+    ensures { (p : ℕ) → value_in words.new p ≡ (if p == place then true else value_in words.old p) }
+{
+    let at = place / 64;
+    words[at] = words[at] | (1 << (place % 64));
+}
+
+/// Sets the value at a place to false.
+pub fn clear_value(words: &mut [u64], place: usize)
+    requires { place / 64 < length words.old }
+    ensures { (p : ℕ) → value_in words.new p ≡ (if p == place then false else value_in words.old p) }
+{
+    let at = place / 64;
+    words[at] = words[at] & !(1 << (place % 64));
+}
+
+/// Whether a word has no bit.
+pub fn is_empty_word(words: &[u64], at: usize) -> bool
+    requires { at < length words.now }
+    ensures none { result ≡ true → slice_index words.now at ≡ 0 }
+    ensures some { result ≡ false → (slice_index words.now at ≢ 0) × (slice_index words.now at < 2 ^ 64) }
+{
+    words[at] == 0
+}
+
+/// The first true place of a word from a place of it on.
+pub fn first_in(words: &[u64], from: usize) -> Option<usize>
+    requires few { length words.now ≤ 2 ^ 32 }
+    requires inside { from / 64 < length words.now }
+    ensures { MatchOption result
+        ((p : ℕ) → from ≤ p → p / 64 ≡ from / 64 → value_in words.now p ≡ false)
+        (λ q. (from ≤ q) × (q / 64 ≡ from / 64) × (value_in words.now q ≡ true) × ((p : ℕ) → from ≤ p → p < q → value_in words.now p ≡ false)) }
+{
+    let at = from / 64;
+    let left = words[at] & (u64::MAX << (from % 64));
+    if left == 0 {
+        None
+    } else {
+        Some(at * 64 + left.trailing_zeros() as usize)
+    }
+}
+
+/// The first true place from a place on.
+pub fn first_from(words: &[u64], from: usize) -> Option<usize>
+    requires few { length words.now ≤ 2 ^ 32 }
+    ensures { MatchOption result
+        ((p : ℕ) → from ≤ p → value_in words.now p ≡ false)
+        (λ q. (from ≤ q) × (value_in words.now q ≡ true) × ((p : ℕ) → from ≤ p → p < q → value_in words.now p ≡ false)) }
+{
+    let mut at = from;
+    'words: while at < 64 * words.len() {
+        if let Some(place) = first_in(words, at) {
+            return Some(place);
+        }
+        at = (at / 64 + 1) * 64;
+    }
+    None
+}
