@@ -1,0 +1,14 @@
+pub mod Rows
+pub mod Drives
+pub mod Sound
+pub mod Marked
+pub mod Tokenizing
+pub mod Words
+pub mod Listing
+pub mod Reading
+pub mod Parity
+pub mod Mentions
+pub mod Gathering
+pub mod Putting
+pub mod Loose
+pub mod Answered

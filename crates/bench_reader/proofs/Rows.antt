@@ -1,0 +1,106 @@
+-- Each row of a gate's table has a literal for each input.
+use Rattle.std.proofs.Common.{◌≡◌, ℕ, zero, suc, Bool, true, false, cond, ◌&&◌, List, [], ◌∷◌, length, map, replicate, refl, ap, arith}
+use Rattle.std.specs.Prelude.{◌^◌, filter, Option, Some, None, codes, nat_le}
+use Rattle.std.specs.List.{AllByRecursion}
+use Rattle.std.proofs.lemmas.Bool.{leb-true}
+use Rattle.fm_base.specs.Lists.{below}
+use Rattle.fm_base.specs.Names.{Bytes, Name}
+use Rattle.fm_base.proofs.Tests.{and_both}
+use Rattle.bench_reader.specs.declared.BenchKind.TheVariants.{BadLine, BadCount}
+use Rattle.bench_reader.specs.declared.gate.Gate.{Gate}
+use Rattle.bench_reader.specs.declared.gate.Gate.TheVariants.{And, Nand, Or, Nor, Xor, Xnor, Not, Buffer}
+use Rattle.bench_reader.specs.Gates.{cells_of, gate_named, gate_rows, is_odd_row, is_word, odd_rows, takes}
+use Rattle.bench_reader.specs.Gather.{StatementFits}
+use Rattle.bench_reader.specs.LineFault.{said, said_lines}
+use Rattle.bench_reader.specs.Statement.{input, output, table, wrong, driver_line, latch_line, names_in, port_line, statement_of, table_line}
+use Rattle.bench_reader.specs.Tokens.{Line, Token, opening, closing, equals, name, lines_of}
+
+-- ---- rows
+
+length_replicate : {X : Type 0} (n : ℕ) (x : X) → length (replicate n x) ≡ n
+length_replicate zero x = refl
+length_replicate (suc n) x = ap (λ k. suc k) (length_replicate n x)
+
+length_cells : (n k : ℕ) → length (cells_of n k) ≡ n
+length_cells zero k = refl
+length_cells (suc n) k = ap (λ m. suc m) (length_cells n k)
+
+cells_fit : (n : ℕ) (ks : List ℕ) → AllByRecursion (λ row. length row ≡ n) (map (cells_of n) ks)
+cells_fit n [] = tt
+cells_fit n (k ∷ ks) = (length_cells n k, cells_fit n ks)
+
+kept_fit : {X : Type 0} (P : X → Type 0) (test : X → Bool) (xs : List X) → AllByRecursion P xs → AllByRecursion P (filter test xs)
+kept_fit P test [] all = tt
+kept_fit {X} P test (x ∷ xs) all = by_cases (test x) (kept_fit P test xs all.1)
+  where
+    by_cases : (b : Bool) → AllByRecursion P (filter test xs) → AllByRecursion P (cond b (x ∷ filter test xs) (filter test xs))
+    by_cases true more = (all.0, more)
+    by_cases false more = more
+
+odd_fit : (n : ℕ) → AllByRecursion (λ row. length row ≡ n) (odd_rows n)
+unfolding odd_rows
+odd_fit n = kept_fit (λ row. length row ≡ n) is_odd_row (map (cells_of n) (below (2 ^ n))) (cells_fit n (below (2 ^ n)))
+
+-- one input alone
+one_input : (n : ℕ) → (nat_le 1 n && nat_le n 1) ≡ true → 1 ≡ n
+one_input n e =
+    let parts = and_both (nat_le 1 n) (nat_le n 1) e in
+    let low = leb-true 1 n parts.0 in
+    let high = leb-true n 1 parts.1 in
+    omega arith
+
+pub gate_fits : (gate : Gate) (n : ℕ) → takes gate n ≡ true → AllByRecursion (λ row. length row ≡ n) (gate_rows gate n)
+gate_fits And n e = (length_replicate n _, tt)
+gate_fits Nand n e = (length_replicate n _, tt)
+gate_fits Or n e = (length_replicate n _, tt)
+gate_fits Nor n e = (length_replicate n _, tt)
+gate_fits Xor n e = odd_fit n
+gate_fits Xnor n e = odd_fit n
+gate_fits Not n e = (one_input n e, tt)
+gate_fits Buffer n e = (one_input n e, tt)
+
+-- ---- statements
+
+latch_line_fits : (out : Name) (ins : List Name) → StatementFits (latch_line out ins)
+latch_line_fits out [] = tt
+latch_line_fits out (from ∷ []) = tt
+latch_line_fits out (a ∷ b ∷ more) = tt
+
+table_line_fits : (out : Name) (gate : Option Gate) (ins : List Name) → StatementFits (table_line out gate ins)
+table_line_fits out None ins = tt
+table_line_fits out (Some gate) ins = by_cases (takes gate (length ins)) refl
+  where
+    by_cases : (b : Bool) → takes gate (length ins) ≡ b → StatementFits (cond b (table out gate ins) (wrong BadCount))
+    by_cases true e = e
+    by_cases false e = tt
+
+driver_line_fits : (out word : Name) (ins : Option (List Name)) → StatementFits (driver_line out word ins)
+driver_line_fits out word None = tt
+driver_line_fits out word (Some ins) = by_cases (is_word (codes "DFF") word)
+  where
+    by_cases : (b : Bool) → StatementFits (cond b (latch_line out ins) (table_line out (gate_named word) ins))
+    by_cases true = latch_line_fits out ins
+    by_cases false = table_line_fits out (gate_named word) ins
+
+port_line_fits : (word net : Name) → StatementFits (port_line word net)
+port_line_fits word net = by_cases (is_word (codes "INPUT") word) (is_word (codes "OUTPUT") word)
+  where
+    by_cases : (a b : Bool) → StatementFits (cond a (input net) (cond b (output net) (wrong BadLine)))
+    by_cases true b = tt
+    by_cases false true = tt
+    by_cases false false = tt
+
+pub statement_fits : (tokens : List Token) → StatementFits (statement_of tokens)
+unfolding statement_of
+statement_fits [] = tt
+statement_fits (name word ∷ opening ∷ name net ∷ closing ∷ []) = port_line_fits word net
+statement_fits (name out ∷ equals ∷ name word ∷ opening ∷ tokens) = driver_line_fits out word (names_in tokens)
+statement_fits _ = tt
+
+pub said_fit : (lines : List Line) → AllByRecursion (λ line. StatementFits line.says) (map said lines)
+said_fit [] = tt
+said_fit (line ∷ lines) = (statement_fits line.tokens, said_fit lines)
+
+pub lines_fit : (bytes : Bytes) → AllByRecursion (λ line. StatementFits line.says) (said_lines bytes)
+unfolding said_lines
+lines_fit bytes = said_fit (lines_of bytes)

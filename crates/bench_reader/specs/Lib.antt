@@ -1,0 +1,12 @@
+pub mod Tokens
+pub mod Gates
+pub mod Statement
+pub mod LineFault
+pub mod Net
+pub mod NetFault
+pub mod Bench
+pub mod Meant
+pub mod Marks
+pub mod Drivers
+pub mod Gather
+pub mod Answer

@@ -1,0 +1,33 @@
+// Names of a file as names of their own.
+ghost use Rattle.std.specs.Prelude.{◌≡◌, [], IfOk, map};
+ghost use Rattle.bench_reader.specs.Marks.{name_at};
+
+use fm_list::{Name, Names, Seq};
+use std::alloc::{AllocError, Global};
+
+fn own_name(alloc: Global, name: &[u8]) -> Result<Name, AllocError>
+    ensures { IfOk result (λ n. n ≡ name.now) }
+{
+    Ok(Seq::from_vec(Vec::from_slice(alloc, name)?))
+}
+
+/// The names of a file, copied.
+pub fn own_names(alloc: Global, names: &[&[u8]]) -> Result<Names, AllocError>
+    ensures { IfOk result (λ ns. ns ≡ map (λ name. name.now) names.now) }
+{
+    let mut owned = Seq::new(alloc);
+    for name in names {
+        owned.push(own_name(alloc, name)?)?;
+    }
+    Ok(owned)
+}
+
+/// The name at a place, copied; it is empty where there is none.
+pub fn name_at(alloc: Global, names: &[&[u8]], place: usize) -> Result<Name, AllocError>
+    ensures { IfOk result (λ n. n ≡ name_at (map (λ name. name.now) names.now) place) }
+{
+    match names.get(place) {
+        Some(name) => own_name(alloc, name),
+        None => Ok(Seq::new(alloc)),
+    }
+}
