@@ -1,0 +1,17 @@
+pub mod Fixes
+pub mod Forced
+pub mod Settled
+pub mod Places
+pub mod OneCycle
+pub mod Runs
+pub mod NextFault
+pub mod Chain
+pub mod Numbered
+pub mod Kept
+pub mod Counted
+pub mod Linking
+pub mod Wanted
+pub mod Beside
+pub mod Looking
+pub mod Owned
+pub mod Passes

@@ -1,0 +1,11 @@
+use Rattle.std.proofs.Common.{◌≡◌, ◌<◌, ℕ, length}
+use Rattle.lane_kernel.specs.Loads.{faults_of}
+use Rattle.fault_collapse.specs.Chosen.{faults_in}
+use Rattle.fault_collapse.proofs.simulate.loads_of.Given as goal
+
+-- the lanes so far hold their faults
+abbrev pub invariant-loop-lane : goal.invariant-loop-lane
+invariant-loop-lane l = record {
+  count : length l.loads ≡ 64;
+  held : (k : ℕ) → k < l.lane → faults_of l.loads k ≡ faults_in l.faults l.numbers l.group k;
+}

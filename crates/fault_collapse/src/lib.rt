@@ -1,0 +1,9 @@
+// The outcomes of all faults, by simulating one of each group of equal ones.
+#![tactic(auto)]
+
+mod chosen;
+mod outcomes;
+mod simulate;
+mod spread;
+
+pub use outcomes::{OutcomeList, collapsed_outcomes};
