@@ -1,0 +1,184 @@
+-- How a part has ended.
+use Rattle.std.proofs.Common.{◌≡◌, ◌≢◌, ℕ, zero, suc, ◌<◌, ◌≤◌, ◌==◌, ◌⊎◌, inl, inr, Bool, true, false, cond, List, [], ◌∷◌, map, length, get_or, refl, ap, sym, subst, ◌∙◌, arith}
+use Rattle.std.specs.Prelude.{All, Contains, Option}
+use Rattle.std.proofs.lemmas.Bool.{false≢true, cases_eq, ne_eqb, eq-eqb}
+use Rattle.std.proofs.lemmas.List.{length-map}
+use Rattle.std.proofs.lemmas.List.Sums.{sum_by-cons}
+use Rattle.metric_sums.specs.declared.Sums.{Sums}
+use Rattle.fm_shelf.specs.Shelf.{Told, held_in, told_more, NowHas}
+use Rattle.fm_base.specs.Names.{Bytes}
+use Rattle.campaign_core.specs.Machines.{times}
+use Rattle.campaign_plan.specs.Analysis.{Analysis, batch_count}
+use Rattle.campaign_plan.specs.Batches.{batches, true_planes}
+use Rattle.campaign_plan.specs.Kept.{IsPlan}
+use Rattle.result_file.specs.declared.Row.{Row}
+use Rattle.result_file.specs.KeptRows.{entry_of as planed}
+use Rattle.campaign_board.specs.Boards.{Start, AreEntries, batches_of}
+use Rattle.campaign_board.specs.Kept.{Seen as Board, AreRows, IsBoard, IsStart, IsHeaderTorn}
+use Rattle.campaign_board.specs.Missing.{IsMissing}
+use Rattle.campaign_board.proofs.Distinct.{once_few}
+use Rattle.campaign_workers.specs.Truth.{HasTrueEntries}
+use Rattle.campaign_run.specs.declared.run.End.{End}
+use Rattle.campaign_run.specs.declared.run.End.TheVariants.{Done, NoMemory, ResultFault, OutFault}
+use Rattle.campaign_run.specs.Starting.{nothing}
+use Rattle.campaign_run.specs.Left.{LeftPrefix}
+use Rattle.campaign_run.specs.Steps.{Tells}
+use Rattle.campaign_run.proofs.Entries.{length_entries}
+use Rattle.campaign_run.proofs.Keeping.{same_batches}
+use Rattle.campaign_run.proofs.Finding.{have_true}
+use Rattle.campaign_run.proofs.Reporting.{are_part, text_result}
+use Rattle.campaign_run.proofs.Leaving.{left_torn, left_header}
+use Rattle.campaign_run.proofs.Ending.{starts as campaign_starts}
+use Rattle.command_text.specs.Texts.{shard_line}
+use Rattle.result_merge.specs.Parts.{is_of_part, HasPart}
+use Rattle.campaign_shard.specs.PartSeats.{IsPartDone}
+use Rattle.campaign_shard.specs.RanPart.{PartCampaign, IsPartTold, EndsPartAs, HasRunPart}
+use Rattle.campaign_shard.specs.PartSteps.{whole_campaign, part_origin, HasPartWorked}
+
+-- ---- numbers in a list
+
+-- a number that is counted stands in the list
+counted : (x : ℕ) (xs : List ℕ) → 0 < times x xs → Contains xs x
+counted x [] h = absurd (omega arith)
+counted x (y ∷ ys) h = elim (cases_eq y x) as (λ _. Contains (y ∷ ys) x) [
+  | inl e ↦ (0, omega arith, e)
+  | inr ne ↦
+      (let skip : cond {A = ℕ} (y == x) 1 0 ≡ 0 = ap (λ (t : Bool). cond {A = ℕ} t 1 0) (ne_eqb y x ne) in
+      let rest : Contains ys x = counted x ys (omega (arith, sum_by-cons (λ z. cond {A = ℕ} (z == x) 1 0) y ys, skip)) in (suc rest.0, omega (arith, rest.1), rest.2))
+]
+
+counted_later : (y : ℕ) (ys : List ℕ) (x : ℕ) → 0 < times x ys → 0 < times x (y ∷ ys)
+counted_later y ys x h = omega (arith, sum_by-cons (λ z. cond {A = ℕ} (z == x) 1 0) y ys, h)
+
+-- each number of a list is counted
+each_counted : (xs : List ℕ) → All (λ x. 0 < times x xs) xs
+each_counted [] i d lt = absurd (omega (arith, lt))
+each_counted (y ∷ ys) zero d lt =
+    let here : cond {A = ℕ} (y == y) 1 0 ≡ 1 = ap (λ (t : Bool). cond {A = ℕ} t 1 0) (eq-eqb y y refl) in
+    omega (arith, sum_by-cons (λ z. cond {A = ℕ} (z == y) 1 0) y ys, here)
+each_counted (y ∷ ys) (suc i) d lt = counted_later y ys (get_or ys i d) (each_counted ys i d (omega (arith, lt)))
+
+-- ---- what a part begins with
+
+-- a board has at most as many rows as a plan has batches
+pub few_rows : (o : Start) (rows : List Row) → AreEntries o.entries → AreRows o rows → length rows ≤ 16384
+few_rows o rows are h =
+    let le = once_few (batches_of rows) (length o.entries) h.within h.once in
+    omega (arith, le, are.few, length-map rows (λ (r : Row). r.batch))
+
+pub starts : (name own : Bytes) (p : Analysis) (files : List (List ℕ × List ℕ)) (rest_absent : Bool) (faults batches : ℕ) → IsPlan p → length own ≡ 89
+    → batches ≡ batch_count p → IsStart (part_origin name own p files rest_absent faults) name [] batches files rest_absent faults
+starts name own p files rest_absent faults batches plan many count =
+    campaign_starts (whole_campaign name own p) files rest_absent faults batches plan many (inl refl) count
+
+pub all_true : (name own : Bytes) (p : Analysis) (files : List (List ℕ × List ℕ)) (rest_absent : Bool) (faults : ℕ) → HasTrueEntries p (part_origin name own p files rest_absent faults)
+all_true name own p files rest_absent faults = have_true p nothing (part_origin name own p files rest_absent faults) refl refl
+
+pub many_entries : (name own : Bytes) (p : Analysis) (files : List (List ℕ × List ℕ)) (rest_absent : Bool) (faults : ℕ)
+    → length (part_origin name own p files rest_absent faults).entries ≡ batch_count p
+many_entries name own p files rest_absent faults = length_entries p (true_planes p)
+
+-- ---- the rows of a part
+
+module _ (c : PartCampaign) (files : List (List ℕ × List ℕ)) (rest_absent : Bool) (faults : ℕ) where
+  abbrev start : Start
+  start = part_origin c.name c.own c.p files rest_absent faults
+
+  -- each batch of the plan is to do
+  due_below : (batch : ℕ) → batch < batch_count c.p → IsMissing start batch
+  due_below batch lt = let many = many_entries c.name c.own c.p files rest_absent faults in (omega (arith, lt, many), tt)
+
+  own_batches : (rows : List Row) → IsPartDone start c.part c.parts rows false → All (λ batch. is_of_part c.part c.parts batch ≡ true) (batches_of rows)
+  own_batches rows done i d lt = by_test (get_or (batches_of rows) i d) (each_counted (batches_of rows) i d lt) (done.due i d lt) (is_of_part c.part c.parts (get_or (batches_of rows) i d)) refl
+    where
+      by_test : (batch : ℕ) → 0 < times batch (batches_of rows) → IsMissing start batch → (own : Bool) → is_of_part c.part c.parts batch ≡ own → is_of_part c.part c.parts batch ≡ true
+      by_test batch some due true t = t
+      by_test batch some due false t =
+          let none : times batch (batches_of rows) ≡ 0 = done.own refl batch due ∙ rw t refl in
+          absurd (omega (arith, some, none))
+
+  each_batch : (rows : List Row) → IsPartDone start c.part c.parts rows false → (batch : ℕ) → batch < batch_count c.p → is_of_part c.part c.parts batch ≡ true
+      → Contains (batches_of rows) batch
+  each_batch rows done batch lt own =
+      let one : times batch (batches_of rows) ≡ 1 = done.own refl batch (due_below batch lt) ∙ rw own refl in
+      counted batch (batches_of rows) (omega (arith, one))
+
+  has_part : (rows : List Row) → AreRows start rows → IsPartDone start c.part c.parts rows false → HasPart c.p (true_planes c.p) c.part c.parts (map planed rows)
+  has_part rows kept done =
+      let part = are_part c.p (true_planes c.p) start rows refl kept in
+      record {
+        distinct = part.distinct;
+        own = subst (All (λ batch. is_of_part c.part c.parts batch ≡ true)) (sym (same_batches rows)) (own_batches rows done);
+        each = λ batch lt own. subst (λ bs. Contains bs batch) (sym (same_batches rows)) (each_batch rows done batch lt own);
+        have = part.have;
+      }
+
+  -- ---- by how it ended
+
+  module _ {F : Type 0} (board : Board F) (sums : Sums) (now : List ℕ → Told) (faults_now : ℕ) where
+    -- the work of a board that hasn't failed is done
+    has_done : HasPartWorked start c.part c.parts (held_in files rest_absent c.name) (now c.name) board → board.failed ≡ false
+        → (board.written ≡ true) × IsPartDone start c.part c.parts board.rows false
+    has_done worked fine = elim worked as (λ _. (board.written ≡ true) × IsPartDone start c.part c.parts board.rows false) [
+      | inl done ↦ (done.0, subst (IsPartDone start c.part c.parts board.rows) fine done.1)
+      | inr torn ↦ absurd (false≢true (sym fine ∙ torn.0))
+    ]
+
+    tells : (out_before : Option Bytes) → HasPartWorked start c.part c.parts (held_in files rest_absent c.name) (now c.name) board
+        → IsBoard start board.rows sums board.failed board.written now faults_now → board.failed ≡ false
+        → (out_after : Option Bytes) → out_after ≡ told_more out_before (shard_line c.part c.parts (length board.rows)) → IsPartTold c (now c.name) out_before out_after
+    tells out_before worked kept fine out_after out =
+        let done = has_done worked fine in
+        record {
+          entries = map planed board.rows;
+          has = has_part board.rows kept.rows_are done.1;
+          result = subst (NowHas (now c.name)) (text_result c.p (true_planes c.p) start board.rows refl kept.entries kept.rows_are) (kept.file done.0 fine);
+          wrote = out ∙ ap (λ n. told_more out_before (shard_line c.part c.parts n)) (sym (length-map board.rows planed));
+        }
+
+    leaves : HasPartWorked start c.part c.parts (held_in files rest_absent c.name) (now c.name) board
+        → IsBoard start board.rows sums board.failed board.written now faults_now → board.failed ≡ true
+        → (now c.name ≡ held_in files rest_absent c.name) ⊎ LeftPrefix c.own c.p (true_planes c.p) (now c.name)
+    leaves worked kept bad = elim worked as (λ _. (now c.name ≡ held_in files rest_absent c.name) ⊎ LeftPrefix c.own c.p (true_planes c.p) (now c.name)) [
+      | inl done ↦ inr (left_torn c.p (true_planes c.p) start board.rows (now c.name) refl kept.entries kept.rows_are (kept.torn done.0 bad))
+      | inr torn ↦ header torn.1
+    ]
+      where
+        none : AreRows start []
+        none = record { due = λ k lt. absurd (omega (arith, lt)); once = tt; within = λ i d lt. absurd (omega (arith, lt)) }
+
+        header : IsHeaderTorn start.header 0 (held_in files rest_absent c.name) (now c.name)
+            → (now c.name ≡ held_in files rest_absent c.name) ⊎ LeftPrefix c.own c.p (true_planes c.p) (now c.name)
+        header torn =
+            elim (left_header c.p (true_planes c.p) start [] 0 (held_in files rest_absent c.name) (now c.name) refl kept.entries none (inl refl) torn)
+            as (λ _. (now c.name ≡ held_in files rest_absent c.name) ⊎ LeftPrefix c.own c.p (true_planes c.p) (now c.name)) [ inl same ↦ inl same | inr left ↦ inr left.0 ]
+
+ends : {F : Type 0} (end : End) (c : PartCampaign) (files : List (List ℕ × List ℕ)) (rest_absent : Bool) (faults faults_now : List ℕ → ℕ) (now : List ℕ → Told) (sums : Sums)
+    (board : Board F) (out_before out_after : Option Bytes) (told_before told_after : ℕ)
+    → HasPartWorked (part_origin c.name c.own c.p files rest_absent (faults c.name)) c.part c.parts (held_in files rest_absent c.name) (now c.name) board
+    → IsBoard (part_origin c.name c.own c.p files rest_absent (faults c.name)) board.rows sums board.failed board.written now (faults_now c.name)
+    → Tells end board.failed (shard_line c.part c.parts (length board.rows)) out_before out_after told_before told_after
+    → EndsPartAs end c (record { files = held_in files rest_absent; faults = faults; out = out_before; out_faults = told_before })
+    (record { files = now; faults = faults_now; out = out_after; out_faults = told_after })
+ends Done c files rest_absent faults faults_now now sums board out_before out_after told_before told_after worked kept told =
+    tells c files rest_absent (faults c.name) board sums now (faults_now c.name) out_before worked kept told.0 out_after told.1
+ends NoMemory c files rest_absent faults faults_now now sums board out_before out_after told_before told_after worked kept told = absurd told
+ends ResultFault c files rest_absent faults faults_now now sums board out_before out_after told_before told_after worked kept told =
+    (kept.rose told.0, leaves c files rest_absent (faults c.name) board sums now (faults_now c.name) worked kept told.0, told.1, told.2)
+ends OutFault c files rest_absent faults faults_now now sums board out_before out_after told_before told_after worked kept told =
+    let text : Bytes = shard_line c.part c.parts (length board.rows) in
+    (told.1, (text, tells c files rest_absent (faults c.name) board sums now (faults_now c.name) out_before worked kept told.0 (told_more out_before text) refl, told.2))
+
+pub has_run : {F : Type 0} (end : End) (c : PartCampaign) (files : List (List ℕ × List ℕ)) (rest_absent : Bool) (faults faults_now : List ℕ → ℕ) (now : List ℕ → Told) (sums : Sums)
+    (board : Board F) (out_before out_after : Option Bytes) (told_before told_after : ℕ)
+    → HasPartWorked (part_origin c.name c.own c.p files rest_absent (faults c.name)) c.part c.parts (held_in files rest_absent c.name) (now c.name) board
+    → IsBoard (part_origin c.name c.own c.p files rest_absent (faults c.name)) board.rows sums board.failed board.written now (faults_now c.name)
+    → Tells end board.failed (shard_line c.part c.parts (length board.rows)) out_before out_after told_before told_after → told_before ≤ told_after
+    → HasRunPart end c (record { files = held_in files rest_absent; faults = faults; out = out_before; out_faults = told_before })
+    (record { files = now; faults = faults_now; out = out_after; out_faults = told_after })
+has_run end c files rest_absent faults faults_now now sums board out_before out_after told_before told_after worked kept told grows = record {
+  ends = ends end c files rest_absent faults faults_now now sums board out_before out_after told_before told_after worked kept told;
+  others = λ name ne. kept.others name ne;
+  faults = kept.grows;
+  out_faults = grows;
+}

@@ -1,0 +1,10 @@
+use Rattle.std.specs.String.{string_bytes}
+use Rattle.campaign_shard.specs.PartSteps.{part_origin}
+use Rattle.campaign_shard.proofs.run.run_part.Given as goal
+
+-- what the board begins with, from the callee's arguments
+abbrev pub ghosts-run_over : goal.ghosts-run_over
+ghosts-run_over g a = record {
+  start = part_origin (string_bytes a.name.now) a.own.now a.plan.now
+      (g.F.Shelf.files a.shelf) (g.F.Shelf.rest_absent a.shelf) (g.F.Shelf.write_faults a.shelf (string_bytes a.name.now));
+}

@@ -1,0 +1,4 @@
+pub mod PartSeats
+pub mod RanPart
+pub mod PartSteps
+pub mod MergedParts

@@ -1,0 +1,38 @@
+-- What the steps of a part leave to the next one.
+use Rattle.std.specs.Prelude.{◌≡◌, ◌⊎◌, ℕ, Bool, true, List}
+use Rattle.fm_shelf.specs.Shelf.{Told}
+use Rattle.fm_base.specs.Names.{Bytes}
+use Rattle.campaign_plan.specs.Analysis.{Analysis, all_faults}
+use Rattle.claim_counter.specs.Views.{starting_view}
+use Rattle.claim_counter.specs.Seats.{Counter, Seated}
+use Rattle.command_text.specs.Simulated.{Simulated}
+use Rattle.campaign_board.specs.Boards.{Start}
+use Rattle.campaign_board.specs.Kept.{Seen, IsHeaderTorn}
+use Rattle.campaign_run.specs.declared.run.Text.TheVariants.{Report}
+use Rattle.campaign_run.specs.Starting.{nothing}
+use Rattle.campaign_run.specs.Ran.{Campaign}
+use Rattle.campaign_run.specs.Origins.{origin_of}
+use Rattle.campaign_shard.specs.PartSeats.{IsPartDone}
+
+-- the whole campaign of the plan, which keeps nothing of its file; no board knows what it writes at its end
+abbrev pub whole_campaign : (name own : Bytes) → Analysis → Campaign
+whole_campaign name own p = record { name = name; own = own; p = p; k = nothing; text = Report }
+
+-- what the board of a part begins with: the same as that of the whole campaign
+abbrev pub part_origin : (name own : Bytes) → Analysis → List (List ℕ × List ℕ) → Bool → ℕ → Start
+part_origin name own p files rest_absent faults = origin_of (whole_campaign name own p) files rest_absent faults
+
+-- what a plan's batches are simulated with
+abbrev pub simulated : Analysis → Simulated
+simulated p = record { circuit = p.circuit; faults = all_faults p; runs = p.runs; points = p.points; ftti = p.settings.ftti }
+
+-- the one seat of a table; it holds the turn, with no board behind it yet
+pub record IsOpening (c : Counter) (p : Seated) : Type 0 where
+  pub table : p.table ≡ c.table
+  pub view : p.view ≡ starting_view c.todo
+
+-- a board after the part's work; or its header couldn't be written, and it has failed
+abbrev pub HasPartWorked : {F : Type 0} → Start → (part parts : ℕ) → (before after : Told) → Seen F → Type 0
+HasPartWorked o part parts before after board =
+    ((board.written ≡ true) × IsPartDone o part parts board.rows board.failed)
+    ⊎ ((board.failed ≡ true) × IsHeaderTorn o.header 0 before after)

@@ -1,0 +1,190 @@
+// A part of a campaign, over the origin of its board.
+ghost use Rattle.std.specs.Prelude.{◌≡◌, ◌<◌, ◌≤◌, [], IfOk, IfErr, length};
+ghost use Rattle.std.specs.String.{string_bytes};
+ghost use Rattle.circuit.specs.Order.{IsOrder};
+ghost use Rattle.fm_shelf.specs.Shelf.{held_in};
+ghost use Rattle.campaign_plan.specs.Analysis.{batch_count};
+ghost use Rattle.result_file.specs.KeptRows.{header_len};
+ghost use Rattle.campaign_board.specs.Boards.{batches_of, sums_over};
+ghost use Rattle.campaign_board.specs.Kept.{IsBoard, IsStart};
+ghost use Rattle.campaign_workers.specs.Truth.{HasTrueEntries};
+ghost use Rattle.campaign_run.specs.Steps.{IsFresh, Tells};
+ghost use Rattle.command_text.specs.Texts.{shard_line};
+ghost use Rattle.campaign_shard.specs.RanPart.{HasRunPart};
+ghost use Rattle.campaign_shard.specs.PartSteps.{part_origin, simulated, HasPartWorked, IsOpening};
+
+use crate::run::Shard;
+use crate::seat::work_part;
+use campaign_board::{Board, NoBoard, Origin, Seat, Shared, missing_batches};
+use campaign_plan::Plan;
+use campaign_run::{End, Ran};
+use command_text::share_text::write_shard;
+use command_text::simulator::Simulator;
+use fm_base::Line;
+use fm_list::Seq;
+use fm_shelf::shelf::{Failed, Shelf, Sink};
+use netlist_levels::Order;
+use std::alloc::{AllocError, Global};
+use std::sync::Wait;
+
+// All that a part needs but its board: what simulates its batches, the shared table, and the one seat at it.
+#[derive(Drop)]
+struct Workplace<'a, F: Shelf + Drop, N: Origin> {
+    simulator: Simulator<'a>,
+    shared: Shared<F, N>,
+    seat: Seat<F, N>,
+}
+
+// All the memory of a part.
+#[derive(Drop)]
+struct Prepared<'a, F: Shelf + Drop, N: Origin> {
+    board: Board<F, N>,
+    place: Workplace<'a, F, N>,
+}
+
+// Takes the memory of all but the board.
+fn make_workplace<'a, F: Shelf + Drop, N: Origin>(
+    alloc: Global,
+    plan: &'a Plan,
+    order: &'a Order,
+    board: &Board<F, N>,
+) -> Result<Workplace<'a, F, N>, AllocError>
+    requires order { IsOrder plan.now.circuit order.now }
+    requires entries { length N.start.entries ≡ batch_count plan.now }
+    requires rows { board.now.rows ≡ N.start.rows }
+    ensures simulator { IfOk result (λ w. w.simulator ≡ simulated plan.now) }
+    ensures seat { IfOk result (λ w. IsOpening w.shared w.seat) }
+{
+    let (net, work, points) = (plan.net(), plan.work(), plan.points());
+    let ftti = plan.settings().ftti;
+    let simulator = Simulator::new(alloc, net, order, plan.faults(), work, points, ftti)?;
+    let todo = missing_batches(alloc, plan.batches(), board.rows())?;
+    let (shared, seat) = Shared::table(alloc, board, todo)?;
+    Ok(Workplace {
+        simulator,
+        shared,
+        seat,
+    })
+}
+
+// Takes all the memory of a part, and changes no file.
+fn prepare<'a, F: Shelf + Drop, N: Origin>(
+    alloc: Global,
+    plan: &'a Plan,
+    order: &'a Order,
+    batches: u32,
+    shelf: F,
+    name: &str,
+) -> Result<Prepared<'a, F, N>, NoBoard<F>>
+    requires order { IsOrder plan.now.circuit order.now }
+    requires batches { batches ≡ batch_count plan.now }
+    requires start { IsStart N.start name.now [] batches (F.files shelf) (F.rest_absent shelf) (F.write_faults shelf name.now) }
+    ensures board { IfOk result (λ r. IsFresh N.start shelf r.board) }
+    ensures simulator { IfOk result (λ r. r.place.simulator ≡ simulated plan.now) }
+    ensures seat { IfOk result (λ r. IsOpening r.place.shared r.place.seat) }
+    ensures err { IfErr result (λ e. e.shelf ≡ shelf) }
+{
+    let board = Board::new(alloc, shelf, name, batches, Seq::new(alloc))?;
+    match make_workplace(alloc, plan, order, &board) {
+        Ok(place) => Ok(Prepared { board, place }),
+        Err(AllocError) => Err(NoBoard {
+            shelf: board.into_shelf(),
+        }),
+    }
+}
+
+// Writes the header, and works to the end of the part.
+fn worked<R: Wait, F: Shelf + Drop, N: Origin>(
+    rt: &R,
+    plan: &Plan,
+    own: &Line,
+    shard: Shard,
+    prepared: Prepared<'_, F, N>,
+) -> Board<F, N>
+    requires parts { 0 < shard.parts }
+    requires own { own.now ≡ N.start.header }
+    requires fresh { IsFresh N.start prepared.board.shelf prepared.board × (N.start.rows ≡ []) }
+    requires simulator { prepared.place.simulator ≡ simulated plan.now }
+    requires seat { IsOpening prepared.place.shared prepared.place.seat }
+    requires entries { HasTrueEntries plan.now N.start × (length N.start.entries ≡ batch_count plan.now) }
+    ensures { HasPartWorked N.start shard.part shard.parts (held_in (F.files prepared.entry.board.shelf) (F.rest_absent prepared.entry.board.shelf) N.start.name)
+        (held_in (F.files result.shelf) (F.rest_absent result.shelf) N.start.name) result }
+{
+    let Prepared { mut board, place } = prepared;
+    let Workplace {
+        mut simulator,
+        shared,
+        mut seat,
+    } = place;
+    if board.append_header(0, own).is_err() {
+        return board;
+    }
+    shared.put(&mut seat, board);
+    let Shard { part, parts } = shard;
+    work_part(rt, plan, &mut simulator, &shared, &mut seat, part, parts);
+    shared.close(seat)
+}
+
+// Ends a part: writes its line, unless the board has failed.
+fn tell<F: Shelf + Drop, N: Origin, O: Sink>(
+    shard: Shard,
+    board: Board<F, N>,
+    out: &mut O,
+) -> Ran<F>
+    ensures told { Tells result.end board.failed (shard_line shard.part shard.parts (length board.rows))
+        (O.written out.old) (O.written out.new) (O.faults out.old) (O.faults out.new) }
+    ensures grows { O.faults out.old ≤ O.faults out.new }
+    ensures shelf { result.shelf ≡ board.shelf }
+    ensures kept { IsBoard N.start board.rows (sums_over N.start.entries (batches_of board.rows)) board.failed board.written
+        (held_in (F.files result.shelf) (F.rest_absent result.shelf)) (F.write_faults result.shelf N.start.name) }
+{
+    if board.failed() {
+        return Ran {
+            shelf: board.into_shelf(),
+            end: End::ResultFault,
+        };
+    }
+    let rows = board.rows().len() as u32;
+    let end = match write_shard(shard.part, shard.parts, rows, out) {
+        Ok(()) => End::Done,
+        Err(Failed) => End::OutFault,
+    };
+    Ran {
+        shelf: board.into_shelf(),
+        end,
+    }
+}
+
+/// The part, over the origin of its board.
+pub(crate) fn run_over<R: Wait, F: Shelf + Drop, N: Origin, O: Sink>(
+    rt: &R,
+    alloc: Global,
+    plan: &Plan,
+    order: &Order,
+    own: &Line,
+    shard: Shard,
+    shelf: F,
+    name: &String,
+    out: &mut O,
+) -> Ran<F>
+    requires parts { 0 < shard.parts }
+    requires order { IsOrder plan.now.circuit order.now }
+    requires own { length own.now ≡ header_len }
+    requires origin { N.start ≡ part_origin (string_bytes name.now) own.now plan.now (F.files shelf) (F.rest_absent shelf) (F.write_faults shelf (string_bytes name.now)) }
+    ensures run { HasRunPart result.end (record { name = string_bytes name.now; own = own.now; p = plan.now; part = shard.part; parts = shard.parts })
+        (record { files = held_in (F.files shelf) (F.rest_absent shelf); faults = F.write_faults shelf; out = O.written out.old; out_faults = O.faults out.old })
+        (record { files = held_in (F.files result.shelf) (F.rest_absent result.shelf); faults = F.write_faults result.shelf; out = O.written out.new; out_faults = O.faults out.new }) }
+    ensures untouched { result.end ≡ End.NoMemory → (result.shelf ≡ shelf) × (out.new ≡ out.old) }
+{
+    let batches = plan.batches();
+    match prepare::<F, N>(alloc, plan, order, batches, shelf, name.as_str()) {
+        Ok(prepared) => {
+            let board = worked(rt, plan, own, shard, prepared);
+            tell(shard, board, out)
+        }
+        Err(NoBoard { shelf }) => Ran {
+            shelf,
+            end: End::NoMemory,
+        },
+    }
+}

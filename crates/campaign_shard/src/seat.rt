@@ -1,0 +1,65 @@
+// The one seat of a part.
+ghost use Rattle.std.specs.Prelude.{◌≡◌, ◌<◌, length};
+ghost use Rattle.campaign_plan.specs.Analysis.{all_faults, batch_count};
+ghost use Rattle.campaign_plan.specs.Batches.{true_planes};
+ghost use Rattle.campaign_workers.specs.Truth.{true_entry, HasTrueEntries};
+ghost use Rattle.result_merge.specs.Parts.{is_of_part};
+ghost use Rattle.campaign_shard.specs.PartSeats.{IsAtPart, HasWorkedPart};
+
+use campaign_board::{Entry, Origin, Posted, Seat, Shared};
+use campaign_plan::{Outcome, Plan, own_sums};
+use command_text::simulator::Simulator;
+use fm_shelf::shelf::Shelf;
+use std::sync::Wait;
+
+// The batch is of this part.
+fn is_own(batch: u32, part: u32, parts: u32) -> bool
+    requires { 0 < parts }
+    ensures { result ≡ is_of_part part parts batch }
+{
+    batch % parts == part
+}
+
+// The entry of a batch with these planes, which are those that it truly has.
+fn entry_with(plan: &Plan, batch: u32, planes: Outcome) -> Entry
+    requires batch { batch < batch_count plan.now }
+    requires planes { planes ≡ true_planes plan.now batch }
+    ensures { result ≡ true_entry plan.now batch }
+{
+    Entry {
+        batch,
+        danger: planes.danger,
+        noticed: planes.noticed,
+        own: own_sums(plan, batch, planes),
+    }
+}
+
+/// Draws each batch to do until a draw gives none, and simulates and posts those of the part; or until a post is stopped.
+pub(crate) fn work_part<R: Wait, F: Shelf + Drop, N: Origin>(
+    rt: &R,
+    plan: &Plan,
+    simulator: &mut Simulator<'_>,
+    shared: &Shared<F, N>,
+    seat: &mut Seat<F, N>,
+    part: u32,
+    parts: u32,
+)
+    requires parts { 0 < parts }
+    requires seat { IsAtPart shared.now N.start part parts seat.old × (seat.old.view.nones ≡ 0) }
+    requires simulator { (record { circuit = plan.now.circuit; faults = all_faults plan.now; runs = plan.now.runs; points = plan.now.points; ftti = plan.now.settings.ftti }) ≡ simulator.old }
+    requires entries { HasTrueEntries plan.now N.start × (length N.start.entries ≡ batch_count plan.now) }
+    ensures { HasWorkedPart shared.now N.start part parts seat.new }
+{
+    for _ in rt.forever() {
+        let Some(batch) = shared.draw(seat) else {
+            return;
+        };
+        if is_own(batch, part, parts) {
+            let entry = entry_with(plan, batch, simulator.outcome(batch));
+            if let Posted::Stopped = shared.post(rt, seat, &entry) {
+                return;
+            }
+        }
+    }
+    unreachable!()
+}
