@@ -1,0 +1,37 @@
+-- What a worker judges pairs with, and what it has judged.
+use Rattle.std.specs.Prelude.{◌≡◌, ℕ, ◌%◌, ◌<◌, List, [], length, slice_index, if◌then◌else◌}
+use Rattle.circuit.specs.declared.parts.Fault.{Fault}
+use Rattle.circuit.specs.declared.parts.NetId.{NetId}
+use Rattle.alarm_points.specs.Watch.{AreMadeFor, Watches}
+use Rattle.lane_kernel.specs.Bank.{Bank, IsMadeFor}
+use Rattle.golden_run.specs.Recording.{Recording}
+use Rattle.fault_list.specs.Faults.{batches_for, fault_number, is_used}
+use Rattle.campaign_plan.specs.Analysis.{Analysis}
+use Rattle.pair_list.specs.Chosen.{Chosen, pair_count, pair_numbered}
+use Rattle.pair_campaign.specs.declared.worker.PairWorker.{PairWorker}
+use Rattle.pair_campaign.specs.Together.{both_faults}
+use Rattle.pair_campaign.specs.PairPlanes.{pair_plane}
+
+-- the faults in a lane of a plane: both of the pair there, and none where the lane holds no pair
+abbrev pub faults_in_lane : Analysis → Chosen → ℕ → ℕ → List Fault
+faults_in_lane p c plane lane = if is_used (pair_count c) plane lane then both_faults p (pair_numbered c (fault_number plane lane)) else []
+
+-- the golden run of a plan
+abbrev pub golden_of : Analysis → Recording
+golden_of p = record { circuit = p.circuit; runs = p.runs; points = p.points }
+
+-- lanes and windows for a plan, by an order of its tables
+pub record AreToolsFor (p : Analysis) (order : List NetId) (lanes : Bank ℕ) (windows : Watches) : Type 0 where
+  pub lanes_made : IsMadeFor p.circuit order lanes
+  pub windows_made : AreMadeFor p.points windows
+  pub ftti : windows.ftti ≡ p.settings.ftti
+
+-- a worker with such tools, and with room for so many planes
+pub record IsEquippedFor (p : Analysis) (order : List NetId) (planes : ℕ) (worker : PairWorker) : Type 0 where
+  pub tools : AreToolsFor p order worker.lanes worker.windows
+  pub room : length worker.planes.items ≡ planes
+
+-- each plane whose number leaves this worker's as its remainder, of so many workers, stands at its place
+pub record HasJudged (p : Analysis) (c : Chosen) (workers number : ℕ) (planes : List ℕ) : Type 0 where
+  pub count : length planes ≡ batches_for (pair_count c)
+  pub own : (q : ℕ) → q < batches_for (pair_count c) → q % workers ≡ number → slice_index planes q ≡ pair_plane p c q

@@ -1,0 +1,89 @@
+// The crew that judges pairs.
+ghost use Rattle.std.specs.Prelude.{◌≡◌, ◌<◌, ◌≤◌, All, IfOk, length};
+ghost use Rattle.circuit.specs.Order.{IsOrder};
+ghost use Rattle.pair_list.specs.Chosen.{AreFaults};
+ghost use Rattle.pair_campaign.specs.Work.{IsEquippedFor};
+
+use crate::load::planes_for;
+use crate::worker::PairWorker;
+use campaign_plan::Plan;
+use fm_list::Seq;
+use golden_run::make::golden;
+use golden_run::values::Golden;
+use netlist_levels::Order;
+use pair_list::Pairs;
+use std::alloc::{AllocError, Global};
+use std::marker::Model;
+use std::snapshot::Snapshot;
+
+/// Planes of pairs: bit k of plane q says whether pair 64q + k is dangerous, and is 0 where there is none.
+pub type PairPlanes = Seq<u64>;
+
+/// Workers with their golden run, lanes and windows, and the room for all planes. Judging takes no memory.
+#[derive(Drop)]
+pub struct PairCrew {
+    plan: Snapshot<Plan>,
+    order: Snapshot<Order>,
+    pairs: Snapshot<Pairs>,
+    pub(crate) golden: Golden,
+    pub(crate) workers: Vec<PairWorker>,
+    pub(crate) planes: Vec<u64>,
+}
+
+impl Model for PairCrew {
+    ghost use Rattle.pair_campaign.specs.Crews.{IsCrewFor, MadeFor};
+
+    ghost Value = { MadeFor };
+
+    ghost view = { λ c. record { plan = c.plan.value; order = c.order.value; pairs = c.pairs.value } };
+
+    ghost invariant = { λ c. IsCrewFor (record { plan = c.plan.value; order = c.order.value; pairs = c.pairs.value }) c.golden c.workers.items c.planes.items };
+}
+
+impl PairCrew {
+    /// A crew of 1 to 32 workers for the pairs of a plan.
+    pub fn new(
+        alloc: Global,
+        plan: &Plan,
+        order: &Order,
+        pairs: &Pairs,
+        workers: u32,
+    ) -> Result<PairCrew, AllocError>
+        requires workers { (0 < workers) × (workers ≤ 32) }
+        requires order { IsOrder plan.now.circuit order.now }
+        requires pairs { AreFaults plan.now pairs.now }
+        ensures { IfOk result (λ crew. crew ≡ record { plan = plan.now; order = order.now; pairs = pairs.now }) }
+    {
+        let golden = golden(alloc, plan.net(), order, plan.work(), plan.points())?;
+        let planes = planes_for(pairs);
+        let workers = hired(alloc, plan, order, planes, workers)?;
+        let room = vec![in alloc; 0; planes as usize]?;
+        Ok(PairCrew {
+            plan: Snapshot::of(plan),
+            order: Snapshot::of(order),
+            pairs: Snapshot::of(pairs),
+            golden,
+            workers,
+            planes: room,
+        })
+    }
+}
+
+// So many workers, each with room for so many planes.
+fn hired(
+    alloc: Global,
+    plan: &Plan,
+    order: &Order,
+    planes: u32,
+    count: u32,
+) -> Result<Vec<PairWorker>, AllocError>
+    requires { IsOrder plan.now.circuit order.now }
+    ensures equipped { IfOk result (λ workers. All (IsEquippedFor plan.now order.now planes) workers.items) }
+    ensures count { IfOk result (λ workers. length workers.items ≡ count) }
+{
+    let mut workers = Vec::new(alloc);
+    for _ in 0..count {
+        workers.push(PairWorker::new(alloc, plan, order, planes)?)?;
+    }
+    Ok(workers)
+}
