@@ -9,8 +9,8 @@ use Rattle.campaign_plan.specs.declared.Settings.{Settings}
 use Rattle.metric_sums.specs.declared.Asil.{Asil}
 use Rattle.metric_sums.specs.declared.Asil.TheVariants.{B, C, D}
 use Rattle.fmeda_report.specs.Words.{asil_word}
-use Rattle.command_line.specs.Commands.{Command, Classes, Check, Run, Resume, Audit, Gen, Inputs}
-use Rattle.command_line.specs.Words.{entry, HasAsil, HasCampaign, HasInputs, HasSettings, HasWorkers, IsCommand, IsMet, IsNumber, SaidBy, word_of}
+use Rattle.command_line.specs.Commands.{Command, Classes, Check, Run, Resume, Audit, Gen, Report, Inputs, Shard, Merge, Pairs}
+use Rattle.command_line.specs.Words.{entry, HasAsil, HasCampaign, HasInputs, HasPlanWords, HasSettings, HasWorkers, IsCommand, IsMet, IsNumber, SaidBy, word_of}
 use Rattle.command_line.specs.Table.{fmeda_app}
 use Rattle.command_line.proofs.CycleLists.{same_cycles}
 
@@ -66,6 +66,19 @@ same_campaign rows make i j r s a b n m p q =
     let workers : n ≡ m = same_workers rows n m p.3 q.3 in
     λ t. make (inputs t) (name t) (set t) (workers t)
 
+-- three parts that are the same
+pub record SamePlan (i j : Inputs) (r s : Text) (a b : Settings) : Type 0 where
+  pub inputs : i ≡ j
+  pub name : r ≡ s
+  pub set : a ≡ b
+
+same_plan : (rows : List Row) (i j : Inputs) (r s : Text) (a b : Settings) → HasPlanWords rows i r a → HasPlanWords rows j s b → SamePlan i j r s a b
+same_plan rows i j r s a b p q = record {
+  inputs = same_inputs rows i j p.0 q.0;
+  name = p.1.name ∙ sym q.1.name;
+  set = same_settings rows (λ asil. asil ≡ D) (λ x y left right. left ∙ sym right) a b p.2 q.2;
+}
+
 -- one command of a word is said
 same_said : (rows : List Row) (a b : Command) → word_of a ≡ word_of b → SaidBy rows a → SaidBy rows b → a ≡ b
 same_said rows (Classes netlist workload) (Classes other work) e p q = λ t. Classes ((p.0 ∙ sym q.0) t) ((p.1 ∙ sym q.1) t)
@@ -77,15 +90,31 @@ same_said rows (Check i flips pulses) (Check j others more) e p q =
 same_said rows (Run i r a n) (Run j s b m) e p q = same_campaign rows Run i j r s a b n m p q
 same_said rows (Resume i r a n) (Resume j s b m) e p q = same_campaign rows Resume i j r s a b n m p q
 same_said rows (Audit i r a) (Audit j s b) e p q =
-    let inputs : i ≡ j = same_inputs rows i j p.0 q.0 in
-    let name : r ≡ s = p.1.name ∙ sym q.1.name in
-    let set : a ≡ b = same_settings rows (λ asil. asil ≡ D) (λ x y left right. left ∙ sym right) a b p.2 q.2 in
-    λ t. Audit (inputs t) (name t) (set t)
+    let same = same_plan rows i j r s a b p q in
+    λ t. Audit (same.inputs t) (same.name t) (same.set t)
+same_said rows (Shard i r a k m) (Shard j s b l n) e p q =
+    let same = same_plan rows i j r s a b p.0 q.0 in
+    let part : k ≡ l = same_number rows (codes "part") k l p.1.number.number q.1.number.number in
+    let parts : m ≡ n = same_number rows (codes "of") m n p.1.many.number q.1.many.number in
+    λ t. Shard (same.inputs t) (same.name t) (same.set t) (part t) (parts t)
+same_said rows (Merge i r x y a) (Merge j s z w b) e p q =
+    let same = same_plan rows i j r s a b p.0 q.0 in
+    let first : x ≡ z = p.1.one ∙ sym q.1.one in
+    let second : y ≡ w = p.1.two ∙ sym q.1.two in
+    λ t. Merge (same.inputs t) (same.name t) (first t) (second t) (same.set t)
+same_said rows (Pairs i r a n) (Pairs j s b m) e p q =
+    let same = same_plan rows i j r s a b p.0 q.0 in
+    let workers : n ≡ m = same_workers rows n m p.1 q.1 in
+    λ t. Pairs (same.inputs t) (same.name t) (same.set t) (workers t)
 same_said rows (Gen stages r n) (Gen others s m) e p q =
     let count : stages ≡ others = same_number rows (codes "stages") stages others p.0.number q.0.number in
     let name : r ≡ s = p.1 ∙ sym q.1 in
     let workers : n ≡ m = same_workers rows n m p.2 q.2 in
     λ t. Gen (count t) (name t) (workers t)
+same_said rows (Report i a) (Report j b) e p q =
+    let inputs : i ≡ j = same_inputs rows i j p.0 q.0 in
+    let set : a ≡ b = same_settings rows (HasAsil rows) (λ x y told said. same_asil x y (sym told ∙ said)) a b p.1 q.1 in
+    λ t. Report (inputs t) (set t)
 same_said rows a b e p q = absurd (apart (word_of a) (word_of b) refl e)
 
 -- what was met is one command at most

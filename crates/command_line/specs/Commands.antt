@@ -21,6 +21,10 @@ pub data Command : Type 0 where
   Resume : Inputs → (result : Bytes) → Settings → (workers : ℕ) → Command
   Audit : Inputs → (result : Bytes) → Settings → Command
   Gen : (stages : ℕ) → (result : Bytes) → (workers : ℕ) → Command
+  Report : Inputs → Settings → Command
+  Shard : Inputs → (result : Bytes) → Settings → (part parts : ℕ) → Command
+  Merge : Inputs → (result first second : Bytes) → Settings → Command
+  Pairs : Inputs → (result : Bytes) → Settings → (workers : ℕ) → Command
 
 -- the settings of a command that has none but flips and pulses
 abbrev pub settings_of : (flips pulses : List ℕ) → Settings
@@ -37,3 +41,8 @@ pub record IsOther (result : Bytes) (inputs : Inputs) : Type 0 where
   pub workload : result ≢ inputs.workload
   pub rates : result ≢ inputs.rates
   pub points : result ≢ inputs.points
+
+-- RESULT is not the text of the name of a file that is merged; these two may be one
+pub record IsNoSource (result first second : Bytes) : Type 0 where
+  pub not_first : result ≢ first
+  pub not_second : result ≢ second

@@ -13,6 +13,10 @@ named id = record (new_rule id) { required = true }
 abbrev pub option : Text → Text → Rule
 option id value = record (new_rule id) { long = Some id; defaults = value ∷ [] }
 
+-- an option that must be given
+abbrev pub required_option : Text → Rule
+required_option id = record (new_rule id) { long = Some id; required = true }
+
 -- the same argument where it takes numbers within these bounds alone
 abbrev pub bounded : Rule → ℕ → ℕ → Rule
 bounded rule low high = record rule { parser = Some (vp.Signed (pos low) (pos high)) }
@@ -39,9 +43,17 @@ classes_app = with_rules (new_app (codes "classes")) (named (codes "netlist") �
 abbrev pub check_app : App
 check_app = with_rules (with_rules (new_app (codes "check")) input_rules) list_rules
 
+-- `[--ftti F]`
+abbrev pub ftti_rule : Rule
+ftti_rule = bounded (option (codes "ftti") (codes "0")) 0 4096
+
+-- `[--asil LEVEL]`
+abbrev pub asil_rule : Rule
+asil_rule = option (codes "asil") (codes "D")
+
 -- `RESULT [--ftti F]`
 abbrev pub result_rules : List Rule
-result_rules = named (codes "result") ∷ bounded (option (codes "ftti") (codes "0")) 0 4096 ∷ []
+result_rules = named (codes "result") ∷ ftti_rule ∷ []
 
 -- `NETLIST WORKLOAD RATES POINTS RESULT [--ftti F] [--flips LIST] [--pulses LIST]`
 abbrev pub with_plan : App → App
@@ -53,7 +65,7 @@ workers_rule = bounded (option (codes "workers") (codes "1")) 1 32
 
 -- the same with `[--workers N] [--asil LEVEL]`
 abbrev pub with_campaign : App → App
-with_campaign a = with_rules (with_plan a) (workers_rule ∷ option (codes "asil") (codes "D") ∷ [])
+with_campaign a = with_rules (with_plan a) (workers_rule ∷ asil_rule ∷ [])
 
 -- `run NETLIST WORKLOAD RATES POINTS RESULT [--ftti F] [--flips LIST] [--pulses LIST] [--workers N] [--asil LEVEL]`
 abbrev pub run_app : App
@@ -71,6 +83,30 @@ audit_app = with_plan (new_app (codes "audit"))
 abbrev pub gen_app : App
 gen_app = with_rules (new_app (codes "gen")) (bounded (named (codes "stages")) 1 1000 ∷ named (codes "result") ∷ workers_rule ∷ [])
 
+-- `report NETLIST WORKLOAD RATES POINTS [--ftti F] [--flips LIST] [--pulses LIST] [--asil LEVEL]`
+abbrev pub report_app : App
+report_app = with_rules (with_rules (with_rules (with_rules (new_app (codes "report")) input_rules) (ftti_rule ∷ [])) list_rules) (asil_rule ∷ [])
+
+-- `--part K --of M`
+abbrev pub part_rules : List Rule
+part_rules = bounded (required_option (codes "part")) 0 1023 ∷ bounded (required_option (codes "of")) 1 1024 ∷ []
+
+-- `shard NETLIST WORKLOAD RATES POINTS RESULT --part K --of M [--ftti F] [--flips LIST] [--pulses LIST]`
+abbrev pub shard_app : App
+shard_app = with_rules (with_plan (new_app (codes "shard"))) part_rules
+
+-- `FIRST SECOND`
+abbrev pub source_rules : List Rule
+source_rules = named (codes "first") ∷ named (codes "second") ∷ []
+
+-- `merge NETLIST WORKLOAD RATES POINTS RESULT FIRST SECOND [--ftti F] [--flips LIST] [--pulses LIST]`
+abbrev pub merge_app : App
+merge_app = with_rules (with_plan (new_app (codes "merge"))) source_rules
+
+-- `pairs NETLIST WORKLOAD RATES POINTS RESULT [--ftti F] [--flips LIST] [--pulses LIST] [--workers N]`
+abbrev pub pairs_app : App
+pairs_app = with_rules (with_plan (new_app (codes "pairs"))) (workers_rule ∷ [])
+
 -- ---- the table
 
 -- one level of subcommands, of which one must be named
@@ -79,8 +115,16 @@ with_required a = record a { top = record a.top { subcommand_required = true } }
 
 -- the commands, a row each
 abbrev pub commands : List App
-commands = classes_app ∷ check_app ∷ run_app ∷ resume_app ∷ audit_app ∷ gen_app ∷ []
+commands = classes_app ∷ check_app ∷ run_app ∷ resume_app ∷ audit_app ∷ gen_app ∷ report_app ∷ shard_app ∷ merge_app ∷ pairs_app ∷ []
 
--- the program with its commands
+-- the program with some commands
+abbrev pub program_with : List App → App
+program_with rows = fold (λ a command. with_subcommand a command.top) (with_required (new_app (codes "fmeda"))) rows
+
+-- those of a whole campaign on one machine
+abbrev pub campaign_rows : List App
+campaign_rows = classes_app ∷ check_app ∷ run_app ∷ resume_app ∷ audit_app ∷ gen_app ∷ []
+
+-- the program with all its commands
 abbrev pub fmeda_app : App
-fmeda_app = fold (λ a command. with_subcommand a command.top) (with_required (new_app (codes "fmeda"))) commands
+fmeda_app = program_with commands

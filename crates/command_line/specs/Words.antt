@@ -1,5 +1,5 @@
 -- Which command words are. The first word is the program's name.
-use Rattle.std.specs.Prelude.{◌≡◌, ℕ, ◌≤◌, List, [], Option, Some, Ok, codes, unwrap_or}
+use Rattle.std.specs.Prelude.{◌≡◌, ℕ, ◌<◌, ◌≤◌, List, [], Option, Some, Ok, codes, unwrap_or}
 use Rattle.std.specs.Str.Parse.{ParsesUnsigned}
 use Rattle.std.specs.declared.num.ParseIntError.{ParseIntError}
 use Rattle.clap.specs.Faults.{fault_of}
@@ -8,7 +8,7 @@ use Rattle.campaign_plan.specs.declared.Settings.{Settings}
 use Rattle.metric_sums.specs.declared.Asil.{Asil}
 use Rattle.metric_sums.specs.declared.Asil.TheVariants.{D}
 use Rattle.fmeda_report.specs.Words.{asil_word}
-use Rattle.command_line.specs.Commands.{Command, Classes, Check, Run, Resume, Audit, Gen, Inputs, IsCycleList, IsOther}
+use Rattle.command_line.specs.Commands.{Command, Classes, Check, Run, Resume, Audit, Gen, Report, Inputs, IsCycleList, IsOther, Shard, Merge, Pairs, IsNoSource}
 use Rattle.command_line.specs.Table.{fmeda_app}
 
 -- the command's own word
@@ -19,6 +19,10 @@ word_of (Run inputs name set workers) = codes "run"
 word_of (Resume inputs name set workers) = codes "resume"
 word_of (Audit inputs name set) = codes "audit"
 word_of (Gen stages name workers) = codes "gen"
+word_of (Report inputs set) = codes "report"
+word_of (Shard inputs name set part parts) = codes "shard"
+word_of (Merge inputs name first second set) = codes "merge"
+word_of (Pairs inputs name set workers) = codes "pairs"
 
 -- ---- what stands behind it
 
@@ -54,7 +58,7 @@ pub record HasLists (rows : List Row) (flip_cycles pulse_cycles : List ℕ) : Ty
 abbrev pub HasFtti : List Row → ℕ → Type 0
 HasFtti rows ftti = HasNumber rows (codes "ftti") 0 4096 ftti
 
--- the ASIL that a campaign is told
+-- the ASIL that a campaign, or a report, is told
 abbrev pub HasAsil : List Row → Asil → Type 0
 HasAsil rows asil = entry rows (codes "asil") ≡ asil_word asil
 
@@ -81,14 +85,34 @@ pub record HasResult (rows : List Row) (inputs : Inputs) (result : Text) : Type 
 abbrev pub HasCampaign : List Row → Inputs → Text → Settings → ℕ → Type 0
 HasCampaign rows inputs result set workers = HasInputs rows inputs × HasResult rows inputs result × HasSettings rows (HasAsil rows) set × HasWorkers rows workers
 
--- what stands behind the command's word says this; an audit is told no ASIL, and its settings have D
+-- what `audit`, `shard`, `merge` and `pairs` say alike; they are told no ASIL, and their settings have D
+abbrev pub HasPlanWords : List Row → Inputs → Text → Settings → Type 0
+HasPlanWords rows inputs result set = HasInputs rows inputs × HasResult rows inputs result × HasSettings rows (λ asil. asil ≡ D) set
+
+-- which part of how many
+pub record HasPart (rows : List Row) (part parts : ℕ) : Type 0 where
+  pub number : HasNumber rows (codes "part") 0 1023 part
+  pub many : HasNumber rows (codes "of") 1 1024 parts
+  pub one : part < parts
+
+-- the names of the files that are merged, of which neither is the result file
+pub record HasSources (rows : List Row) (result first second : Text) : Type 0 where
+  pub one : first ≡ entry rows (codes "first")
+  pub two : second ≡ entry rows (codes "second")
+  pub neither : IsNoSource result first second
+
+-- what stands behind the command's word says this
 abbrev pub SaidBy : List Row → Command → Type 0
 SaidBy rows (Classes netlist workload) = (netlist ≡ entry rows (codes "netlist")) × (workload ≡ entry rows (codes "workload"))
 SaidBy rows (Check inputs flips pulses) = HasInputs rows inputs × HasLists rows flips pulses
 SaidBy rows (Run inputs result set workers) = HasCampaign rows inputs result set workers
 SaidBy rows (Resume inputs result set workers) = HasCampaign rows inputs result set workers
-SaidBy rows (Audit inputs result set) = HasInputs rows inputs × HasResult rows inputs result × HasSettings rows (λ asil. asil ≡ D) set
+SaidBy rows (Audit inputs result set) = HasPlanWords rows inputs result set
 SaidBy rows (Gen stages result workers) = HasStages rows stages × (result ≡ entry rows (codes "result")) × HasWorkers rows workers
+SaidBy rows (Report inputs set) = HasInputs rows inputs × HasSettings rows (HasAsil rows) set
+SaidBy rows (Shard inputs result set part parts) = HasPlanWords rows inputs result set × HasPart rows part parts
+SaidBy rows (Merge inputs result first second set) = HasPlanWords rows inputs result set × HasSources rows result first second
+SaidBy rows (Pairs inputs result set workers) = HasPlanWords rows inputs result set × HasWorkers rows workers
 
 -- ---- commands
 

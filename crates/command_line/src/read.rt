@@ -2,13 +2,13 @@
 ghost use Rattle.std.specs.Prelude.{◌≡◌, ◌≢◌, IfOk, MatchResult, codes, map, string_bytes};
 ghost use Rattle.clap.specs.Words.{found_of, rows_of, subcommand_rows_of};
 ghost use Rattle.command_line.specs.Words.{IsAlone, IsCommand};
-ghost use Rattle.command_line.specs.Asks.{told_by, AreCampaign, AsksMet, IsRefusal, IsSaid};
+ghost use Rattle.command_line.specs.Asks.{told_by, AreCampaign, ArePlanWords, AsksMet, IsRefusal, IsSaid};
 ghost use Rattle.command_line.specs.declared.read.WordsRefusal.TheVariants.{Memory};
 
 use crate::cycles::read_cycles;
 use crate::entries::{
-    MOST_FLIPS, MOST_PULSES, asil_of, entry_of, inputs_of, result_of, settings_of, stages_of,
-    workers_of,
+    MOST_FLIPS, MOST_PULSES, PartWords, asil_of, entry_of, inputs_of, is_no_source, part_of,
+    result_of, settings_of, stages_of, workers_of,
 };
 use crate::table::fmeda_command;
 use campaign_plan::Settings;
@@ -67,6 +67,43 @@ pub enum Asked<'a> {
         result: &'a str,
         workers: u32,
     },
+    /// Print the report of a campaign without a result file.
+    Report {
+        inputs: InputNames<'a>,
+        settings: Settings,
+    },
+    /// Run one part of a campaign: the batches b with b mod `parts` = `part`, which is below `parts`, up to 1,024. The settings
+    /// have ASIL D, here and in the commands below.
+    Shard {
+        inputs: InputNames<'a>,
+        result: &'a str,
+        settings: Settings,
+        part: u32,
+        parts: u32,
+    },
+    /// Write the rows of `first` and `second`, which may be one file, to `result`, which is none of them and no input.
+    Merge {
+        inputs: InputNames<'a>,
+        result: &'a str,
+        first: &'a str,
+        second: &'a str,
+        settings: Settings,
+    },
+    /// Print which pairs of a latent and a detected fault are dangerous together, by the rows of `result`.
+    Pairs {
+        inputs: InputNames<'a>,
+        result: &'a str,
+        settings: Settings,
+        workers: u32,
+    },
+}
+
+// What `audit`, `shard`, `merge` and `pairs` are told alike.
+#[derive(Drop)]
+struct PlanWords<'a> {
+    inputs: InputNames<'a>,
+    result: &'a str,
+    settings: Settings,
 }
 
 // What `run` and `resume` are told alike.
@@ -171,18 +208,89 @@ fn resume_of<'a>(alloc: Global, matches: &ArgMatches<'a>) -> Result<Asked<'a>, W
     })
 }
 
-fn audit_of<'a>(alloc: Global, matches: &ArgMatches<'a>) -> Result<Asked<'a>, WordsRefusal>
-    ensures { IsSaid (codes "audit") (rows_of (found_of matches.now)) result }
+fn plan_words_of<'a>(alloc: Global, matches: &ArgMatches<'a>) -> Result<PlanWords<'a>, WordsRefusal>
+    ensures { ArePlanWords (rows_of (found_of matches.now)) result }
 {
     let inputs = inputs_of(matches);
     let Some(result) = result_of(matches, &inputs) else {
         return Err(WordsRefusal::Usage);
     };
     let settings = settings_of(alloc, matches, Asil::D)?;
+    Ok(PlanWords {
+        inputs,
+        result,
+        settings,
+    })
+}
+
+fn audit_of<'a>(alloc: Global, matches: &ArgMatches<'a>) -> Result<Asked<'a>, WordsRefusal>
+    ensures { IsSaid (codes "audit") (rows_of (found_of matches.now)) result }
+{
+    let PlanWords {
+        inputs,
+        result,
+        settings,
+    } = plan_words_of(alloc, matches)?;
     Ok(Asked::Audit {
         inputs,
         result,
         settings,
+    })
+}
+
+fn shard_of<'a>(alloc: Global, matches: &ArgMatches<'a>) -> Result<Asked<'a>, WordsRefusal>
+    ensures { IsSaid (codes "shard") (rows_of (found_of matches.now)) result }
+{
+    let PlanWords {
+        inputs,
+        result,
+        settings,
+    } = plan_words_of(alloc, matches)?;
+    let PartWords { part, parts } = part_of(matches)?;
+    Ok(Asked::Shard {
+        inputs,
+        result,
+        settings,
+        part,
+        parts,
+    })
+}
+
+fn merge_of<'a>(alloc: Global, matches: &ArgMatches<'a>) -> Result<Asked<'a>, WordsRefusal>
+    ensures { IsSaid (codes "merge") (rows_of (found_of matches.now)) result }
+{
+    let PlanWords {
+        inputs,
+        result,
+        settings,
+    } = plan_words_of(alloc, matches)?;
+    let (first, second) = (entry_of(matches, "first"), entry_of(matches, "second"));
+    if !is_no_source(result, first, second) {
+        return Err(WordsRefusal::Usage);
+    }
+    Ok(Asked::Merge {
+        inputs,
+        result,
+        first,
+        second,
+        settings,
+    })
+}
+
+fn pairs_of<'a>(alloc: Global, matches: &ArgMatches<'a>) -> Result<Asked<'a>, WordsRefusal>
+    ensures { IsSaid (codes "pairs") (rows_of (found_of matches.now)) result }
+{
+    let PlanWords {
+        inputs,
+        result,
+        settings,
+    } = plan_words_of(alloc, matches)?;
+    let workers = workers_of(matches)?;
+    Ok(Asked::Pairs {
+        inputs,
+        result,
+        settings,
+        workers,
     })
 }
 
@@ -196,6 +304,15 @@ fn gen_of<'a>(matches: &ArgMatches<'a>) -> Result<Asked<'a>, WordsRefusal>
         result: entry_of(matches, "result"),
         workers,
     })
+}
+
+fn report_of<'a>(alloc: Global, matches: &ArgMatches<'a>) -> Result<Asked<'a>, WordsRefusal>
+    ensures { IsSaid (codes "report") (rows_of (found_of matches.now)) result }
+{
+    let inputs = inputs_of(matches);
+    let asil = asil_of(matches)?;
+    let settings = settings_of(alloc, matches, asil)?;
+    Ok(Asked::Report { inputs, settings })
 }
 
 // What the subcommand that was met asks for.
@@ -212,6 +329,10 @@ fn asked_of<'a>(alloc: Global, matches: &ArgMatches<'a>) -> Result<Asked<'a>, Wo
         "resume" => resume_of(alloc, inner),
         "audit" => audit_of(alloc, inner),
         "gen" => gen_of(inner),
+        "report" => report_of(alloc, inner),
+        "shard" => shard_of(alloc, inner),
+        "merge" => merge_of(alloc, inner),
+        "pairs" => pairs_of(alloc, inner),
         _ => Err(WordsRefusal::Usage),
     }
 }

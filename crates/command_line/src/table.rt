@@ -2,7 +2,7 @@
 ghost use Rattle.std.specs.Prelude.{◌≡◌, ◌∷◌, [], IfOk, codes, false};
 ghost use Rattle.clap.specs.Words.{app_of, new_app, rule_of};
 ghost use Rattle.clap.specs.declared.builder.command.Command.TheViews.{out-Command};
-ghost use Rattle.command_line.specs.Table.{bounded, check_app, classes_app, fmeda_app, gen_app, input_rules, list_rules, named, option, result_rules, with_campaign, with_plan, with_rules, workers_rule};
+ghost use Rattle.command_line.specs.Table.{asil_rule, bounded, campaign_rows, check_app, classes_app, fmeda_app, ftti_rule, gen_app, input_rules, list_rules, merge_app, named, option, pairs_app, program_with, report_app, required_option, result_rules, shard_app, with_campaign, with_plan, with_rules, workers_rule};
 
 use clap::{Arg, Command, value_parser};
 use std::alloc::{AllocError, Global};
@@ -21,11 +21,39 @@ fn option_arg<'a>(alloc: Global, id: &'a str, value: &'a str) -> Arg<'a>
     Arg::new(alloc, id).long(id).default_value(value)
 }
 
+fn required_arg<'a>(alloc: Global, id: &'a str) -> Arg<'a>
+    ensures rule { rule_of result ≡ required_option id.entry.now }
+    ensures local { result.global ≡ false }
+{
+    Arg::new(alloc, id).long(id).required(true)
+}
+
+fn part_arg<'a>(alloc: Global) -> Arg<'a>
+    ensures rule { rule_of result ≡ bounded (required_option (codes "part")) 0 1023 }
+    ensures local { result.global ≡ false }
+{
+    required_arg(alloc, "part").value_parser(value_parser!(u32).range(0..=1023))
+}
+
+fn parts_arg<'a>(alloc: Global) -> Arg<'a>
+    ensures rule { rule_of result ≡ bounded (required_option (codes "of")) 1 1024 }
+    ensures local { result.global ≡ false }
+{
+    required_arg(alloc, "of").value_parser(value_parser!(u32).range(1..=1024))
+}
+
 fn ftti_arg<'a>(alloc: Global) -> Arg<'a>
-    ensures rule { rule_of result ≡ bounded (option (codes "ftti") (codes "0")) 0 4096 }
+    ensures rule { rule_of result ≡ ftti_rule }
     ensures local { result.global ≡ false }
 {
     option_arg(alloc, "ftti", "0").value_parser(value_parser!(u32).range(0..=4096))
+}
+
+fn asil_arg<'a>(alloc: Global) -> Arg<'a>
+    ensures rule { rule_of result ≡ asil_rule }
+    ensures local { result.global ≡ false }
+{
+    option_arg(alloc, "asil", "D")
 }
 
 fn workers_arg<'a>(alloc: Global) -> Arg<'a>
@@ -109,8 +137,7 @@ fn campaign_command<'a>(alloc: Global, name: &'a str) -> Result<Command<'a>, All
     ensures local { IfOk result (λ c. (out-Command c).has_globals ≡ false) }
 {
     let command = plan_command(alloc, name)?;
-    let asil = option_arg(alloc, "asil", "D");
-    command.arg(workers_arg(alloc))?.arg(asil)
+    command.arg(workers_arg(alloc))?.arg(asil_arg(alloc))
 }
 
 fn gen_command<'a>(alloc: Global) -> Result<Command<'a>, AllocError>
@@ -124,9 +151,44 @@ fn gen_command<'a>(alloc: Global) -> Result<Command<'a>, AllocError>
         .arg(workers_arg(alloc))
 }
 
-/// The program with its commands.
-pub(crate) fn fmeda_command<'a>(alloc: Global) -> Result<Command<'a>, AllocError>
-    ensures { IfOk result (λ c. app_of c ≡ fmeda_app) }
+fn report_command<'a>(alloc: Global) -> Result<Command<'a>, AllocError>
+    ensures app { IfOk result (λ c. app_of c ≡ report_app) }
+    ensures local { IfOk result (λ c. (out-Command c).has_globals ≡ false) }
+{
+    let command = with_inputs(alloc, Command::new(alloc, "report"))?;
+    let command = with_lists(alloc, command.arg(ftti_arg(alloc))?)?;
+    command.arg(asil_arg(alloc))
+}
+
+fn shard_command<'a>(alloc: Global) -> Result<Command<'a>, AllocError>
+    ensures app { IfOk result (λ c. app_of c ≡ shard_app) }
+    ensures local { IfOk result (λ c. (out-Command c).has_globals ≡ false) }
+{
+    let command = plan_command(alloc, "shard")?;
+    command.arg(part_arg(alloc))?.arg(parts_arg(alloc))
+}
+
+fn merge_command<'a>(alloc: Global) -> Result<Command<'a>, AllocError>
+    ensures app { IfOk result (λ c. app_of c ≡ merge_app) }
+    ensures local { IfOk result (λ c. (out-Command c).has_globals ≡ false) }
+{
+    let command = plan_command(alloc, "merge")?;
+    let first = named_arg(alloc, "first");
+    let second = named_arg(alloc, "second");
+    command.arg(first)?.arg(second)
+}
+
+fn pairs_command<'a>(alloc: Global) -> Result<Command<'a>, AllocError>
+    ensures app { IfOk result (λ c. app_of c ≡ pairs_app) }
+    ensures local { IfOk result (λ c. (out-Command c).has_globals ≡ false) }
+{
+    let command = plan_command(alloc, "pairs")?;
+    command.arg(workers_arg(alloc))
+}
+
+// The program with the commands of a whole campaign on one machine.
+fn campaign_program<'a>(alloc: Global) -> Result<Command<'a>, AllocError>
+    ensures { IfOk result (λ c. app_of c ≡ program_with campaign_rows) }
 {
     let classes = classes_command(alloc)?;
     let check = check_command(alloc)?;
@@ -142,4 +204,20 @@ pub(crate) fn fmeda_command<'a>(alloc: Global) -> Result<Command<'a>, AllocError
         .subcommand(resume)?
         .subcommand(audit)?
         .subcommand(generated)
+}
+
+/// The program with all its commands.
+pub(crate) fn fmeda_command<'a>(alloc: Global) -> Result<Command<'a>, AllocError>
+    ensures { IfOk result (λ c. app_of c ≡ fmeda_app) }
+{
+    let program = campaign_program(alloc)?;
+    let report = report_command(alloc)?;
+    let shard = shard_command(alloc)?;
+    let merge = merge_command(alloc)?;
+    let pairs = pairs_command(alloc)?;
+    program
+        .subcommand(report)?
+        .subcommand(shard)?
+        .subcommand(merge)?
+        .subcommand(pairs)
 }

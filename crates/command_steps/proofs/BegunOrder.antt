@@ -17,7 +17,8 @@ use Rattle.refusal_text.specs.declared.status.Which.{Which}
 use Rattle.refusal_text.specs.declared.status.Which.TheVariants as which
 use Rattle.command_steps.specs.declared.planned.Planned.{Planned}
 use Rattle.command_steps.specs.Files.{Files, Reads, all_read, files_of}
-use Rattle.command_steps.specs.FirstRefusal.{or_refuse, plan_of, result_step, audit_step, kept_of, audited_of, own_header, refusal_in, status_of_back, IsPlanOf, ◌>>=◌}
+use Rattle.refusal_text.specs.NetlistFile.{or_refuse}
+use Rattle.command_steps.specs.FirstRefusal.{plan_of, back_step, result_step, audit_step, pairs_step, kept_of, audited_of, paired_of, own_header, refusal_in, status_of_back, IsPlanOf, ◌>>=◌}
 use Rattle.command_steps.specs.Held.{name_in}
 use Rattle.command_steps.specs.Steps.{StepAs}
 use Rattle.refusal_text.specs.Refusals.{IsPlain}
@@ -32,9 +33,9 @@ use Rattle.command_steps.proofs.PlanOrder.{plan_is}
 abbrev pub rows_next : Bytes → Analysis → Bytes → Result KeptRows Status
 rows_next own p whole = or_refuse status_of_back (kept own p whole)
 
-pub rows_begin : (own : Bytes) (p : Analysis) → Begins which.Result (result_step own p) (rows_next own p)
-unfolding result_step
-rows_begin own p got = refl
+pub rows_begin : (file : Which) (own : Bytes) (p : Analysis) → Begins file (back_step file own p) (rows_next own p)
+unfolding back_step
+rows_begin file own p got = refl
 
 back_plain : (fault : ResultRefusal) → IsPlain (status_of_back fault)
 back_plain (back.Foreign found own) = tt
@@ -48,37 +49,40 @@ pub rows_more : (own : Bytes) (p : Analysis) → SaysMore (rows_next own p)
 rows_more own p bytes other e = no_read_fault status_of_back (kept own p bytes) other (back_never other) e
 
 -- a refusal of the result file is a plain one
-pub rows_plain : (own : Bytes) (p : Analysis) (told : Told) (before after : ℕ) (ended : Status) → StepAs which.Result (result_step own p) told before after (Err ended) → IsPlain ended
-rows_plain own p told before after ended refused =
-    step_plain which.Result (result_step own p) (rows_next own p) told before after ended (rows_begin own p)
+pub rows_plain : (file : Which) (own : Bytes) (p : Analysis) (told : Told) (before after : ℕ) (ended : Status) → StepAs file (back_step file own p) told before after (Err ended) → IsPlain ended
+rows_plain file own p told before after ended refused =
+    step_plain file (back_step file own p) (rows_next own p) told before after ended (rows_begin file own p)
     (λ bytes e is. told_plain status_of_back (kept own p bytes) e back_plain is) refused
 
 -- the rows of a file that was read are those that are kept of its bytes
-pub rows_kept : (own : Bytes) (p : Analysis) (bytes : Bytes) (k : KeptRows) → result_step own p (Some bytes) ≡ Ok k → kept own p bytes ≡ Ok k
-rows_kept own p bytes k is = told_given status_of_back (kept own p bytes) k (step_value which.Result (result_step own p) (rows_next own p) bytes k (rows_begin own p) is)
+pub rows_kept : (file : Which) (own : Bytes) (p : Analysis) (bytes : Bytes) (k : KeptRows) → back_step file own p (Some bytes) ≡ Ok k → kept own p bytes ≡ Ok k
+rows_kept file own p bytes k is =
+    told_given status_of_back (kept own p bytes) k (step_value file (back_step file own p) (rows_next own p) bytes k (rows_begin file own p) is)
 
 -- ---- the steps
 
-plan_only : (walk : Option (List NetId)) (set : Settings) (reads : Reads) (result : Option Bytes) → plan_of walk set (record reads { result = result }) ≡ plan_of walk set reads
-plan_only walk set reads result = plan_is walk set (record reads { result = result }) ∙ sym (plan_is walk set reads)
+plan_only : (file : Bytes) (walk : Option (List NetId)) (set : Settings) (reads : Reads) (result : Option Bytes)
+    → plan_of file walk set (record reads { result = result }) ≡ plan_of file walk set reads
+plan_only file walk set reads result = plan_is file walk set (record reads { result = result }) ∙ sym (plan_is file walk set reads)
 
 abbrev rows_of : Settings → Reads → Analysis → Result KeptRows Status
 rows_of set reads p = result_step (own_header set (files_of reads) p) p reads.result
 
-kept_is : (walk : Option (List NetId)) (set : Settings) (reads : Reads) → kept_of walk set reads ≡ (plan_of walk set reads >>= rows_of set reads)
+kept_is : (file : Bytes) (walk : Option (List NetId)) (set : Settings) (reads : Reads) → kept_of file walk set reads ≡ (plan_of file walk set reads >>= rows_of set reads)
 unfolding kept_of
-kept_is walk set reads = refl
+kept_is file walk set reads = refl
 
 abbrev checked_of : Settings → Reads → Analysis → Result KeptRows Status
 checked_of set reads p = rows_of set reads p >>= (λ k. audit_step p k)
 
-audited_is : (walk : Option (List NetId)) (set : Settings) (reads : Reads) → audited_of walk set reads ≡ (plan_of walk set reads >>= checked_of set reads)
+audited_is : (file : Bytes) (walk : Option (List NetId)) (set : Settings) (reads : Reads) → audited_of file walk set reads ≡ (plan_of file walk set reads >>= checked_of set reads)
 unfolding audited_of
-audited_is walk set reads = refl
+audited_is file walk set reads = refl
 
 -- what is refused before the rows are simulated is refused by an audit too
-pub audited_refused : (walk : Option (List NetId)) (set : Settings) (reads : Reads) (ended : Status) → kept_of walk set reads ≡ Err ended → audited_of walk set reads ≡ Err ended
-audited_refused walk set reads ended is = audited_is walk set reads ∙ by_plan (plan_of walk set reads) (sym (kept_is walk set reads) ∙ is)
+pub audited_refused : (file : Bytes) (walk : Option (List NetId)) (set : Settings) (reads : Reads) (ended : Status) → kept_of file walk set reads ≡ Err ended
+    → audited_of file walk set reads ≡ Err ended
+audited_refused file walk set reads ended is = audited_is file walk set reads ∙ by_plan (plan_of file walk set reads) (sym (kept_is file walk set reads) ∙ is)
   where
     by_rows : (p : Analysis) (r : Result KeptRows Status) → r ≡ Err ended → (r >>= (λ k. audit_step p k)) ≡ Err ended
     by_rows p r e = ap (λ x. x >>= (λ k. audit_step p k)) e
@@ -91,24 +95,53 @@ abbrev some_or : Status → Option Status → Status
 some_or default None = default
 some_or default (Some refusal) = refusal
 
-why_refused : (r : Result Analysis Status) (ended : Status) → refusal_in r ≡ Some ended → r ≡ Err ended
+pub why_refused : (r : Result Analysis Status) (ended : Status) → refusal_in r ≡ Some ended → r ≡ Err ended
 why_refused (Ok p) ended e = let bad : None ≡ Some ended = e in cc bad
 why_refused (Err other) ended e = ap (λ s. Err (some_or other s)) e
 
 -- the rows of a plan that was made
-pub kept_made : (set : Settings) (files : Files) (p : Analysis) (own : Bytes) (got : Option Bytes) → IsPlanOf set files p → own ≡ own_header set files p
-    → kept_of None set (record (all_read files []) { result = got }) ≡ result_step own p got
-kept_made set files p own got plan own_is =
+pub kept_made : (file : Bytes) (set : Settings) (files : Files) (p : Analysis) (own : Bytes) (got : Option Bytes) → IsPlanOf file set files p → own ≡ own_header set files p
+    → kept_of file None set (record (all_read files []) { result = got }) ≡ result_step own p got
+kept_made file set files p own got plan own_is =
     let reads : Reads = record (all_read files []) { result = got } in
-    kept_is None set reads ∙ ap (λ r. r >>= rows_of set reads) (plan_only None set (all_read files []) got ∙ plan.plan) ∙ ap (λ o. result_step o p got) (sym own_is)
+    kept_is file None set reads ∙ ap (λ r. r >>= rows_of set reads) (plan_only file None set (all_read files []) got ∙ plan.plan) ∙ ap (λ o. result_step o p got) (sym own_is)
 
 -- and these rows, simulated again
-pub audited_made : (set : Settings) (files : Files) (p : Analysis) (own : Bytes) (got : Option Bytes) (k : KeptRows) → IsPlanOf set files p → own ≡ own_header set files p
-    → result_step own p got ≡ Ok k → audited_of None set (record (all_read files []) { result = got }) ≡ audit_step p k
-audited_made set files p own got k plan own_is is =
+pub audited_made : (file : Bytes) (set : Settings) (files : Files) (p : Analysis) (own : Bytes) (got : Option Bytes) (k : KeptRows) → IsPlanOf file set files p → own ≡ own_header set files p
+    → result_step own p got ≡ Ok k → audited_of file None set (record (all_read files []) { result = got }) ≡ audit_step p k
+audited_made file set files p own got k plan own_is is =
     let reads : Reads = record (all_read files []) { result = got } in
-    audited_is None set reads ∙ ap (λ r. r >>= checked_of set reads) (plan_only None set (all_read files []) got ∙ plan.plan)
+    audited_is file None set reads ∙ ap (λ r. r >>= checked_of set reads) (plan_only file None set (all_read files []) got ∙ plan.plan)
     ∙ ap (λ o. result_step o p got >>= (λ k. audit_step p k)) (sym own_is) ∙ ap (λ r. r >>= (λ k. audit_step p k)) is
+
+-- ---- the pairs
+
+abbrev paired_by : Settings → Reads → Analysis → Result KeptRows Status
+paired_by set reads p = rows_of set reads p >>= (λ k. pairs_step p k)
+
+paired_is : (file : Bytes) (walk : Option (List NetId)) (set : Settings) (reads : Reads) → paired_of file walk set reads ≡ (plan_of file walk set reads >>= paired_by set reads)
+unfolding paired_of
+paired_is file walk set reads = refl
+
+-- what is refused before the pairs are chosen is refused where they are
+pub paired_refused : (file : Bytes) (walk : Option (List NetId)) (set : Settings) (reads : Reads) (ended : Status) → kept_of file walk set reads ≡ Err ended
+    → paired_of file walk set reads ≡ Err ended
+paired_refused file walk set reads ended is = paired_is file walk set reads ∙ by_plan (plan_of file walk set reads) (sym (kept_is file walk set reads) ∙ is)
+  where
+    by_rows : (p : Analysis) (r : Result KeptRows Status) → r ≡ Err ended → (r >>= (λ k. pairs_step p k)) ≡ Err ended
+    by_rows p r e = ap (λ x. x >>= (λ k. pairs_step p k)) e
+
+    by_plan : (r : Result Analysis Status) → (r >>= rows_of set reads) ≡ Err ended → (r >>= paired_by set reads) ≡ Err ended
+    by_plan (Ok p) e = by_rows p (rows_of set reads p) e
+    by_plan (Err other) e = e
+
+-- the rows by which a plan's faults pair
+pub paired_made : (file : Bytes) (set : Settings) (files : Files) (p : Analysis) (own : Bytes) (got : Option Bytes) (k : KeptRows) → IsPlanOf file set files p → own ≡ own_header set files p
+    → result_step own p got ≡ Ok k → paired_of file None set (record (all_read files []) { result = got }) ≡ pairs_step p k
+paired_made file set files p own got k plan own_is is =
+    let reads : Reads = record (all_read files []) { result = got } in
+    paired_is file None set reads ∙ ap (λ r. r >>= paired_by set reads) (plan_only file None set (all_read files []) got ∙ plan.plan)
+    ∙ ap (λ o. result_step o p got >>= (λ k. pairs_step p k)) (sym own_is) ∙ ap (λ r. r >>= (λ k. pairs_step p k)) is
 
 module _ (inputs : Inputs) (name : Bytes) (set : Settings) (shelf : Shelves) (before after : Bytes → ℕ) where
   abbrev Answer : Status → Type 0
@@ -127,9 +160,9 @@ module _ (inputs : Inputs) (name : Bytes) (set : Settings) (shelf : Shelves) (be
         result = rows.1;
         walk = checked.walk;
         loops = checked.loops;
-        refused = kept_is checked.walk set reads
-            ∙ ap (λ r. r >>= rows_of set reads) (plan_only checked.walk set checked.reads rows.0 ∙ why_refused (plan_of checked.walk set checked.reads) ended checked.first);
-        fault = refused.fault name;
+        refused = kept_is inputs.netlist checked.walk set reads
+            ∙ ap (λ r. r >>= rows_of set reads) (plan_only inputs.netlist checked.walk set checked.reads rows.0 ∙ why_refused (plan_of inputs.netlist checked.walk set checked.reads) ended checked.first);
+        fault = refused.fault name [] [];
       })
 
   module _ (made : Planned) (planned : PlannedAs shelf before after inputs set (Ok made)) (own : Bytes) (own_is : own ≡ own_header set (bytes_of made.files) made.plan) where
@@ -145,7 +178,7 @@ module _ (inputs : Inputs) (name : Bytes) (set : Settings) (shelf : Shelves) (be
       result = fits;
       walk = None;
       loops = planned.3;
-      refused = kept_made set files made.plan own got planned.1 own_is ∙ is;
+      refused = kept_made inputs.netlist set files made.plan own got planned.1 own_is ∙ is;
       fault = λ other e.
           let f = fault other e in subst (λ w. Rose (before (name_in inputs name w)) (after (name_in inputs name w))) (sym f.0) f.1;
     })

@@ -4,7 +4,9 @@ use Rattle.std.specs.Prelude.{Option, Some, None, Result, Ok, Err, find, if◌th
 use Rattle.fm_base.specs.Names.{Bytes}
 use Rattle.circuit.specs.declared.parts.NetId.{NetId}
 use Rattle.circuit.specs.Circuit.{Circuit}
+use Rattle.bench_reader.specs.Bench.{bench_of}
 use Rattle.blif_model.specs.Net.{netlist_of}
+use Rattle.refusal_text.specs.NetlistFile.{is_bench, netlist_in, or_refuse}
 use Rattle.workload.specs.WorkloadFile.{workload_of}
 use Rattle.rate_table.specs.RatesFile.{rates_of}
 use Rattle.alarm_points.specs.PointsFile.{points_of}
@@ -20,14 +22,20 @@ use Rattle.result_file.specs.declared.ResultRefusal.{ResultRefusal}
 use Rattle.result_file.specs.declared.ResultRefusal.TheVariants as back
 use Rattle.result_file.specs.declared.Row.{Row}
 use Rattle.result_file.specs.KeptRows.{kept}
-use Rattle.command_line.specs.Commands.{Command, Classes, Check, Run as RunCommand, Resume, Audit, Gen, settings_of}
+use Rattle.result_merge.specs.declared.merge.MergeRefusal.{MergeRefusal}
+use Rattle.result_merge.specs.declared.merge.MergeRefusal.TheVariants.{Differs}
+use Rattle.result_merge.specs.Merged.{merged}
+use Rattle.pair_list.specs.declared.pairs.PairRefusal.{PairRefusal}
+use Rattle.pair_list.specs.declared.pairs.PairRefusal.TheVariants.{Incomplete, TooMany}
+use Rattle.pair_list.specs.Chosen.{pair_refusal}
+use Rattle.command_line.specs.Commands.{Command, Classes, Check, Run as RunCommand, Resume, Audit, Gen, Report, Shard, Merge, Pairs, settings_of}
 use Rattle.refusal_text.specs.declared.status.Status.{Status}
 use Rattle.refusal_text.specs.declared.status.Status.TheVariants as status
 use Rattle.refusal_text.specs.declared.status.Which.{Which}
 use Rattle.refusal_text.specs.declared.status.Which.TheVariants as which
 use Rattle.refusal_text.specs.declared.status.What.TheVariants as what
 use Rattle.command_steps.specs.Files.{Reads, all_read, files_of}
-use Rattle.command_steps.specs.FirstRefusal.{at_most, unless, or_refuse, netlist_step, outputs_step, workload_step, rates_step, points_step, plan_for, plan_of, classes_plan_of, loop_refusal, refusal_of_plan, status_of_back, result_step, own_header, is_wrong, disagreement, audit_step, kept_of, audited_of, refusal_in, generated, generated_settings, first_refusal, ◌>>=◌}
+use Rattle.command_steps.specs.FirstRefusal.{at_most, no_name, unless, netlist_step, outputs_step, workload_step, rates_step, points_step, plan_for, plan_of, classes_plan_of, loop_refusal, refusal_of_plan, status_of_back, result_step, own_header, is_wrong, disagreement, audit_step, kept_of, audited_of, refusal_in, generated, generated_settings, first_refusal, ◌>>=◌, back_step, status_of_merge, merge_step, merged_of, refusal_of_pairs, paired_of}
 
 -- ---- no check answers Usage
 
@@ -62,12 +70,19 @@ loop_spares : (walk : Option (List NetId)) (c : Circuit) → Spares (unless (loo
 loop_spares None c = tt
 loop_spares (Some nets) c = λ e. let bad : status.Loop nets ≡ status.Usage = e in cc bad
 
-netlist_spares : (walk : Option (List NetId)) (got : Option Bytes) → Spares (netlist_step walk got)
+form_spares : (name bytes : Bytes) → Spares (netlist_in name bytes)
+unfolding netlist_in
+form_spares name bytes = by_form (is_bench name)
+  where
+    by_form : (bench : Bool) → Spares (if bench then or_refuse status.Bench (bench_of bytes) else or_refuse status.Netlist (netlist_of bytes))
+    by_form true = told_spares status.Bench (bench_of bytes) (λ f e. let bad : status.Bench f ≡ status.Usage = e in cc bad)
+    by_form false = told_spares status.Netlist (netlist_of bytes) (λ f e. let bad : status.Netlist f ≡ status.Usage = e in cc bad)
+
+netlist_spares : (name : Bytes) (walk : Option (List NetId)) (got : Option Bytes) → Spares (netlist_step name walk got)
 unfolding netlist_step
-netlist_spares walk got =
-    then_spares (at_most which.Netlist got) (λ whole. or_refuse status.Netlist (netlist_of whole) >>= (λ c. unless (loop_refusal walk) c)) (read_spares which.Netlist got)
-    (λ whole. then_spares (or_refuse status.Netlist (netlist_of whole)) (λ c. unless (loop_refusal walk) c)
-    (told_spares status.Netlist (netlist_of whole) (λ f e. let bad : status.Netlist f ≡ status.Usage = e in cc bad)) (loop_spares walk))
+netlist_spares name walk got =
+    then_spares (at_most which.Netlist got) (λ whole. netlist_in name whole >>= (λ c. unless (loop_refusal walk) c)) (read_spares which.Netlist got)
+    (λ whole. then_spares (netlist_in name whole) (λ c. unless (loop_refusal walk) c) (form_spares name whole) (loop_spares walk))
 
 workload_spares : (c : Circuit) (got : Option Bytes) → Spares (workload_step c got)
 unfolding workload_step
@@ -96,18 +111,18 @@ plan_for_spares c set reads =
     (λ rates. then_spares (points_step c reads.points) _ (points_spares c reads.points)
     (λ points. let p : Analysis = record { circuit = c; runs = runs; rates = rates; points = points; settings = set } in refused_spares (plan_refusal p) p)))
 
-plan_spares : (walk : Option (List NetId)) (set : Settings) (reads : Reads) → Spares (plan_of walk set reads)
+plan_spares : (name : Bytes) (walk : Option (List NetId)) (set : Settings) (reads : Reads) → Spares (plan_of name walk set reads)
 unfolding plan_of
-plan_spares walk set reads = then_spares (netlist_step walk reads.netlist) (λ c. plan_for c set reads) (netlist_spares walk reads.netlist) (λ c. plan_for_spares c set reads)
+plan_spares name walk set reads = then_spares (netlist_step name walk reads.netlist) (λ c. plan_for c set reads) (netlist_spares name walk reads.netlist) (λ c. plan_for_spares c set reads)
 
 few_spares : (c : Circuit) (many : Bool) → Spares (unless (if many then Some (status.TooLarge what.Outputs) else None) c)
 few_spares c true = λ e. let bad : status.TooLarge what.Outputs ≡ status.Usage = e in cc bad
 few_spares c false = tt
 
-classes_spares : (walk : Option (List NetId)) (reads : Reads) → Spares (classes_plan_of walk reads)
+classes_spares : (name : Bytes) (walk : Option (List NetId)) (reads : Reads) → Spares (classes_plan_of name walk reads)
 unfolding classes_plan_of
-classes_spares walk reads =
-    then_spares (netlist_step walk reads.netlist) _ (netlist_spares walk reads.netlist)
+classes_spares name walk reads =
+    then_spares (netlist_step name walk reads.netlist) _ (netlist_spares name walk reads.netlist)
     (λ c. then_spares (outputs_step c) _ (few_spares c (nat_lt 1024 (length c.outputs)))
     (λ counted. then_spares (workload_step counted reads.workload) _ (workload_spares counted reads.workload) (λ runs. tt)))
 
@@ -115,9 +130,12 @@ back_other : (why : ResultRefusal) → status_of_back why ≢ status.Usage
 back_other (back.Foreign found own) e = let bad : status.Foreign found own ≡ status.Usage = e in cc bad
 back_other (back.BadRow number why) e = let bad : status.BadRow number why ≡ status.Usage = e in cc bad
 
+back_spares : (file : Which) (own : Bytes) (p : Analysis) (got : Option Bytes) → Spares (back_step file own p got)
+unfolding back_step
+back_spares file own p got = file_spares file got status_of_back (kept own p) back_other
+
 result_spares : (own : Bytes) (p : Analysis) (got : Option Bytes) → Spares (result_step own p got)
-unfolding result_step
-result_spares own p got = file_spares which.Result got status_of_back (kept own p) back_other
+result_spares own p got = back_spares which.Result own p got
 
 row_spares : (planes : ℕ → Outcome) (k : KeptRows) (wrong : Option Row) → Spares (unless (disagreement planes wrong) k)
 row_spares planes k None = tt
@@ -127,16 +145,43 @@ audit_spares : (p : Analysis) (k : KeptRows) → Spares (audit_step p k)
 unfolding audit_step
 audit_spares p k = row_spares (true_planes p) k (find (is_wrong (true_planes p)) k.rows)
 
-kept_spares : (walk : Option (List NetId)) (set : Settings) (reads : Reads) → Spares (kept_of walk set reads)
+kept_spares : (name : Bytes) (walk : Option (List NetId)) (set : Settings) (reads : Reads) → Spares (kept_of name walk set reads)
 unfolding kept_of
-kept_spares walk set reads =
-    then_spares (plan_of walk set reads) _ (plan_spares walk set reads) (λ p. result_spares (own_header set (files_of reads) p) p reads.result)
+kept_spares name walk set reads =
+    then_spares (plan_of name walk set reads) _ (plan_spares name walk set reads) (λ p. result_spares (own_header set (files_of reads) p) p reads.result)
 
-audited_spares : (walk : Option (List NetId)) (set : Settings) (reads : Reads) → Spares (audited_of walk set reads)
+audited_spares : (name : Bytes) (walk : Option (List NetId)) (set : Settings) (reads : Reads) → Spares (audited_of name walk set reads)
 unfolding audited_of
-audited_spares walk set reads =
-    then_spares (plan_of walk set reads) _ (plan_spares walk set reads)
+audited_spares name walk set reads =
+    then_spares (plan_of name walk set reads) _ (plan_spares name walk set reads)
     (λ p. then_spares (result_step (own_header set (files_of reads) p) p reads.result) _ (result_spares (own_header set (files_of reads) p) p reads.result) (λ k. audit_spares p k))
+
+merge_spares : (p : Analysis) (first second : KeptRows) → Spares (merge_step p first second)
+merge_spares p first second = by_answer (merged p first.rows second.rows)
+  where
+    by_answer : (r : Result (List Row) MergeRefusal) → Spares (or_refuse status_of_merge r)
+    by_answer (Ok rows) = tt
+    by_answer (Err (Differs batch one two)) = λ e. let bad : status.Differs batch one two ≡ status.Usage = e in cc bad
+
+merged_spares : (netlist : Bytes) (walk : Option (List NetId)) (set : Settings) (reads : Reads) → Spares (merged_of netlist walk set reads)
+unfolding merged_of
+merged_spares netlist walk set reads =
+    then_spares (plan_of netlist walk set reads) _ (plan_spares netlist walk set reads)
+    (λ p. then_spares (back_step which.First (own_header set (files_of reads) p) p reads.first) _ (back_spares which.First (own_header set (files_of reads) p) p reads.first)
+    (λ first. then_spares (back_step which.Second (own_header set (files_of reads) p) p reads.second) _ (back_spares which.Second (own_header set (files_of reads) p) p reads.second)
+    (λ second. merge_spares p first second)))
+
+pairs_spares : (k : KeptRows) (why : Option PairRefusal) → Spares (unless (refusal_of_pairs why) k)
+pairs_spares k None = tt
+pairs_spares k (Some (Incomplete have batches)) = λ e. let bad : status.Incomplete have batches ≡ status.Usage = e in cc bad
+pairs_spares k (Some TooMany) = λ e. let bad : status.TooLarge what.Pairs ≡ status.Usage = e in cc bad
+
+paired_spares : (netlist : Bytes) (walk : Option (List NetId)) (set : Settings) (reads : Reads) → Spares (paired_of netlist walk set reads)
+unfolding paired_of
+paired_spares netlist walk set reads =
+    then_spares (plan_of netlist walk set reads) _ (plan_spares netlist walk set reads)
+    (λ p. then_spares (result_step (own_header set (files_of reads) p) p reads.result) _ (result_spares (own_header set (files_of reads) p) p reads.result)
+    (λ k. pairs_spares k (pair_refusal p k.rows)))
 
 in_other : {A : Type 0} (r : Result A Status) → Spares r → refusal_in r ≢ Some status.Usage
 in_other (Ok x) spares e = cc
@@ -144,10 +189,14 @@ in_other (Err ended) spares e = let same : ended ≡ status.Usage = cc in spares
 
 pub no_usage : (walk : Option (List NetId)) (command : Command) (reads : Reads) → first_refusal walk command reads ≢ Some status.Usage
 unfolding first_refusal
-no_usage walk (Classes netlist workload) reads = in_other (classes_plan_of walk reads) (classes_spares walk reads)
-no_usage walk (Check inputs flips pulses) reads = in_other (plan_of walk (settings_of flips pulses) reads) (plan_spares walk (settings_of flips pulses) reads)
-no_usage walk (RunCommand inputs name set workers) reads = in_other (plan_of walk set reads) (plan_spares walk set reads)
-no_usage walk (Resume inputs name set workers) reads = in_other (kept_of walk set reads) (kept_spares walk set reads)
-no_usage walk (Audit inputs name set) reads = in_other (audited_of walk set reads) (audited_spares walk set reads)
+no_usage walk (Classes netlist workload) reads = in_other (classes_plan_of netlist walk reads) (classes_spares netlist walk reads)
+no_usage walk (Check inputs flips pulses) reads = in_other (plan_of inputs.netlist walk (settings_of flips pulses) reads) (plan_spares inputs.netlist walk (settings_of flips pulses) reads)
+no_usage walk (RunCommand inputs name set workers) reads = in_other (plan_of inputs.netlist walk set reads) (plan_spares inputs.netlist walk set reads)
+no_usage walk (Resume inputs name set workers) reads = in_other (kept_of inputs.netlist walk set reads) (kept_spares inputs.netlist walk set reads)
+no_usage walk (Audit inputs name set) reads = in_other (audited_of inputs.netlist walk set reads) (audited_spares inputs.netlist walk set reads)
 no_usage walk (Gen n name workers) reads =
-    in_other (plan_of walk generated_settings (all_read (generated n) [])) (plan_spares walk generated_settings (all_read (generated n) []))
+    in_other (plan_of no_name walk generated_settings (all_read (generated n) [])) (plan_spares no_name walk generated_settings (all_read (generated n) []))
+no_usage walk (Report inputs set) reads = in_other (plan_of inputs.netlist walk set reads) (plan_spares inputs.netlist walk set reads)
+no_usage walk (Shard inputs name set part parts) reads = in_other (plan_of inputs.netlist walk set reads) (plan_spares inputs.netlist walk set reads)
+no_usage walk (Merge inputs name first second set) reads = in_other (merged_of inputs.netlist walk set reads) (merged_spares inputs.netlist walk set reads)
+no_usage walk (Pairs inputs name set workers) reads = in_other (paired_of inputs.netlist walk set reads) (paired_spares inputs.netlist walk set reads)

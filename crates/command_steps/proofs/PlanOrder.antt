@@ -24,7 +24,7 @@ use Rattle.refusal_text.specs.declared.status.What.TheVariants as what
 use Rattle.refusal_text.proofs.Refusals.{ok_same}
 use Rattle.command_steps.proofs.Taken.{why}
 use Rattle.command_steps.specs.FirstRefusal.{unless, refusal_of_plan, status_of_plan, workload_step, rates_step, points_step, plan_step, netlist_step, plan_of, plan_for, refusal_in, IsLoopAnswer, IsPlanOf, ◌>>=◌}
-use Rattle.command_steps.specs.Held.{name_in}
+use Rattle.command_steps.specs.Held.{name_in, name_with}
 use Rattle.command_steps.specs.Checked.{FaultRose}
 use Rattle.command_steps.specs.Steps.{StepAs, NetlistAs}
 use Rattle.refusal_text.specs.Refusals.{IsPlain}
@@ -38,9 +38,9 @@ step_since own step told b0 b a a1 ended le le1 (inl memory) = inl memory
 step_since own step told b0 b a a1 ended le le1 (inr (got, fits, is, fault)) =
     inr (got, fits_from told b0 b a a1 got le le1 fits, is, λ other e. let f = fault other e in (f.0, rose_from b0 b a a1 le le1 f.1))
 
-pub netlist_since : (told : Told) (b0 b a a1 : ℕ) (ended : Status) → b0 ≤ b → a ≤ a1 → NetlistAs told b a (Err ended) → NetlistAs told b0 a1 (Err ended)
-netlist_since told b0 b a a1 ended le le1 (inl memory) = inl memory
-netlist_since told b0 b a a1 ended le le1 (inr (got, walk, fits, loops, is, fault)) =
+pub netlist_since : (file : Bytes) (told : Told) (b0 b a a1 : ℕ) (ended : Status) → b0 ≤ b → a ≤ a1 → NetlistAs file told b a (Err ended) → NetlistAs file told b0 a1 (Err ended)
+netlist_since file told b0 b a a1 ended le le1 (inl memory) = inl memory
+netlist_since file told b0 b a a1 ended le le1 (inr (got, walk, fits, loops, is, fault)) =
     inr (got, walk, fits_from told b0 b a a1 got le le1 fits, loops, is, λ other e. let f = fault other e in (f.0, rose_from b0 b a a1 le le1 f.1))
 
 -- the same on a shelf that tells the same
@@ -97,12 +97,12 @@ for_is : (c : Circuit) (set : Settings) (reads : Reads) → plan_for c set reads
 unfolding plan_for
 for_is c set reads = refl
 
-of_is : (walk : Option (List NetId)) (set : Settings) (reads : Reads) → plan_of walk set reads ≡ (netlist_step walk reads.netlist >>= (λ c. plan_for c set reads))
+of_is : (file : Bytes) (walk : Option (List NetId)) (set : Settings) (reads : Reads) → plan_of file walk set reads ≡ (netlist_step file walk reads.netlist >>= (λ c. plan_for c set reads))
 unfolding plan_of
-of_is walk set reads = refl
+of_is file walk set reads = refl
 
-pub plan_is : (walk : Option (List NetId)) (set : Settings) (reads : Reads) → plan_of walk set reads ≡ (netlist_step walk reads.netlist >>= after_net set reads)
-plan_is walk set reads = of_is walk set reads ∙ (λ j. netlist_step walk reads.netlist >>= (λ c. for_is c set reads j))
+pub plan_is : (file : Bytes) (walk : Option (List NetId)) (set : Settings) (reads : Reads) → plan_of file walk set reads ≡ (netlist_step file walk reads.netlist >>= after_net set reads)
+plan_is file walk set reads = of_is file walk set reads ∙ (λ j. netlist_step file walk reads.netlist >>= (λ c. for_is c set reads j))
 
 -- the four names
 module _ (inputs : Inputs) (set : Settings) (shelf : Shelves) (before after : Bytes → ℕ) where
@@ -118,33 +118,36 @@ module _ (inputs : Inputs) (set : Settings) (shelf : Shelves) (before after : By
   abbrev Answer : Status → Type 0
   Answer ended = (ended ≡ status.Memory) ⊎ PlanRefused inputs set shelf before after ended
 
-  rose_of : (result : Bytes) (own : Which) (ended : Status) → FaultRose own (before (name_in inputs result own)) (after (name_in inputs result own)) ended
-      → (other : Which) → ended ≡ status.ReadFault other → Rose (before (name_in inputs result other)) (after (name_in inputs result other))
-  rose_of result own ended fault = λ other e.
-      let f = fault other e in subst (λ w. Rose (before (name_in inputs result w)) (after (name_in inputs result w))) (sym f.0) f.1
+  rose_of : (result first second : Bytes) (own : Which) (ended : Status)
+      → FaultRose own (before (name_with inputs result first second own)) (after (name_with inputs result first second own)) ended
+      → (other : Which) → ended ≡ status.ReadFault other
+      → Rose (before (name_with inputs result first second other)) (after (name_with inputs result first second other))
+  rose_of result first second own ended fault = λ other e.
+      let f = fault other e in
+      subst (λ w. Rose (before (name_with inputs result first second w)) (after (name_with inputs result first second w))) (sym f.0) f.1
 
   -- the netlist was refused
-  pub plan_netlist : (ended : Status) → NetlistAs (shelf (name which.Netlist)) (before (name which.Netlist)) (after (name which.Netlist)) (Err ended) → Answer ended
+  pub plan_netlist : (ended : Status) → NetlistAs inputs.netlist (shelf (name which.Netlist)) (before (name which.Netlist)) (after (name which.Netlist)) (Err ended) → Answer ended
   plan_netlist ended (inl memory) = inl memory
   plan_netlist ended (inr (got, walk, fits, loops, is, fault)) =
       let work = some_fit (shelf (name which.Workload)) (before (name which.Workload)) (after (name which.Workload)) in
       let rates = some_fit (shelf (name which.Rates)) (before (name which.Rates)) (after (name which.Rates)) in
       let points = some_fit (shelf (name which.Points)) (before (name which.Points)) (after (name which.Points)) in
-      let reads : Reads = record { netlist = got; workload = work.0; rates = rates.0; points = points.0; result = None } in
+      let reads : Reads = record { netlist = got; workload = work.0; rates = rates.0; points = points.0; result = None; first = None; second = None } in
       inr (record {
         checked = record {
           reads = reads;
           fit = record { netlist = fits; workload = work.1; rates = rates.1; points = points.1 };
           walk = walk;
           loops = loops;
-          first = ap refusal_in (plan_is walk set reads ∙ ap (λ r. r >>= after_net set reads) is);
+          first = ap refusal_in (plan_is inputs.netlist walk set reads ∙ ap (λ r. r >>= after_net set reads) is);
         };
-        fault = λ result. rose_of result which.Netlist ended fault;
+        fault = λ result first second. rose_of result first second which.Netlist ended fault;
       })
 
-  module _ (net_bytes : Bytes) (c : Circuit) (net : Taken which.Netlist (netlist_step None) net_bytes c) (no_loop : HasNoLoop c) where
-    abbrev loops : IsLoopAnswer (Some net_bytes) None
-    loops = loops_none net_bytes c net.1 no_loop
+  module _ (net_bytes : Bytes) (c : Circuit) (net : Taken which.Netlist (netlist_step inputs.netlist None) net_bytes c) (no_loop : HasNoLoop c) where
+    abbrev loops : IsLoopAnswer inputs.netlist (Some net_bytes) None
+    loops = loops_none inputs.netlist net_bytes c net.1 no_loop
 
     -- the workload was refused
     pub plan_runs : (ended : Status) → Step which.Workload (workload_step c) ended → Answer ended
@@ -152,16 +155,16 @@ module _ (inputs : Inputs) (set : Settings) (shelf : Shelves) (before after : By
     plan_runs ended (inr (got, fits, is, fault)) =
         let rates = some_fit (shelf (name which.Rates)) (before (name which.Rates)) (after (name which.Rates)) in
         let points = some_fit (shelf (name which.Points)) (before (name which.Points)) (after (name which.Points)) in
-        let reads : Reads = record { netlist = Some net_bytes; workload = got; rates = rates.0; points = points.0; result = None } in
+        let reads : Reads = record { netlist = Some net_bytes; workload = got; rates = rates.0; points = points.0; result = None; first = None; second = None } in
         inr (record {
           checked = record {
             reads = reads;
             fit = record { netlist = net.0; workload = fits; rates = rates.1; points = points.1 };
             walk = None;
             loops = loops;
-            first = ap refusal_in (plan_is None set reads ∙ ap (λ r. r >>= after_net set reads) net.1 ∙ ap (λ r. r >>= after_runs c set reads) is);
+            first = ap refusal_in (plan_is inputs.netlist None set reads ∙ ap (λ r. r >>= after_net set reads) net.1 ∙ ap (λ r. r >>= after_runs c set reads) is);
           };
-          fault = λ result. rose_of result which.Workload ended fault;
+          fault = λ result first second. rose_of result first second which.Workload ended fault;
         })
 
     module _ (work_bytes : Bytes) (runs : List Run) (work : Taken which.Workload (workload_step c) work_bytes runs) where
@@ -170,17 +173,17 @@ module _ (inputs : Inputs) (set : Settings) (shelf : Shelves) (before after : By
       plan_rates ended (inl memory) = inl memory
       plan_rates ended (inr (got, fits, is, fault)) =
           let points = some_fit (shelf (name which.Points)) (before (name which.Points)) (after (name which.Points)) in
-          let reads : Reads = record { netlist = Some net_bytes; workload = Some work_bytes; rates = got; points = points.0; result = None } in
+          let reads : Reads = record { netlist = Some net_bytes; workload = Some work_bytes; rates = got; points = points.0; result = None; first = None; second = None } in
           inr (record {
             checked = record {
               reads = reads;
               fit = record { netlist = net.0; workload = work.0; rates = fits; points = points.1 };
               walk = None;
               loops = loops;
-              first = ap refusal_in (plan_is None set reads ∙ ap (λ r. r >>= after_net set reads) net.1 ∙ ap (λ r. r >>= after_runs c set reads) work.1
+              first = ap refusal_in (plan_is inputs.netlist None set reads ∙ ap (λ r. r >>= after_net set reads) net.1 ∙ ap (λ r. r >>= after_runs c set reads) work.1
                   ∙ ap (λ r. r >>= after_rates c set reads runs) is);
             };
-            fault = λ result. rose_of result which.Rates ended fault;
+            fault = λ result first second. rose_of result first second which.Rates ended fault;
           })
 
       module _ (rate_bytes : Bytes) (table : RateTable) (rates : Taken which.Rates rates_step rate_bytes table) where
@@ -188,17 +191,17 @@ module _ (inputs : Inputs) (set : Settings) (shelf : Shelves) (before after : By
         pub plan_points : (ended : Status) → Step which.Points (points_step c) ended → Answer ended
         plan_points ended (inl memory) = inl memory
         plan_points ended (inr (got, fits, is, fault)) =
-            let reads : Reads = record { netlist = Some net_bytes; workload = Some work_bytes; rates = Some rate_bytes; points = got; result = None } in
+            let reads : Reads = record { netlist = Some net_bytes; workload = Some work_bytes; rates = Some rate_bytes; points = got; result = None; first = None; second = None } in
             inr (record {
               checked = record {
                 reads = reads;
                 fit = record { netlist = net.0; workload = work.0; rates = rates.0; points = fits };
                 walk = None;
                 loops = loops;
-                first = ap refusal_in (plan_is None set reads ∙ ap (λ r. r >>= after_net set reads) net.1 ∙ ap (λ r. r >>= after_runs c set reads) work.1
+                first = ap refusal_in (plan_is inputs.netlist None set reads ∙ ap (λ r. r >>= after_net set reads) net.1 ∙ ap (λ r. r >>= after_runs c set reads) work.1
                     ∙ ap (λ r. r >>= after_rates c set reads runs) rates.1 ∙ ap (λ r. r >>= to_plan c set runs table) is);
               };
-              fault = λ result. rose_of result which.Points ended fault;
+              fault = λ result first second. rose_of result first second which.Points ended fault;
             })
 
         module _ (point_bytes : Bytes) (goals : Points) (points : Taken which.Points (points_step c) point_bytes goals) where
@@ -207,9 +210,9 @@ module _ (inputs : Inputs) (set : Settings) (shelf : Shelves) (before after : By
 
           -- what the steps come to, whichever other files were read
           made : (reads : Reads) → reads.netlist ≡ Some net_bytes → reads.workload ≡ Some work_bytes → reads.rates ≡ Some rate_bytes → reads.points ≡ Some point_bytes
-              → plan_of None set reads ≡ to_plan c set runs table goals
+              → plan_of inputs.netlist None set reads ≡ to_plan c set runs table goals
           made reads n w r p =
-              plan_is None set reads ∙ ap (λ x. x >>= after_net set reads) (ap (netlist_step None) n ∙ net.1)
+              plan_is inputs.netlist None set reads ∙ ap (λ x. x >>= after_net set reads) (ap (netlist_step inputs.netlist None) n ∙ net.1)
               ∙ ap (λ x. x >>= after_runs c set reads) (ap (workload_step c) w ∙ work.1)
               ∙ ap (λ x. x >>= after_rates c set reads runs) (ap rates_step r ∙ rates.1)
               ∙ ap (λ x. x >>= to_plan c set runs table) (ap (points_step c) p ∙ points.1)
@@ -228,11 +231,11 @@ module _ (inputs : Inputs) (set : Settings) (shelf : Shelves) (before after : By
                   loops = loops;
                   first = ap refusal_in (made reads refl refl refl refl ∙ is);
                 };
-                fault = λ result own e. absurd (never own e);
+                fault = λ result first second own e. absurd (never own e);
               })
 
           -- nothing refused
-          pub plan_made : (p : Analysis) → to_plan c set runs table goals ≡ Ok p → HasNoLoop p.circuit → IsPlanOf set files p
+          pub plan_made : (p : Analysis) → to_plan c set runs table goals ≡ Ok p → HasNoLoop p.circuit → IsPlanOf inputs.netlist set files p
           plan_made p is free = record { plan = made (all_read files []) refl refl refl refl ∙ is; no_loop = free }
 
 -- files that were read are those that are told to be held
@@ -246,7 +249,7 @@ are_held shelf inputs files read = λ held told. λ j. record {
 
 -- over them nothing refuses a plan that was made
 pub plan_checked : (inputs : Inputs) (set : Settings) (shelf : Shelves) (before after : Bytes → ℕ) (files : Files) (p : Analysis)
-    → AreRead shelf inputs files → IsPlanOf set files p → IsLoopAnswer (Some files.netlist) None → PlanChecked inputs set shelf before after None
+    → AreRead shelf inputs files → IsPlanOf inputs.netlist set files p → IsLoopAnswer inputs.netlist (Some files.netlist) None → PlanChecked inputs set shelf before after None
 plan_checked inputs set shelf before after files p read plan loops = record {
   reads = all_read files [];
   fit = record { netlist = read.netlist; workload = read.workload; rates = read.rates; points = read.points };

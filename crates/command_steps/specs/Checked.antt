@@ -6,7 +6,7 @@ use Rattle.refusal_text.specs.declared.status.Status.{Status}
 use Rattle.refusal_text.specs.declared.status.Status.TheVariants as status
 use Rattle.refusal_text.specs.declared.status.Which.{Which}
 use Rattle.refusal_text.specs.declared.status.Which.TheVariants as which
-use Rattle.command_line.specs.Commands.{Command, Classes, Check, Run, Resume, Audit, Gen}
+use Rattle.command_line.specs.Commands.{Command, Classes, Check, Run, Resume, Audit, Gen, Report, Shard, Merge, Pairs}
 use Rattle.command_steps.specs.Files.{Reads, all_read}
 use Rattle.command_steps.specs.FirstRefusal.{IsLoopAnswer, first_refusal, generated}
 use Rattle.command_steps.specs.Held.{name_of}
@@ -43,11 +43,18 @@ ReadsFit shelf before after (Resume inputs name set workers) reads =
 ReadsFit shelf before after (Audit inputs name set) reads =
     InputsFit shelf before after (name_of (Audit inputs name set)) reads × NameFits shelf before after name reads.result
 ReadsFit shelf before after (Gen n name workers) reads = reads ≡ all_read (generated n) []
+ReadsFit shelf before after (Report inputs set) reads = InputsFit shelf before after (name_of (Report inputs set)) reads
+ReadsFit shelf before after (Shard inputs name set part parts) reads = InputsFit shelf before after (name_of (Shard inputs name set part parts)) reads
+ReadsFit shelf before after (Merge inputs name first second set) reads =
+    InputsFit shelf before after (name_of (Merge inputs name first second set)) reads
+    × NameFits shelf before after first reads.first × NameFits shelf before after second reads.second
+ReadsFit shelf before after (Pairs inputs name set workers) reads =
+    InputsFit shelf before after (name_of (Pairs inputs name set workers)) reads × NameFits shelf before after name reads.result
 
 -- THE ORDER OF THE CHECKS: over what the call has read, this is the first refusal, or there is none
 pub record Checked (command : Command) (shelf : Shelves) (before after : Bytes → ℕ) (refusal : Option Status) : Type 0 where
   pub reads : Reads
   pub fit : ReadsFit shelf before after command reads
   pub walk : Option (List NetId)
-  pub loops : IsLoopAnswer reads.netlist walk
+  pub loops : IsLoopAnswer (name_of command which.Netlist) reads.netlist walk
   pub first : first_refusal walk command reads ≡ refusal

@@ -3,7 +3,6 @@ use Rattle.std.specs.Prelude.{◌≡◌, ℕ, ◌^◌, Bool, not, ◌&&◌, List
 use Rattle.circuit.specs.declared.parts.NetId.{NetId}
 use Rattle.circuit.specs.Circuit.{Circuit}
 use Rattle.circuit.specs.Loop.{HasNoLoop, AnswersLoops}
-use Rattle.blif_model.specs.Net.{netlist_of}
 use Rattle.workload.specs.declared.run.Run.{Run}
 use Rattle.workload.specs.WorkloadFile.{workload_of}
 use Rattle.rate_table.specs.RatesFile.{rates_of}
@@ -23,13 +22,20 @@ use Rattle.result_file.specs.declared.ResultRefusal.TheVariants as back
 use Rattle.result_file.specs.declared.Row.{Row}
 use Rattle.result_file.specs.ResultText.{own_digest, header_text}
 use Rattle.result_file.specs.KeptRows.{kept}
+use Rattle.result_merge.specs.declared.merge.MergeRefusal.{MergeRefusal}
+use Rattle.result_merge.specs.declared.merge.MergeRefusal.TheVariants.{Differs}
+use Rattle.result_merge.specs.Merged.{merged}
+use Rattle.pair_list.specs.declared.pairs.PairRefusal.{PairRefusal}
+use Rattle.pair_list.specs.declared.pairs.PairRefusal.TheVariants.{Incomplete, TooMany}
+use Rattle.pair_list.specs.Chosen.{pair_refusal}
 use Rattle.sample_gen.specs.Sample.{netlist_text, workload_text, rates_text, points_text}
 use Rattle.refusal_text.specs.declared.status.Status.{Status}
 use Rattle.refusal_text.specs.declared.status.Status.TheVariants as status
 use Rattle.refusal_text.specs.declared.status.Which.{Which}
 use Rattle.refusal_text.specs.declared.status.Which.TheVariants as which
 use Rattle.refusal_text.specs.declared.status.What.TheVariants as what
-use Rattle.command_line.specs.Commands.{Command, Classes, Check, Run as RunCommand, Resume, Audit, Gen, settings_of}
+use Rattle.refusal_text.specs.NetlistFile.{netlist_in, or_refuse}
+use Rattle.command_line.specs.Commands.{Command, Classes, Check, Run as RunCommand, Resume, Audit, Gen, Report, Shard, Merge, Pairs, settings_of}
 use Rattle.command_steps.specs.Files.{Files, Reads, all_read, files_of}
 use Rattle.fm_base.specs.Names.{Bytes}
 use Rattle.metric_sums.specs.declared.Role.TheVariants.{Mission}
@@ -51,11 +57,6 @@ abbrev pub ◌>>=◌ : {A B : Type 0} → Result A Status → (A → Result B St
 (Ok x) >>= next = next x
 (Err refusal) >>= next = Err refusal
 
--- an answer, whose refusal is told as a status
-abbrev pub or_refuse : {A E : Type 0} → (E → Status) → Result A E → Result A Status
-or_refuse told (Ok x) = Ok x
-or_refuse told (Err e) = Err (told e)
-
 -- the value, unless there is a refusal
 abbrev pub unless : {A : Type 0} → Option Status → A → Result A Status
 unless None x = Ok x
@@ -71,11 +72,11 @@ abbrev pub loop_refusal : Option (List NetId) → Option Status
 loop_refusal None = None
 loop_refusal (Some walk) = Some (status.Loop walk)
 
--- NETLIST
-unfoldable pub netlist_step : Option (List NetId) → Option Bytes → Result Circuit Status
-netlist_step walk bytes = do
+-- NETLIST, a file of this name
+unfoldable pub netlist_step : Bytes → Option (List NetId) → Option Bytes → Result Circuit Status
+netlist_step netlist walk bytes = do
   whole ← at_most which.Netlist bytes
-  c ← or_refuse status.Netlist (netlist_of whole)
+  c ← netlist_in netlist whole
   unless (loop_refusal walk) c
 
 -- at most 1,024 outputs, in `classes`
@@ -124,16 +125,16 @@ plan_for c set reads = do
   points ← points_step c reads.points
   plan_step (record { circuit = c; runs = runs; rates = rates; points = points; settings = set })
 
--- the plan of four files, or the first refusal
-unfoldable pub plan_of : Option (List NetId) → Settings → Reads → Result Analysis Status
-plan_of walk set reads = do
-  c ← netlist_step walk reads.netlist
+-- the plan of four files, where the netlist's has this name, or the first refusal
+unfoldable pub plan_of : Bytes → Option (List NetId) → Settings → Reads → Result Analysis Status
+plan_of netlist walk set reads = do
+  c ← netlist_step netlist walk reads.netlist
   plan_for c set reads
 
 -- the plan of `classes`, or the first refusal
-unfoldable pub classes_plan_of : Option (List NetId) → Reads → Result Analysis Status
-classes_plan_of walk reads = do
-  c ← netlist_step walk reads.netlist
+unfoldable pub classes_plan_of : Bytes → Option (List NetId) → Reads → Result Analysis Status
+classes_plan_of netlist walk reads = do
+  c ← netlist_step netlist walk reads.netlist
   counted ← outputs_step c
   runs ← workload_step counted reads.workload
   Ok (classes_plan counted runs)
@@ -147,11 +148,15 @@ abbrev pub status_of_back : ResultRefusal → Status
 status_of_back (back.Foreign found own) = status.Foreign found own
 status_of_back (back.BadRow number why) = status.BadRow number why
 
--- RESULT
-unfoldable pub result_step : Bytes → Analysis → Option Bytes → Result KeptRows Status
-result_step own p bytes = do
-  whole ← at_most which.Result bytes
+-- a result file under the plan's own header
+unfoldable pub back_step : Which → Bytes → Analysis → Option Bytes → Result KeptRows Status
+back_step file own p bytes = do
+  whole ← at_most file bytes
   or_refuse status_of_back (kept own p whole)
+
+-- RESULT
+abbrev pub result_step : Bytes → Analysis → Option Bytes → Result KeptRows Status
+result_step = back_step which.Result
 
 -- a row keeps other planes than those that its batch is given
 abbrev pub is_wrong : (ℕ → Outcome) → Row → Bool
@@ -173,21 +178,62 @@ refusal_in (Ok x) = None
 refusal_in (Err refusal) = Some refusal
 
 -- the rows that `resume` and `audit` keep
-unfoldable pub kept_of : Option (List NetId) → Settings → Reads → Result KeptRows Status
-kept_of walk set reads = do
-  p ← plan_of walk set reads
+unfoldable pub kept_of : Bytes → Option (List NetId) → Settings → Reads → Result KeptRows Status
+kept_of netlist walk set reads = do
+  p ← plan_of netlist walk set reads
   result_step (own_header set (files_of reads) p) p reads.result
 
 -- the rows that `audit` has found right
-unfoldable pub audited_of : Option (List NetId) → Settings → Reads → Result KeptRows Status
-audited_of walk set reads = do
-  p ← plan_of walk set reads
+unfoldable pub audited_of : Bytes → Option (List NetId) → Settings → Reads → Result KeptRows Status
+audited_of netlist walk set reads = do
+  p ← plan_of netlist walk set reads
   k ← result_step (own_header set (files_of reads) p) p reads.result
   audit_step p k
+
+-- the status of a refusal to merge
+abbrev pub status_of_merge : MergeRefusal → Status
+status_of_merge (Differs batch first second) = status.Differs batch first second
+
+-- MERGE: the rows of both files, unless some batch stands in both with other planes
+abbrev pub merge_step : Analysis → (first second : KeptRows) → Result (List Row) Status
+merge_step p first second = or_refuse status_of_merge (merged p first.rows second.rows)
+
+-- the rows that `merge` writes; FIRST is judged whole before SECOND
+unfoldable pub merged_of : Bytes → Option (List NetId) → Settings → Reads → Result (List Row) Status
+merged_of netlist walk set reads = do
+  p ← plan_of netlist walk set reads
+  first ← back_step which.First (own_header set (files_of reads) p) p reads.first
+  second ← back_step which.Second (own_header set (files_of reads) p) p reads.second
+  merge_step p first second
+
+-- the status of why there are no pairs
+abbrev pub status_of_pairs : PairRefusal → Status
+status_of_pairs (Incomplete have batches) = status.Incomplete have batches
+status_of_pairs TooMany = status.TooLarge what.Pairs
+
+-- rows that lack a batch, or too many pairs
+abbrev pub refusal_of_pairs : Option PairRefusal → Option Status
+refusal_of_pairs None = None
+refusal_of_pairs (Some refusal) = Some (status_of_pairs refusal)
+
+-- PAIRS: each batch has a row, and there aren't too many pairs
+abbrev pub pairs_step : Analysis → KeptRows → Result KeptRows Status
+pairs_step p k = unless (refusal_of_pairs (pair_refusal p k.rows)) k
+
+-- the rows by which `pairs` pairs the faults
+unfoldable pub paired_of : Bytes → Option (List NetId) → Settings → Reads → Result KeptRows Status
+paired_of netlist walk set reads = do
+  p ← plan_of netlist walk set reads
+  k ← result_step (own_header set (files_of reads) p) p reads.result
+  pairs_step p k
 
 -- the generated texts
 abbrev pub generated : ℕ → Files
 generated n = record { netlist = netlist_text n; workload = workload_text n; rates = rates_text; points = points_text }
+
+-- the generated netlist has no name, and is written in BLIF
+abbrev pub no_name : Bytes
+no_name = []
 
 -- the settings of `gen`: flips in cycle 1, and no pulses
 abbrev pub generated_settings : Settings
@@ -195,18 +241,23 @@ generated_settings = settings_of (1 ∷ []) []
 
 -- the first refusal of a command, over what was read
 unfoldable pub first_refusal : Option (List NetId) → Command → Reads → Option Status
-first_refusal walk (Classes netlist workload) reads = refusal_in (classes_plan_of walk reads)
-first_refusal walk (Check inputs flips pulses) reads = refusal_in (plan_of walk (settings_of flips pulses) reads)
-first_refusal walk (RunCommand inputs name set workers) reads = refusal_in (plan_of walk set reads)
-first_refusal walk (Resume inputs name set workers) reads = refusal_in (kept_of walk set reads)
-first_refusal walk (Audit inputs name set) reads = refusal_in (audited_of walk set reads)
-first_refusal walk (Gen n name workers) reads = refusal_in (plan_of walk generated_settings (all_read (generated n) []))
+first_refusal walk (Classes netlist workload) reads = refusal_in (classes_plan_of netlist walk reads)
+first_refusal walk (Check inputs flips pulses) reads = refusal_in (plan_of inputs.netlist walk (settings_of flips pulses) reads)
+first_refusal walk (RunCommand inputs name set workers) reads = refusal_in (plan_of inputs.netlist walk set reads)
+first_refusal walk (Resume inputs name set workers) reads = refusal_in (kept_of inputs.netlist walk set reads)
+first_refusal walk (Audit inputs name set) reads = refusal_in (audited_of inputs.netlist walk set reads)
+first_refusal walk (Gen n name workers) reads = refusal_in (plan_of no_name walk generated_settings (all_read (generated n) []))
+first_refusal walk (Report inputs set) reads = refusal_in (plan_of inputs.netlist walk set reads)
+first_refusal walk (Shard inputs name set part parts) reads = refusal_in (plan_of inputs.netlist walk set reads)
+first_refusal walk (Merge inputs name first second set) reads = refusal_in (merged_of inputs.netlist walk set reads)
+first_refusal walk (Pairs inputs name set workers) reads = refusal_in (paired_of inputs.netlist walk set reads)
 
--- `walk` is what is answered of loops, where the file was read and is a netlist
-abbrev pub IsLoopAnswer : Option Bytes → Option (List NetId) → Type 0
-IsLoopAnswer got walk = (bytes : Bytes) (c : Circuit) → at_most which.Netlist got ≡ Ok bytes → netlist_of bytes ≡ Ok c → AnswersLoops c walk
+-- `walk` is what is answered of loops, where the file of this name was read and is a netlist
+abbrev pub IsLoopAnswer : Bytes → Option Bytes → Option (List NetId) → Type 0
+IsLoopAnswer netlist got walk =
+    (bytes : Bytes) (c : Circuit) → at_most which.Netlist got ≡ Ok bytes → netlist_in netlist bytes ≡ Ok c → AnswersLoops c walk
 
--- the plan of four files, in which no step refuses
-pub record IsPlanOf (set : Settings) (files : Files) (p : Analysis) : Type 0 where
-  pub plan : plan_of None set (all_read files []) ≡ Ok p
+-- the plan of four files, in which no step refuses; the netlist's has this name
+pub record IsPlanOf (netlist : Bytes) (set : Settings) (files : Files) (p : Analysis) : Type 0 where
+  pub plan : plan_of netlist None set (all_read files []) ≡ Ok p
   pub no_loop : HasNoLoop p.circuit

@@ -3,7 +3,7 @@ use Rattle.std.specs.Prelude.{◌≡◌, [], Some}
 use Rattle.fm_shelf.specs.Shelf.{Shelves}
 use Rattle.refusal_text.specs.declared.status.Which.{Which}
 use Rattle.refusal_text.specs.declared.status.Which.TheVariants as which
-use Rattle.command_line.specs.Commands.{Command, Classes, Check, Run, Resume, Audit, Gen, Inputs}
+use Rattle.command_line.specs.Commands.{Command, Classes, Check, Run, Resume, Audit, Gen, Report, Inputs, Shard, Merge, Pairs}
 use Rattle.command_steps.specs.Files.{Files}
 use Rattle.fm_base.specs.Names.{Bytes}
 
@@ -22,13 +22,19 @@ pub record HoldsInputs (shelf : Shelves) (inputs : Inputs) (files : Files) : Typ
 abbrev pub KeepsAll : Shelves → Shelves → Type 0
 KeepsAll before after = (name : Bytes) → after name ≡ before name
 
--- the name of each file by the words of a command
+-- the name of each file by the words of `merge`
+abbrev pub name_with : Inputs → (result first second : Bytes) → Which → Bytes
+name_with inputs result first second which.Netlist = inputs.netlist
+name_with inputs result first second which.Workload = inputs.workload
+name_with inputs result first second which.Rates = inputs.rates
+name_with inputs result first second which.Points = inputs.points
+name_with inputs result first second which.Result = result
+name_with inputs result first second which.First = first
+name_with inputs result first second which.Second = second
+
+-- the name of each file by the words of another command
 abbrev pub name_in : Inputs → Bytes → Which → Bytes
-name_in inputs result which.Netlist = inputs.netlist
-name_in inputs result which.Workload = inputs.workload
-name_in inputs result which.Rates = inputs.rates
-name_in inputs result which.Points = inputs.points
-name_in inputs result which.Result = result
+name_in inputs result = name_with inputs result [] []
 
 -- the name of each file of a command; those that it doesn't have are empty
 abbrev pub name_of : Command → Which → Bytes
@@ -38,3 +44,7 @@ name_of (Run inputs name set workers) = name_in inputs name
 name_of (Resume inputs name set workers) = name_in inputs name
 name_of (Audit inputs name set) = name_in inputs name
 name_of (Gen n name workers) = name_in (record { netlist = []; workload = []; rates = []; points = [] }) name
+name_of (Report inputs set) = name_in inputs []
+name_of (Shard inputs name set part parts) = name_in inputs name
+name_of (Merge inputs name first second set) = name_with inputs name first second
+name_of (Pairs inputs name set workers) = name_in inputs name

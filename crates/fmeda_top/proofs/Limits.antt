@@ -1,8 +1,8 @@
 -- The limits of what words say.
 use Rattle.std.proofs.Common.{◌≡◌, ℕ, ◌<◌, ◌≤◌, List, arith}
 use Rattle.fm_base.specs.Names.{Bytes}
-use Rattle.command_line.specs.Commands.{Command, Inputs, Classes, Check, Run, Resume, Audit, Gen}
-use Rattle.command_line.specs.Words.{IsCommand, SaidBy, HasSettings, HasCampaign, HasAsil}
+use Rattle.command_line.specs.Commands.{Command, Inputs, Classes, Check, Run, Resume, Audit, Gen, Report, Shard, Merge, Pairs}
+use Rattle.command_line.specs.Words.{IsCommand, SaidBy, HasSettings, HasCampaign, HasPlanWords, HasAsil}
 use Rattle.clap.specs.Words.{Row}
 use Rattle.metric_sums.specs.declared.Asil.{Asil}
 use Rattle.metric_sums.specs.declared.Asil.TheVariants.{D}
@@ -21,8 +21,23 @@ campaign_fit : (rows : List Row) (inputs : Inputs) (name : Bytes) (set : Setting
 campaign_fit rows inputs name set workers (names, other, settings, crew) =
     let some : 0 < workers = omega (arith, crew.least) in (settings_fit rows (HasAsil rows) set settings, some, crew.most)
 
+plan_fit : (rows : List Row) (inputs : Inputs) (name : Bytes) (set : Settings) → HasPlanWords rows inputs name set → AreSettings set
+plan_fit rows inputs name set (names, other, settings) = settings_fit rows (λ asil. asil ≡ D) set settings
+
+shard_fit : (rows : List Row) (inputs : Inputs) (name : Bytes) (set : Settings) (part parts : ℕ) → SaidBy rows (Shard inputs name set part parts) → IsFit (Shard inputs name set part parts)
+shard_fit rows inputs name set part parts (plan, own) = (plan_fit rows inputs name set plan, own.one, own.many.most)
+
+merge_fit : (rows : List Row) (inputs : Inputs) (name first second : Bytes) (set : Settings) → SaidBy rows (Merge inputs name first second set) → IsFit (Merge inputs name first second set)
+merge_fit rows inputs name first second set (plan, sources) = plan_fit rows inputs name set plan
+
+pairs_fit : (rows : List Row) (inputs : Inputs) (name : Bytes) (set : Settings) (workers : ℕ) → SaidBy rows (Pairs inputs name set workers) → IsFit (Pairs inputs name set workers)
+pairs_fit rows inputs name set workers (plan, crew) = let some : 0 < workers = omega (arith, crew.least) in (plan_fit rows inputs name set plan, some, crew.most)
+
 audit_fit : (rows : List Row) (inputs : Inputs) (name : Bytes) (set : Settings) → SaidBy rows (Audit inputs name set) → IsFit (Audit inputs name set)
 audit_fit rows inputs name set (names, other, settings) = settings_fit rows (λ asil. asil ≡ D) set settings
+
+report_fit : (rows : List Row) (inputs : Inputs) (set : Settings) → SaidBy rows (Report inputs set) → IsFit (Report inputs set)
+report_fit rows inputs set (names, settings) = settings_fit rows (HasAsil rows) set settings
 
 gen_fit : (rows : List Row) (stages : ℕ) (name : Bytes) (workers : ℕ) → SaidBy rows (Gen stages name workers) → IsFit (Gen stages name workers)
 gen_fit rows stages name workers (sizes, result, crew) = let some : 0 < workers = omega (arith, crew.least) in (sizes.least, sizes.most, some, crew.most)
@@ -35,3 +50,7 @@ is_fit words (Run inputs name set workers) (clean, (rows, met, said)) = campaign
 is_fit words (Resume inputs name set workers) (clean, (rows, met, said)) = campaign_fit rows inputs name set workers said
 is_fit words (Audit inputs name set) (clean, (rows, met, said)) = audit_fit rows inputs name set said
 is_fit words (Gen stages name workers) (clean, (rows, met, said)) = gen_fit rows stages name workers said
+is_fit words (Report inputs set) (clean, (rows, met, said)) = report_fit rows inputs set said
+is_fit words (Shard inputs name set part parts) (clean, (rows, met, said)) = shard_fit rows inputs name set part parts said
+is_fit words (Merge inputs name first second set) (clean, (rows, met, said)) = merge_fit rows inputs name first second set said
+is_fit words (Pairs inputs name set workers) (clean, (rows, met, said)) = pairs_fit rows inputs name set workers said

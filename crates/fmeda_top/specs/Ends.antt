@@ -1,14 +1,18 @@
 -- What a call of the program has done when it ends. Each promise is of files whose content the shelf tells.
 use Rattle.std.specs.Prelude.{◌≡◌, ◌⊎◌, ℕ, List, [], ◌∷◌, codes, length, take, Option, Some, None, Ok}
-use Rattle.fm_shelf.specs.Shelf.{Shelves, Told, told_more, HasPrefix, Rose}
+use Rattle.fm_shelf.specs.Shelf.{Shelves, Told, NowHas, told_more, HasPrefix, Rose}
 use Rattle.circuit.specs.Loop.{HasNoLoop}
 use Rattle.circuit.specs.Circuit.{Circuit}
 use Rattle.campaign_plan.specs.declared.Settings.{Settings}
 use Rattle.campaign_plan.specs.Analysis.{Analysis}
-use Rattle.campaign_plan.specs.Batches.{Entry, true_planes}
+use Rattle.campaign_plan.specs.Batches.{Entry, AreTrue, true_planes}
 use Rattle.result_file.specs.declared.KeptRows.{KeptRows}
-use Rattle.result_file.specs.ResultText.{result_text}
-use Rattle.result_file.specs.KeptRows.{kept}
+use Rattle.result_file.specs.ResultText.{result_rows, result_text}
+use Rattle.result_file.specs.KeptRows.{kept, kept_entries}
+use Rattle.result_merge.specs.Merged.{merged_entries}
+use Rattle.result_merge.specs.Parts.{HasPart}
+use Rattle.fmeda_report.specs.Rows.{planes_in}
+use Rattle.pair_campaign.specs.PairText.{pairs_text}
 use Rattle.fmeda_report.specs.Report.{report, true_report, summary}
 use Rattle.refusal_text.specs.declared.status.Status.{Status}
 use Rattle.refusal_text.specs.declared.status.Status.TheVariants as status
@@ -16,29 +20,29 @@ use Rattle.refusal_text.specs.declared.status.WriteTo.TheVariants as to
 use Rattle.refusal_text.specs.declared.status.Which.{Which}
 use Rattle.refusal_text.specs.declared.status.Which.TheVariants as which
 use Rattle.refusal_text.specs.RefusalLines.{refused, refusal_line}
-use Rattle.command_line.specs.Commands.{Command, Classes, Check, Run, Resume, Audit, Gen, settings_of}
+use Rattle.command_line.specs.Commands.{Command, Classes, Check, Run, Resume, Audit, Gen, Report, settings_of, Shard, Merge, Pairs}
 use Rattle.command_line.specs.Words.{IsCommand}
-use Rattle.command_steps.specs.Files.{Files, all_read}
-use Rattle.command_text.specs.Texts.{classes_text, check_text, audit_text}
-use Rattle.command_steps.specs.FirstRefusal.{IsPlanOf, classes_plan_of, audited_of, own_header, generated, generated_settings}
+use Rattle.command_steps.specs.Files.{Files, all_read, both_read}
+use Rattle.command_text.specs.Texts.{classes_text, check_text, audit_text, shard_line, merge_text}
+use Rattle.command_steps.specs.FirstRefusal.{IsPlanOf, classes_plan_of, audited_of, own_header, generated, generated_settings, no_name, merged_of, paired_of}
 use Rattle.fm_base.specs.Names.{Bytes}
 use Rattle.campaign_run.specs.Outside.{KeepsOthers, Wrote}
 use Rattle.campaign_run.specs.Found.{IsPart, kept_or_true}
 use Rattle.campaign_run.specs.Reported.{HasReported, ResumedAs}
-use Rattle.campaign_run.specs.Left.{LeftPrefix, BeginsAs}
+use Rattle.campaign_run.specs.Left.{IsPrefixOf, LeftPrefix, BeginsAs}
 use Rattle.command_steps.specs.Held.{Holds, HoldsInputs, KeepsAll, name_of}
 use Rattle.refusal_text.specs.Refusals.{IsCircuitOf}
 
--- a campaign over these bytes
-pub record RanCampaign (files : Files) (set : Settings) (text : Analysis → Bytes) (after : Told) (out_before out_after : Option Bytes) : Type 0 where
+-- a campaign over these bytes, where the netlist's file has this name
+pub record RanCampaign (netlist : Bytes) (files : Files) (set : Settings) (text : Analysis → Bytes) (after : Told) (out_before out_after : Option Bytes) : Type 0 where
   pub p : Analysis
-  pub plan : IsPlanOf set files p
+  pub plan : IsPlanOf netlist set files p
   pub reported : HasReported (own_header set files p) (text p) p (true_planes p) after out_before out_after
 
 -- RESUMING, whatever the file held that is accepted: the report of the kept planes, and of the true ones of all other batches
-pub record Resumed (files : Files) (set : Settings) (bytes : Bytes) (after : Told) (out_before out_after : Option Bytes) : Type 0 where
+pub record Resumed (netlist : Bytes) (files : Files) (set : Settings) (bytes : Bytes) (after : Told) (out_before out_after : Option Bytes) : Type 0 where
   pub p : Analysis
-  pub plan : IsPlanOf set files p
+  pub plan : IsPlanOf netlist set files p
   pub k : KeptRows
   pub kept_rows : kept (own_header set files p) p bytes ≡ Ok k
   pub resumed : ResumedAs (own_header set files p) (report p (kept_or_true p k)) p (kept_or_true p k) bytes after out_before out_after
@@ -51,36 +55,95 @@ pub record IsStopped (files : Files) (set : Settings) (p : Analysis) (bytes : By
   pub left : bytes ≡ take length_left (result_text (own_header set files p) p entries)
 
 -- EVERY PREFIX RESUMES: `resume` on a campaign that was stopped at any byte has written the campaign's report
-abbrev pub ResumesStopped : Files → Settings → Bytes → Told → Option Bytes → Option Bytes → Type 0
-ResumesStopped files set bytes after out_before out_after =
-    (p : Analysis) → IsPlanOf set files p → IsStopped files set p bytes
+abbrev pub ResumesStopped : Bytes → Files → Settings → Bytes → Told → Option Bytes → Option Bytes → Type 0
+ResumesStopped netlist files set bytes after out_before out_after =
+    (p : Analysis) → IsPlanOf netlist set files p → IsStopped files set p bytes
     → ResumedAs (own_header set files p) (true_report p) p (true_planes p) bytes after out_before out_after
+
+-- A PART OF A CAMPAIGN: the file holds a row for each batch of the part, once, with the planes that it truly has; the line tells how many
+pub record RanPart (netlist : Bytes) (files : Files) (set : Settings) (part parts : ℕ) (after : Told) (out_before out_after : Option Bytes) : Type 0 where
+  pub p : Analysis
+  pub plan : IsPlanOf netlist set files p
+  pub entries : List Entry
+  pub has : HasPart p (true_planes p) part parts entries
+  pub result : NowHas after (result_text (own_header set files p) p entries)
+  pub wrote : Wrote out_before out_after (shard_line part parts (length entries))
+
+-- what is kept of two files that are merged, where no batch stands in both with other planes
+pub record Merged (netlist : Bytes) (files : Files) (set : Settings) (one two : Bytes) : Type 0 where
+  pub p : Analysis
+  pub plan : IsPlanOf netlist set files p
+  pub first : KeptRows
+  pub second : KeptRows
+  pub first_kept : kept (own_header set files p) p one ≡ Ok first
+  pub second_kept : kept (own_header set files p) p two ≡ Ok second
+  pub agreed : merged_of netlist None set (both_read files one two) ≡ Ok (result_rows p (merged_entries p (kept_entries first) (kept_entries second)))
+
+-- the batches of both files, each once, in rising order
+abbrev pub entries_of : {netlist : Bytes} {files : Files} {set : Settings} {one two : Bytes} → Merged netlist files set one two → List Entry
+entries_of m = merged_entries m.p (kept_entries m.first) (kept_entries m.second)
+
+-- the result file of these
+abbrev pub text_of : {netlist : Bytes} {files : Files} {set : Settings} {one two : Bytes} → Merged netlist files set one two → Bytes
+text_of {netlist} {files} {set} m = result_text (own_header set files m.p) m.p (entries_of m)
+
+-- MERGING: the file holds the union of both files' rows, with sums from scratch.
+-- stopped: where both have true planes, it is such a file as a campaign leaves that was stopped, so that `resume` reports the campaign
+pub record MergedFiles (netlist : Bytes) (files : Files) (set : Settings) (one two : Bytes) (after : Told) (out_before out_after : Option Bytes) : Type 0 where
+  pub merged : Merged netlist files set one two
+  pub result : NowHas after (text_of merged)
+  pub wrote : Wrote out_before out_after (merge_text (length (entries_of merged)) merged.p)
+  pub stopped : AreTrue merged.p (kept_entries merged.first) → AreTrue merged.p (kept_entries merged.second) → IsStopped files set merged.p (text_of merged)
+
+-- PAIRING: the text is that of the pairs by the kept planes.
+-- truly: where these are true, it is that of the true planes
+pub record PairedFaults (netlist : Bytes) (files : Files) (set : Settings) (bytes : Bytes) (out_before out_after : Option Bytes) : Type 0 where
+  pub p : Analysis
+  pub plan : IsPlanOf netlist set files p
+  pub k : KeptRows
+  pub paired : paired_of netlist None set (all_read files bytes) ≡ Ok k
+  pub wrote : Wrote out_before out_after (pairs_text p (planes_in k.rows))
+  pub truly : AreTrue p (kept_entries k) → pairs_text p (planes_in k.rows) ≡ pairs_text p (true_planes p)
 
 -- what a command has done where its words and the shelf at entry are these, and it ended Done
 abbrev pub DoneAs : Command → Shelves → Shelves → Option Bytes → Option Bytes → Type 0
 DoneAs (Classes netlist workload) before after out_before out_after =
     KeepsAll before after
     × ((files : Files) → Holds before netlist files.netlist → Holds before workload files.workload
-    → (p : Analysis) × (classes_plan_of None (all_read files []) ≡ Ok p) × HasNoLoop p.circuit × Wrote out_before out_after (classes_text p))
+    → (p : Analysis) × (classes_plan_of netlist None (all_read files []) ≡ Ok p) × HasNoLoop p.circuit × Wrote out_before out_after (classes_text p))
 DoneAs (Check inputs flips pulses) before after out_before out_after =
     KeepsAll before after
     × ((files : Files) → HoldsInputs before inputs files
-    → (p : Analysis) × IsPlanOf (settings_of flips pulses) files p × Wrote out_before out_after (check_text p))
+    → (p : Analysis) × IsPlanOf inputs.netlist (settings_of flips pulses) files p × Wrote out_before out_after (check_text p))
 DoneAs (Run inputs name set workers) before after out_before out_after =
     KeepsOthers before after name
-    × ((files : Files) → HoldsInputs before inputs files → RanCampaign files set true_report (after name) out_before out_after)
+    × ((files : Files) → HoldsInputs before inputs files → RanCampaign inputs.netlist files set true_report (after name) out_before out_after)
 DoneAs (Resume inputs name set workers) before after out_before out_after =
     KeepsOthers before after name
     × ((files : Files) (bytes : Bytes) → HoldsInputs before inputs files → Holds before name bytes
-    → Resumed files set bytes (after name) out_before out_after × ResumesStopped files set bytes (after name) out_before out_after)
+    → Resumed inputs.netlist files set bytes (after name) out_before out_after × ResumesStopped inputs.netlist files set bytes (after name) out_before out_after)
 DoneAs (Audit inputs name set) before after out_before out_after =
     KeepsAll before after
     × ((files : Files) (bytes : Bytes) → HoldsInputs before inputs files → Holds before name bytes
-    → (p : Analysis) × (k : KeptRows) × IsPlanOf set files p × (audited_of None set (all_read files bytes) ≡ Ok k)
+    → (p : Analysis) × (k : KeptRows) × IsPlanOf inputs.netlist set files p × (audited_of inputs.netlist None set (all_read files bytes) ≡ Ok k)
     × Wrote out_before out_after (audit_text (length k.rows) p))
 DoneAs (Gen n name workers) before after out_before out_after =
     KeepsOthers before after name
-    × RanCampaign (generated n) generated_settings (λ p. summary n p (true_planes p)) (after name) out_before out_after
+    × RanCampaign no_name (generated n) generated_settings (λ p. summary n p (true_planes p)) (after name) out_before out_after
+DoneAs (Report inputs set) before after out_before out_after =
+    KeepsAll before after
+    × ((files : Files) → HoldsInputs before inputs files
+    → (p : Analysis) × IsPlanOf inputs.netlist set files p × Wrote out_before out_after (true_report p))
+DoneAs (Shard inputs name set part parts) before after out_before out_after =
+    KeepsOthers before after name
+    × ((files : Files) → HoldsInputs before inputs files → RanPart inputs.netlist files set part parts (after name) out_before out_after)
+DoneAs (Merge inputs name first second set) before after out_before out_after =
+    KeepsOthers before after name
+    × ((files : Files) (one two : Bytes) → HoldsInputs before inputs files → Holds before first one → Holds before second two
+    → MergedFiles inputs.netlist files set one two (after name) out_before out_after)
+DoneAs (Pairs inputs name set workers) before after out_before out_after =
+    KeepsAll before after
+    × ((files : Files) (bytes : Bytes) → HoldsInputs before inputs files → Holds before name bytes → PairedFaults inputs.netlist files set bytes out_before out_after)
 
 -- at Done the words are a command, and it has done what it is for
 abbrev pub AtDone : Status → List Bytes → Shelves → Shelves → Option Bytes → Option Bytes → Type 0
@@ -88,34 +151,49 @@ AtDone ended words before after out_before out_after =
     ended ≡ status.Done → (command : Command) × IsCommand words command × DoneAs command before after out_before out_after
 
 -- the same of a campaign over these bytes
-pub record StoppedCampaign (files : Files) (set : Settings) (after : Told) : Type 0 where
+pub record StoppedCampaign (netlist : Bytes) (files : Files) (set : Settings) (after : Told) : Type 0 where
   pub p : Analysis
-  pub plan : IsPlanOf set files p
+  pub plan : IsPlanOf netlist set files p
   pub left : LeftPrefix (own_header set files p) p (true_planes p) after
 
 -- the same of a campaign that was resumed: it still begins with the bytes that were kept
-pub record StoppedResuming (files : Files) (set : Settings) (bytes : Bytes) (after : Told) : Type 0 where
+pub record StoppedResuming (netlist : Bytes) (files : Files) (set : Settings) (bytes : Bytes) (after : Told) : Type 0 where
   pub p : Analysis
-  pub plan : IsPlanOf set files p
+  pub plan : IsPlanOf netlist set files p
   pub k : KeptRows
   pub kept_rows : kept (own_header set files p) p bytes ≡ Ok k
   pub left : LeftPrefix (own_header set files p) p (kept_or_true p k) after
   pub begins : BeginsAs after (take k.whole bytes)
 
--- AFTER A FAULT OF RESULT: other files stay, and the file is as at entry or a byte prefix of a result file of this plan
+-- the file is a byte prefix of the one that `merge` leaves at Done
+pub record StoppedMerging (netlist : Bytes) (files : Files) (set : Settings) (one two : Bytes) (after : Told) : Type 0 where
+  pub merged : Merged netlist files set one two
+  pub prefix : IsPrefixOf after (text_of merged)
+
+-- AFTER A FAULT OF RESULT: other files stay, and the file is as at entry or a byte prefix of a result file of this plan; of `merge`,
+-- of the one that Done would leave
 abbrev pub FaultAs : Command → Shelves → Shelves → Type 0
 FaultAs (Classes netlist workload) before after = ⊥
 FaultAs (Check inputs flips pulses) before after = ⊥
 FaultAs (Run inputs name set workers) before after =
     KeepsOthers before after name
-    × ((files : Files) → HoldsInputs before inputs files → (after name ≡ before name) ⊎ StoppedCampaign files set (after name))
+    × ((files : Files) → HoldsInputs before inputs files → (after name ≡ before name) ⊎ StoppedCampaign inputs.netlist files set (after name))
 FaultAs (Resume inputs name set workers) before after =
     KeepsOthers before after name
     × ((files : Files) (bytes : Bytes) → HoldsInputs before inputs files → Holds before name bytes
-    → (after name ≡ before name) ⊎ StoppedResuming files set bytes (after name))
+    → (after name ≡ before name) ⊎ StoppedResuming inputs.netlist files set bytes (after name))
 FaultAs (Audit inputs name set) before after = ⊥
 FaultAs (Gen n name workers) before after =
-    KeepsOthers before after name × ((after name ≡ before name) ⊎ StoppedCampaign (generated n) generated_settings (after name))
+    KeepsOthers before after name × ((after name ≡ before name) ⊎ StoppedCampaign no_name (generated n) generated_settings (after name))
+FaultAs (Report inputs set) before after = ⊥
+FaultAs (Shard inputs name set part parts) before after =
+    KeepsOthers before after name
+    × ((files : Files) → HoldsInputs before inputs files → (after name ≡ before name) ⊎ StoppedCampaign inputs.netlist files set (after name))
+FaultAs (Merge inputs name first second set) before after =
+    KeepsOthers before after name
+    × ((files : Files) (one two : Bytes) → HoldsInputs before inputs files → Holds before first one → Holds before second two
+    → (after name ≡ before name) ⊎ StoppedMerging inputs.netlist files set one two (after name))
+FaultAs (Pairs inputs name set workers) before after = ⊥
 
 -- the line of a fault of RESULT was written, or a prefix of it where `out` failed
 abbrev pub FaultSaid : (Which → Bytes) → (out_before out_after : Option Bytes) → (faults_before faults_after : ℕ) → Type 0
@@ -161,7 +239,7 @@ AreNames words shelf _ names netlist =
 pub record RefusedAs (names : Which → Bytes) (netlist : Told) (ended : Status) (before after : Shelves) (out_before out_after : Option Bytes) (faults_before faults_after : ℕ) : Type 0 where
   pub files : KeepsAll before after
   pub c : Circuit
-  pub circuit : IsCircuitOf netlist c
+  pub circuit : IsCircuitOf (names which.Netlist) netlist c
   pub line : Wrote out_before out_after (refusal_line names c ended)
       ⊎ (Rose faults_before faults_after × HasPrefix out_before out_after (refusal_line names c ended))
 

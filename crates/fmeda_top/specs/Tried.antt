@@ -2,7 +2,7 @@
 use Rattle.std.specs.Prelude.{◌≡◌, ◌⊎◌, ℕ, Option, None, Result, Ok, Err, length}
 use Rattle.circuit.specs.Loop.{HasNoLoop}
 use Rattle.fm_shelf.specs.Shelf.{Shelves, Rose, told_more, HasPrefix}
-use Rattle.command_line.specs.Commands.{Classes, Inputs, Audit}
+use Rattle.command_line.specs.Commands.{Classes, Inputs, Audit, Pairs}
 use Rattle.campaign_plan.specs.Analysis.{Analysis}
 use Rattle.refusal_text.specs.declared.status.Status.{Status}
 use Rattle.refusal_text.specs.declared.status.Status.TheVariants as status
@@ -15,10 +15,13 @@ use Rattle.command_text.specs.Texts.{classes_text, audit_text}
 use Rattle.refusal_text.specs.declared.status.WriteTo.TheVariants as to
 use Rattle.fm_base.specs.Names.{Bytes}
 use Rattle.campaign_plan.specs.declared.Settings.{Settings}
-use Rattle.command_steps.specs.FirstRefusal.{IsPlanOf, audited_of, audit_step}
+use Rattle.command_steps.specs.FirstRefusal.{IsPlanOf, audited_of, audit_step, paired_of, pairs_step}
 use Rattle.refusal_text.specs.RefusalLines.{refused}
 use Rattle.refusal_text.specs.Refusals.{status_of, HasItsNets}
 use Rattle.result_file.specs.declared.KeptRows.{KeptRows}
+use Rattle.fmeda_report.specs.Rows.{HoldEachOnce, planes_in}
+use Rattle.pair_list.specs.Chosen.{Chosen, chosen}
+use Rattle.pair_campaign.specs.PairText.{pairs_text}
 use Rattle.command_steps.specs.Steps.{RefusedInOrder, IsClassesPlan}
 use Rattle.command_steps.specs.PlanSteps.{AreHeld, PlanChecked, PlanRefused}
 
@@ -38,17 +41,17 @@ ClassesAs shelf before after netlist workload out_before out_after faults_before
     × TextAs out_before out_after faults_before faults_after (classes_text p) (Ok ended)
 ClassesAs shelf before after netlist workload out_before out_after faults_before faults_after (Err refused) =
     ((status_of refused ≡ status.Memory) ⊎ RefusedInOrder (Classes netlist workload) shelf before after (status_of refused))
-    × HasItsNets (shelf netlist) refused × (out_after ≡ out_before) × (faults_after ≡ faults_before)
+    × HasItsNets netlist (shelf netlist) refused × (out_after ≡ out_before) × (faults_after ≡ faults_before)
 
 -- a command over a plan was tried: it has written this text of the plan, or it was refused and has written nothing
 abbrev pub PlanTextAs : Shelves → (before after : Bytes → ℕ) → Inputs → Settings → (Analysis → Bytes) → (written_before written_after : Option Bytes)
     → (faults_before faults_after : ℕ) → Result Status Refused → Type 0
 PlanTextAs shelf before after inputs set text out_before out_after faults_before faults_after (Ok ended) =
-    (p : Analysis) × (files : Files) × AreHeld shelf inputs files × IsPlanOf set files p × PlanChecked inputs set shelf before after None
+    (p : Analysis) × (files : Files) × AreHeld shelf inputs files × IsPlanOf inputs.netlist set files p × PlanChecked inputs set shelf before after None
     × TextAs out_before out_after faults_before faults_after (text p) (Ok ended)
 PlanTextAs shelf before after inputs set text out_before out_after faults_before faults_after (Err refused) =
     ((status_of refused ≡ status.Memory) ⊎ PlanRefused inputs set shelf before after (status_of refused))
-    × HasItsNets (shelf inputs.netlist) refused × (out_after ≡ out_before) × (faults_after ≡ faults_before)
+    × HasItsNets inputs.netlist (shelf inputs.netlist) refused × (out_after ≡ out_before) × (faults_after ≡ faults_before)
 
 -- all rows have the planes that their batches truly have, or the first that hasn't is refused
 abbrev pub ChecksAs : Analysis → KeptRows → Result (Unit {0}) Refused → Type 0
@@ -60,7 +63,7 @@ ChecksAs p k (Err (Looped walk net)) = ⊥
 abbrev pub AreAudited : Shelves → Inputs → Bytes → Settings → Analysis → KeptRows → Type 0
 AreAudited shelf inputs name set p k =
     (files : Files) (bytes : Bytes) → HoldsInputs shelf inputs files → Holds shelf name bytes
-    → IsPlanOf set files p × (audited_of None set (all_read files bytes) ≡ Ok k)
+    → IsPlanOf inputs.netlist set files p × (audited_of inputs.netlist None set (all_read files bytes) ≡ Ok k)
 
 -- `audit` was tried: it has written its line, or it was refused and has written nothing
 abbrev pub AuditAs : Shelves → (before after : Bytes → ℕ) → Inputs → Bytes → Settings → (written_before written_after : Option Bytes)
@@ -70,4 +73,25 @@ AuditAs shelf before after inputs name set out_before out_after faults_before fa
     × TextAs out_before out_after faults_before faults_after (audit_text (length k.rows) p) (Ok ended)
 AuditAs shelf before after inputs name set out_before out_after faults_before faults_after (Err refused) =
     ((status_of refused ≡ status.Memory) ⊎ RefusedInOrder (Audit inputs name set) shelf before after (status_of refused))
-    × HasItsNets (shelf inputs.netlist) refused × (out_after ≡ out_before) × (faults_after ≡ faults_before)
+    × HasItsNets inputs.netlist (shelf inputs.netlist) refused × (out_after ≡ out_before) × (faults_after ≡ faults_before)
+
+-- the pairs are those by the rows that were kept, or the refusal says why there are none
+abbrev pub ChoosesAs : Analysis → KeptRows → Result Chosen Status → Type 0
+ChoosesAs p k (Ok c) = (pairs_step p k ≡ Ok k) × (c ≡ chosen p (planes_in k.rows))
+ChoosesAs p k (Err ended) = (ended ≡ status.Memory) ⊎ (pairs_step p k ≡ Err ended)
+
+-- the files of `pairs` stand for this plan, and these rows of it pair its faults
+abbrev pub ArePaired : Shelves → Inputs → Bytes → Settings → Analysis → KeptRows → Type 0
+ArePaired shelf inputs name set p k =
+    (files : Files) (bytes : Bytes) → HoldsInputs shelf inputs files → Holds shelf name bytes
+    → IsPlanOf inputs.netlist set files p × (paired_of inputs.netlist None set (all_read files bytes) ≡ Ok k)
+
+-- `pairs` was tried: it has written its text, or it was refused and has written nothing
+abbrev pub PairsAs : Shelves → (before after : Bytes → ℕ) → Inputs → Bytes → Settings → (workers : ℕ) → (written_before written_after : Option Bytes)
+    → (faults_before faults_after : ℕ) → Result Status Refused → Type 0
+PairsAs shelf before after inputs name set workers out_before out_after faults_before faults_after (Ok ended) =
+    (p : Analysis) × (k : KeptRows) × ArePaired shelf inputs name set p k × HoldEachOnce p k.rows × Checked (Pairs inputs name set workers) shelf before after None
+    × TextAs out_before out_after faults_before faults_after (pairs_text p (planes_in k.rows)) (Ok ended)
+PairsAs shelf before after inputs name set workers out_before out_after faults_before faults_after (Err refused) =
+    ((status_of refused ≡ status.Memory) ⊎ RefusedInOrder (Pairs inputs name set workers) shelf before after (status_of refused))
+    × HasItsNets inputs.netlist (shelf inputs.netlist) refused × (out_after ≡ out_before) × (faults_after ≡ faults_before)

@@ -13,8 +13,13 @@ use crate::check::check;
 use crate::classes::classes;
 use crate::ended::Ended;
 use crate::generate::generate;
+use crate::merge::merge;
+use crate::pairs::pairs;
+use crate::report::report;
 use crate::resume::resume;
 use crate::run::run;
+use crate::shard::shard;
+use campaign_shard::Shard;
 use command_line::{Asked, WordsRefusal, read_words};
 use fm_shelf::shelf::{Shelf, Sink};
 use refusal_text::names::FileNames;
@@ -92,6 +97,46 @@ fn run_asked<R: Threads + Wait + Sync, F: Shelf + Send + Drop, O: Sink, G: Gate 
             result,
             workers,
         } => generate(rt, alloc, shelf, out, gate, stages, result, workers),
+        Asked::Report { inputs, settings } => {
+            let mut shelf = shelf;
+            let status = report(alloc, &mut shelf, out, &inputs, settings);
+            Ended { status, shelf }
+        }
+        Asked::Shard {
+            inputs,
+            result,
+            settings,
+            part,
+            parts,
+        } => {
+            let part = Shard { part, parts };
+            shard(rt, alloc, shelf, out, &inputs, result, settings, part)
+        }
+        Asked::Merge {
+            inputs,
+            result,
+            first,
+            second,
+            settings,
+        } => {
+            let mut shelf = shelf;
+            let status = merge(
+                alloc, &mut shelf, out, &inputs, result, first, second, settings,
+            );
+            Ended { status, shelf }
+        }
+        Asked::Pairs {
+            inputs,
+            result,
+            settings,
+            workers,
+        } => {
+            let mut shelf = shelf;
+            let status = pairs(
+                rt, alloc, &mut shelf, out, &inputs, result, settings, workers,
+            );
+            Ended { status, shelf }
+        }
     }
 }
 
@@ -107,6 +152,8 @@ fn refuse_words<O: Sink>(out: &mut O, status: Status) -> Status
         rates: "",
         points: "",
         result: "",
+        first: "",
+        second: "",
     };
     say_refused(out, &none, Refused::By(status))
 }
@@ -146,7 +193,9 @@ fn run_words<R: Threads + Wait + Sync, F: Shelf + Send + Drop, O: Sink, G: Gate 
 
 /// Does what the words ask for; the first of them is the program's name. A clause on what files hold is of those that the
 /// shelf tells, and one on what was written is of a sink that tells it. A fault of the outside is the answer only where its
-/// count rose in this call. It waits for the workers of a campaign, each of which tells the gate after each draw.
+/// count rose in this call. In `run`, `resume`, `gen`, `shard` and `pairs` it waits: for
+/// the workers of a campaign, each of which tells the gate after each draw, for the one seat of a part, or for those that judge
+/// pairs. The other commands wait for nobody.
 pub fn fmeda<R: Threads + Wait + Sync, F: Shelf + Send + Drop, O: Sink, G: Gate + Sync>(
     rt: &R,
     alloc: Global,

@@ -3,6 +3,8 @@ use Rattle.std.specs.Prelude.{ℕ, ◌&&◌, List, [], ◌∷◌, ◌++◌, map,
 use Rattle.std.specs.List.{before_first}
 use Rattle.circuit.specs.Circuit.{Circuit}
 use Rattle.circuit.specs.Names.{net_name}
+use Rattle.bench_reader.specs.declared.BenchKind.{BenchKind}
+use Rattle.bench_reader.specs.declared.BenchKind.TheVariants as bench
 use Rattle.blif_text.specs.declared.NetlistKind.{NetlistKind}
 use Rattle.blif_text.specs.declared.NetlistKind.TheVariants as netlist
 use Rattle.workload.specs.declared.file.WorkloadKind.{WorkloadKind}
@@ -47,6 +49,16 @@ netlist_kind netlist.BadClock = codes "BadClock" ∷ []
 netlist_kind netlist.ClockRead = codes "ClockRead" ∷ []
 netlist_kind netlist.TwoDrivers = codes "TwoDrivers" ∷ []
 netlist_kind (netlist.Undriven name) = codes "Undriven" ∷ name ∷ []
+
+-- the word of each kind of refusal of a `.bench` file, likewise
+abbrev pub bench_kind : BenchKind → List Bytes
+bench_kind bench.BadLine = codes "BadLine" ∷ []
+bench_kind bench.BadGate = codes "BadGate" ∷ []
+bench_kind bench.BadCount = codes "BadCount" ∷ []
+bench_kind bench.TooWide = codes "TooWide" ∷ []
+bench_kind bench.TooLarge = codes "TooLarge" ∷ []
+bench_kind bench.TwoDrivers = codes "TwoDrivers" ∷ []
+bench_kind (bench.Undriven name) = codes "Undriven" ∷ name ∷ []
 
 -- the word of each kind of workload refusal
 abbrev pub workload_kind : WorkloadKind → Bytes
@@ -109,6 +121,7 @@ unfoldable pub refusal_line : (Which → Bytes) → Circuit → Status → Bytes
 refusal_line file c status.Done = []
 refusal_line file c status.Usage = refused (codes "usage" ∷ [])
 refusal_line file c (status.Netlist fault) = refused (codes "netlist line" ∷ decimal fault.line ∷ netlist_kind fault.kind)
+refusal_line file c (status.Bench fault) = refused (codes "bench line" ∷ decimal fault.line ∷ bench_kind fault.kind)
 refusal_line file c (status.Loop walk) = refused (codes "loop" ∷ map (λ net. net_name c net.0) walk)
 refusal_line file c (status.Rates fault) = refused (codes "rates row" ∷ decimal fault.row ∷ rates_kind fault.kind ∷ [])
 refusal_line file c (status.Points fault) = refused (codes "points row" ∷ decimal fault.row ∷ points_kind fault.kind ∷ [])
@@ -119,10 +132,15 @@ refusal_line file c (status.IdleRate part permanent) =
 refusal_line file c (status.TooLarge (what.File which)) = refused (file which ∷ codes "is longer than 67108864 bytes" ∷ [])
 refusal_line file c (status.TooLarge what.Faults) = refused (codes "more than 1048576 faults" ∷ [])
 refusal_line file c (status.TooLarge what.Outputs) = refused (codes "more than 1024 outputs" ∷ [])
+refusal_line file c (status.TooLarge what.Pairs) = refused (codes "more than 1048576 pairs" ∷ [])
 refusal_line file c (status.Foreign found own) = refused (codes "foreign result file, found" ∷ (shown_start found ++ codes ",") ∷ codes "own" ∷ take 88 own ∷ [])
 refusal_line file c (status.BadRow number why) = refused (codes "result row" ∷ decimal number ∷ row_why why)
 refusal_line file c (status.Disagrees batch kept computed) =
     refused (codes "batch" ∷ decimal batch ∷ codes "kept" ∷ planes_words kept ++ codes "computed" ∷ planes_words computed)
+refusal_line file c (status.Differs batch first second) =
+    refused (codes "batch" ∷ decimal batch ∷ codes "first" ∷ planes_words first ++ codes "second" ∷ planes_words second)
+refusal_line file c (status.Incomplete have batches) =
+    refused (codes "result file has" ∷ decimal have ∷ codes "of" ∷ decimal batches ∷ codes "batches" ∷ [])
 refusal_line file c (status.ReadFault which) = refused (codes "cannot read" ∷ file which ∷ [])
 refusal_line file c (status.WriteFault to.Result) = refused (codes "cannot write" ∷ file which.Result ∷ [])
 refusal_line file c (status.WriteFault to.Out) = []
@@ -133,6 +151,7 @@ abbrev pub code_of : Status → ℕ
 code_of status.Done = 0
 code_of status.Usage = 2
 code_of (status.Netlist fault) = 3
+code_of (status.Bench fault) = 14
 code_of (status.Loop walk) = 4
 code_of (status.Rates fault) = 5
 code_of (status.MissingRate net name) = 6
@@ -143,6 +162,8 @@ code_of (status.TooLarge what) = 10
 code_of (status.Foreign found own) = 11
 code_of (status.BadRow number why) = 12
 code_of (status.Disagrees batch kept computed) = 13
+code_of (status.Differs batch first second) = 15
+code_of (status.Incomplete have batches) = 16
 code_of (status.ReadFault which) = 20
 code_of (status.WriteFault to) = 21
 code_of status.Memory = 30

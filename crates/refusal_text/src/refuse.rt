@@ -8,10 +8,13 @@ ghost use Rattle.refusal_text.specs.Named.{name_by};
 ghost use Rattle.refusal_text.specs.RefusalLines.{refusal_line};
 
 use crate::lines::{
-    refuse_bad_row, refuse_five, refuse_foreign, refuse_phrase, refuse_planes, refuse_two,
+    refuse_bad_row, refuse_counts, refuse_five, refuse_foreign, refuse_phrase, refuse_planes,
+    refuse_two,
 };
 use crate::names::{FileNames, file_name};
-use crate::refusal::{points_kind, rates_kind, refuse_netlist, refuse_row, workload_kind};
+use crate::refusal::{
+    points_kind, rates_kind, refuse_bench, refuse_netlist, refuse_row, workload_kind,
+};
 use crate::refused::Refused;
 use crate::status::{Status, What, Which, WriteTo};
 use crate::walk::refuse_loop;
@@ -41,6 +44,7 @@ fn refuse_large<O: Sink>(out: &mut O, names: &FileNames, what: What)
         ),
         What::Faults => refuse_phrase(out, b"more than 1048576 faults"),
         What::Outputs => refuse_phrase(out, b"more than 1024 outputs"),
+        What::Pairs => refuse_phrase(out, b"more than 1048576 pairs"),
     }
 }
 
@@ -68,6 +72,7 @@ pub fn refuse<O: Sink>(out: &mut O, names: &FileNames, nets: &[Name], status: &S
         Status::TooLarge(what) => refuse_large(out, names, *what),
         Status::ReadFault(which) => refuse_two(out, b"cannot read", file_name(names, *which)),
         Status::Netlist(fault) => refuse_netlist(out, fault),
+        Status::Bench(fault) => refuse_bench(out, fault),
         Status::Loop(walk) => refuse_loop(out, nets, walk.as_slice()),
         Status::Rates(fault) => refuse_row(out, b"rates row", fault.row, rates_kind(fault.kind)),
         Status::Points(fault) => refuse_row(out, b"points row", fault.row, points_kind(fault.kind)),
@@ -107,13 +112,26 @@ pub fn refuse<O: Sink>(out: &mut O, names: &FileNames, nets: &[Name], status: &S
             b"computed",
             *computed,
         ),
+        Status::Differs {
+            batch,
+            first,
+            second,
+        } => refuse_planes(out, b"batch", *batch, b"first", *first, b"second", *second),
+        Status::Incomplete { have, batches } => refuse_counts(
+            out,
+            b"result file has",
+            *have,
+            b"of",
+            *batches,
+            b"batches",
+        ),
     }
 }
 
 /// Writes the line of a refusal, and answers its status.
 pub fn say_refused<O: Sink>(out: &mut O, names: &FileNames, refused: Refused) -> Status
     ensures status { result ≡ status_of refused }
-    ensures said { (told : Told) → HasItsNets told refused
+    ensures said { (told : Told) → HasItsNets (name_by names.now Which.Netlist) told refused
         → IsSaidOf told (O.written out.old) (O.written out.new) (O.faults out.old) (O.faults out.new) (name_by names.now) (status_of refused) }
 {
     match refused {

@@ -3,6 +3,7 @@ ghost use Rattle.std.specs.Prelude.{◌≡◌, OnOk, OnErr};
 ghost use Rattle.refusal_text.specs.RefusalLines.{code_of};
 
 use alarm_points::PointsFault;
+use bench_reader::BenchFault;
 use blif_text::NetlistFault;
 use campaign_plan::Outcome;
 use circuit::parts::{Name, NetId};
@@ -13,7 +14,7 @@ use rate_table::RatesFault;
 use result_file::RowFault;
 use workload::file::WorkloadFault;
 
-/// One of the five files.
+/// One of the files: the four inputs, the result file, and the two that `merge` reads.
 #[derive(Clone, Copy, Debug, PartialEq, Eq)]
 pub enum Which {
     Netlist,
@@ -21,6 +22,8 @@ pub enum Which {
     Rates,
     Points,
     Result,
+    First,
+    Second,
 }
 
 /// What is too large.
@@ -29,6 +32,7 @@ pub enum What {
     File(Which),
     Faults,
     Outputs,
+    Pairs,
 }
 
 /// Where a write has failed.
@@ -44,6 +48,7 @@ pub enum Status {
     Done,
     Usage,
     Netlist(NetlistFault),
+    Bench(BenchFault),
     Loop(Walk),
     Rates(RatesFault),
     MissingRate(NetId, Name),
@@ -67,13 +72,22 @@ pub enum Status {
         kept: Outcome,
         computed: Outcome,
     },
+    Differs {
+        batch: u32,
+        first: Outcome,
+        second: Outcome,
+    },
+    Incomplete {
+        have: u32,
+        batches: u32,
+    },
     ReadFault(Which),
     WriteFault(WriteTo),
     Memory,
 }
 
 impl Status {
-    /// The exit status of the program: 0 is done, 2 to 13 are refusals of what it was given, 20 and 21 are faults of the
+    /// The exit status of the program: 0 is done, 2 to 16 are refusals of what it was given, 20 and 21 are faults of the
     /// outside, and 30 is want of memory.
     pub fn code(&self) -> u8
         ensures { result ≡ code_of self.now }
@@ -82,6 +96,7 @@ impl Status {
             Status::Done => 0,
             Status::Usage => 2,
             Status::Netlist(_) => 3,
+            Status::Bench(_) => 14,
             Status::Loop(_) => 4,
             Status::Rates(_) => 5,
             Status::MissingRate(_, _) => 6,
@@ -92,6 +107,8 @@ impl Status {
             Status::Foreign { .. } => 11,
             Status::BadRow { .. } => 12,
             Status::Disagrees { .. } => 13,
+            Status::Differs { .. } => 15,
+            Status::Incomplete { .. } => 16,
             Status::ReadFault(_) => 20,
             Status::WriteFault(_) => 21,
             Status::Memory => 30,

@@ -221,6 +221,7 @@ fn files_of_the_system_are_made_grown_cut_and_read(rt: HostRuntime) -> Result<()
         cuts(name, 3),
         appends(name, b"abcdef"),
         cuts(name, 9),
+        reads(name, 4, b"ef"),
         cuts(name, 4),
         reads(name, 2, b"cd"),
         fails(appends("/no-such-folder/file", b"x")),
@@ -232,6 +233,8 @@ fn files_of_the_system_are_made_grown_cut_and_read(rt: HostRuntime) -> Result<()
         read_all(rt.alloc(), &mut shelf, name)?.as_slice(),
         b"abcdxy".as_slice()
     );
+    assert_eq!(rt; append_all(&mut shelf, name, &[b'z'; 5000]), Ok(()));
+    assert_eq!(rt; read_all(rt.alloc(), &mut shelf, name)?.len(), 5006);
     fs::remove_file(&rt, name)?;
     assert!(rt; !is_done(&mut shelf, Call::Read(name, 0, b"")));
     Ok(())

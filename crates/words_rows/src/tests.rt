@@ -11,6 +11,10 @@ enum Answer {
     Resume,
     Audit,
     Gen,
+    Report,
+    Shard,
+    Merge,
+    Pairs,
     Usage,
     Memory,
 }
@@ -32,6 +36,10 @@ fn asked(alloc: Global, line: &str) -> Result<Answer, AllocError> {
         Ok(Asked::Resume { .. }) => Answer::Resume,
         Ok(Asked::Audit { .. }) => Answer::Audit,
         Ok(Asked::Gen { .. }) => Answer::Gen,
+        Ok(Asked::Report { .. }) => Answer::Report,
+        Ok(Asked::Shard { .. }) => Answer::Shard,
+        Ok(Asked::Merge { .. }) => Answer::Merge,
+        Ok(Asked::Pairs { .. }) => Answer::Pairs,
         Err(WordsRefusal::Usage) => Answer::Usage,
         Err(WordsRefusal::Memory) => Answer::Memory,
     })
@@ -75,6 +83,31 @@ fn words_that_are_a_command(rt: HostRuntime) -> Result<(), AllocError> {
         ("fmeda gen 1 res", Answer::Gen),
         ("fmeda gen --workers=32 1000 1000", Answer::Gen),
         ("fmeda gen +007 -- --version", Answer::Gen),
+        ("fmeda report n w r p", Answer::Report),
+        (
+            "fmeda report n --asil=B w r --ftti 4096 p --flips 0,1 --pulses 2",
+            Answer::Report,
+        ),
+        ("fmeda shard n w r p res --part 0 --of 1", Answer::Shard),
+        (
+            "fmeda shard --of=1024 n w r p --part=1023 res --ftti 1",
+            Answer::Shard,
+        ),
+        (
+            "fmeda shard n w r p res --part 1 --of 2 --flips 1 --pulses 2",
+            Answer::Shard,
+        ),
+        ("fmeda merge n w r p res one two", Answer::Merge),
+        ("fmeda merge n w r p res one one", Answer::Merge),
+        (
+            "fmeda merge n w r p res n two --ftti 4096 --pulses none",
+            Answer::Merge,
+        ),
+        ("fmeda pairs n w r p res", Answer::Pairs),
+        (
+            "fmeda pairs n w r p res --workers 32 --ftti 1 --flips 3",
+            Answer::Pairs,
+        ),
     ] {
         assert_eq!(rt; asked(rt.alloc(), line)?, command);
     }
@@ -108,6 +141,29 @@ fn words_that_are_none(rt: HostRuntime) -> Result<(), AllocError> {
         "fmeda gen 1 res --flips 1",
         "fmeda --workers 2 gen 1 res",
         "fmeda -- gen 1 res",
+        "fmeda report n w r",
+        "fmeda report n w r p res",
+        "fmeda report n w r p --workers 1",
+        "fmeda report n w r p --asil E",
+        "fmeda report n w r p --ftti 4097",
+        "fmeda shard n w r p res",
+        "fmeda shard n w r p res --part 0",
+        "fmeda shard n w r p res --of 2",
+        "fmeda shard n w r p res --part 2 --of 2",
+        "fmeda shard n w r p res --part 0 --of 0",
+        "fmeda shard n w r p res --part 0 --of 1025",
+        "fmeda shard n w r p res --part 0 --of 2 --workers 2",
+        "fmeda shard n w r p res --part 0 --of 2 --asil B",
+        "fmeda shard n w r p n --part 0 --of 2",
+        "fmeda merge n w r p res one",
+        "fmeda merge n w r p res one two three",
+        "fmeda merge n w r p one one two",
+        "fmeda merge n w r p two one two",
+        "fmeda merge n w r p w one two",
+        "fmeda merge n w r p res one two --workers 2",
+        "fmeda pairs n w r p p",
+        "fmeda pairs n w r p res --workers 0",
+        "fmeda pairs n w r p res --asil D",
     ] {
         assert_eq!(rt; asked(rt.alloc(), line)?, Answer::Usage);
     }

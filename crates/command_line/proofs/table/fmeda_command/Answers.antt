@@ -1,22 +1,15 @@
-use Rattle.std.proofs.Common.{◌∙◌, ap, codes}
-use Rattle.clap.specs.Simple.{app_of_fields}
-use Rattle.clap.specs.Words.{new_app, with_subcommand}
-use Rattle.command_line.specs.Table.{audit_app, check_app, classes_app, gen_app, resume_app, run_app, with_required}
+use Rattle.clap.specs.Words.{with_subcommand}
+use Rattle.command_line.specs.Table.{campaign_rows, merge_app, pairs_app, program_with, report_app, shard_app}
 use Rattle.command_line.proofs.Rows.{added, last_added}
 use Rattle.command_line.proofs.table.fmeda_command.Goals as goal
 
 pub returns : goal.returns
 returns c =
-    let named = with_required (new_app (codes "fmeda")) in
-    let program = ap app_of_fields c.subcommand_required.ensures ∙ ap with_required c.new.ensures.app in
-    let one = with_subcommand named classes_app.top in
-    let two = with_subcommand one check_app.top in
-    let three = with_subcommand two run_app.top in
-    let four = with_subcommand three resume_app.top in
-    let five = with_subcommand four audit_app.top in
-    let classes = added classes_app named _ _ _ c.in_ok-subcommand.ensures c.in_ok-classes.ensures.app c.in_ok-classes.ensures.local program in
-    let check = added check_app one _ _ _ c.in_ok-subcommand-2.ensures c.in_ok-check.ensures.app c.in_ok-check.ensures.local classes in
-    let run = added run_app two _ _ _ c.in_ok-subcommand-3.ensures c.in_ok-run.ensures.app c.in_ok-run.ensures.local check in
-    let resume = added resume_app three _ _ _ c.in_ok-subcommand-4.ensures c.in_ok-resume.ensures.app c.in_ok-resume.ensures.local run in
-    let audit = added audit_app four _ _ _ c.in_ok-subcommand-5.ensures c.in_ok-audit.ensures.app c.in_ok-audit.ensures.local resume in
-    last_added gen_app five _ _ c.subcommand-6.result c.subcommand-6.ensures c.in_ok-generated.ensures.app c.in_ok-generated.ensures.local audit
+    let six = program_with campaign_rows in
+    let seven = with_subcommand six report_app.top in
+    let eight = with_subcommand seven shard_app.top in
+    let nine = with_subcommand eight merge_app.top in
+    let report = added report_app six _ _ _ c.in_ok-subcommand.ensures c.in_ok-report.ensures.app c.in_ok-report.ensures.local c.in_ok-program.ensures in
+    let shard = added shard_app seven _ _ _ c.in_ok-subcommand-2.ensures c.in_ok-shard.ensures.app c.in_ok-shard.ensures.local report in
+    let merge = added merge_app eight _ _ _ c.in_ok-subcommand-3.ensures c.in_ok-merge.ensures.app c.in_ok-merge.ensures.local shard in
+    last_added pairs_app nine _ _ c.subcommand-4.result c.subcommand-4.ensures c.in_ok-pairs.ensures.app c.in_ok-pairs.ensures.local merge

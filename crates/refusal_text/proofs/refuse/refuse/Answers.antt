@@ -27,6 +27,10 @@ pub returns-in-Netlist : goal.returns-in-Netlist
 unfolding refusal_line
 returns-in-Netlist g c = λ k names. said_as _ _ _ _ (name_by c.args.names.now) k c.args.status.now _ c.in-Netlist.is (c.refuse_netlist.ensures)
 
+pub returns-in-Bench : goal.returns-in-Bench
+unfolding refusal_line
+returns-in-Bench g c = λ k names. said_as _ _ _ _ (name_by c.args.names.now) k c.args.status.now _ c.in-Bench.is (c.refuse_bench.ensures)
+
 pub returns-in-Loop : goal.returns-in-Loop
 unfolding refusal_line
 returns-in-Loop g c = λ k names. said_as _ _ _ _ (name_by c.args.names.now) k c.args.status.now _ c.in-Loop.is (words_said _ _ _ _ _ _
@@ -71,3 +75,11 @@ returns-in-WriteFault g c = λ k names. said_as _ _ _ _ (name_by c.args.names.no
 pub returns-in-TooLarge : goal.returns-in-TooLarge
 unfolding refusal_line
 returns-in-TooLarge g c = λ k names. said_as _ _ _ _ (name_by c.args.names.now) k c.args.status.now _ c.in-TooLarge.is (c.refuse_large.ensures k)
+
+pub returns-in-Differs : goal.returns-in-Differs
+unfolding refusal_line
+returns-in-Differs g c = λ k names. said_as _ _ _ _ (name_by c.args.names.now) k c.args.status.now _ c.in-Differs.is (c.refuse_planes-in-Differs.ensures)
+
+pub returns-in-Incomplete : goal.returns-in-Incomplete
+unfolding refusal_line
+returns-in-Incomplete g c = λ k names. said_as _ _ _ _ (name_by c.args.names.now) k c.args.status.now _ c.in-Incomplete.is (c.refuse_counts.ensures)

@@ -1,0 +1,234 @@
+-- How `pairs` ends.
+use Rattle.std.proofs.Common.{◌≡◌, ◌∙◌, ap, ap₂, sym, refl, subst, ℕ, ◌+◌, ◌<◌, Bool, true, false, not, List, [], ◌∷◌, map, Ok, Err, inl, inr, arith, suc}
+use Rattle.std.specs.Prelude.{◌⊎◌, ◌==◌, Option, Some, None, All, Contains}
+use Rattle.std.specs.List.{list_any}
+use Rattle.std.proofs.lemmas.Bool.Decides.{nat_tests}
+use Rattle.std.proofs.lemmas.List.Elements.{All-filter}
+use Rattle.std.proofs.lemmas.List.Folds.{list_any_at}
+use Rattle.std.proofs.lemmas.List.FromFn.{length-range_with_len, get_or-range_with_len}
+use Rattle.fm_base.specs.Names.{Bytes}
+use Rattle.fm_base.specs.Lists.{below}
+use Rattle.fm_base.specs.Firsts.{given, first_answer}
+use Rattle.fm_shelf.specs.Shelf.{Shelves}
+use Rattle.metric_sums.specs.declared.Class.{Class}
+use Rattle.metric_sums.specs.Classes.{is_class}
+use Rattle.campaign_plan.specs.declared.Settings.{Settings}
+use Rattle.campaign_plan.specs.Analysis.{Analysis, batch_count, fault_count}
+use Rattle.campaign_plan.specs.Batches.{AreDistinct, batches, class_of_fault}
+use Rattle.result_file.specs.declared.KeptRows.{KeptRows}
+use Rattle.result_file.specs.declared.Row.{Row}
+use Rattle.result_file.specs.KeptRows.{entry_of}
+use Rattle.fmeda_report.specs.Report.{Planes}
+use Rattle.fmeda_report.specs.Rows.{HoldEachOnce, planes_in}
+use Rattle.pair_list.specs.declared.pairs.PairRefusal.{PairRefusal}
+use Rattle.pair_list.specs.declared.pairs.PairRefusal.TheVariants.{Incomplete, TooMany}
+use Rattle.pair_list.specs.Pairs.{faults_in_class}
+use Rattle.pair_list.specs.Chosen.{Chosen, AreFaults, chosen, has_row, pair_refusal, pairs_by_rows, pairs_unless}
+use Rattle.pair_campaign.specs.PairPlanes.{pair_planes}
+use Rattle.pair_campaign.specs.PairText.{pairs_text, text_by_planes}
+use Rattle.pair_campaign.specs.Laws.{AllPairsAreTold}
+use Rattle.command_line.specs.Commands.{Command, Pairs, Inputs}
+use Rattle.refusal_text.specs.declared.status.Status.{Status}
+use Rattle.refusal_text.specs.declared.status.Status.TheVariants as status
+use Rattle.refusal_text.specs.declared.status.What.TheVariants as what
+use Rattle.refusal_text.specs.declared.status.Which.{Which}
+use Rattle.refusal_text.specs.declared.status.Which.TheVariants as which
+use Rattle.refusal_text.specs.Refusals.{IsPlain}
+use Rattle.command_steps.specs.declared.begun.Begun.{Begun}
+use Rattle.command_steps.specs.Files.{Files, all_read}
+use Rattle.command_steps.specs.FirstRefusal.{first_refusal, refusal_in, paired_of, pairs_step, refusal_of_pairs, status_of_pairs, unless, IsPlanOf}
+use Rattle.command_steps.specs.Held.{KeepsAll}
+use Rattle.command_steps.specs.Checked.{Checked}
+use Rattle.command_steps.specs.Steps.{RefusedInOrder}
+use Rattle.command_steps.specs.PlanSteps.{bytes_of}
+use Rattle.command_steps.specs.BegunSteps.{KeptRefused, BegunAs}
+use Rattle.command_steps.proofs.Taken.{why}
+use Rattle.command_steps.proofs.InOrder.{held_is}
+use Rattle.command_steps.proofs.PlanOrder.{are_held}
+use Rattle.command_steps.proofs.BegunOrder.{paired_made, paired_refused, rows_kept}
+use Rattle.command_steps.proofs.Distinct.{kept_distinct}
+use Rattle.fmeda_top.specs.Causes.{Counts, CommandEnds}
+use Rattle.fmeda_top.specs.Tried.{TextAs, ChoosesAs, ArePaired, PairsAs}
+use Rattle.fmeda_top.proofs.Ending.{text_ends}
+
+-- ---- the pairs by the rows
+
+pub chosen_ok : (p : Analysis) (k : KeptRows) (c : Chosen) → pairs_by_rows p k.rows ≡ Ok c → ChoosesAs p k (Ok c)
+chosen_ok p k c is = by_why (pair_refusal p k.rows) refl is
+  where
+    by_why : (o : Option PairRefusal) → pair_refusal p k.rows ≡ o → pairs_unless o p k.rows ≡ Ok c → ChoosesAs p k (Ok c)
+    by_why (Some refusal) e h = absurd (cc)
+    by_why None e h = (ap (λ o. unless (refusal_of_pairs o) k) e, cc)
+
+pub chosen_err : (p : Analysis) (k : KeptRows) (refusal : PairRefusal) → pairs_by_rows p k.rows ≡ Err refusal → ChoosesAs p k (Err (status_of_pairs refusal))
+chosen_err p k refusal is = by_why (pair_refusal p k.rows) refl is
+  where
+    by_why : (o : Option PairRefusal) → pair_refusal p k.rows ≡ o → pairs_unless o p k.rows ≡ Err refusal → ChoosesAs p k (Err (status_of_pairs refusal))
+    by_why (Some other) e h =
+        let same : other ≡ refusal = cc in
+        inr (ap (λ o. unless (refusal_of_pairs o) k) (e ∙ ap (λ r. Some r) same))
+    by_why None e h = absurd (cc)
+
+in_class : (p : Analysis) (planes : Planes) (class : Class) → All (λ i. i < fault_count p) (faults_in_class p planes class)
+unfolding faults_in_class below
+in_class p planes class =
+    All-filter (λ i. is_class (class_of_fault p planes i) class) (λ i. i < fault_count p) (below (fault_count p))
+    (λ k d lt. (let size = length-range_with_len 0 (fault_count p) in
+    let within : k < fault_count p = omega (arith, size, lt) in
+    let at = get_or-range_with_len 0 (fault_count p) k d within in
+    omega (arith, at, within)))
+
+-- those that pair are faults of the plan
+pub chosen_are_faults : (p : Analysis) (planes : Planes) (c : Chosen) → c ≡ chosen p planes → AreFaults p c
+chosen_are_faults p planes c is =
+    subst (AreFaults p) (sym is) (record { latent = in_class p planes _; detected = in_class p planes _ })
+
+-- ---- each batch has a row
+
+row_there : (rows : List Row) (batch : ℕ) → has_row rows batch ≡ true → Contains (batches (map entry_of rows)) batch
+row_there [] batch h = absurd (cc)
+row_there (row ∷ rows) batch h = by_test (row.batch == batch) refl h (λ rest. row_there rows batch rest)
+  where
+    by_test : (b : Bool) → (row.batch == batch) ≡ b → has_row (row ∷ rows) batch ≡ true
+        → (has_row rows batch ≡ true → Contains (batches (map entry_of rows)) batch) → Contains (batches (map entry_of (row ∷ rows))) batch
+    by_test true e h more = (0, omega arith, grind (arith, nat_tests, e))
+    by_test false e h more =
+        let rest : has_row rows batch ≡ true = rw e at h in
+        let there = more rest in
+        (suc there.0, omega (arith, there.1), there.2)
+
+each_batch : (p : Analysis) (rows : List Row) → pair_refusal p rows ≡ None → (batch : ℕ) → batch < batch_count p → Contains (batches (map entry_of rows)) batch
+unfolding pair_refusal below
+each_batch p rows none batch lt = by_row (has_row rows batch) refl
+  where
+    lacks : ℕ → Bool
+    lacks = λ other. not (has_row rows other)
+
+    no_lack : (b : Bool) (x y : PairRefusal) (c : Bool) → first_answer (given b x ∷ given c y ∷ []) ≡ None → b ≡ false
+    no_lack true x y c e = absurd (cc)
+    no_lack false x y c e = refl
+
+    by_row : (b : Bool) → has_row rows batch ≡ b → Contains (batches (map entry_of rows)) batch
+    by_row true e = row_there rows batch e
+    by_row false e =
+        let size = length-range_with_len 0 (batch_count p) in
+        let at = get_or-range_with_len 0 (batch_count p) batch 0 lt in
+        let zero_more : 0 + batch ≡ batch = omega arith in
+        let found : list_any lacks (below (batch_count p)) ≡ true =
+        list_any_at lacks (below (batch_count p)) batch 0 (omega (arith, size, lt)) (ap lacks (at ∙ zero_more) ∙ ap not e) in
+        let clash : true ≡ false = sym found ∙ no_lack _ _ _ _ none in
+        absurd (cc)
+
+-- rows that pair hold each batch once
+pub pairs_hold : (p : Analysis) (k : KeptRows) → AreDistinct p (map entry_of k.rows) → pairs_step p k ≡ Ok k → HoldEachOnce p k.rows
+pairs_hold p k distinct is = by_why (pair_refusal p k.rows) refl is
+  where
+    by_why : (o : Option PairRefusal) → pair_refusal p k.rows ≡ o → unless (refusal_of_pairs o) k ≡ Ok k → HoldEachOnce p k.rows
+    by_why (Some refusal) e h = absurd (cc)
+    by_why None e h = record { distinct = distinct; each = each_batch p k.rows e }
+
+-- ---- the order of the checks
+
+-- why there are no pairs is a plain refusal, and says nothing of a read
+step_refusal : (k : KeptRows) (o : Option PairRefusal) (ended : Status) → unless (refusal_of_pairs o) k ≡ Err ended
+    → IsPlain ended × ((which : Which) → ended ≡ status.ReadFault which → ⊥)
+step_refusal k None ended e = let bad : Ok k ≡ Err ended = e in cc bad
+step_refusal k (Some (Incomplete have many)) ended e =
+    subst (λ s. IsPlain s × ((which : Which) → s ≡ status.ReadFault which → ⊥)) (ap (why {A = KeptRows}) e)
+    (tt, λ which is. let bad : status.Incomplete have many ≡ status.ReadFault which = is in cc bad)
+step_refusal k (Some TooMany) ended e =
+    subst (λ s. IsPlain s × ((which : Which) → s ≡ status.ReadFault which → ⊥)) (ap (why {A = KeptRows}) e)
+    (tt, λ which is. let bad : status.TooLarge what.Pairs ≡ status.ReadFault which = is in cc bad)
+
+first_of_pairs : (walk : _) (inputs : Inputs) (name : Bytes) (set : Settings) (workers : ℕ) (reads : _)
+    → first_refusal walk (Pairs inputs name set workers) reads ≡ refusal_in (paired_of inputs.netlist walk set reads)
+unfolding first_refusal
+first_of_pairs walk inputs name set workers reads = refl
+
+module _ (inputs : Inputs) (name : Bytes) (set : Settings) (workers : ℕ) where
+  abbrev command : Command
+  command = Pairs inputs name set workers
+
+  -- refused before the pairs were chosen
+  pub pairs_refused : (shelf : Shelves) (before after : Bytes → ℕ) (ended : Status)
+      → (ended ≡ status.Memory) ⊎ KeptRefused inputs name set shelf before after ended → (ended ≡ status.Memory) ⊎ RefusedInOrder command shelf before after ended
+  pairs_refused shelf before after ended (inl memory) = inl memory
+  pairs_refused shelf before after ended (inr r) = inr (record {
+    checked = record {
+      reads = r.reads;
+      fit = (r.fit, r.result);
+      walk = r.walk;
+      loops = r.loops;
+      first = first_of_pairs r.walk inputs name set workers r.reads ∙ ap refusal_in (paired_refused inputs.netlist r.walk set r.reads ended r.refused);
+    };
+    fault = r.fault;
+  })
+
+  module _ (shelf : Shelves) (before after : Bytes → ℕ) (made : Begun) (begun : BegunAs shelf before after inputs name set (Ok made)) where
+    abbrev p : Analysis
+    p = made.planned.plan
+
+    abbrev found : Files
+    found = bytes_of made.planned.files
+
+    -- the kept rows are of distinct batches
+    pub rows_distinct : AreDistinct p (map entry_of made.kept.rows)
+    rows_distinct = kept_distinct made.own p begun.1.bytes made.kept (rows_kept which.Result made.own p begun.1.bytes made.kept begun.1.rows)
+
+    -- the first refusal is that of the pairs
+    by_pairs : (refusal : Option Status) → refusal_in (pairs_step p made.kept) ≡ refusal → Checked command shelf before after refusal
+    by_pairs refusal is =
+        let read = begun.0.0 in
+        record {
+          reads = all_read found begun.1.bytes;
+          fit = (record { netlist = read.netlist; workload = read.workload; rates = read.rates; points = read.points }, begun.1.held);
+          walk = None;
+          loops = begun.0.3;
+          first = first_of_pairs None inputs name set workers (all_read found begun.1.bytes)
+              ∙ ap refusal_in (paired_made inputs.netlist set found p made.own (Some begun.1.bytes) made.kept begun.0.1 begun.1.own begun.1.rows) ∙ is;
+        }
+
+    -- there are no pairs
+    pub pairs_none : (ended : Status) → ChoosesAs p made.kept (Err ended)
+        → ((ended ≡ status.Memory) ⊎ RefusedInOrder command shelf before after ended) × IsPlain ended
+    pairs_none ended (inl memory) = (inl memory, subst IsPlain (sym memory) tt)
+    pairs_none ended (inr is) =
+        let own = step_refusal made.kept (pair_refusal p made.kept.rows) ended is in
+        (inr (record { checked = by_pairs (Some ended) (ap refusal_in is); fault = λ which e. absurd (own.1 which e) }), own.0)
+
+    paired : pairs_step p made.kept ≡ Ok made.kept → ArePaired shelf inputs name set p made.kept
+    paired chose = λ files bytes told held.
+        let files_are : files ≡ found = are_held shelf inputs found begun.0.0 files told in
+        let bytes_are : bytes ≡ begun.1.bytes = held_is (shelf name) bytes begun.1.bytes begun.1.held held in (
+          subst (λ f. IsPlanOf inputs.netlist set f p) (sym files_are) begun.0.1,
+          ap₂ (λ f b. paired_of inputs.netlist None set (all_read f b)) files_are bytes_are
+              ∙ paired_made inputs.netlist set found p made.own (Some begun.1.bytes) made.kept begun.0.1 begun.1.own begun.1.rows ∙ chose,
+        )
+
+    pub pairs_told : (w0 w1 : Option Bytes) (f0 f1 : ℕ) (ended : Status) → pairs_step p made.kept ≡ Ok made.kept → TextAs w0 w1 f0 f1 (pairs_text p (planes_in made.kept.rows)) (Ok ended)
+        → PairsAs shelf before after inputs name set workers w0 w1 f0 f1 (Ok ended)
+    pairs_told w0 w1 f0 f1 ended chose told =
+        (p, made.kept, paired chose, pairs_hold p made.kept rows_distinct chose, by_pairs None (ap refusal_in chose), told)
+
+  -- `pairs` has ended
+  pub pairs_end : AllPairsAreTold → (before after : Shelves) (n : Counts) (w0 w1 : Option Bytes) (ended : Status) → KeepsAll before after
+      → PairsAs before n.reads_before n.reads_after inputs name set workers w0 w1 n.out_before n.out_after (Ok ended) → CommandEnds command ended before after n w0 w1
+  pairs_end law before after n w0 w1 ended keeps (p, k, paired, hold, checked, text) =
+      text_ends command ended before after n w0 w1 (pairs_text p (planes_in k.rows)) checked text
+      (λ w is. (
+        keeps,
+        λ files bytes told held. (let all = paired files bytes told held in record {
+          p = p;
+          plan = all.0;
+          k = k;
+          paired = all.1;
+          wrote = is;
+          truly = (law p).truly k.rows hold;
+        }),
+      ))
+
+-- the text of the pairs that were judged
+pub judged_text : AllPairsAreTold → (p : Analysis) (rows : List Row) (c : Chosen) (planes : List ℕ) → c ≡ chosen p (planes_in rows) → planes ≡ pair_planes p c
+    → text_by_planes p c planes ≡ pairs_text p (planes_in rows)
+judged_text law p rows c planes is judged =
+    ap (text_by_planes p c) judged ∙ ap (λ d. text_by_planes p d (pair_planes p d)) is ∙ (law p).told (planes_in rows)

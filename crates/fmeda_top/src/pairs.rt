@@ -1,0 +1,110 @@
+// The command `pairs`.
+ghost use Rattle.std.specs.Prelude.{◌≡◌, ◌<◌, ◌≤◌, ℕ, List, map};
+ghost use Rattle.fm_shelf.specs.Shelf.{held_in};
+ghost use Rattle.campaign_plan.specs.Batches.{AreDistinct};
+ghost use Rattle.campaign_plan.specs.Kept.{AreSettings};
+ghost use Rattle.result_file.specs.KeptRows.{entry_of};
+ghost use Rattle.command_line.specs.Commands.{Pairs as PairsCommand};
+ghost use Rattle.command_steps.specs.PlanSteps.{names_of};
+ghost use Rattle.fmeda_top.specs.Causes.{CommandEnds};
+ghost use Rattle.fmeda_top.specs.Tried.{ChoosesAs, PairsAs};
+
+use campaign_plan::{Plan, Settings};
+use command_line::InputNames;
+use command_steps::begun::read_begun;
+use fm_base::Refusal;
+use fm_shelf::shelf::{Shelf, Sink};
+use pair_campaign::{PairCrew, judge, pairs_are_told, write_pairs};
+use pair_list::{PairRefusal, Pairs};
+use refusal_text::names::FileNames;
+use refusal_text::refuse::say_refused;
+use refusal_text::refused::Refused;
+use refusal_text::status::{Status, What, after_text};
+use result_file::KeptRows;
+use std::alloc::Global;
+use std::sync::Wait;
+use std::thread::Threads;
+
+// The pairs of a plan by the rows that are kept, or why there are none.
+fn pairs_from(alloc: Global, plan: &Plan, kept: &KeptRows) -> Result<Pairs, Status>
+    requires { AreDistinct plan.now (map entry_of kept.now.rows) }
+    ensures { ChoosesAs plan.now kept.now result }
+{
+    match Pairs::new(alloc, plan, kept.rows.as_slice()) {
+        Ok(pairs) => Ok(pairs),
+        Err(Refusal::Fault(PairRefusal::Incomplete { have, batches })) => {
+            Err(Status::Incomplete { have, batches })
+        }
+        Err(Refusal::Fault(PairRefusal::TooMany)) => Err(Status::TooLarge(What::Pairs)),
+        Err(Refusal::Memory) => Err(Status::Memory),
+    }
+}
+
+// Reads the files, judges the pairs and writes their text, or says why not.
+fn try_pairs<R: Threads + Wait + Sync, F: Shelf, O: Sink>(
+    rt: &R,
+    alloc: Global,
+    shelf: &mut F,
+    out: &mut O,
+    inputs: &InputNames<'_>,
+    rows: &str,
+    settings: Settings,
+    workers: u32,
+) -> Result<Status, Refused>
+    requires settings { AreSettings settings }
+    requires workers { (0 < workers) × (workers ≤ 32) }
+    ensures tried { PairsAs (held_in (F.files shelf.old) (F.rest_absent shelf.old)) (F.read_faults shelf.old) (F.read_faults shelf.new)
+        (names_of inputs.now) rows.now settings workers (O.written out.old) (O.written out.new) (O.faults out.old) (O.faults out.new) result }
+    ensures files { F.files shelf.new ≡ F.files shelf.old }
+    ensures rest { F.rest_absent shelf.new ≡ F.rest_absent shelf.old }
+    ensures write_counts { (other : List ℕ) → F.write_faults shelf.new other ≡ F.write_faults shelf.old other }
+{
+    pairs_are_told();
+    let begun = read_begun(alloc, shelf, inputs, rows, settings)?;
+    let (plan, order) = (&begun.planned.plan, &begun.planned.order);
+    let pairs = pairs_from(alloc, plan, &begun.kept)?;
+    let crew = PairCrew::new(alloc, plan, order, &pairs, workers)?;
+    let planes = judge(rt, plan, order, &pairs, crew);
+    Ok(after_text(write_pairs(plan, &pairs, &planes, out)))
+}
+
+/// Judges each pair of a latent and a detected fault by the rows of a result file, with 1 to 32 workers, and writes which are
+/// dangerous together, or the line of the refusal. No file is changed.
+pub fn pairs<R: Threads + Wait + Sync, F: Shelf, O: Sink>(
+    rt: &R,
+    alloc: Global,
+    shelf: &mut F,
+    out: &mut O,
+    inputs: &InputNames<'_>,
+    rows: &str,
+    settings: Settings,
+    workers: u32,
+) -> Status
+    requires settings { AreSettings settings }
+    requires workers { (0 < workers) × (workers ≤ 32) }
+    ensures { CommandEnds (PairsCommand (names_of inputs.now) rows.now settings workers) result
+        (held_in (F.files shelf.old) (F.rest_absent shelf.old)) (held_in (F.files shelf.new) (F.rest_absent shelf.new))
+        (record {
+          reads_before = F.read_faults shelf.old;
+          reads_after = F.read_faults shelf.new;
+          writes_before = F.write_faults shelf.old;
+          writes_after = F.write_faults shelf.new;
+          out_before = O.faults out.old;
+          out_after = O.faults out.new;
+        }) (O.written out.old) (O.written out.new) }
+{
+    pairs_are_told();
+    let names = FileNames {
+        netlist: inputs.netlist,
+        workload: inputs.workload,
+        rates: inputs.rates,
+        points: inputs.points,
+        result: rows,
+        first: "",
+        second: "",
+    };
+    match try_pairs(rt, alloc, shelf, out, inputs, rows, settings, workers) {
+        Ok(status) => status,
+        Err(refused) => say_refused(out, &names, refused),
+    }
+}

@@ -1,0 +1,89 @@
+// The command `report`.
+ghost use Rattle.std.specs.Prelude.{◌≡◌, ℕ, List};
+ghost use Rattle.fm_shelf.specs.Shelf.{held_in};
+ghost use Rattle.circuit.specs.Order.{IsOrder};
+ghost use Rattle.campaign_plan.specs.Kept.{AreSettings};
+ghost use Rattle.fmeda_report.specs.Report.{true_report};
+ghost use Rattle.command_line.specs.Commands.{Report};
+ghost use Rattle.command_steps.specs.PlanSteps.{names_of};
+ghost use Rattle.fmeda_top.specs.Causes.{CommandEnds};
+ghost use Rattle.fmeda_top.specs.Tried.{PlanTextAs, TextAs};
+
+use campaign_plan::Settings;
+use collapsed_rows::collapsed_rows;
+use command_line::InputNames;
+use command_steps::planned::{Planned, read_plan};
+use fm_shelf::shelf::{Shelf, Sink};
+use fmeda_report::{ReportSpace, rows_report_truly, write_report};
+use refusal_text::names::FileNames;
+use refusal_text::refuse::say_refused;
+use refusal_text::refused::Refused;
+use refusal_text::status::{Status, after_text};
+use std::alloc::Global;
+
+// Simulates one of each group of equal faults, and writes the report.
+fn tell_report<O: Sink>(alloc: Global, planned: &Planned, out: &mut O) -> Result<Status, Refused>
+    requires { IsOrder planned.now.plan.circuit planned.now.order }
+    ensures { TextAs (O.written out.old) (O.written out.new) (O.faults out.old) (O.faults out.new) (true_report planned.now.plan) result }
+{
+    rows_report_truly();
+    let plan = &planned.plan;
+    let rows = collapsed_rows(alloc, plan, &planned.order)?;
+    let mut space = ReportSpace::new(alloc, plan)?;
+    Ok(after_text(write_report(plan, rows.as_slice(), &mut space, out)))
+}
+
+// Reads the files and writes the report, or says why not.
+fn try_report<F: Shelf, O: Sink>(
+    alloc: Global,
+    shelf: &mut F,
+    out: &mut O,
+    inputs: &InputNames<'_>,
+    settings: Settings,
+) -> Result<Status, Refused>
+    requires settings { AreSettings settings }
+    ensures tried { PlanTextAs (held_in (F.files shelf.old) (F.rest_absent shelf.old)) (F.read_faults shelf.old) (F.read_faults shelf.new)
+        (names_of inputs.now) settings true_report (O.written out.old) (O.written out.new) (O.faults out.old) (O.faults out.new) result }
+    ensures files { F.files shelf.new ≡ F.files shelf.old }
+    ensures rest { F.rest_absent shelf.new ≡ F.rest_absent shelf.old }
+    ensures write_counts { (other : List ℕ) → F.write_faults shelf.new other ≡ F.write_faults shelf.old other }
+{
+    let planned = read_plan(alloc, shelf, inputs, settings)?;
+    tell_report(alloc, &planned, out)
+}
+
+/// Writes the report of a campaign over four files that keeps no result file, or the line of the refusal: the bytes that `run`
+/// writes. It simulates on this thread, one fault of each group of equal ones.
+pub fn report<F: Shelf, O: Sink>(
+    alloc: Global,
+    shelf: &mut F,
+    out: &mut O,
+    inputs: &InputNames<'_>,
+    settings: Settings,
+) -> Status
+    requires settings { AreSettings settings }
+    ensures { CommandEnds (Report (names_of inputs.now) settings) result
+        (held_in (F.files shelf.old) (F.rest_absent shelf.old)) (held_in (F.files shelf.new) (F.rest_absent shelf.new))
+        (record {
+          reads_before = F.read_faults shelf.old;
+          reads_after = F.read_faults shelf.new;
+          writes_before = F.write_faults shelf.old;
+          writes_after = F.write_faults shelf.new;
+          out_before = O.faults out.old;
+          out_after = O.faults out.new;
+        }) (O.written out.old) (O.written out.new) }
+{
+    let names = FileNames {
+        netlist: inputs.netlist,
+        workload: inputs.workload,
+        rates: inputs.rates,
+        points: inputs.points,
+        result: "",
+        first: "",
+        second: "",
+    };
+    match try_report(alloc, shelf, out, inputs, settings) {
+        Ok(status) => status,
+        Err(refused) => say_refused(out, &names, refused),
+    }
+}
