@@ -3,6 +3,7 @@
 All faults are simulated at once, each net being one long integer with a bit for each fault and one for the golden run."""
 import hashlib
 
+import bench
 import netlist as blif
 import tables
 
@@ -34,11 +35,13 @@ class Plan:
     """What a campaign is about. `texts` are the four files' bytes."""
 
 
-def read_netlist(text, most_outputs=None):
+def read_netlist(text, name, most_outputs=None):
+    """The netlist of a file, which is in the `.bench` form where its name ends so, and in BLIF otherwise."""
+    status, word, reader = (14, "bench", bench.read_bench) if name.endswith(".bench") else (3, "netlist", blif.read_blif)
     try:
-        net = blif.read_blif(text)
+        net = reader(text)
     except blif.NetlistFault as fault:
-        raise Refused(3, f"netlist line {fault.line} {fault.kind}".encode() + (b" " + fault.name if fault.name is not None else b""))
+        raise Refused(status, f"{word} line {fault.line} {fault.kind}".encode() + (b" " + fault.name if fault.name is not None else b""))
     try:
         net.order = blif.order_of(net)
     except blif.Loop as loop:
@@ -60,12 +63,27 @@ def fault_name(net, fault):
 
 
 def outcomes(net, faults, runs, goals, alarms, ftti):
-    """The planes of danger and of notice of all faults, as integers."""
-    golden, everyone = 1 << len(faults), (1 << len(faults) + 1) - 1
+    """The planes of danger and of notice of all faults, each alone, as integers."""
+    return outcomes_of_lists(net, [[fault] for fault in faults], runs, goals, alarms, ftti)
+
+
+def places_of(lists):
+    """Where the lists force a net low or high, and where they invert a state or a value, by cycle: a bit for each list.
+    Of two stuck-at faults of a list on one net the first decides."""
     low, high, flips, pulses = {}, {}, {}, {}
-    for i, (kind, n, at) in enumerate(faults):
-        where = {"stuck": high if at else low, "flip": flips.setdefault(at, {}), "pulse": pulses.setdefault(at, {})}[kind]
-        where[n] = where.get(n, 0) | 1 << i
+    for i, faults in enumerate(lists):
+        for kind, n, at in faults:
+            if kind == "stuck" and (low.get(n, 0) | high.get(n, 0)) >> i & 1:
+                continue
+            where = {"stuck": high if at else low, "flip": flips.setdefault(at, {}), "pulse": pulses.setdefault(at, {})}[kind]
+            where[n] = where.get(n, 0) | 1 << i
+    return low, high, flips, pulses
+
+
+def outcomes_of_lists(net, lists, runs, goals, alarms, ftti):
+    """The planes of danger and of notice of lists of faults, those of one list being there together."""
+    golden, everyone = 1 << len(lists), (1 << len(lists) + 1) - 1
+    low, high, flips, pulses = places_of(lists)
     danger = noticed = 0
     spread = lambda value: everyone if value & golden else 0
     for _, kind, vectors in runs:
@@ -117,7 +135,7 @@ def outcomes(net, faults, runs, goals, alarms, ftti):
 def make_plan(names, flips, pulses, ftti=0, asil="D"):
     plan, texts = Plan(), []
     texts.append(held(names[0]))
-    net = read_netlist(texts[0])
+    net = read_netlist(texts[0], names[0])
     try:
         texts.append(held(names[1]))
         runs = tables.read_workload(texts[1], net)

@@ -11,8 +11,10 @@ from campaign import Refused
 
 USAGE = Refused(2, b"usage")
 OPTIONS = {"classes": "", "check": "flips pulses", "run": "ftti flips pulses workers asil", "resume": "ftti flips pulses workers asil",
-           "audit": "ftti flips pulses", "gen": "workers"}
-PLACES = {"classes": 2, "check": 4, "run": 5, "resume": 5, "audit": 5, "gen": 2}
+           "audit": "ftti flips pulses", "gen": "workers", "report": "ftti flips pulses asil", "shard": "part of ftti flips pulses",
+           "merge": "ftti flips pulses", "pairs": "ftti flips pulses workers"}
+PLACES = {"classes": 2, "check": 4, "run": 5, "resume": 5, "audit": 5, "gen": 2, "report": 4, "shard": 5, "merge": 7, "pairs": 5}
+MOST_PARTS, MOST_PAIRS = 1024, 2**20
 
 
 def number(text, least, most):
@@ -50,8 +52,13 @@ def words_of(words):
         said[option] = value if has_value else rest.pop(0)
     if len(names) != PLACES[command]:
         raise USAGE
-    if PLACES[command] == 5 and names[4] in names[:4]:
+    if PLACES[command] >= 5 and names[4] in names[:4] + names[5:]:
         raise USAGE
+    if command == "shard":
+        if "part" not in said or "of" not in said:
+            raise USAGE
+        said["of"] = number(said["of"], 1, MOST_PARTS)
+        said["part"] = number(said["part"], 0, said["of"] - 1)
     said = {"ftti": "0", "flips": "none", "pulses": "none", "workers": "1", "asil": "D", **said}
     said["ftti"], said["workers"] = number(said["ftti"], 0, 4096), number(said["workers"], 1, 32)
     said["flips"], said["pulses"] = cycles(said["flips"], 16), cycles(said["pulses"], 4)
@@ -63,7 +70,7 @@ def words_of(words):
 
 
 def classes(netlist, workload):
-    net = c.read_netlist(c.held(netlist), c.MOST_OUTPUTS)
+    net = c.read_netlist(c.held(netlist), netlist, c.MOST_OUTPUTS)
     try:
         runs = tables.read_workload(c.held(workload), net)
     except tables.RowFault as fault:
@@ -105,13 +112,41 @@ def generated(n):
     return ["\n".join(lines).encode(), "\n".join(work).encode(), rates.encode(), b"kind,net\nobserve,q\nalarm,e\n"]
 
 
+def merge(plan, names):
+    """The rows of both files, each batch once, in the order of the batches."""
+    first, _ = c.read_result(plan, c.held(names[5]))
+    second, _ = c.read_result(plan, c.held(names[6]))
+    for b in sorted(first.keys() & second.keys()):
+        if first[b] != second[b]:
+            show = lambda planes: f"{planes[0]:016x} {planes[1]:016x}"
+            raise Refused(15, f"batch {b} first {show(first[b])} second {show(second[b])}".encode())
+    both = {**first, **second}
+    write(names[4], c.result_text(plan, both, sorted(both)))
+    return f"merge {len(both)} of {plan.batches} rows\n".encode()
+
+
+def pairs(plan, planes):
+    """Each latent fault with each detected one, where the two together are dangerous."""
+    if len(planes) < plan.batches:
+        raise Refused(16, f"result file has {len(planes)} of {plan.batches} batches".encode())
+    classes = [c.fault_class(plan, planes, i) for i in range(len(plan.faults))]
+    latent, detected = ([i for i, found in enumerate(classes) if found == kind] for kind in ("latent", "detected"))
+    if len(latent) * len(detected) > MOST_PAIRS:
+        raise Refused(10, b"more than 1048576 pairs")
+    both = [(i, j) for i in latent for j in detected]
+    danger, _ = c.outcomes_of_lists(plan.net, [[plan.faults[i], plan.faults[j]] for i, j in both], plan.runs, plan.goals, plan.alarms, plan.ftti)
+    name = lambda i: c.fault_name(plan.net, plan.faults[i])
+    lines = [b"pair " + name(i) + b" " + name(j) for k, (i, j) in enumerate(both) if danger >> k & 1]
+    return b"\n".join(lines + [f"pairs {len(both)} dangerous {len(lines)}".encode(), b""])
+
+
 def done(command, names, said):
     """The text of Done."""
     if command == "classes":
         return classes(*names)
     if command == "gen":
         texts = generated(names[0])
-        net = c.read_netlist(texts[0])
+        net = c.read_netlist(texts[0], "")
         plan = c.plan_of(c.Plan(), texts, net, tables.read_workload(texts[1], net), *tables.read_rates(texts[2]),
                          *tables.read_points(texts[3], net), [1], [], 0, "D")
         planes = c.true_planes(plan)
@@ -120,12 +155,23 @@ def done(command, names, said):
     plan = c.make_plan(names[:4], said["flips"], said["pulses"], said["ftti"], said["asil"])
     if command == "check":
         return check(plan)
+    if command == "report":
+        return c.report(plan, c.true_planes(plan))
+    if command == "shard":
+        planes = c.true_planes(plan)
+        mine = [b for b in range(plan.batches) if b % said["of"] == said["part"]]
+        write(names[4], c.result_text(plan, planes, mine))
+        return f"shard {said['part']} of {said['of']} rows {len(mine)}\n".encode()
+    if command == "merge":
+        return merge(plan, names)
     if command == "run":
         planes = c.true_planes(plan)
         write(names[4], c.result_text(plan, planes, sorted(planes)))
         return c.report(plan, planes)
     text = c.held(names[4])
     kept, whole = c.read_result(plan, text)
+    if command == "pairs":
+        return pairs(plan, kept)
     planes = c.true_planes(plan)
     if command == "audit":
         for batch, found in kept.items():

@@ -1,0 +1,2 @@
+with open("n.bench", "wb") as out:
+    out.write(b"#" * (2**26 + 1))
