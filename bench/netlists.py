@@ -46,6 +46,37 @@ def flat(folder, nets, width):
     put(folder, "n.blif", lines())
 
 
+def both_forms(folder, nets, width):
+    """`nets` nets of gates of two inputs, as BLIF in `n.blif` and in the `.bench` form in `n.bench`, with names of `width` bytes."""
+    inputs = [name(10**6 + i, width) for i in range(INPUTS)]
+    count = nets - INPUTS
+    place = lambda i: name(i, width)
+    kinds = (("AND", ["11 1"]), ("NOR", ["00 1"]), ("OR", ["00 0"]), ("XOR", ["01 1", "10 1"]))
+
+    def reads():
+        for i in range(count):
+            near, far = i - 1 - (i * 7) % 61, i - 1 - (i * 131) % 997
+            yield i, place(near) if near >= 0 else inputs[i % INPUTS], place(far) if far >= 0 else inputs[i * 5 % INPUTS]
+
+    def blif():
+        yield ".model flat"
+        yield ".inputs " + " ".join(inputs)
+        yield f".outputs {place(count - 1)}"
+        for i, a, b in reads():
+            yield f".names {a} {b} {place(i)}"
+            yield from kinds[i % 4][1]
+        yield ".end"
+
+    def bench():
+        yield from (f"INPUT({net})" for net in inputs)
+        yield f"OUTPUT({place(count - 1)})"
+        for i, a, b in reads():
+            yield f"{place(i)} = {kinds[i % 4][0]}({a}, {b})"
+
+    put(folder, "n.blif", blif())
+    put(folder, "n.bench", bench())
+
+
 def nested(folder, nets, width, depth=8):
     """The same nets in a nest of `depth` models, each with a share of the nets and one instance of the next."""
     inputs = [name(10**6 + i, width) for i in range(INPUTS)]
@@ -63,6 +94,35 @@ def nested(folder, nets, width, depth=8):
             yield ".end"
 
     put(folder, "n.blif", lines())
+
+
+def model_ring(folder, count):
+    """`count` models, each with an instance of the next, and the last one of the first."""
+    put(folder, "n.blif", (f".model m{i}\n.subckt m{(i + 1) % count}\n.end" for i in range(count)))
+
+
+def models(folder, count):
+    """Models without a line."""
+    put(folder, "n.blif", (f".model m{i}" for i in range(count)))
+
+
+def long_line(folder, length):
+    """A model of one line of about this length, with names that differ."""
+    line, i = bytearray(b".inputs"), 0
+    while len(line) < length - 2**20:
+        line += b"".join(b" %x" % k for k in range(i, i + 2**16))
+        i += 2**16
+    put(folder, "n.blif", [".model m", line.decode()])
+
+
+def empty_instances(folder, count):
+    """So many instances of a model without a line."""
+    put(folder, "n.blif", [".model m"] + [".subckt e"] * count + [".end", ".model e", ".end"])
+
+
+def model_levels(folder, depth, width):
+    """A nest of models with so many instances of the next each."""
+    put(folder, "n.blif", ("\n".join([f".model m{i}"] + [f".subckt m{i + 1}"] * (width if i + 1 < depth else 0) + [".end"]) for i in range(depth)))
 
 
 def shared(folder, nets, width, depth=8):
@@ -212,6 +272,11 @@ def system(folder, pairs, cycles):
     put(folder, "w.csv", [work[0], *(drive[t % len(drive)] for t in range(cycles))])
     put(folder, "r.csv", [RATES.rstrip(), "$*,constants,other,no,0,0", *(f"p{k}.u_main.*,main,mission,yes,12,0" for k in range(min(pairs, 100))), "*,rest,mechanism,no,12,0"])
     put(folder, "p.csv", ["kind,net", *(f"observe,p{k}.torque[{i}]" for k in range(pairs) for i in range(2, 8)), *(f"alarm,p{k}.alarm" for k in range(pairs))])
+
+
+def one_pair_rated(folder):
+    """Rates for a system in which only the first lockstep pair's faults are of parts that matter, so that its pairs of faults are few enough."""
+    put(folder, "r.csv", [RATES.rstrip(), "p0.u_main.*,main,mission,yes,12,0", "p0.*,rest,mechanism,no,12,0", "*,others,other,no,0,0"])
 
 
 def nets_of(folder):

@@ -1,0 +1,28 @@
+# Completion of fmeda for bash.
+_fmeda() {
+    local current=${COMP_WORDS[COMP_CWORD]} previous=${COMP_WORDS[COMP_CWORD - 1]} command=${COMP_WORDS[1]} options=
+    COMPREPLY=()
+    if [ "$COMP_CWORD" -eq 1 ]; then
+        COMPREPLY=($(compgen -W "classes check run resume audit report shard merge pairs gen" -- "$current"))
+        return
+    fi
+    case $previous in
+        --asil) COMPREPLY=($(compgen -W "B C D" -- "$current")); return ;;
+        --flips | --pulses) COMPREPLY=($(compgen -W "none" -- "$current")); return ;;
+        --ftti | --workers | --part | --of) return ;;
+    esac
+    case $command in
+        check) options="--flips --pulses" ;;
+        run | resume) options="--ftti --flips --pulses --asil --workers" ;;
+        audit | merge) options="--ftti --flips --pulses" ;;
+        report) options="--ftti --flips --pulses --asil" ;;
+        shard) options="--part --of --ftti --flips --pulses" ;;
+        pairs) options="--ftti --flips --pulses --workers" ;;
+        gen) options="--workers" ;;
+    esac
+    case $current in
+        -*) COMPREPLY=($(compgen -W "$options" -- "$current")) ;;
+        *) COMPREPLY=($(compgen -f -- "$current")) ;;
+    esac
+}
+complete -o filenames -F _fmeda fmeda
