@@ -1,10 +1,17 @@
 # The program, a run of it on a real circuit, and all that CI runs.
-.PHONY: demo test cases edits examples install
+.PHONY: demo try test cases edits mutants examples install
 
 PREFIX ?= /usr/local
+DATA = examples/lockstep
+FILES = design.blif workload.csv rates.csv points.csv
+WORDS = run $(FILES)
+SETTINGS = --ftti 4 --flips 40,77,101,160
+
+# All that the program is made of: when one of these changes, build/fmeda is made anew.
+MADE_OF := crates.txt HANDLES $(shell find crates -path '*/out' -prune -o -type f ! -name '*.edit' ! -name README.md -print | LC_ALL=C sort)
 
 # The proved program, by all processors. Nothing is built of a crate that isn't proved.
-build/fmeda:
+build/fmeda: $(MADE_OF)
 	tools/build
 	mkdir -p build
 	cp crates/fmeda_cli/out/fmeda_cli build/fmeda
@@ -12,9 +19,16 @@ build/fmeda:
 # A campaign over two cores in lockstep with a comparator, 3,312 faults in two threads: its report, then the first and the last
 # line of its result file.
 demo: build/fmeda
-	cd examples/lockstep && ../../build/fmeda run design.blif workload.csv rates.csv points.csv ../../build/lockstep.result \
-	    --ftti 4 --flips 40,77,101,160 --workers 2
+	cd $(DATA) && ../../build/fmeda $(WORDS) ../../build/lockstep.result $(SETTINGS) --workers 2
 	sed -n '1p;$$p' build/lockstep.result
+
+# The same campaign, or that of the files in DATA with SETTINGS, on a build that nothing was proved of, for a first look. Nothing of it
+# is kept but build/try.log.
+try:
+	@echo 'UNPROVED BUILD, for a first look only: nothing of what follows was made by a proved program, and nothing is installed.'
+	@mkdir -p build
+	@cd crates/fmeda_cli && rt try --steps 1 --seconds 900 $(foreach f,$(FILES),--data $(f)=$(abspath $(DATA))/$(f)) \
+	    -- $(WORDS) lockstep.result $(SETTINGS) --workers 4 2> ../../build/try.log || { cat ../../build/try.log; false; }
 
 # All that CI runs: each proof, the edits that must be refused, each test and the program's stored run; then the cases of the
 # command line, on the program that the gate has just proved and built.
@@ -24,20 +38,33 @@ test:
 	cp crates/fmeda_cli/out/fmeda_cli build/fmeda
 	$(MAKE) cases
 
-# The cases of the command line, on the built program.
+# The cases of the command line, of the tools and of the pages, on the built program.
 cases: build/fmeda
 	tests/cli/run build/fmeda
 	tests/cli/prefixes build/fmeda
 	tests/cli/memory build/fmeda
 	tests/cli/signals build/fmeda
+	tests/tools/run build/fmeda
+	tests/docs/run build/fmeda
 
 # Every edit that the prover must refuse, those that the gate leaves out too, in a copy of the repository; a verdict a line.
 edits:
 	tools/edits
 
-# Each example's report, and its netlist where yosys is installed.
+# Wrong bodies that no clause can refuse: each is built without proof, and a test must catch it.
+mutants:
+	tests/mutants/run
+
+# Each example's report, and its netlist where yosys is installed; the remedies that the pages tell; a campaign in parts, by each
+# engine that is installed.
 examples: build/fmeda
 	examples/run build/fmeda
+	tests/docs/remedies build/fmeda
+	examples/shards/run build/fmeda
 
+# The proved program, its manual page, and completions for bash and zsh.
 install: build/fmeda
 	install -D build/fmeda $(DESTDIR)$(PREFIX)/bin/fmeda
+	install -D -m 644 docs/fmeda.1 $(DESTDIR)$(PREFIX)/share/man/man1/fmeda.1
+	install -D -m 644 tools/completions/fmeda.bash $(DESTDIR)$(PREFIX)/share/bash-completion/completions/fmeda
+	install -D -m 644 tools/completions/_fmeda $(DESTDIR)$(PREFIX)/share/zsh/site-functions/_fmeda
