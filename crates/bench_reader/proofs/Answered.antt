@@ -10,37 +10,33 @@ use Rattle.circuit.specs.Sound.{IsNetlist}
 use Rattle.circuit.specs.declared.parts.Driver.{Driver}
 use Rattle.fm_base.specs.Answers.{Gives}
 use Rattle.fm_base.specs.Firsts.{given}
-use Rattle.fm_base.specs.Names.{Bytes, Name, is_one_of}
+use Rattle.fm_base.specs.Names.{Bytes, Name}
 use Rattle.fm_base.proofs.Tests.{or_false}
 use Rattle.fm_base.specs.declared.refusal.Refusal.{Refusal}
 use Rattle.fm_base.specs.declared.refusal.Refusal.TheVariants.{Fault, Memory}
-use Rattle.blif_model.proofs.Few.{no_more}
-use Rattle.blif_model.proofs.Times.{times, times-found, once_no_repeat}
-use Rattle.blif_model.specs.Net.{driver_of, net_id}
+use Rattle.net_names.specs.Drivers.{drivers_by}
+use Rattle.net_names.specs.Nets.{driver_of, net_id}
+use Rattle.net_names.proofs.Answers.{gives_same}
+use Rattle.net_names.proofs.Once.{few-inputs, few-tables, few-latches}
+use Rattle.net_names.proofs.Putting.{drivers-put}
 use Rattle.bench_reader.specs.declared.BenchFault.{BenchFault}
 use Rattle.bench_reader.specs.declared.BenchKind.TheVariants.{TooLarge}
 use Rattle.bench_reader.specs.declared.gather.Gathered.{Gathered}
 use Rattle.bench_reader.specs.declared.parts.Parts.{Parts}
 use Rattle.bench_reader.specs.Answer.{IsReady, answer_of, circuit_from, circuit_unless, fault_in, gathered_of, gathered_unless}
 use Rattle.bench_reader.specs.Bench.{bad_bench, bench_of, bench_unless}
-use Rattle.bench_reader.specs.Drivers.{drivers_by}
 use Rattle.bench_reader.specs.Gather.{gathered_from, is_full, no_lines, StatementFits}
 use Rattle.bench_reader.specs.LineFault.{Said, at_line, line_fault, said_lines}
 use Rattle.bench_reader.specs.Marks.{first_loose}
-use Rattle.bench_reader.specs.Net.{circuit_of, drivers_of, inputs_of, latch_nets_of, nets_of, table_nets_of}
+use Rattle.bench_reader.specs.Net.{circuit_of, driven_of, drivers_of, inputs_of, latch_nets_of, nets_of, table_nets_of}
 use Rattle.bench_reader.specs.NetFault.{net_fault, too_large, two_drivers, undriven}
 use Rattle.bench_reader.proofs.Gathering.{IsGathered, Outcome, full_large, lines_gathered, nets_gathered, outs_of, parts_of, second_at, too_large_is, visits_of}
 use Rattle.bench_reader.proofs.Loose.{loose_found, undriven_found}
-use Rattle.bench_reader.proofs.Putting.{drivers_put}
 use Rattle.bench_reader.proofs.Rows.{lines_fit}
-use Rattle.bench_reader.proofs.Sound.{at_least, at_most, driver_by, is_driven_net, netlist_sound, nets_apart}
-use Rattle.bench_reader.specs.Net.{driven_of}
+use Rattle.bench_reader.proofs.Sound.{lines_driven, netlist_sound}
+use Rattle.fm_base.proofs.Options.{or_none}
 
 -- ---- faults
-
-or_none : {Y : Type 0} (o : Option Y) → option_or o None ≡ o
-or_none None = refl
-or_none (Some y) = refl
 
 loose_undriven : (lines : List Said) (g : Gathered) → IsGathered lines g → first_loose g.nets ≡ undriven lines
 loose_undriven lines g h = loose_found (visits_of lines) (driven_of lines) (outs_of lines) g.nets h.marked ∙ sym (undriven_found lines)
@@ -74,8 +70,7 @@ module _ (lines : List Said) (once : two_drivers lines ≡ None) (driven : undri
       ≡ map (driver_of (drivers_of lines)) (nets_of lines)
   unfolding drivers_of
   drivers_made =
-      drivers_put (nets_of lines) (nets_apart lines once driven) (inputs_of lines) (table_nets_of lines) (latch_nets_of lines) (at_most lines once driven)
-      (λ name e. driver_by lines once driven name (at_least lines once driven name e))
+      drivers-put (nets_of lines) (inputs_of lines) (table_nets_of lines) (latch_nets_of lines) (lines_driven lines once driven)
 
   circuit_made : circuit_from_parts (nets_of lines) (parts_of (nets_of lines) lines) ≡ circuit_of lines
   unfolding circuit_of
@@ -86,28 +81,13 @@ module _ (lines : List Said) (once : two_drivers lines ≡ None) (driven : undri
       let parts = h.parts none [] ∙ ap (λ (ns : List Name). parts_of ns lines) (append-nil g.nets.names ∙ nets_gathered lines g h) in
       ap (circuit_from_parts g.nets.names) parts ∙ ap (λ (ns : List Name). circuit_from_parts ns (parts_of (nets_of lines) lines)) (nets_gathered lines g h) ∙ circuit_made
 
-  few : (names : List Name) → length (nets_of lines) ≤ 2 ^ 18 → ((name : Name) → times name names ≤ 1) → ((name : Name) → 1 ≤ times name names → is_one_of (nets_of lines) name ≡ true) → length names ≤ 2 ^ 18
-  few names small once among = let h = no_more names (nets_of lines) (once_no_repeat names once) (λ name e. among name (times-found name names e)) in omega arith
-
-  few_inputs : length (nets_of lines) ≤ 2 ^ 18 → length (inputs_of lines) ≤ 2 ^ 18
-  few_inputs small =
-      few (inputs_of lines) small (λ name. let h = at_most lines once driven name in omega arith) (λ name. let h = is_driven_net lines once driven name in λ e. h (omega arith))
-
-  few_tables : length (nets_of lines) ≤ 2 ^ 18 → length (table_nets_of lines) ≤ 2 ^ 18
-  few_tables small =
-      few (table_nets_of lines) small (λ name. let h = at_most lines once driven name in omega arith) (λ name. let h = is_driven_net lines once driven name in λ e. h (omega arith))
-
-  few_latches : length (nets_of lines) ≤ 2 ^ 18 → length (latch_nets_of lines) ≤ 2 ^ 18
-  few_latches small =
-      few (latch_nets_of lines) small (λ name. let h = at_most lines once driven name in omega arith) (λ name. let h = is_driven_net lines once driven name in λ e. h (omega arith))
-
   ready_for : AllByRecursion (λ line. StatementFits line.says) lines → length (nets_of lines) ≤ 2 ^ 18 → (g : Gathered) → IsGathered lines g → g.second ≡ None → IsReady g
   ready_for fit small g h none =
       let parts = h.parts none [] ∙ ap (λ (ns : List Name). parts_of ns lines) (append-nil g.nets.names ∙ nets_gathered lines g h) in
       record {
-        inputs = let size = ap (λ (p : Parts). length p.inputs) parts in let same = length-map (inputs_of lines) (net_id (nets_of lines)) in let most = few_inputs small in omega arith;
-        tables = let size = ap (λ (p : Parts). length p.table_nets) parts in let same = length-map (table_nets_of lines) (net_id (nets_of lines)) in let most = few_tables small in omega arith;
-        latches = let size = ap (λ (p : Parts). length p.latch_nets) parts in let same = length-map (latch_nets_of lines) (net_id (nets_of lines)) in let most = few_latches small in omega arith;
+        inputs = let size = ap (λ (p : Parts). length p.inputs) parts in let same = length-map (inputs_of lines) (net_id (nets_of lines)) in let most = few-inputs (nets_of lines) (inputs_of lines) (table_nets_of lines) (latch_nets_of lines) (lines_driven lines once driven) in omega arith;
+        tables = let size = ap (λ (p : Parts). length p.table_nets) parts in let same = length-map (table_nets_of lines) (net_id (nets_of lines)) in let most = few-tables (nets_of lines) (inputs_of lines) (table_nets_of lines) (latch_nets_of lines) (lines_driven lines once driven) in omega arith;
+        latches = let size = ap (λ (p : Parts). length p.latch_nets) parts in let same = length-map (latch_nets_of lines) (net_id (nets_of lines)) in let most = few-latches (nets_of lines) (inputs_of lines) (table_nets_of lines) (latch_nets_of lines) (lines_driven lines once driven) in omega arith;
         sound = subst IsNetlist (sym (circuit_is g h none)) (netlist_sound lines once driven fit small);
       }
 
@@ -205,15 +185,12 @@ file_outcome bytes g e =
 pub file_ready : (bytes : Bytes) (g : Gathered) → gathered_of bytes ≡ Ok g → fault_in g ≡ None → IsReady g
 file_ready bytes g e none = ready (said_lines bytes) g (file_outcome bytes g e) none (lines_fit bytes)
 
-gives_same : (a b : Result Circuit BenchFault) (r : Result Circuit (Refusal BenchFault)) → b ≡ a → Gives b r → Gives a r
-gives_same a b r e gives = subst (λ (x : Result Circuit BenchFault). Gives x r) e gives
-
 -- its answer is that of the file
 pub file_answered : (bytes : Bytes) (g : Gathered) (r : Result Circuit (Refusal BenchFault)) → gathered_of bytes ≡ Ok g → Gives (answer_of g) r → Gives (bench_of bytes) r
 unfolding bench_of
 file_answered bytes g r e gives =
     gives_same (bench_of bytes) (answer_of g) r
-    (answer_is (said_lines bytes) g (file_outcome bytes g e) (split_gathered (line_fault (said_lines bytes)) (said_lines bytes) g e).0) gives
+    (sym (answer_is (said_lines bytes) g (file_outcome bytes g e) (split_gathered (line_fault (said_lines bytes)) (said_lines bytes) g e).0)) gives
 
 fault_only : (o : Option BenchFault) (lines : List Said) (fault : BenchFault) → gathered_unless o lines ≡ Err fault → o ≡ Some fault
 fault_only None lines fault e = cc

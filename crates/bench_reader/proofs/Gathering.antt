@@ -7,7 +7,7 @@ use Rattle.std.proofs.lemmas.List.{append-nil, map-append, length-map}
 use Rattle.std.proofs.lemmas.List.Elements.{filter_map-append}
 use Rattle.std.proofs.lemmas.List.Sums.{sum_by-append}
 use Rattle.std.proofs.lemmas.Grind.{flat_map-append}
-use Rattle.std.proofs.lemmas.Bool.{ltb-true, lt-ltb}
+use Rattle.std.proofs.lemmas.Bool.{ltb-true, lt-ltb, or_left}
 use Rattle.circuit.specs.declared.parts.Latch.{Latch}
 use Rattle.circuit.specs.declared.parts.NetId.{NetId}
 use Rattle.circuit.specs.declared.parts.Table.{Table}
@@ -16,9 +16,9 @@ use Rattle.fm_base.specs.Lists.{firsts}
 use Rattle.fm_base.specs.Names.{Name, is_one_of, distinct}
 use Rattle.fm_base.proofs.Distinct.{distinct-snoc, distinct-found, distinct-apart}
 use Rattle.fm_base.proofs.Tests.{or_cases, or_second}
-use Rattle.blif_model.specs.Net.{net_id}
-use Rattle.blif_model.proofs.Few.{no_more}
-use Rattle.blif_model.proofs.Times.{place}
+use Rattle.net_names.specs.Nets.{net_id}
+use Rattle.net_names.proofs.Few.{no_more}
+use Rattle.net_names.proofs.Times.{place}
 use Rattle.bench_reader.specs.declared.BenchFault.{BenchFault}
 use Rattle.bench_reader.specs.declared.BenchKind.TheVariants.{TooLarge, TwoDrivers}
 use Rattle.bench_reader.specs.declared.gate.Gate.{Gate}
@@ -31,7 +31,9 @@ use Rattle.bench_reader.specs.Marks.{NetMarks, no_nets, ids_from, is_driven, is_
 use Rattle.bench_reader.specs.Net.{driven_at as drives_at, driven_of, input_at, inputs_of, latch_at, latch_net, latch_nets_of, nets_at, nets_of, output_at, outputs_of, table_at, table_net, table_nets_of}
 use Rattle.bench_reader.specs.NetFault.{cells_at, too_large, two_drivers}
 use Rattle.bench_reader.specs.Statement.{Statement, nothing, input, output, table, latch, wrong}
-use Rattle.bench_reader.proofs.Marked.{IsMarked, Visit, all_grows, all_marked, among_more, blank, drive_marked, first_one, give_marked, grows, id_stays, ids_all, is_driven_marked, is_given_marked, length_ids, mark_of, mention_marked, mentioned, names_of, visits_at}
+use Rattle.bench_reader.proofs.Marked.{IsMarked, Visit, all_grows, all_marked, among_more, blank, drive_marked, give_marked, grows, id_stays, ids_all, is_driven_marked, is_given_marked, length_ids, mark_of, mention_marked, mentioned, names_of, visits_at}
+use Rattle.fm_base.proofs.Options.{or_none}
+use Rattle.fm_base.proofs.Firsts.{first_after-append}
 
 -- ---- lists of lines, one line longer
 
@@ -122,28 +124,12 @@ parts_equal i i2 o o2 t t2 tn tn2 l l2 ln ln2 a b c d e f = rw (a, b, c, d, e, f
 
 -- ---- second drivers
 
-two_append : {X Y : Type 0} (answer : List X → X → Option Y) (before xs ys : List X)
-    → first_after answer before (xs ++ ys) ≡ option_or (first_after answer before xs) (first_after answer (before ++ xs) ys)
-unfolding first_after
-two_append {X} answer before [] ys = ap (λ (b : List X). first_after answer b ys) (sym (append-nil before))
-two_append {X} {Y} answer before (x ∷ xs) ys = by_cases (answer before x) (two_append answer (before ++ x ∷ []) xs ys ∙ ap (λ (b : List X). option_or (first_after answer (before ++ x ∷ []) xs) (first_after answer b ys)) (append_assoc before (x ∷ []) xs))
-  where
-    by_cases : (o : Option Y)
-        → first_after answer (before ++ x ∷ []) (xs ++ ys) ≡ option_or (first_after answer (before ++ x ∷ []) xs) (first_after answer (before ++ (x ∷ xs)) ys)
-        → option_or o (first_after answer (before ++ x ∷ []) (xs ++ ys)) ≡ option_or (option_or o (first_after answer (before ++ x ∷ []) xs)) (first_after answer (before ++ (x ∷ xs)) ys)
-    by_cases None more = more
-    by_cases (Some y) more = refl
-
-or_none : {Y : Type 0} (o : Option Y) → option_or o None ≡ o
-or_none None = refl
-or_none (Some y) = refl
-
 abbrev answer_at : List Said → Said → Option BenchFault
 answer_at before line = given (list_any (is_one_of (driven_of before)) (drives_at line.says)) (at_line line.number TwoDrivers)
 
 two_snoc : (lines : List Said) (line : Said) → two_drivers (lines ++ line ∷ []) ≡ option_or (two_drivers lines) (answer_at lines line)
 unfolding two_drivers first_after
-two_snoc lines line = two_append answer_at [] lines (line ∷ []) ∙ ap (option_or (first_after answer_at [] lines)) (or_none (answer_at lines line))
+two_snoc lines line = first_after-append answer_at [] lines (line ∷ []) ∙ ap (option_or (first_after answer_at [] lines)) (or_none (answer_at lines line))
 
 abbrev pub second_at : ℕ → BenchFault
 second_at line = at_line line TwoDrivers
@@ -588,7 +574,7 @@ large_more lines more e = elim (or_cases (nat_lt (2 ^ 18) (length (nets_of lines
   | inl nets ↦
       let many = ltb-true (2 ^ 18) (length (nets_of lines)) nets in
       let grown = nets_grow lines more in
-      first_one (nat_lt (2 ^ 18) (length (nets_of (lines ++ more)))) _ (lt-ltb (2 ^ 18) (length (nets_of (lines ++ more))) (omega arith))
+      or_left (nat_lt (2 ^ 18) (length (nets_of (lines ++ more)))) _ (lt-ltb (2 ^ 18) (length (nets_of (lines ++ more))) (omega arith))
   | inr cells ↦
       let many = ltb-true (2 ^ 24) (sum_by cells_in lines) cells in
       let grown = sum_by-append cells_in lines more in

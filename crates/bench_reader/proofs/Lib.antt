@@ -9,6 +9,5 @@ pub mod Reading
 pub mod Parity
 pub mod Mentions
 pub mod Gathering
-pub mod Putting
 pub mod Loose
 pub mod Answered

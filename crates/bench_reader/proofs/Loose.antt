@@ -12,7 +12,7 @@ use Rattle.fm_base.specs.Lists.{firsts}
 use Rattle.fm_base.specs.Names.{Name, is_one_of, distinct, has_repeat}
 use Rattle.fm_base.proofs.Distinct.{distinct-apart, is_same, same_name}
 use Rattle.fm_base.proofs.Tests.{clash, false_of}
-use Rattle.blif_model.proofs.Times.{at-found, place-at}
+use Rattle.net_names.proofs.Times.{at-found, place-at}
 use Rattle.bench_reader.specs.declared.BenchFault.{BenchFault}
 use Rattle.bench_reader.specs.declared.BenchKind.TheVariants.{Undriven}
 use Rattle.bench_reader.specs.declared.nets.Mark.{Mark}
@@ -22,6 +22,7 @@ use Rattle.bench_reader.specs.Net.{driven_of, nets_at}
 use Rattle.bench_reader.specs.NetFault.{undriven}
 use Rattle.bench_reader.proofs.Marked.{IsMarked, Visit, blank, first_line, is_visit, line_from, mark_of, name_of, names_of, visits_at}
 use Rattle.bench_reader.proofs.Gathering.{visits_in, visits_of}
+use Rattle.fm_base.proofs.Finding.{find-map, find-filter}
 
 -- ---- first places and first elements
 
@@ -40,26 +41,6 @@ from_map : {X Y : Type 0} (p : Y → Bool) (f : X → Y) (i : ℕ) (xs : List X)
 from_map p f i [] = refl
 from_map p f i (x ∷ xs) = ap (λ (o : Option ℕ). cond (p (f x)) (Some i) o) (from_map p f (i + 1) xs)
 
-find_map : {X Y : Type 0} (p : Y → Bool) (f : X → Y) (xs : List X) → find p (map f xs) ≡ option_map f (find (λ x. p (f x)) xs)
-find_map p f [] = refl
-find_map {X} {Y} p f (x ∷ xs) = by_cases (p (f x)) (find_map p f xs)
-  where
-    by_cases : (b : Bool) → find p (map f xs) ≡ option_map f (find (λ y. p (f y)) xs) → cond b (Some (f x)) (find p (map f xs)) ≡ option_map f (cond b (Some x) (find (λ y. p (f y)) xs))
-    by_cases true more = refl
-    by_cases false more = more
-
--- what doesn't pass may be left out
-find_filtered : {X : Type 0} (p test : X → Bool) (xs : List X) → ((x : X) → p x ≡ true → test x ≡ true) → find p (filter test xs) ≡ find p xs
-find_filtered p test [] keeps = refl
-find_filtered {X} p test (x ∷ xs) keeps = by_cases (test x) (p x) refl refl (find_filtered p test xs keeps)
-  where
-    by_cases : (kept passes : Bool) → test x ≡ kept → p x ≡ passes → find p (filter test xs) ≡ find p xs
-        → find p (cond kept (x ∷ filter test xs) (filter test xs)) ≡ cond passes (Some x) (find p xs)
-    by_cases true true e f more = rw f refl
-    by_cases true false e f more = rw f more
-    by_cases false false e f more = more
-    by_cases false true e f more = absurd (clash (test x) (keeps x f) e)
-
 find_distinct : (p : Name → Bool) (names : List Name) → find p (distinct names) ≡ find p names
 unfolding firsts
 find_distinct p [] = refl
@@ -68,7 +49,7 @@ find_distinct p (x ∷ names) = by_cases (p x) refl (find_distinct p names)
     by_cases : (b : Bool) → p x ≡ b → find p (distinct names) ≡ find p names → cond b (Some x) (find p (filter (λ other. not (bytes_eq other x)) (distinct names))) ≡ cond b (Some x) (find p names)
     by_cases true e more = refl
     by_cases false e more =
-        find_filtered p (λ (other : Name). not (bytes_eq other x)) (distinct names)
+        find-filter p (λ (other : Name). not (bytes_eq other x)) (distinct names)
         (λ y f. ap not (false_of (bytes_eq y x) (λ s. clash (p x) (ap p (sym (same_name y x s)) ∙ f) e))) ∙ more
 
 -- what is found passes
@@ -149,7 +130,7 @@ module _ (visits : List Visit) (driven outs : List Name) (t : NetMarks) (m : IsM
   pub loose_found : first_loose t ≡ option_map told_at (find (λ (v : Visit). bad v.0) visits)
   loose_found =
       ap (option_map loose_at) place_is ∙ from_gives bad t.names 0 loose_at loose_named at_name
-      ∙ ap (option_map loose_named) (ap (find bad) m.names ∙ find_distinct bad (names_of visits) ∙ find_map bad name_of visits)
+      ∙ ap (option_map loose_named) (ap (find bad) m.names ∙ find_distinct bad (names_of visits) ∙ find-map bad name_of visits)
       ∙ twice (find (λ (v : Visit). bad v.0) visits) ∙ line_is (find (λ (v : Visit). bad v.0) visits) refl
     where
       twice : (o : Option Visit) → option_map loose_named (option_map name_of o) ≡ option_map (λ (v : Visit). loose_named v.0) o

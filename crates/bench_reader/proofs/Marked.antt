@@ -11,12 +11,12 @@ use Rattle.std.proofs.lemmas.Option.{slice_get_within, same_Some}
 use Rattle.circuit.specs.declared.parts.NetId.{NetId}
 use Rattle.fm_base.specs.Names.{Name, is_one_of, distinct}
 use Rattle.fm_base.proofs.Tests.{or_cases, or_false, or_second, false_of, clash}
-use Rattle.fm_base.proofs.Distinct.{distinct-snoc, distinct-found, is_same, same_name}
-use Rattle.blif_model.specs.Net.{net_id}
-use Rattle.blif_model.proofs.Drivers.{one_of_both}
-use Rattle.blif_model.proofs.Times.{place, place-found, same_turned}
+use Rattle.fm_base.proofs.Distinct.{distinct-snoc, distinct-found, is_same, same_name, bytes_eq-sym}
+use Rattle.net_names.specs.Nets.{net_id}
+use Rattle.net_names.proofs.Times.{one_of_both, place, place-found}
 use Rattle.bench_reader.specs.declared.nets.Mark.{Mark}
 use Rattle.bench_reader.specs.Marks.{NetMarks, fresh, ids_from, is_driven, is_given, mention, mention_all, with_driven, with_given}
+use Rattle.std.proofs.lemmas.Bool.{or_left}
 
 -- a name and the line that names it
 abbrev pub Visit : Type 0
@@ -54,10 +54,6 @@ pub record IsMarked (visits : List Visit) (driven outs : List Name) (t : NetMark
 
 -- ---- places
 
-pub first_one : (a b : Bool) → a ≡ true → (a || b) ≡ true
-first_one true b e = refl
-first_one false b e = cc
-
 or_none : (a : Bool) → (a || false) ≡ a
 or_none true = refl
 or_none false = refl
@@ -73,7 +69,7 @@ one_place names a b e f same = same_Some a b (sym (place-found names a e) ∙ ap
 -- the place of a name stays where names come behind
 pub place_stays : (names more : List Name) (name : Name) → is_one_of names name ≡ true → place (names ++ more) name ≡ place names name
 place_stays [] more name e = cc
-place_stays (x ∷ xs) more name e = by_cases (bytes_eq x name) refl (ap (λ b. b || is_one_of xs name) (same_turned x name) ∙ e) (place_stays xs more name)
+place_stays (x ∷ xs) more name e = by_cases (bytes_eq x name) refl (ap (λ b. b || is_one_of xs name) (bytes_eq-sym x name) ∙ e) (place_stays xs more name)
   where
     by_cases : (b : Bool) → bytes_eq x name ≡ b → (b || is_one_of xs name) ≡ true → (is_one_of xs name ≡ true → place (xs ++ more) name ≡ place xs name)
         → cond (not b) (1 + place (xs ++ more) name) 0 ≡ cond (not b) (1 + place xs name) 0
@@ -85,7 +81,7 @@ pub place_new : (names : List Name) (name : Name) → is_one_of names name ≡ f
 place_new [] name e = rw (is_same name) refl
 place_new (x ∷ xs) name e =
     let parts = or_false (bytes_eq name x) (is_one_of xs name) e in
-    rw (same_turned x name ∙ parts.0) (let more = place_new xs name parts.1 in omega arith)
+    rw (bytes_eq-sym x name ∙ parts.0) (let more = place_new xs name parts.1 in omega arith)
 
 abbrev pub numbered : ℕ → NetId
 numbered k = record { 0 = k }
@@ -95,13 +91,13 @@ id_stays names more name e = ap numbered (place_stays names more name e)
 
 -- a name among names is among more
 pub among_more : (names more : List Name) (name : Name) → is_one_of names name ≡ true → is_one_of (names ++ more) name ≡ true
-among_more names more name e = one_of_both names more name ∙ first_one (is_one_of names name) (is_one_of more name) e
+among_more names more name e = one_of_both names more name ∙ or_left (is_one_of names name) (is_one_of more name) e
 
 -- ---- one more visit
 
 found_visit : (visits : List Visit) (name : Name) → is_one_of (names_of visits) name ≡ true → (v : Visit) × (find (is_visit name) visits ≡ Some v)
 found_visit [] name e = cc
-found_visit (v ∷ vs) name e = by_cases (bytes_eq v.0 name) refl (ap (λ b. b || is_one_of (names_of vs) name) (same_turned v.0 name) ∙ e) (found_visit vs name)
+found_visit (v ∷ vs) name e = by_cases (bytes_eq v.0 name) refl (ap (λ b. b || is_one_of (names_of vs) name) (bytes_eq-sym v.0 name) ∙ e) (found_visit vs name)
   where
     by_cases : (b : Bool) → bytes_eq v.0 name ≡ b → (b || is_one_of (names_of vs) name) ≡ true
         → (is_one_of (names_of vs) name ≡ true → (w : Visit) × (find (is_visit name) vs ≡ Some w)) → (w : Visit) × (cond b (Some v) (find (is_visit name) vs) ≡ Some w)
@@ -112,7 +108,7 @@ no_visit : (visits : List Visit) (name : Name) → is_one_of (names_of visits) n
 no_visit [] name e = refl
 no_visit (v ∷ vs) name e =
     let parts = or_false (bytes_eq name v.0) (is_one_of (names_of vs) name) e in
-    rw (same_turned v.0 name ∙ parts.0) (no_visit vs name parts.1)
+    rw (bytes_eq-sym v.0 name ∙ parts.0) (no_visit vs name parts.1)
 
 -- a name that was visited keeps its first line
 line_stays : (visits : List Visit) (v : Visit) (name : Name) → is_one_of (names_of visits) name ≡ true → first_line (visits ++ v ∷ []) name ≡ first_line visits name

@@ -1,17 +1,19 @@
 -- A net by its key in a set of names.
-use Rattle.std.proofs.Common.{◌≡◌, ℕ, ◌+◌, ◌≤◌, Bool, true, false, cond, not, List, [], ◌∷◌, ◌++◌, refl, ap, sym, ◌∙◌, length, map, Bor, arith}
+use Rattle.std.proofs.Common.{◌≡◌, ℕ, ◌+◌, ◌≤◌, Bool, true, false, not, List, [], ◌∷◌, ◌++◌, refl, ap, sym, ◌∙◌, length, map, Bor, arith}
 use Rattle.std.specs.Prelude.{bytes_eq}
 use Rattle.std.specs.List.{list_any, position_or_len}
 use Rattle.std.proofs.lemmas.List.{length-append}
 use Rattle.fm_base.specs.Names.{Name, is_one_of}
 use Rattle.fm_base.proofs.Tests.{or_false}
 use Rattle.name_index.specs.Index.{with_name}
-use Rattle.name_index.proofs.NameFacts.{keys_insert, list_any-map}
+use Rattle.name_index.proofs.NameFacts.{keys_insert}
 use Rattle.indexmap.specs.IndexSet.{insert_key}
-use Rattle.blif_model.proofs.Times.{place, same_turned}
+use Rattle.net_names.proofs.Times.{place, place-of-key}
 use Rattle.bench_reader.specs.declared.nets.Mark.{Mark}
 use Rattle.bench_reader.specs.Marks.{NetMarks, fresh, mention}
 use Rattle.bench_reader.proofs.Marked.{place_new}
+use Rattle.fm_base.proofs.Finding.{list_any-map}
+use Rattle.fm_base.proofs.Distinct.{bytes_eq-sym}
 
 abbrev pub Key : Type 0
 Key = Bor (List ℕ)
@@ -58,15 +60,11 @@ mention_new_key keys key marks line e =
 
 -- ---- the number of a net
 
-place_of_key : (keys : List Key) (name : Name) → position_or_len (λ (key : Key). bytes_eq name key.now) keys ≡ place (texts_of keys) name
-place_of_key [] name = refl
-place_of_key (key ∷ keys) name = rw (same_turned name key.now) (ap (λ n. cond (not (bytes_eq key.now name)) (1 + n) 0) (place_of_key keys name))
-
 place_none : (names : List Name) (name : Name) → is_one_of names name ≡ false → place names name ≡ length names
 place_none [] name e = refl
 place_none (x ∷ xs) name e =
     let parts = or_false (bytes_eq name x) (is_one_of xs name) e in
-    rw (same_turned x name ∙ parts.0) (let more = place_none xs name parts.1 in omega arith)
+    rw (bytes_eq-sym x name ∙ parts.0) (let more = place_none xs name parts.1 in omega arith)
 
 names_after : (line : ℕ) (t : NetMarks) (name : Name) → place t.names name ≡ place (mention line t name).names name
 names_after line t name = by_cases (is_one_of t.names name) refl
@@ -78,7 +76,7 @@ names_after line t name = by_cases (is_one_of t.names name) refl
 pub place_mentioned : (keys : List Key) (name : Name) (line : ℕ) (t now : NetMarks) (k : ℕ) → k ≡ position_or_len (λ (key : Key). bytes_eq name key.now) keys
     → texts_of keys ≡ t.names → now ≡ mention line t name → k ≡ place now.names name
 place_mentioned keys name line t now k e texts is =
-    e ∙ place_of_key keys name ∙ ap (λ (names : List Name). place names name) texts ∙ names_after line t name ∙ ap (λ (nets : NetMarks). place nets.names name) (sym is)
+    e ∙ place-of-key text_of keys name ∙ ap (λ (names : List Name). place names name) texts ∙ names_after line t name ∙ ap (λ (nets : NetMarks). place nets.names name) (sym is)
 
 -- one more net at most
 pub one_more_net : (line : ℕ) (t : NetMarks) (name : Name) → length (mention line t name).names ≤ length t.names + 1

@@ -17,6 +17,7 @@ use Rattle.bench_reader.specs.declared.gather.Gathered.{Gathered}
 use Rattle.bench_reader.specs.Answer.{LineGives, gathered_of, gathered_unless}
 use Rattle.bench_reader.specs.Gather.{add_said, gathered_from, no_lines}
 use Rattle.bench_reader.specs.Tokens.{line_of, lines_of}
+use Rattle.blif_text.proofs.Cuts.{split_whole}
 
 -- what the lines of a text say, where the first has this number
 abbrev pub said_from : ℕ → List ℕ → List Said
@@ -28,15 +29,6 @@ said_at number text = said (line_of (number, text))
 pub said_all : (bytes : List ℕ) → said_from 1 bytes ≡ said_lines bytes
 unfolding said_lines lines_of
 said_all bytes = refl
-
-split_whole : (p : ℕ → Bool) (xs : List ℕ) → position_or_len p xs ≡ length xs → slice_split p xs ≡ xs ∷ []
-split_whole p [] e = refl
-split_whole p (x ∷ xs) e = by_cases (p x) refl e (split_whole p xs)
-  where
-    by_cases : (b : Bool) → p x ≡ b → cond (not b) (1 + position_or_len p xs) 0 ≡ suc (length xs)
-        → (position_or_len p xs ≡ length xs → slice_split p xs ≡ xs ∷ []) → slice_split p (x ∷ xs) ≡ (x ∷ xs) ∷ []
-    by_cases true f e more = absurd (omega arith)
-    by_cases false f e more = slice_split-cons_no p x xs f ∙ ap (onto_first x) (more (omega arith))
 
 abbrev numbered : ℕ → List (List ℕ) → List Said
 numbered number pieces = map said (map line_of (enumerate_from number pieces))

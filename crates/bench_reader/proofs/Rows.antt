@@ -14,6 +14,7 @@ use Rattle.bench_reader.specs.Gather.{StatementFits}
 use Rattle.bench_reader.specs.LineFault.{said, said_lines}
 use Rattle.bench_reader.specs.Statement.{input, output, table, wrong, driver_line, latch_line, names_in, port_line, statement_of, table_line}
 use Rattle.bench_reader.specs.Tokens.{Line, Token, opening, closing, equals, name, lines_of}
+use Rattle.blif_text.proofs.Slices.{all-filter}
 
 -- ---- rows
 
@@ -29,17 +30,9 @@ cells_fit : (n : ℕ) (ks : List ℕ) → AllByRecursion (λ row. length row ≡
 cells_fit n [] = tt
 cells_fit n (k ∷ ks) = (length_cells n k, cells_fit n ks)
 
-kept_fit : {X : Type 0} (P : X → Type 0) (test : X → Bool) (xs : List X) → AllByRecursion P xs → AllByRecursion P (filter test xs)
-kept_fit P test [] all = tt
-kept_fit {X} P test (x ∷ xs) all = by_cases (test x) (kept_fit P test xs all.1)
-  where
-    by_cases : (b : Bool) → AllByRecursion P (filter test xs) → AllByRecursion P (cond b (x ∷ filter test xs) (filter test xs))
-    by_cases true more = (all.0, more)
-    by_cases false more = more
-
 odd_fit : (n : ℕ) → AllByRecursion (λ row. length row ≡ n) (odd_rows n)
 unfolding odd_rows
-odd_fit n = kept_fit (λ row. length row ≡ n) is_odd_row (map (cells_of n) (below (2 ^ n))) (cells_fit n (below (2 ^ n)))
+odd_fit n = all-filter (λ row. length row ≡ n) is_odd_row (map (cells_of n) (below (2 ^ n))) (cells_fit n (below (2 ^ n)))
 
 -- one input alone
 one_input : (n : ℕ) → (nat_le 1 n && nat_le n 1) ≡ true → 1 ≡ n

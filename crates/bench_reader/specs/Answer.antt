@@ -6,10 +6,10 @@ use Rattle.fm_base.specs.declared.refusal.Refusal.TheVariants.{Fault, Memory}
 use Rattle.fm_base.specs.Names.{Bytes}
 use Rattle.circuit.specs.Circuit.{Circuit}
 use Rattle.circuit.specs.Sound.{IsNetlist}
+use Rattle.net_names.specs.Drivers.{drivers_by}
 use Rattle.bench_reader.specs.declared.BenchFault.{BenchFault}
 use Rattle.bench_reader.specs.declared.BenchKind.TheVariants.{TooLarge, TwoDrivers}
 use Rattle.bench_reader.specs.declared.gather.Gathered.{Gathered}
-use Rattle.bench_reader.specs.Drivers.{drivers_by}
 use Rattle.bench_reader.specs.Gather.{add_said, gathered_from, is_full, no_lines}
 use Rattle.bench_reader.specs.LineFault.{Said, at_line, fault_of, kind_of, line_fault, said, said_lines}
 use Rattle.bench_reader.specs.Marks.{first_loose}

@@ -6,7 +6,7 @@ use Rattle.circuit.specs.declared.parts.NetId.{NetId}
 use Rattle.circuit.specs.declared.parts.Table.{Table}
 use Rattle.fm_base.specs.Firsts.{given}
 use Rattle.fm_base.specs.Names.{Name}
-use Rattle.blif_model.specs.Net.{net_id}
+use Rattle.net_names.specs.Nets.{net_id}
 use Rattle.bench_reader.specs.declared.gate.Gate.{Gate}
 use Rattle.bench_reader.specs.declared.gather.Gathered.{Gathered}
 use Rattle.bench_reader.specs.declared.parts.Parts.{Parts}

@@ -7,6 +7,5 @@ pub mod NetFault
 pub mod Bench
 pub mod Meant
 pub mod Marks
-pub mod Drivers
 pub mod Gather
 pub mod Answer

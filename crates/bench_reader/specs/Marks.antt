@@ -3,7 +3,7 @@ use Rattle.std.specs.Prelude.{ℕ, Bool, true, false, not, List, [], ◌∷◌, 
 use Rattle.std.specs.Option.{option_map}
 use Rattle.circuit.specs.declared.parts.NetId.{NetId}
 use Rattle.fm_base.specs.Names.{Name, is_one_of}
-use Rattle.blif_model.specs.Net.{net_id}
+use Rattle.net_names.specs.Nets.{net_id}
 use Rattle.bench_reader.specs.declared.BenchFault.{BenchFault}
 use Rattle.bench_reader.specs.declared.BenchKind.TheVariants.{Undriven}
 use Rattle.bench_reader.specs.declared.nets.Mark.{Mark}

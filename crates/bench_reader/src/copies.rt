@@ -3,13 +3,8 @@ ghost use Rattle.std.specs.Prelude.{◌≡◌, [], IfOk, map};
 ghost use Rattle.bench_reader.specs.Marks.{name_at};
 
 use fm_list::{Name, Names, Seq};
+use net_names::copies::own_name;
 use std::alloc::{AllocError, Global};
-
-fn own_name(alloc: Global, name: &[u8]) -> Result<Name, AllocError>
-    ensures { IfOk result (λ n. n ≡ name.now) }
-{
-    Ok(Seq::from_vec(Vec::from_slice(alloc, name)?))
-}
 
 /// The names of a file, copied.
 pub fn own_names(alloc: Global, names: &[&[u8]]) -> Result<Names, AllocError>

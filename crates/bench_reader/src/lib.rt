@@ -3,7 +3,6 @@
 
 mod cells;
 mod copies;
-mod drivers;
 pub mod gate;
 mod gather;
 mod line;

@@ -3,13 +3,13 @@ ghost use Rattle.std.specs.Prelude.{◌≡◌, None, IfOk};
 ghost use Rattle.fm_base.specs.Answers.{Gives};
 ghost use Rattle.bench_reader.specs.Answer.{answer_of, circuit_from, fault_in, IsReady};
 
-use crate::drivers::drivers_of;
 use crate::gather::Gathered;
 use crate::nets::Nets;
 use crate::parts::Parts;
 use crate::{BenchFault, BenchKind};
 use circuit::netlist::Netlist;
 use fm_base::Refusal;
+use net_names::drivers::drivers_of;
 use std::alloc::{AllocError, Global};
 
 /// The first fault of all lines together: the kinds from `TooLarge` to `Undriven`.

@@ -1,6 +1,6 @@
 // The nets of a file, each with what is known of it.
 ghost use Rattle.std.specs.Prelude.{◌≡◌, ◌<◌, ◌-◌, ◌^◌, true, not, length, position, IfOk, IfSome, OnOk, slice_set};
-ghost use Rattle.blif_model.specs.Net.{net_id};
+ghost use Rattle.net_names.specs.Nets.{net_id};
 ghost use Rattle.bench_reader.specs.Marks.{first_loose, is_given, is_driven, mark_at, mention, no_nets, with_driven, with_given};
 
 use crate::copies::{name_at, own_names};

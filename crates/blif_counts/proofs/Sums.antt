@@ -3,7 +3,7 @@ use Rattle.std.proofs.Common.{◌≡◌, ℕ, zero, suc, ◌+◌, ◌<◌, ◌�
 use Rattle.std.specs.Prelude.{Option, Some, None, map, sum_by, slice_index, Vec}
 use Rattle.std.specs.Option.{option_map_or}
 use Rattle.std.specs.declared.alloc.Global.{Global}
-use Rattle.std.proofs.lemmas.List.{map-append, take_more}
+use Rattle.std.proofs.lemmas.List.{map-append, take_more, drop_all}
 use Rattle.blif_text.specs.declared.lines.TextLine.{TextLine}
 use Rattle.blif_text.specs.Read.{line_of}
 use Rattle.blif_says.specs.declared.models.ModelLines.{ModelLines}
@@ -119,12 +119,6 @@ module _ (models : List Model) (own : Model → ℕ) (cap : ℕ) where
   unfolding sum_over_instances
   round_first = refl
 
-none_left : {X : Type 0} (xs : List X) (i : ℕ) → length xs ≤ i → drop i xs ≡ []
-none_left [] zero h = refl
-none_left [] (suc i) h = refl
-none_left (x ∷ xs) zero h = absurd (omega arith)
-none_left (x ∷ xs) (suc i) h = none_left xs i (omega arith)
-
 no_sum : (models : List Model) (f : Model → ℕ) → line_sum models f [] ≡ 0
 unfolding items_of
 no_sum models f = refl
@@ -132,7 +126,7 @@ no_sum models f = refl
 -- behind the last line no callee is left
 pub callees_end : (models : List Model) (f : Model → ℕ) (lines : List TextLine) (i n : ℕ) → length lines ≤ i → line_sum models f (drop i lines) + n ≡ line_sum models f lines → line_sum models f lines ≡ n
 callees_end models f lines i n h inv =
-    let none : line_sum models f (drop i lines) ≡ 0 = ap (line_sum models f) (none_left lines i h) ∙ no_sum models f in
+    let none : line_sum models f (drop i lines) ≡ 0 = ap (line_sum models f) (drop_all i lines h) ∙ no_sum models f in
     omega arith
 
 -- the callees of one more line

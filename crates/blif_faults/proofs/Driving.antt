@@ -9,6 +9,7 @@ use Rattle.std.proofs.lemmas.List.Folds.{find-append}
 use Rattle.blif_walk.proofs.NameSets.{new_comes}
 use Rattle.blif_walk.proofs.Items.{drop_item}
 use Rattle.blif_faults.specs.Passes.{undriven_name}
+use Rattle.std.proofs.lemmas.List.{drop_all}
 
 -- a step without an answer leaves the others
 pub passed : {X : Type 0} (o more all : Option X) → is_some o ≡ false → option_or o more ≡ all → more ≡ all
@@ -44,14 +45,8 @@ loose_later clocks driven names i name slice all h is s t inv =
     let loose : is_loose clocks driven name ≡ false = ap (is_loose clocks driven) (sym s) ∙ t in
     sym (ap (undriven_name clocks driven) (drop_item names i name h is) ∙ ap (λ b. cond b (Some name) (undriven_name clocks driven (drop (i + 1) names))) loose) ∙ inv
 
-none_left : {X : Type 0} (xs : List X) (i : ℕ) → length xs ≤ i → drop i xs ≡ []
-none_left [] zero h = refl
-none_left [] (suc i) h = refl
-none_left (x ∷ xs) zero h = absurd (omega arith)
-none_left (x ∷ xs) (suc i) h = none_left xs i (omega arith)
-
 pub loose_end : (clocks driven names : List Name) (i : ℕ) (all : Option Name) → length names ≤ i → undriven_name clocks driven (drop i names) ≡ all → None ≡ all
-loose_end clocks driven names i all h inv = sym (ap (undriven_name clocks driven) (none_left names i h)) ∙ inv
+loose_end clocks driven names i all h inv = sym (ap (undriven_name clocks driven) (drop_all i names h)) ∙ inv
 
 -- names and one behind them
 both_loose : (clocks driven names : List Name) (last : Name) → undriven_name clocks driven (names ++ last ∷ []) ≡ option_or (undriven_name clocks driven names) (cond (is_loose clocks driven last) (Some last) None)

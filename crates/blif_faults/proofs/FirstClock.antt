@@ -1,24 +1,23 @@
 -- TwoClocks, with the first clock name of the walk known beforehand; and sets of names.
-use Rattle.std.proofs.Common.{◌≡◌, Bool, true, false, cond, not, ◌||◌, ◌&&◌, List, [], ◌∷◌, ◌++◌, refl, ap, sym, ◌∙◌, fold}
+use Rattle.std.proofs.Common.{◌≡◌, Bool, true, false, cond, not, ◌||◌, List, [], ◌∷◌, ◌++◌, refl, ap, sym, ◌∙◌, fold}
 use Rattle.std.specs.Prelude.{Option, Some, None, bytes_eq, map, flat_map}
 use Rattle.std.specs.List.{list_any, slice_get}
 use Rattle.std.specs.Option.{option_or, option_to_list}
 use Rattle.fm_base.specs.Names.{Name, is_one_of}
 use Rattle.fm_base.specs.Firsts.{given}
-use Rattle.fm_base.proofs.Distinct.{is_same}
+use Rattle.fm_base.proofs.Distinct.{is_same, bytes_eq-sym}
 use Rattle.blif_text.specs.declared.NetlistKind.TheVariants.{TwoClocks}
-use Rattle.blif_text.specs.declared.NetlistFault.{NetlistFault}
 use Rattle.blif_model.specs.LineFault.{at_line}
 use Rattle.blif_model.specs.Walk.{Act, takes, gives, clocks, visits, flat_table, flat_latch, Step, Visit, clocked, clock_names, is_clock, unclocked, taken, table_net, latch_net, names_at, drives_of}
 use Rattle.blif_model.specs.WalkFault.{edge_of, two_clocks, main_inputs, has_visit}
-use Rattle.blif_model.proofs.Drivers.{one_of_both, names_at-names}
-use Rattle.blif_model.proofs.Times.{same_turned}
+use Rattle.blif_model.proofs.Drivers.{names_at-names}
+use Rattle.net_names.proofs.Times.{one_of_both}
 use Rattle.fm_base.proofs.Distinct.{filter-found}
 use Rattle.std.proofs.lemmas.List.{map-append}
 use Rattle.blif_walk.specs.declared.numbers.Sort.TheVariants.{Clock, Input, Driven}
-use Rattle.blif_walk.specs.Numbers.{add_name, named, names_by, drive_names}
+use Rattle.blif_walk.specs.Numbers.{add_name, names_by, drive_names}
 use Rattle.blif_walk.proofs.NameSets.{taken_found}
-use Rattle.blif_faults.specs.Passes.{is_other, kept_first, any_other, clashes, clock_fault, differs_from, first_clock_fault}
+use Rattle.blif_faults.specs.Passes.{is_other, kept_first, any_other, clock_fault, differs_from, first_clock_fault}
 use Rattle.blif_faults.proofs.Passing.{clock-fault}
 
 -- ---- the first of each
@@ -103,7 +102,7 @@ input_held steps names e q = ap (λ (all : List Name). is_one_of all q) e ∙ ta
 
 visit_found : (names : List Visit) (name : Name) → has_visit names name ≡ is_one_of (map (λ (v : Visit). v.name) names) name
 visit_found [] name = refl
-visit_found (v ∷ vs) name = rw (same_turned v.name name) (ap (λ b. bytes_eq name v.name || b) (visit_found vs name))
+visit_found (v ∷ vs) name = rw (bytes_eq-sym v.name name) (ap (λ b. bytes_eq name v.name || b) (visit_found vs name))
 
 -- a name that is no clock name is driven alike
 drives_alike : (steps : List Step) (act : Act) (q : Name) → is_clock steps q ≡ false → is_one_of (drive_names act) q ≡ is_one_of (taken steps act ++ table_net act ++ latch_net act) q

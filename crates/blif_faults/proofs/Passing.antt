@@ -1,25 +1,23 @@
 -- The passes find the faults of the definition.
 use Rattle.std.proofs.Common.{◌≡◌, ℕ, Bool, true, false, cond, not, ◌||◌, ◌&&◌, List, [], ◌∷◌, ◌++◌, refl, ap, sym, subst, ◌∙◌, append_assoc}
-use Rattle.std.specs.Prelude.{Option, Some, None, bytes_eq, find, filter, map, flat_map}
+use Rattle.std.specs.Prelude.{Option, Some, None, bytes_eq, filter, map, flat_map}
 use Rattle.std.specs.List.{list_any}
 use Rattle.std.specs.Option.{option_or, option_map}
-use Rattle.std.proofs.lemmas.List.{append-nil, map-append}
+use Rattle.std.proofs.lemmas.List.{append-nil}
 use Rattle.std.proofs.lemmas.List.Folds.{list_any-append}
 use Rattle.fm_base.specs.Names.{Name, is_one_of}
 use Rattle.fm_base.specs.Firsts.{given, first_where, first_after}
 use Rattle.fm_base.proofs.Tests.{or_false}
-use Rattle.fm_base.proofs.Distinct.{same_name, is_same}
+use Rattle.fm_base.proofs.Distinct.{same_name, bytes_eq-sym}
 use Rattle.blif_text.specs.declared.NetlistKind.TheVariants.{TwoClocks, BadClock, ClockRead, TwoDrivers, Undriven}
 use Rattle.blif_text.specs.declared.NetlistFault.{NetlistFault}
 use Rattle.blif_model.specs.LineFault.{at_line}
-use Rattle.blif_model.specs.Walk.{Act, takes, gives, clocks, visits, flat_table, flat_latch, Step, Visit, clocked, visited, visits_of, clock_names, names_at, is_clock, unclocked, taken, table_net, latch_net, drives_of}
-use Rattle.blif_model.specs.WalkFault.{Mark, edge, control, differ, Marked, edge_of, marks_at, marks_of, two_clocks, main_inputs, control_of, bad_clock, read, clock_read, has_visit, two_drivers, undriven}
-use Rattle.blif_model.proofs.Times.{same_turned}
-use Rattle.blif_faults.specs.Passes.{is_other, kept_first, any_other, clashes, clock_fault, control_fault, read_fault, driven_names, any_twice, driver_fault, undriven_name, undriven_fault}
-
-or_assoc : {X : Type 0} (a b c : Option X) → option_or (option_or a b) c ≡ option_or a (option_or b c)
-or_assoc None b c = refl
-or_assoc (Some x) b c = refl
+use Rattle.blif_model.specs.Walk.{Act, takes, gives, clocks, visits, flat_table, flat_latch, Step, Visit, clocked, visited, visits_of, names_at, is_clock, unclocked, taken, table_net, latch_net, drives_of}
+use Rattle.blif_model.specs.WalkFault.{Mark, edge, control, differ, Marked, edge_of, marks_at, marks_of, two_clocks, main_inputs, control_of, read, has_visit, two_drivers}
+use Rattle.fm_base.proofs.Firsts.{first_after-append}
+use Rattle.fm_base.proofs.Options.{or_assoc}
+use Rattle.std.proofs.Math.Bool.{or-false}
+use Rattle.blif_faults.specs.Passes.{is_other, kept_first, any_other, clock_fault, control_fault, read_fault, driven_names, any_twice, driver_fault, undriven_name, undriven_fault}
 
 given_or : {X : Type 0} (a b : Bool) (x : X) → option_or (given a x) (given b x) ≡ given (a || b) x
 given_or true b x = refl
@@ -95,15 +93,6 @@ undriven-fault steps (s ∷ some) left_out driven clock drive =
 
 -- ---- a search that knows the items before, over two parts
 
-first_after-append : {X Y : Type 0} (answer : List X → X → Option Y) (before xs ys : List X)
-    → first_after answer before (xs ++ ys) ≡ option_or (first_after answer before xs) (first_after answer (before ++ xs) ys)
-unfolding first_after
-first_after-append answer before [] ys = ap (λ (b : List _). first_after answer b ys) (sym (append-nil before))
-first_after-append answer before (x ∷ xs) ys =
-    ap (option_or (answer before x)) (first_after-append answer (before ++ x ∷ []) xs ys
-    ∙ ap (λ (b : List _). option_or (first_after answer (before ++ x ∷ []) xs) (first_after answer b ys)) (append_assoc before (x ∷ []) xs))
-    ∙ sym (or_assoc (answer before x) (first_after answer (before ++ x ∷ []) xs) (first_after answer (before ++ (x ∷ xs)) ys))
-
 -- ---- TwoClocks
 
 abbrev clock_answer : List Marked → Marked → Option NetlistFault
@@ -116,16 +105,12 @@ Keeps make before first = (q : Name) → list_any (λ (x : Marked). differ x.mar
 abbrev marks_by : (Name → Mark) → ℕ → List Name → List Marked
 marks_by make line names = map (λ name. record { mark = make name; line = line }) names
 
-or_nothing : (b : Bool) → (b || false) ≡ b
-or_nothing true = refl
-or_nothing false = refl
-
 module _ (make other : Name → Mark) (own : (a b : Name) → differ (make a) (make b) ≡ not (bytes_eq a b)) (apart : (a b : Name) → differ (make a) (other b) ≡ false) where
   keeps_own : (before : List Marked) (first : Option Name) (name : Name) (line : ℕ) → Keeps make before first → is_other first name ≡ false
       → Keeps make (before ++ record { mark = make name; line = line } ∷ []) (option_or first (Some name))
   keeps_own before first name line keeps same q =
       list_any-append (λ (x : Marked). differ x.mark (make q)) before (record { mark = make name; line = line } ∷ [])
-      ∙ rw (keeps q, own name q) (ap (λ b. is_other first q || b) (or_nothing (not (bytes_eq name q))) ∙ by_cases first same)
+      ∙ rw (keeps q, own name q) (ap (λ b. is_other first q || b) (or-false (not (bytes_eq name q))) ∙ by_cases first same)
     where
       twice : (b : Bool) → (b || b) ≡ b
       twice true = refl
@@ -145,7 +130,7 @@ module _ (make other : Name → Mark) (own : (a b : Name) → differ (make a) (m
       → Keeps other (before ++ record { mark = make name; line = line } ∷ []) first
   keeps_other before first name line keeps q =
       list_any-append (λ (x : Marked). differ x.mark (other q)) before (record { mark = make name; line = line } ∷ [])
-      ∙ rw (keeps q, apart name q) (or_nothing (is_other first q))
+      ∙ rw (keeps q, apart name q) (or-false (is_other first q))
 
   -- the marks of one line of this sort
   line_marks : (line : ℕ) (names : List Name) (before : List Marked) (first second : Option Name) → Keeps make before first → Keeps other before second
@@ -271,7 +256,7 @@ module _ (steps : List Step) (left_out : List Name) (same : (q : Name) → is_on
   holds_more : (before : List Visit) (driven : List Name) (name : Name) (line : ℕ) → Holds before driven → Holds (before ++ record { name = name; line = line } ∷ []) (driven ++ name ∷ [])
   holds_more before driven name line holds q =
       list_any-append (λ (other : Visit). bytes_eq other.name q) before (record { name = name; line = line } ∷ [])
-      ∙ rw (holds q, same_turned name q) (sym (list_any-append (bytes_eq q) driven (name ∷ [])))
+      ∙ rw (holds q, bytes_eq-sym name q) (sym (list_any-append (bytes_eq q) driven (name ∷ [])))
 
   drives_at : (line : ℕ) (names : List Name) (before : List Visit) (driven : List Name) → Holds before driven
       → (first_after driver_answer before (names_at line names) ≡ given (any_twice left_out driven names) (at_line line TwoDrivers))

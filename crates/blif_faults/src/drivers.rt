@@ -14,10 +14,10 @@ use crate::names::has_name;
 use blif_text::{NetlistFault, NetlistKind};
 use blif_walk::frames::{NetAct, NetStep};
 use blif_walk::table::ModelTable;
-use blif_walk::text::own_name;
 use blif_walk::walker::Walker;
 use fm_list::Name;
 use indexmap::IndexSet;
+use net_names::copies::own_name;
 use std::alloc::{AllocError, Global};
 
 /// A name is driven. The answer is true where it is a clock name or was driven before.

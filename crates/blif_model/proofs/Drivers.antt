@@ -1,10 +1,8 @@
 -- Without TwoDrivers and Undriven each net is driven once, and what is driven is visited.
-use Rattle.std.proofs.Common.{◌≡◌, ℕ, Bool, true, false, cond, not, ◌||◌, ◌&&◌, List, [], ◌∷◌, ◌++◌, refl, ap, sym, subst, ◌∙◌}
-use Rattle.std.specs.Prelude.{Option, Some, None, bytes_eq, map, flat_map}
+use Rattle.std.proofs.Common.{◌≡◌, ℕ, ◌+◌, Bool, true, false, not, ◌||◌, ◌&&◌, List, [], ◌∷◌, ◌++◌, refl, ap, sym, subst, ◌∙◌}
+use Rattle.std.specs.Prelude.{None, bytes_eq, map, flat_map}
 use Rattle.std.specs.List.{list_any}
-use Rattle.std.specs.Option.{option_or}
 use Rattle.std.proofs.lemmas.List.{append-nil, map-append}
-use Rattle.blif_text.specs.declared.NetlistFault.{NetlistFault}
 use Rattle.blif_text.specs.declared.NetlistKind.TheVariants.{TwoDrivers, Undriven}
 use Rattle.blif_model.specs.LineFault.{at_line}
 use Rattle.fm_base.specs.Firsts.{first_where, first_after, given}
@@ -15,22 +13,16 @@ use Rattle.fm_base.specs.Names.{Name, is_one_of, has_repeat}
 use Rattle.fm_base.proofs.Distinct.{same_name, filter-found}
 use Rattle.blif_model.proofs.Nets.{nets-found}
 use Rattle.std.proofs.lemmas.List.Folds.{list_any-append}
+use Rattle.net_names.specs.Driven.{drives, times}
+use Rattle.net_names.proofs.Answers.{none_given}
+use Rattle.net_names.proofs.Driven.{drives-of-lines}
+use Rattle.net_names.proofs.Times.{one_of_both, times-append}
 
 -- no drive comes after one of its name, and none is a clock name
 pub record IsOnce (steps : List Step) (before ds : List Visit) : Type 0 where
   pub fresh : list_any (λ d. has_visit before d.name) ds ≡ false
   pub apart : has_repeat (map (λ d. d.name) ds) ≡ false
   pub clock : list_any (λ d. is_clock steps d.name) ds ≡ false
-
-pub none_given : (b : Bool) (fault : NetlistFault) (more : Option NetlistFault) → option_or (cond b (Some fault) None) more ≡ None → (b ≡ false) × (more ≡ None)
-none_given true fault more e = (absurd_at e, absurd_more e)
-  where
-    absurd_at : Some fault ≡ None → true ≡ false
-    absurd_at e = cc
-
-    absurd_more : Some fault ≡ None → more ≡ None
-    absurd_more e = cc
-none_given false fault more e = (refl, e)
 
 -- fresh against one more is fresh against it and against the others
 fresh_of : (d : Visit) (before ds : List Visit) → list_any (λ e. has_visit (before ++ d ∷ []) e.name) ds ≡ false
@@ -103,15 +95,6 @@ pub names_at-names : (line : ℕ) (names : List Name) → map (λ (v : Visit). v
 names_at-names line [] = refl
 names_at-names line (name ∷ names) = ap (λ (more : List Name). name ∷ more) (names_at-names line names)
 
--- a name of either list is one of both
-pub one_of_both : (xs ys : List Name) (name : Name) → is_one_of (xs ++ ys) name ≡ (is_one_of xs name || is_one_of ys name)
-one_of_both [] ys name = refl
-one_of_both (x ∷ xs) ys name = ap (λ b. bytes_eq name x || b) (one_of_both xs ys name) ∙ regrouped (bytes_eq name x) (is_one_of xs name) (is_one_of ys name)
-  where
-    regrouped : (a b c : Bool) → (a || (b || c)) ≡ ((a || b) || c)
-    regrouped true b c = refl
-    regrouped false b c = refl
-
 second_of : (a b : Bool) → (a && b) ≡ true → b ≡ true
 second_of true b e = e
 second_of false b e = cc
@@ -156,3 +139,20 @@ pub drives-visited : (steps : List Step) (name : Name) → is_one_of (map (λ (v
     → is_one_of (map (λ (v : Visit). v.name) (visits_of steps)) name ≡ true
 unfolding drives_of visits_of
 drives-visited steps name e = drives_among steps steps name e
+
+-- the names of a flat list
+named : (at : Step → List Name) (some : List Step) → map (λ (v : Visit). v.name) (flat_map (λ s. names_at s.line (at s)) some) ≡ flat_map at some
+named at [] = refl
+named at (s ∷ some) =
+    map-append (λ (v : Visit). v.name) (names_at s.line (at s)) (flat_map (λ x. names_at x.line (at x)) some)
+    ∙ ap (λ (front : List Name). front ++ map (λ (v : Visit). v.name) (flat_map (λ x. names_at x.line (at x)) some)) (names_at-names s.line (at s))
+    ∙ ap (λ (rest : List Name). at s ++ rest) (named at some)
+
+-- the drives of a walk are those of its inputs, tables and latches
+pub times-drives : (name : Name) (steps some : List Step)
+    → times name (map (λ (v : Visit). v.name) (flat_map (λ s. names_at s.line (taken steps s.act ++ table_net s.act ++ latch_net s.act)) some))
+    ≡ drives (flat_map (λ s. taken steps s.act) some) (flat_map (λ s. table_net s.act) some) (flat_map (λ s. latch_net s.act) some) name
+times-drives name steps some =
+    ap (times name) (named (λ (s : Step). taken steps s.act ++ table_net s.act ++ latch_net s.act) some)
+    ∙ drives-of-lines (λ (s : Step). taken steps s.act ++ table_net s.act ++ latch_net s.act) (λ (s : Step). taken steps s.act) (λ (s : Step). table_net s.act) (λ (s : Step). latch_net s.act) name
+    (λ (s : Step). times-append name (taken steps s.act ++ table_net s.act) (latch_net s.act) ∙ ap (λ n. n + times name (latch_net s.act)) (times-append name (taken steps s.act) (table_net s.act))) some

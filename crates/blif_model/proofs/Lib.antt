@@ -4,10 +4,7 @@ pub mod Drivers
 pub mod Depth
 pub mod Counts
 pub mod Answer
-pub mod Times
-pub mod Driven
 pub mod Fits
 pub mod ReadNets
-pub mod Few
 pub mod Sound
 pub mod FileNetlist

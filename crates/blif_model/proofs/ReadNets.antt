@@ -12,7 +12,9 @@ use Rattle.blif_model.specs.Walk.{Act, takes, gives, clocks, visits, flat_table,
 use Rattle.blif_model.specs.WalkFault.{clock_read, read}
 use Rattle.blif_model.specs.Net.{output_names_of}
 use Rattle.blif_model.proofs.Nets.{nets-found}
-use Rattle.blif_model.proofs.Drivers.{none_given, one_of_both, flat_names}
+use Rattle.net_names.proofs.Answers.{none_given}
+use Rattle.net_names.proofs.Times.{one_of_both}
+use Rattle.blif_model.proofs.Drivers.{flat_names}
 
 -- the names that these steps visit
 abbrev seen : List Step → List Name

@@ -11,6 +11,7 @@ use Rattle.blif_model.specs.LineFault.{Said, at_line, is_inside, inside_after, t
 use Rattle.blif_model.specs.Models.{Item, Model, rows_from, rows_below, items_of, ends_model, model_from, models_of}
 use Rattle.fm_base.specs.Names.{Name}
 use Rattle.std.proofs.lemmas.List.Sums.{fold_push}
+use Rattle.fm_base.proofs.Options.{none_both, none_mapped}
 
 -- the rows of a table have a cell for each input
 abbrev pub RowsFit : Statement → List (List Name) → Type 0
@@ -27,24 +28,13 @@ ModelFits m = AllByRecursion ItemFits m.items
 abbrev AreSound : List Said → List Said → Type 0
 AreSound before lines = first_after fault_of before lines ≡ None
 
-neither : {X : Type 0} (a b : Option X) → option_or a b ≡ None → (a ≡ None) × (b ≡ None)
-neither None b e = (refl, e)
-neither (Some x) b e = (e, absurd_from e)
-  where
-    absurd_from : Some x ≡ None → b ≡ None
-    absurd_from e = cc
-
-unmapped : {X Y : Type 0} (f : X → Y) (a : Option X) → option_map f a ≡ None → a ≡ None
-unmapped f None e = refl
-unmapped f (Some x) e = cc
-
 -- the first line has no fault of its place, and the others have none behind it
 sound_first : (before : List Said) (line : Said) (lines : List Said) → AreSound before (line ∷ lines)
     → (place_fault before line.says ≡ None) × AreSound (before ++ line ∷ []) lines
 unfolding first_after kind_of
 sound_first before line lines e =
-    let parts = neither (fault_of before line) (first_after fault_of (before ++ line ∷ []) lines) e in
-    ((neither (place_fault before line.says) _ (unmapped (at_line line.number) (kind_of before line) parts.0)).0, parts.1)
+    let parts = none_both (fault_of before line) (first_after fault_of (before ++ line ∷ []) lines) e in
+    ((none_both (place_fault before line.says) _ (none_mapped (at_line line.number) (kind_of before line) parts.0)).0, parts.1)
 
 -- a row in its place is a row for the inputs of the table above
 row_here : (before : List Said) (tokens ins : List Name) → is_inside before ≡ true → table_above before ≡ Some ins

@@ -1,13 +1,10 @@
 -- The fault of a netlist file, or its netlist. Source: BLIF of SIS, by this project's profile.
-use Rattle.std.specs.Prelude.{ℕ, Bool, true, ◌==◌, List, [], ◌∷◌, ◌++◌, map, flat_map, filter_map, Option, Some, None, bytes_eq, find, if◌then◌else◌, codes, Result, Ok, Err}
-use Rattle.std.specs.List.{enumerate_from, position_or_len}
-use Rattle.std.specs.Option.{option_map_or}
+use Rattle.std.specs.Prelude.{ℕ, Bool, true, ◌==◌, List, [], ◌∷◌, ◌++◌, map, flat_map, filter_map, Option, Some, None, bytes_eq, if◌then◌else◌, codes, Result, Ok, Err}
 use Rattle.std.specs.Str.{byte}
 use Rattle.circuit.specs.declared.parts.Driver.{Driver}
 use Rattle.circuit.specs.declared.parts.Driver.TheVariants.{Input, Table as FromTable, Latch as FromLatch}
 use Rattle.circuit.specs.declared.parts.Lit.{Lit}
 use Rattle.circuit.specs.declared.parts.Lit.TheVariants.{Zero, One, Any}
-use Rattle.circuit.specs.declared.parts.NetId.{NetId}
 use Rattle.circuit.specs.declared.parts.Table.{Table}
 use Rattle.circuit.specs.declared.parts.Latch.{Latch}
 use Rattle.circuit.specs.Circuit.{Circuit}
@@ -19,16 +16,13 @@ use Rattle.blif_model.specs.Models.{file_models}
 use Rattle.blif_model.specs.Walk.{Act, flat_table, flat_latch, Step, walk, nets_of, taken, table_net, latch_net, outputs_at}
 use Rattle.blif_model.specs.WalkFault.{walk_fault}
 use Rattle.fm_base.specs.Names.{Name, distinct, Bytes}
+use Rattle.net_names.specs.Nets.{net_id, with_drivers, driver_of}
 
 -- the line and the kind for which a file is refused, or nothing
 unfoldable pub bad_net : Bytes → Option NetlistFault
 bad_net bytes = first_answer (line_fault (said_lines bytes) ∷ model_fault (file_models bytes) ∷ walk_fault (walk (file_models bytes)) ∷ [])
 
 -- ---- the netlist of a walk
-
--- the number of a net is its place among the nets
-abbrev pub net_id : List Name → Name → NetId
-net_id nets name = record { 0 = position_or_len (λ net. bytes_eq net name) nets }
 
 -- the literal of a cell
 abbrev pub lit_of : ℕ → Lit
@@ -70,17 +64,9 @@ latch_names_of steps = flat_map (λ s. latch_net s.act) steps
 unfoldable pub output_names_of : List Step → List Name
 output_names_of steps = distinct (flat_map (λ s. outputs_at s.act) steps)
 
--- names beside their drivers, which are numbered in the order of the names
-abbrev pub with_drivers : (ℕ → Driver) → List Name → List (Name × Driver)
-with_drivers driver names = map (λ p. (p.1, driver p.0)) (enumerate_from 0 names)
-
 -- each driven net beside its driver
 unfoldable pub drivers_of : List Step → List (Name × Driver)
 drivers_of steps = with_drivers Input (input_names_of steps) ++ with_drivers FromTable (table_names_of steps) ++ with_drivers FromLatch (latch_names_of steps)
-
--- the driver of a net
-abbrev pub driver_of : List (Name × Driver) → Name → Driver
-driver_of drivers name = option_map_or (λ p. p.1) (find (λ p. bytes_eq p.0 name) drivers) (Input 0)
 
 -- the netlist of a walk
 unfoldable pub circuit_of : List Step → Circuit

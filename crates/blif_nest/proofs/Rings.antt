@@ -22,18 +22,16 @@ use Rattle.std.proofs.lemmas.List.Sums.{position_or_len_is}
 use Rattle.std.proofs.lemmas.Option.{get_or_from_slice_get, slice_get-get_or}
 use Rattle.blif_nest.proofs.Bounds.{reach_few}
 use Rattle.blif_nest.proofs.Levels.{any_callee}
-use Rattle.blif_model.proofs.FileNetlist.{no_answers}
+use Rattle.net_names.proofs.Answers.{not_given}
 use Rattle.blif_says.specs.declared.models.ModelLines.{ModelLines}
 use Rattle.blif_says.specs.Grouped.{model_of, models_seen}
 use Rattle.blif_nest.specs.declared.lines.Nesting.TheVariants as nestings
 use Rattle.blif_ports.specs.Lines.{first_among}
 use Rattle.blif_nest.specs.Marks.{instance_fault, kind_of}
+use Rattle.fm_base.proofs.Options.{none_both}
+use Rattle.circuit.proofs.Passing.{any_at}
 
 -- ---- models of different names
-
-not_given : (b : Bool) (fault : NetlistFault) → given b fault ≡ None → b ≡ false
-not_given true fault e = cc
-not_given false fault e = refl
 
 abbrev named_before : List Model → Model → Bool
 named_before before m = list_any (λ (earlier : Model). bytes_eq earlier.name m.name) before
@@ -42,10 +40,10 @@ apart_at : (before front behind : List Model) (m : Model)
     → first_after (λ bs (k : Model). given (named_before bs k) (at_line k.line TwoModels)) before (front ++ m ∷ behind) ≡ None → named_before (before ++ front) m ≡ false
 unfolding first_after
 apart_at before [] behind m e =
-    ap (λ (ms : List Model). named_before ms m) (append-nil before) ∙ not_given (named_before before m) (at_line m.line TwoModels) (no_answers (given (named_before before m) (at_line m.line TwoModels)) _ e).0
+    ap (λ (ms : List Model). named_before ms m) (append-nil before) ∙ not_given (named_before before m) (at_line m.line TwoModels) (none_both (given (named_before before m) (at_line m.line TwoModels)) _ e).0
 apart_at before (x ∷ front) behind m e =
     ap (λ (ms : List Model). named_before ms m) (sym (append_assoc before (x ∷ []) front))
-    ∙ apart_at (before ++ x ∷ []) front behind m (no_answers (given (named_before before x) (at_line x.line TwoModels)) _ e).1
+    ∙ apart_at (before ++ x ∷ []) front behind m (none_both (given (named_before before x) (at_line x.line TwoModels)) _ e).1
 
 none_first : (p : Instance → Bool) (v : Instance → NetlistFault) (xs : List Instance) → list_any p xs ≡ false → first_where (λ i. given (p i) (v i)) xs ≡ None
 unfolding first_where
@@ -53,12 +51,6 @@ none_first p v [] e = refl
 none_first p v (i ∷ xs) e = let parts = or_false (p i) (list_any p xs) e in rw parts.0 (none_first p v xs parts.1)
 
 -- ---- ways of models
-
-list_at : {X : Type 0} (p : X → Bool) (xs : List X) (i : ℕ) (x : X) → slice_get xs i ≡ Some x → p x ≡ true → list_any p xs ≡ true
-list_at p [] zero x e f = cc
-list_at p [] (suc i) x e f = cc
-list_at p (y ∷ xs) zero x e f = let same : y ≡ x = cc in ap (λ b. b || list_any p xs) (ap p same ∙ f)
-list_at p (y ∷ xs) (suc i) x e f = or_second (p y) (list_any p xs) (list_at p xs i x e f)
 
 split_at : {X : Type 0} (xs : List X) (j : ℕ) (z : X) → slice_get xs j ≡ Some z → xs ≡ take j xs ++ z ∷ drop (suc j) xs
 split_at [] zero z e = cc
@@ -143,7 +135,7 @@ module _ (models : List Model) (callees : List (Vec ℕ Global)) (all : AllCalle
     unfolding two_models
     not_earlier i j m z lt e f same =
         let before : named_before (take j models) z ≡ true =
-        list_at (λ (k : Model). bytes_eq k.name z.name) (take j models) i m (front_at models i j m lt e) (ap (λ (n : Name). bytes_eq n z.name) same ∙ is_same z.name) in
+        any_at (λ (k : Model). bytes_eq k.name z.name) (take j models) i m (front_at models i j m lt e) (ap (λ (n : Name). bytes_eq n z.name) same ∙ is_same z.name) in
         let split : models ≡ take j models ++ z ∷ drop (suc j) models = split_at models j z f in
         clash (named_before (take j models) z) before
         (apart_at [] (take j models) (drop (suc j) models) z (sym (ap (first_after (λ bs (k : Model). given (named_before bs k) (at_line k.line TwoModels)) []) split) ∙ apart))
@@ -212,7 +204,7 @@ module _ (models : List Model) (callees : List (Vec ℕ Global)) (all : AllCalle
     edge_to i k q m y j e f at is =
         let test : Model → Bool = λ (z : Model). bytes_eq z.name y.name in
         let here : at_model models j.name test false ≡ true = ap (λ (o : Option Model). option_map_or test o false) is ∙ is_same y.name in
-        let any = list_at (λ (x : Instance). at_model models x.name test false) (instances m) q j at here in
+        let any = any_at (λ (x : Instance). at_model models x.name test false) (instances m) q j at here in
         let idx = any_index (λ t. slice_index_or (map test models) t false) (targets callees i) (sym (any_callee models test m.items (targets callees i) (at_callees models models callees i m all e)) ∙ any) in
         let there = marked_model test models (target callees i idx.0) idx.2 in
         (idx.0, idx.1, one_place (target callees i idx.0) k there.0 y there.1 f (same_name there.0.name y.name there.2))

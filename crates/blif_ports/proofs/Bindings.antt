@@ -8,13 +8,12 @@ use Rattle.std.proofs.lemmas.List.Sums.{fold-append}
 use Rattle.blif_text.specs.declared.token.Token.{Token}
 use Rattle.blif_says.specs.Meant.{bindings_of}
 use Rattle.blif_says.specs.Tokens.{texts_of}
-use Rattle.blif_walk.proofs.FirstPlaces.{none_from}
 use Rattle.fm_base.specs.Firsts.{first_where}
 use Rattle.blif_ports.specs.Lines.{first_among}
 use Rattle.blif_ports.specs.declared.links.Link.{Link}
 use Rattle.std.proofs.lemmas.List.Folds.{list_any-append}
 use Rattle.fm_base.specs.Names.{Name, is_one_of, has_repeat}
-use Rattle.fm_base.proofs.Distinct.{same_name}
+use Rattle.fm_base.proofs.Distinct.{same_name, bytes_eq-sym}
 use Rattle.fm_base.proofs.Tests.{or_cases, or_second}
 use Rattle.name_index.specs.Index.{with_name}
 use Rattle.blif_walk.proofs.NameSets.{taken_found}
@@ -26,7 +25,9 @@ use Rattle.blif_ports.specs.declared.ports.BoundNames.{BoundNames}
 use Rattle.blif_ports.specs.declared.ports.Ports.{Ports}
 use Rattle.blif_ports.specs.Links.{formals_of, has_fault, instance_fault, link_fault}
 use Rattle.blif_ports.specs.Ports.{bound_in, ports_in, with_bound}
-use Rattle.blif_ports.proofs.SecondNames.{added_found, bytes_eq-sym}
+use Rattle.blif_ports.proofs.SecondNames.{added_found}
+use Rattle.std.proofs.Math.Bool.{or-false, or_assoc}
+use Rattle.fm_base.proofs.Options.{none_from}
 
 -- the names, each once
 abbrev once : List Name → List Name
@@ -34,14 +35,6 @@ once names = fold with_name [] names
 
 once_found : (names : List Name) (q : Name) → is_one_of (once names) q ≡ is_one_of names q
 once_found names q = taken_found [] names q
-
-or_end : (b : Bool) → (b || false) ≡ b
-or_end true = refl
-or_end false = refl
-
-or_front : (a b c : Bool) → ((a || b) || c) ≡ (a || (b || c))
-or_front true b c = refl
-or_front false b c = refl
 
 -- a name that passes is among those that pass
 passes_there : (p : Name → Bool) (names : List Name) (x : Name) → is_one_of names x ≡ true → p x ≡ true → list_any p names ≡ true
@@ -53,16 +46,16 @@ passes_there p (name ∷ names) x e f = elim (or_cases (bytes_eq x name) (is_one
 
 -- whether one passes is so whether each stands once or not
 one_passes : (p : Name → Bool) (seen names : List Name) → list_any p (fold with_name seen names) ≡ (list_any p seen || list_any p names)
-one_passes p seen [] = sym (or_end (list_any p seen))
-one_passes p seen (x ∷ names) = one_passes p (with_name seen x) names ∙ ap (λ b. b || list_any p names) (added (is_one_of seen x) refl) ∙ or_front (list_any p seen) (p x) (list_any p names)
+one_passes p seen [] = sym (or-false (list_any p seen))
+one_passes p seen (x ∷ names) = one_passes p (with_name seen x) names ∙ ap (λ b. b || list_any p names) (added (is_one_of seen x) refl) ∙ or_assoc (list_any p seen) (p x) (list_any p names)
   where
     there : (b : Bool) → p x ≡ b → is_one_of seen x ≡ true → list_any p seen ≡ (list_any p seen || b)
     there true f e = passes_there p seen x e f ∙ sym (or_second (list_any p seen) true refl)
-    there false f e = sym (or_end (list_any p seen))
+    there false f e = sym (or-false (list_any p seen))
 
     added : (b : Bool) → is_one_of seen x ≡ b → list_any p (cond b seen (seen ++ x ∷ [])) ≡ (list_any p seen || p x)
     added true e = there (p x) refl e
-    added false e = list_any-append p seen (x ∷ []) ∙ ap (λ b. list_any p seen || b) (or_end (p x))
+    added false e = list_any-append p seen (x ∷ []) ∙ ap (λ b. list_any p seen || b) (or-false (p x))
 
 same_any : (p q : Name → Bool) (names : List Name) → ((x : Name) → p x ≡ q x) → list_any p names ≡ list_any q names
 same_any p q [] same = refl
@@ -97,7 +90,7 @@ bound_twice b seen (x ∷ names) same e =
     bound_twice (with_bound b x) (seen ++ x ∷ []) names more (rw (e, same x) (sym (repeat-snoc seen x))) ∙ ap has_repeat (append_assoc seen (x ∷ []) names)
   where
     more : (q : Name) → is_one_of (with_name b.formals x) q ≡ is_one_of (seen ++ x ∷ []) q
-    more q = added_found b.formals x q ∙ rw (same q) (sym (list_any-append (bytes_eq q) seen (x ∷ []) ∙ ap (λ r. is_one_of seen q || r) (or_end (bytes_eq q x))))
+    more q = added_found b.formals x q ∙ rw (same q) (sym (list_any-append (bytes_eq q) seen (x ∷ []) ∙ ap (λ r. is_one_of seen q || r) (or-false (bytes_eq q x))))
 
 -- the formals that tokens bind
 abbrev pub formals_at : List Token → List Name

@@ -12,12 +12,7 @@ use Rattle.blif_says.specs.declared.models.ModelLines.{ModelLines}
 use Rattle.blif_says.specs.Grouped.{all_said, model_of, models_seen}
 use Rattle.blif_walk.proofs.Items.{drop_item}
 use Rattle.blif_ports.specs.Lines.{answer_of, first_among}
-
-pub none_left : {X : Type 0} (xs : List X) (i : ℕ) → length xs ≤ i → drop i xs ≡ []
-none_left [] zero h = refl
-none_left [] (suc i) h = refl
-none_left (x ∷ xs) zero h = absurd (omega arith)
-none_left (x ∷ xs) (suc i) h = none_left xs i (omega arith)
+use Rattle.std.proofs.lemmas.List.{drop_all}
 
 -- ---- the lines of a model
 
@@ -45,7 +40,7 @@ module _ {Y : Type 0} (answer : Instance → Option Y) where
 
   pub line_end : (lines : List TextLine) (i : ℕ) → length lines ≤ i → first_in (drop i lines) ≡ None
   unfolding items_of first_where
-  line_end lines i h = ap first_in (none_left lines i h)
+  line_end lines i h = ap first_in (drop_all i lines h)
 
 -- ---- the models of a file
 
@@ -58,7 +53,7 @@ module _ {Y : Type 0} (answer : Model → Option Y) where
 
   pub model_end : (lines : List ModelLines) (i : ℕ) → length lines ≤ i → first_where answer (models_seen (drop i lines)) ≡ None
   unfolding first_where
-  model_end lines i h = ap (λ (ms : List ModelLines). first_where answer (models_seen ms)) (none_left lines i h)
+  model_end lines i h = ap (λ (ms : List ModelLines). first_where answer (models_seen ms)) (drop_all i lines h)
 
 -- what a function gives of models is what it gives of their lines
 pub over_lines : {Y : Type 0} (f : Model → Y) (lines : List ModelLines) (models : List Model) → models_seen lines ≡ models → map (λ (l : ModelLines). f (model_of l)) lines ≡ map f models

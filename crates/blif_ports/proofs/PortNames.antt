@@ -10,7 +10,7 @@ use Rattle.blif_model.specs.Statement.{Statement, statement_of, texts}
 use Rattle.blif_says.specs.Grouped.{all_said}
 use Rattle.blif_walk.proofs.Items.{drop_item}
 use Rattle.blif_walk.proofs.NameSets.{fold_front}
-use Rattle.blif_ports.proofs.FirstLines.{none_left}
+use Rattle.std.proofs.lemmas.List.{drop_all}
 
 module _ (own : Statement → List Name) where
   -- the names that lines bring
@@ -31,4 +31,4 @@ module _ (own : Statement → List Name) where
 
   pub names_end : (lines : List TextLine) (i : ℕ) (old all : List Name) → length lines ≤ i → fold with_name old (names_in (drop i lines)) ≡ all → old ≡ all
   unfolding items_of
-  names_end lines i old all h inv = ap (λ (ls : List TextLine). fold with_name old (names_in ls)) (sym (none_left lines i h)) ∙ inv
+  names_end lines i old all h inv = ap (λ (ls : List TextLine). fold with_name old (names_in ls)) (sym (drop_all i lines h)) ∙ inv

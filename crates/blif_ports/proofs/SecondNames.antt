@@ -3,11 +3,11 @@ use Rattle.std.proofs.Common.{◌≡◌, ℕ, ◌+◌, ◌<◌, ◌≤◌, Bool,
 use Rattle.std.specs.Prelude.{Option, Some, None, bytes_eq}
 use Rattle.std.specs.List.{list_any}
 use Rattle.std.specs.Option.{option_or}
-use Rattle.std.proofs.lemmas.List.{map-append, take_more}
+use Rattle.std.proofs.lemmas.List.{map-append, take_more, drop_all}
 use Rattle.std.proofs.lemmas.List.Folds.{list_any-append}
 use Rattle.fm_base.specs.Firsts.{first_after, given}
 use Rattle.fm_base.specs.Names.{Name, is_one_of}
-use Rattle.fm_base.proofs.Distinct.{same_name, is_same}
+use Rattle.fm_base.proofs.Distinct.{same_name, is_same, bytes_eq-sym}
 use Rattle.name_index.specs.Index.{with_name}
 use Rattle.blif_text.specs.declared.NetlistFault.{NetlistFault}
 use Rattle.blif_text.specs.declared.NetlistKind.TheVariants.{TwoModels}
@@ -18,7 +18,7 @@ use Rattle.blif_says.specs.declared.models.ModelLines.{ModelLines}
 use Rattle.blif_says.specs.Grouped.{model_of, models_seen}
 use Rattle.blif_walk.proofs.Items.{drop_item}
 use Rattle.blif_walk.proofs.NameSets.{taken_found}
-use Rattle.blif_ports.proofs.FirstLines.{none_left}
+use Rattle.std.proofs.Math.Bool.{or-false}
 
 -- one of these models has the name
 abbrev pub is_named : List Model → Name → Bool
@@ -32,22 +32,9 @@ pub two_by : (models : List Model) → first_after second_fault [] models ≡ tw
 unfolding two_models
 two_by models = refl
 
-pub bytes_eq-sym : (a b : Name) → bytes_eq a b ≡ bytes_eq b a
-bytes_eq-sym a b = by_cases (bytes_eq a b) (bytes_eq b a) refl refl
-  where
-    by_cases : (p q : Bool) → bytes_eq a b ≡ p → bytes_eq b a ≡ q → p ≡ q
-    by_cases true true e f = refl
-    by_cases false false e f = refl
-    by_cases true false e f = sym (is_same a) ∙ ap (λ (x : Name). bytes_eq x a) (same_name a b e) ∙ f
-    by_cases false true e f = sym e ∙ ap (λ (x : Name). bytes_eq x b) (sym (same_name b a f)) ∙ is_same b
-
-or_end : (b : Bool) → (b || false) ≡ b
-or_end true = refl
-or_end false = refl
-
 -- a name is among those with one more where it was, or is the one more
 pub added_found : (seen : List Name) (name q : Name) → is_one_of (with_name seen name) q ≡ (is_one_of seen q || bytes_eq q name)
-added_found seen name q = taken_found seen (name ∷ []) q ∙ ap (λ b. is_one_of seen q || b) (or_end (bytes_eq q name))
+added_found seen name q = taken_found seen (name ∷ []) q ∙ ap (λ b. is_one_of seen q || b) (or-false (bytes_eq q name))
 
 module _ (lines : List ModelLines) (i : ℕ) (x : ModelLines) (h : i < length lines) (is : x ≡ get_or lines i x) where
   one_behind : models_seen (take (i + 1) lines) ≡ models_seen (take i lines) ++ model_of x ∷ []
@@ -60,7 +47,7 @@ module _ (lines : List ModelLines) (i : ℕ) (x : ModelLines) (h : i < length li
       ap (λ (names : List Name). is_one_of names q) e ∙ added_found old x.name.now q
       ∙ rw (same q, bytes_eq-sym q x.name.now) (sym (ap (λ (ms : List Model). is_named ms q) one_behind
       ∙ list_any-append (λ (m : Model). bytes_eq m.name q) (models_seen (take i lines)) (model_of x ∷ [])
-      ∙ ap (λ b. is_named (models_seen (take i lines)) q || b) (or_end (bytes_eq x.name.now q))))
+      ∙ ap (λ b. is_named (models_seen (take i lines)) q || b) (or-false (bytes_eq x.name.now q))))
 
   step : first_after second_fault (models_seen (take i lines)) (models_seen (drop i lines))
       ≡ option_or (second_fault (models_seen (take i lines)) (model_of x)) (first_after second_fault (models_seen (take (i + 1) lines)) (models_seen (drop (i + 1) lines)))
@@ -92,4 +79,4 @@ module _ (lines : List ModelLines) (i : ℕ) (x : ModelLines) (h : i < length li
 
 pub second_end : (lines : List ModelLines) (i : ℕ) → length lines ≤ i → first_after second_fault (models_seen (take i lines)) (models_seen (drop i lines)) ≡ None
 unfolding first_after
-second_end lines i h = ap (λ (ms : List ModelLines). first_after second_fault (models_seen (take i lines)) (models_seen ms)) (none_left lines i h)
+second_end lines i h = ap (λ (ms : List ModelLines). first_after second_fault (models_seen (take i lines)) (models_seen ms)) (drop_all i lines h)

@@ -1,6 +1,6 @@
 -- The rows below a line, line by line.
 use Rattle.std.proofs.Common.{◌≡◌, ◌+◌, ◌<◌, ◌≤◌, ℕ, zero, suc, true, false, cond, not, List, [], ◌∷◌, ◌++◌, refl, ap, sym, ◌∙◌, append_assoc, length, drop, get_or, map, arith}
-use Rattle.std.proofs.lemmas.List.{append-nil, map-append}
+use Rattle.std.proofs.lemmas.List.{append-nil, map-append, drop_all}
 use Rattle.std.proofs.lemmas.List.Elements.{filter-append}
 use Rattle.circuit.specs.declared.parts.Lit.{Lit}
 use Rattle.circuit.specs.declared.parts.NetId.{NetId}
@@ -10,7 +10,8 @@ use Rattle.blif_text.specs.declared.token.Token.{Token}
 use Rattle.blif_text.specs.Read.{line_of}
 use Rattle.std.specs.Borrow.{Bor}
 use Rattle.blif_model.specs.Models.{rows_below, rows_from}
-use Rattle.blif_model.specs.Net.{lits_of, net_id}
+use Rattle.blif_model.specs.Net.{lits_of}
+use Rattle.net_names.specs.Nets.{net_id}
 use Rattle.blif_model.specs.Statement.{statement_of, texts}
 use Rattle.blif_says.specs.declared.says.Says.{Says}
 use Rattle.blif_says.specs.declared.says.Says.TheVariants.{Model, Inputs, Outputs, Clock, Table, Latch, Instance, End, Row, Passed, Unnamed, Wrong}
@@ -23,16 +24,10 @@ below_more : (line : TextLine) (lines : List TextLine) → rows_below (all_said 
 unfolding rows_below
 below_more line lines = refl
 
-pub none_left : {X : Type 0} (xs : List X) (i : ℕ) → length xs ≤ i → drop i xs ≡ []
-none_left [] zero h = refl
-none_left [] (suc i) h = refl
-none_left (x ∷ xs) zero h = absurd (omega arith)
-none_left (x ∷ xs) (suc i) h = none_left xs i (omega arith)
-
 -- no line, no row
 pub below_end : (lines : List TextLine) (i : ℕ) → length lines ≤ i → rows_below (all_said (drop i lines)) ≡ []
 unfolding rows_below
-below_end lines i h = ap (λ (more : List TextLine). rows_below (all_said more)) (none_left lines i h)
+below_end lines i h = ap (λ (more : List TextLine). rows_below (all_said more)) (drop_all i lines h)
 
 -- the rows from a line on, by what it says
 pub below_says : (lines : List TextLine) (i : ℕ) (x : TextLine) (says known : Says) → i < length lines → x ≡ get_or lines i x → meant says ≡ statement_of (texts (line_of x)) → says ≡ known
@@ -87,4 +82,4 @@ input_step left_out nets inputs new names i name all h is e inv =
 pub input_end : (left_out nets : List Name) (inputs all : List NetId) (names : List Name) (i : ℕ) → length names ≤ i
     → inputs ++ map (net_id nets) (unclocked_by left_out (drop i names)) ≡ all → inputs ≡ all
 input_end left_out nets inputs all names i h inv =
-    sym (append-nil inputs) ∙ ap (λ (rest : List Name). inputs ++ map (net_id nets) (unclocked_by left_out rest)) (sym (none_left names i h)) ∙ inv
+    sym (append-nil inputs) ∙ ap (λ (rest : List Name). inputs ++ map (net_id nets) (unclocked_by left_out rest)) (sym (drop_all i names h)) ∙ inv

@@ -7,11 +7,13 @@ use Rattle.circuit.specs.declared.parts.Driver.{Driver}
 use Rattle.circuit.specs.declared.parts.NetId.{NetId}
 use Rattle.fm_base.specs.Names.{Name, is_one_of}
 use Rattle.blif_model.specs.Walk.{Step, is_clock, nets_of}
-use Rattle.blif_model.specs.Net.{net_id, circuit_of}
+use Rattle.blif_model.specs.Net.{circuit_of}
+use Rattle.net_names.specs.Nets.{net_id}
 use Rattle.blif_walk.specs.Numbers.{add_name, names_by, owned_texts}
 use Rattle.blif_walk.specs.declared.numbers.Sort.TheVariants.{Clock, Output}
 use Rattle.blif_walk.proofs.NameSets.{taken_found, clocks_all}
-use Rattle.blif_reader.specs.Parts.{Parts, no_parts, put_steps, drivers_by}
+use Rattle.net_names.specs.Drivers.{drivers_by}
+use Rattle.blif_reader.specs.Parts.{Parts, no_parts, put_steps}
 use Rattle.blif_reader.specs.Ready.{IsReady}
 use Rattle.blif_reader.proofs.Places.{outputs_taken}
 use Rattle.blif_reader.proofs.Taken.{circuit_by, few_driven, netlist-made, parts-made}
@@ -35,7 +37,7 @@ module _ (steps : List Step) (ready : IsReady steps) (p : Parts) (nets left_out 
 
   -- the netlist of its parts
   pub built : (keys : List (Vec ℕ Global)) (names left outputs : List Name) (count : ℕ) (drivers : List Driver) (ids : List NetId)
-      → nets ≡ owned_texts keys → count ≡ length keys → drivers ≡ drivers_by p count → names ≡ owned_texts keys → left ≡ [] → outputs ≡ taken_names left (names_by Output steps)
+      → nets ≡ owned_texts keys → count ≡ length keys → drivers ≡ drivers_by p.inputs p.table_nets p.latch_nets count → names ≡ owned_texts keys → left ≡ [] → outputs ≡ taken_names left (names_by Output steps)
       → ids ≡ map (net_id nets) outputs
       → circuit_by names drivers p.tables p.latches p.inputs ids ≡ circuit_of steps
   built keys names left outputs count drivers ids texts counted by named none out numbered =

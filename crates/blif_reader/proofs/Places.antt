@@ -11,22 +11,17 @@ use Rattle.fm_base.specs.Names.{Name, distinct}
 use Rattle.fm_base.proofs.Distinct.{distinct-snoc, distinct-found}
 use Rattle.blif_model.specs.Walk.{Step, outputs_at}
 use Rattle.blif_model.specs.Net.{output_names_of}
-use Rattle.blif_model.proofs.Times.{place, same_turned}
+use Rattle.net_names.proofs.Times.{place, place-of-key}
 use Rattle.fm_base.specs.Lists.{firsts}
 use Rattle.blif_walk.specs.declared.numbers.Sort.TheVariants.{Output}
 use Rattle.blif_walk.specs.Numbers.{add_name, names_by, owned_texts}
-
--- the place of a name in a set is its place among the texts
-place_of_key : (keys : List (Vec ℕ Global)) (name : Name) → position_or_len (λ (v : Vec ℕ Global). bytes_eq name v.items) keys ≡ place (owned_texts keys) name
-place_of_key [] name = refl
-place_of_key (v ∷ vs) name = rw (same_turned name v.items) (ap (λ n. cond (not (bytes_eq v.items name)) (1 + n) 0) (place_of_key vs name))
 
 -- the index that is found, or the number of keys
 pub found_index : (keys : List (Vec ℕ Global)) (name : Name) (o : Option ℕ) → o ≡ position (λ (v : Vec ℕ Global). bytes_eq name v.items) keys
     → option_map_or (λ k. k) o (length keys) ≡ place (owned_texts keys) name
 found_index keys name o e =
     ap (λ (p : Option ℕ). option_map_or (λ k. k) p (length keys)) e
-    ∙ by_cases (nat_lt (position_or_len test keys) (length keys)) refl ∙ place_of_key keys name
+    ∙ by_cases (nat_lt (position_or_len test keys) (length keys)) refl ∙ place-of-key (λ (v : Vec ℕ Global). v.items) keys name
   where
     test : Vec ℕ Global → Bool
     test v = bytes_eq name v.items

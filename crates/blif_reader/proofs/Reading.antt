@@ -18,8 +18,8 @@ use Rattle.blif_model.specs.Walk.{walk, nets_of}
 use Rattle.blif_model.specs.WalkFault.{walk_fault}
 use Rattle.blif_model.specs.Net.{bad_net, circuit_of, netlist_of, netlist_unless}
 use Rattle.blif_model.proofs.Answer.{netlist-refused}
-use Rattle.blif_model.proofs.FileNetlist.{no_answers, unfaulted-netlist, walk_unfaulted}
-use Rattle.blif_walk.proofs.FirstPlaces.{none_from}
+use Rattle.net_names.proofs.Answers.{gives_same}
+use Rattle.blif_model.proofs.FileNetlist.{unfaulted-netlist, walk_unfaulted}
 use Rattle.blif_ports.proofs.Bindings.{skip, stop}
 use Rattle.blif_says.specs.Answer.{models_read}
 use Rattle.blif_says.proofs.Answered.{lines-refused, models-taken}
@@ -29,12 +29,7 @@ use Rattle.fm_base.specs.declared.refusal.Refusal.{Refusal}
 use Rattle.fm_base.specs.declared.refusal.Refusal.TheVariants.{Fault, Memory}
 use Rattle.blif_reader.specs.Stages.{GiveSound, WalkSound, models_give, unwalked_fault, walk_gives, ModelsGive, WalkGives}
 use Rattle.blif_reader.specs.Ready.{IsReady}
-
--- the answer to an equal question
-gives_same : (a b : Result Circuit NetlistFault) (r : Result Circuit (Refusal NetlistFault)) → a ≡ b → Gives b r → Gives a r
-gives_same a b (Ok c) e gives = e ∙ gives
-gives_same a b (Err (Fault fault)) e gives = e ∙ gives
-gives_same a b (Err Memory) e gives = gives
+use Rattle.fm_base.proofs.Options.{or_none, none_from, none_both}
 
 -- ---- the walk
 
@@ -69,10 +64,6 @@ module _ (models : List Model) (line : ℕ) where
         record { once = none.drivers; driven = none.driven; few = few; sound = sound few (sym e) }
 
 -- ---- the models
-
-or_none : {X : Type 0} (o : Option X) → option_or o None ≡ o
-or_none None = refl
-or_none (Some x) = refl
 
 -- too many nets come behind all else
 apart : (a b c d r t : Option NetlistFault) (large nets : Bool) (f : NetlistFault)
@@ -112,7 +103,7 @@ module _ (models : List Model) (port : Option NetlistFault) (e : port ≡ option
 
   module _ (fits : is_some port ≡ false) where
     pub apart_then : two_models models ≡ None
-    apart_then = (no_answers (two_models models) _ (sym e ∙ none_from port fits)).0
+    apart_then = (none_both (two_models models) _ (sym e ∙ none_from port fits)).0
 
     module _ (nest : Option NetlistFault) (f : nest ≡ option_or (recursive models) (too_deep models)) where
       pub nest_first : is_some nest ≡ true → nest ≡ unwalked_fault models

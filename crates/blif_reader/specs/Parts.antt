@@ -1,13 +1,12 @@
 -- The parts of a netlist, taken line by line from the walk.
-use Rattle.std.specs.Prelude.{ℕ, ◌+◌, not, List, [], ◌∷◌, ◌++◌, map, filter, fold, replicate, slice_set}
-use Rattle.circuit.specs.declared.parts.Driver.{Driver}
-use Rattle.circuit.specs.declared.parts.Driver.TheVariants.{Input, Table as FromTable, Latch as FromLatch}
+use Rattle.std.specs.Prelude.{not, List, [], ◌∷◌, ◌++◌, map, filter, fold}
 use Rattle.circuit.specs.declared.parts.NetId.{NetId}
 use Rattle.circuit.specs.declared.parts.Table.{Table}
 use Rattle.circuit.specs.declared.parts.Latch.{Latch}
 use Rattle.fm_base.specs.Names.{Name, is_one_of}
 use Rattle.blif_model.specs.Walk.{Act, FlatLatch, takes, flat_table, flat_latch, Step}
-use Rattle.blif_model.specs.Net.{net_id, lits_of, table_plane}
+use Rattle.blif_model.specs.Net.{lits_of, table_plane}
+use Rattle.net_names.specs.Nets.{net_id}
 
 -- inputs, tables beside their nets, and latches beside theirs
 pub record Parts : Type 0 where
@@ -47,12 +46,3 @@ put_act clocks nets p _ = p
 -- the parts of a walk
 abbrev pub put_steps : List Name → List Name → Parts → List Step → Parts
 put_steps clocks nets p steps = fold (λ q s. put_act clocks nets q s.act) p steps
-
--- nets have drivers that are numbered from n
-abbrev pub put_drivers : (ℕ → Driver) → ℕ → List NetId → List Driver → List Driver
-put_drivers driver n [] drivers = drivers
-put_drivers driver n (id ∷ ids) drivers = put_drivers driver (n + 1) ids (slice_set drivers id.0 (driver n))
-
--- the drivers of so many nets
-abbrev pub drivers_by : Parts → ℕ → List Driver
-drivers_by p count = put_drivers FromLatch 0 p.latch_nets (put_drivers FromTable 0 p.table_nets (put_drivers Input 0 p.inputs (replicate count (Input 0))))

@@ -1,12 +1,12 @@
 // The numbers of nets.
 ghost use Rattle.std.specs.Prelude.{◌≡◌, ◌<◌, ◌^◌, IfOk, length, map};
-ghost use Rattle.blif_model.specs.Net.{net_id};
+ghost use Rattle.net_names.specs.Nets.{net_id};
 ghost use Rattle.blif_walk.specs.Numbers.{owned_texts};
 
-use blif_walk::text::own_name;
 use circuit::parts::{NetId, NetIds};
 use fm_list::{Name, Names, Seq};
 use indexmap::IndexSet;
+use net_names::copies::own_name;
 use std::alloc::{AllocError, Global};
 
 /// The number of the net of a name, or the number of nets.

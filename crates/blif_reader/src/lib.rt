@@ -2,7 +2,6 @@
 #![tactic(auto)]
 
 mod counts;
-mod drivers;
 mod ids;
 mod netlist;
 mod parts;

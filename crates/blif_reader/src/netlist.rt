@@ -6,13 +6,13 @@ ghost use Rattle.blif_walk.specs.Numbers.{add_name, names_by, owned_texts};
 ghost use Rattle.blif_walk.specs.declared.numbers.Sort.TheVariants.{Clock};
 ghost use Rattle.blif_reader.specs.Ready.{IsReady};
 
-use crate::drivers::drivers_of;
 use crate::ids::{ids_of_keys, owned_names};
 use crate::parts::{NetParts, take_parts};
 use blif_walk::numbers::{Sort, name_set};
 use blif_walk::table::ModelTable;
 use circuit::netlist::Netlist;
 use indexmap::IndexSet;
+use net_names::drivers::drivers_of;
 use std::alloc::{AllocError, Global};
 
 /// The netlist of a walk without faults. `clocks` has its clock names, and `nets` its nets in their order.
@@ -30,7 +30,13 @@ pub fn walk_netlist(
     let none = IndexSet::new(alloc);
     let output_names = name_set(alloc, models, Sort::Output, &none)?;
     let parts = take_parts(alloc, models, clocks, nets)?;
-    let drivers = drivers_of(alloc, &parts, nets.len())?;
+    let drivers = drivers_of(
+        alloc,
+        parts.inputs.as_slice(),
+        parts.table_nets.as_slice(),
+        parts.latch_nets.as_slice(),
+        nets.len(),
+    )?;
     let names = owned_names(alloc, nets.as_slice())?;
     let outputs = ids_of_keys(alloc, nets, output_names.as_slice())?;
     let NetParts {

@@ -1,7 +1,7 @@
 // The parts of a netlist, taken from the walk.
 ghost use Rattle.std.specs.Prelude.{◌≡◌, ◌∷◌, [], ◌++◌, ◌<◌, ◌^◌, IfOk, OnOk, length, map};
 ghost use Rattle.blif_model.specs.Models.{rows_below};
-ghost use Rattle.blif_model.specs.Net.{net_id};
+ghost use Rattle.net_names.specs.Nets.{net_id};
 ghost use Rattle.blif_model.specs.Walk.{walk};
 ghost use Rattle.blif_says.specs.Grouped.{all_said};
 ghost use Rattle.blif_walk.specs.Numbers.{owned_texts};

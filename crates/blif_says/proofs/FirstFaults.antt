@@ -2,7 +2,7 @@
 use Rattle.std.proofs.Common.{◌≡◌, ℕ, ◌+◌, ◌<◌, ◌≤◌, Bool, List, [], ◌∷◌, ◌++◌, refl, ap, sym, ◌∙◌, length, take, drop, get_or, drop-cons, add-one}
 use Rattle.std.specs.Prelude.{Option, Some, None}
 use Rattle.std.specs.Option.{option_map}
-use Rattle.std.proofs.lemmas.List.{map_more}
+use Rattle.std.proofs.lemmas.List.{map_more, drop_all}
 use Rattle.fm_base.specs.Firsts.{first_after}
 use Rattle.fm_base.proofs.OnePass.{first_after-later, first_after-here}
 use Rattle.blif_text.specs.declared.NetlistKind.{NetlistKind}
@@ -10,7 +10,6 @@ use Rattle.blif_text.specs.declared.NetlistFault.{NetlistFault}
 use Rattle.blif_text.specs.declared.lines.TextLine.{TextLine}
 use Rattle.blif_text.specs.Lines.{is_wide}
 use Rattle.blif_text.specs.Read.{line_of}
-use Rattle.blif_text.proofs.Told.{nothing_behind}
 use Rattle.blif_model.specs.Statement.{Statement, statement_of, texts}
 use Rattle.blif_model.specs.LineFault.{Said, said, at_line, kind_of, fault_of}
 use Rattle.blif_says.specs.Grouped.{all_said}
@@ -65,7 +64,7 @@ pub fault_nowhere : (lines : List TextLine) (i : ℕ) (all : Option NetlistFault
     → first_after fault_of (all_said (take i lines)) (all_said (drop i lines)) ≡ all → None ≡ all
 unfolding first_after
 fault_nowhere lines i all h told =
-    let none : None ≡ first_after fault_of (all_said (take i lines)) (all_said (drop i lines)) = rw (nothing_behind lines i h) refl in
+    let none : None ≡ first_after fault_of (all_said (take i lines)) (all_said (drop i lines)) = rw (drop_all i lines h) refl in
     none ∙ told
 
 -- where the next line stands

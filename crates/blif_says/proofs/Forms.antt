@@ -2,14 +2,13 @@
 use Rattle.std.proofs.Common.{◌≡◌, ℕ, ◌+◌, ◌-◌, ◌<◌, ◌≤◌, List, [], ◌∷◌, ◌++◌, refl, ap, sym, ◌∙◌, length, take, drop, get_or, arith}
 use Rattle.std.specs.List.{position_or_len}
 use Rattle.std.proofs.Math.Seq.{take-length}
-use Rattle.std.proofs.lemmas.List.{take_rest, take_more, map-append}
+use Rattle.std.proofs.lemmas.List.{take_rest, take_more, map-append, drop_all}
 use Rattle.fm_base.specs.Names.{Name}
 use Rattle.blif_model.specs.Statement.{binding_of, is_equals, table, table_line, with_input}
 use Rattle.blif_text.specs.declared.token.Token.{Token}
 use Rattle.blif_text.specs.declared.lines.TextLine.{TextLine}
 use Rattle.blif_text.specs.Lines.{Piece}
 use Rattle.blif_text.specs.Read.{line_of}
-use Rattle.blif_text.proofs.Told.{nothing_behind}
 use Rattle.blif_model.specs.Statement.{texts}
 use Rattle.std.proofs.lemmas.Simd.{map-map}
 use Rattle.blif_says.specs.Tokens.{texts_of}
@@ -23,8 +22,8 @@ pair_at text k e = rw (take_rest text (k + 1), e) refl
 pub pair_whole : (text : List ℕ) → length text ≡ position_or_len is_equals text
     → record { formal = text; actual = take (length text - length text) (drop (length text) text) } ≡ binding_of text
 pair_whole text e =
-    let behind : drop (position_or_len is_equals text + 1) text ≡ [] = nothing_behind text (position_or_len is_equals text + 1) (omega arith) in
-    let here : take (length text - length text) (drop (length text) text) ≡ [] = take_rest text (length text) ∙ nothing_behind text (length text) (omega arith) in
+    let behind : drop (position_or_len is_equals text + 1) text ≡ [] = drop_all (position_or_len is_equals text + 1) text (omega arith) in
+    let here : take (length text - length text) (drop (length text) text) ≡ [] = take_rest text (length text) ∙ drop_all (length text) text (omega arith) in
     let whole : take (position_or_len is_equals text) text ≡ text = ap (λ n. take n text) (sym e) ∙ take-length text in
     rw (here, behind, whole) refl
 

@@ -16,16 +16,13 @@ use Rattle.blif_model.specs.Models.{Model, ends_model, model_from, models_of, fi
 use Rattle.blif_says.specs.Answer.{models_unless, models_read}
 use Rattle.blif_says.specs.Grouped.{all_said}
 use Rattle.blif_says.proofs.FirstFaults.{said_of}
-
-position-map : {X Y : Type 0} (p : Y → Bool) (h : X → Y) (xs : List X) → position_or_len p (map h xs) ≡ position_or_len (λ x. p (h x)) xs
-position-map p h [] = refl
-position-map p h (x ∷ xs) = ap (λ n. cond (not (p (h x))) (1 + n) 0) (position-map p h xs)
+use Rattle.fm_base.proofs.Finding.{position_or_len-map}
 
 -- the lines of a model up to its end
 pub part_is : (below : List TextLine) (n : ℕ) → n ≡ position_or_len (λ l. ends_model (said_of l).says) below
     → all_said (take n below) ≡ before_first (λ line. ends_model line.says) (all_said below)
 part_is below n e =
-    sym (take-map said_of n below) ∙ ap (λ k. take k (all_said below)) (e ∙ sym (position-map (λ (line : Said). ends_model line.says) said_of below))
+    sym (take-map said_of n below) ∙ ap (λ k. take k (all_said below)) (e ∙ sym (position_or_len-map (λ (line : Said). ends_model line.says) said_of below))
 
 -- one line is done
 pub group_step : (done now all : List Model) (rest below : List TextLine) (line : TextLine) → rest ≡ line ∷ below

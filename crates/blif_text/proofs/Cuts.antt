@@ -10,7 +10,7 @@ use Rattle.blif_text.specs.Lines.{Piece, Line, pieces, placed, join, joined, is_
 use Rattle.blif_text.specs.Read.{grown_line}
 use Rattle.blif_text.specs.Left.{resume, lines_left}
 
-split_whole : (p : ℕ → Bool) (xs : List ℕ) → position_or_len p xs ≡ length xs → slice_split p xs ≡ xs ∷ []
+pub split_whole : (p : ℕ → Bool) (xs : List ℕ) → position_or_len p xs ≡ length xs → slice_split p xs ≡ xs ∷ []
 split_whole p [] e = refl
 split_whole p (x ∷ xs) e = by_cases (p x) refl e (split_whole p xs)
   where

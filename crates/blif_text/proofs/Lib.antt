@@ -1,5 +1,4 @@
 pub mod Slices
 pub mod Cuts
 pub mod FirstBytes
-pub mod Anys
 pub mod Told

@@ -92,7 +92,7 @@ inked_front text = by_cases (is_joined text)
     by_cases true = front_of_front (take (length (bare text) - 1) (bare text)) (bare text) text (front_of_take (length (bare text) - 1) (bare text)) (bare_front text)
     by_cases false = bare_front text
 
-all-filter : {X : Type 0} (P : X → Type 0) (test : X → Bool) (xs : List X) → AllByRecursion P xs → AllByRecursion P (filter test xs)
+pub all-filter : {X : Type 0} (P : X → Type 0) (test : X → Bool) (xs : List X) → AllByRecursion P xs → AllByRecursion P (filter test xs)
 all-filter P test [] all = tt
 all-filter {X} P test (x ∷ xs) all = by_cases (test x) (all-filter P test xs all.1)
   where

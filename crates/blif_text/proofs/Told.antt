@@ -10,13 +10,7 @@ use Rattle.blif_text.specs.declared.span.LogicalLine.{LogicalLine}
 use Rattle.blif_text.specs.Lines.{is_wide, lines_of, wide_at, wide_line}
 use Rattle.blif_text.specs.Read.{line_of, lines_seen, piece_of}
 use Rattle.blif_text.specs.Spans.{lines_read, lines_unless, span_of, spanned}
-
--- nothing stands behind the end of a list
-pub nothing_behind : {X : Type 0} (xs : List X) (n : ℕ) → length xs ≤ n → drop n xs ≡ []
-nothing_behind [] zero h = refl
-nothing_behind [] (suc n) h = refl
-nothing_behind (x ∷ xs) zero h = absurd (omega arith)
-nothing_behind (x ∷ xs) (suc n) h = nothing_behind xs n (omega arith)
+use Rattle.std.proofs.lemmas.List.{drop_all}
 
 -- the lines from here on begin with this one
 from_here : (lines : List TextLine) (i : ℕ) (line : TextLine) → i < length lines → line ≡ get_or lines i line
@@ -45,7 +39,7 @@ wide_later lines i line all h e w told =
 pub wide_nowhere : (lines : List TextLine) (i : ℕ) (all : Option ℕ) → length lines ≤ i → first_where wide_at (lines_seen (drop i lines)) ≡ all → None ≡ all
 unfolding first_where
 wide_nowhere lines i all h told =
-    let none : None ≡ first_where wide_at (lines_seen (drop i lines)) = rw (nothing_behind lines i h) refl in
+    let none : None ≡ first_where wide_at (lines_seen (drop i lines)) = rw (drop_all i lines h) refl in
     none ∙ told
 
 -- a line with the places of its tokens, as it is read

@@ -14,6 +14,8 @@ use Rattle.blif_model.proofs.Drivers.{names_at-names}
 use Rattle.blif_walk.specs.declared.numbers.Sort.{Sort}
 use Rattle.blif_walk.specs.declared.numbers.Sort.TheVariants.{Visited, Clock}
 use Rattle.blif_walk.specs.Numbers.{add_name, named, names_by, owned_texts}
+use Rattle.std.proofs.Math.Bool.{or-false, or_assoc}
+use Rattle.fm_base.proofs.Finding.{list_any-map}
 
 -- the names of a sort: those of a step come before those of the steps behind it
 pub names_more : (sort : Sort) (s : Step) (steps : List Step) → names_by sort (s ∷ steps) ≡ named sort s.act ++ names_by sort steps
@@ -41,33 +43,25 @@ pub fold_front : {X Y : Type 0} (f : Y → X → Y) (y : Y) (xs more : List X) �
 fold_front f y [] more = refl
 fold_front f y (x ∷ xs) more = fold_front f (f y x) xs more
 
-or_end : (b : Bool) → (b || false) ≡ b
-or_end true = refl
-or_end false = refl
-
-or_front : (a b c : Bool) → ((a || b) || c) ≡ (a || (b || c))
-or_front true b c = refl
-or_front false b c = refl
-
 -- a name is among those with one more where it was, or is the one more
 added_found : (seen : List Name) (name q : Name) → is_one_of (add_name [] seen name) q ≡ (is_one_of seen q || bytes_eq q name)
 added_found seen name q = by_cases (is_one_of seen name) refl
   where
     there : (same : Bool) → bytes_eq q name ≡ same → is_one_of seen name ≡ true → is_one_of seen q ≡ (is_one_of seen q || same)
     there true f e = let here : is_one_of seen q ≡ true = ap (is_one_of seen) (same_name q name f) ∙ e in rw here refl
-    there false f e = sym (or_end (is_one_of seen q))
+    there false f e = sym (or-false (is_one_of seen q))
 
     by_cases : (b : Bool) → is_one_of seen name ≡ b → is_one_of (cond b seen (seen ++ name ∷ [])) q ≡ (is_one_of seen q || bytes_eq q name)
     by_cases true e = there (bytes_eq q name) refl e
-    by_cases false e = list_any-append (bytes_eq q) seen (name ∷ []) ∙ ap (λ b. is_one_of seen q || b) (or_end (bytes_eq q name))
+    by_cases false e = list_any-append (bytes_eq q) seen (name ∷ []) ∙ ap (λ b. is_one_of seen q || b) (or-false (bytes_eq q name))
 
 -- a name is among those taken where it is among the names
 pub taken_found : (seen names : List Name) (q : Name) → is_one_of (fold (add_name []) seen names) q ≡ (is_one_of seen q || is_one_of names q)
-taken_found seen [] q = sym (or_end (is_one_of seen q))
+taken_found seen [] q = sym (or-false (is_one_of seen q))
 taken_found seen (name ∷ names) q =
     taken_found (add_name [] seen name) names q
     ∙ ap (λ b. b || is_one_of names q) (added_found seen name q)
-    ∙ or_front (is_one_of seen q) (bytes_eq q name) (is_one_of names q)
+    ∙ or_assoc (is_one_of seen q) (bytes_eq q name) (is_one_of names q)
 
 -- the nets, name by name
 pub nets_fold : (steps : List Step) (left_out done names : List Name) → ((q : Name) → is_one_of left_out q ≡ is_clock steps q)
@@ -93,11 +87,6 @@ nets_all steps left_out e =
     ap (λ (names : List Name). fold (add_name left_out) [] names) (visited_all steps)
     ∙ nets_fold steps left_out [] (map (λ (v : Visit). v.name) (visits_of steps))
     (λ q. ap (λ names. is_one_of names q) e ∙ taken_found [] (names_by Clock steps) q ∙ ap (λ (names : List Name). is_one_of names q) (clocks_all steps))
-
--- the texts of a set
-list_any-map : {X Y : Type 0} (p : Y → Bool) (f : X → Y) (xs : List X) → list_any p (map f xs) ≡ list_any (λ x. p (f x)) xs
-list_any-map p f [] = refl
-list_any-map p f (x ∷ xs) = ap (λ b. p (f x) || b) (list_any-map p f xs)
 
 pub held : (names : List (Vec ℕ Global)) (name : Name) → is_one_of (owned_texts names) name ≡ list_any (λ v. bytes_eq name v.items) names
 held names name = list_any-map (bytes_eq name) (λ (v : Vec ℕ Global). v.items) names

@@ -5,16 +5,7 @@ use Rattle.std.specs.Option.{option_map, option_map_or}
 use Rattle.fm_base.specs.Names.{Name}
 use Rattle.blif_model.specs.Walk.{Bound, inside, net_of}
 use Rattle.blif_walk.specs.declared.bound.BoundNet.{BoundNet}
-
--- the first of the images is the image of the first
-pub find-map : {X Y : Type 0} (p : Y → Bool) (f : X → Y) (xs : List X) → find p (map f xs) ≡ option_map f (find (λ x. p (f x)) xs)
-find-map p f [] = refl
-find-map {X} {Y} p f (x ∷ xs) = by_cases (p (f x)) (find-map p f xs)
-  where
-    by_cases : (b : Bool) → find p (map f xs) ≡ option_map f (find (λ x. p (f x)) xs)
-        → cond b (Some (f x)) (find p (map f xs)) ≡ option_map f (cond b (Some x) (find (λ y. p (f y)) xs))
-    by_cases true e = refl
-    by_cases false e = e
+use Rattle.fm_base.proofs.Finding.{find-map}
 
 -- the net that is bound to a formal, through what is seen of the pairs
 pub net_found : (bound : List BoundNet) (name : Name)

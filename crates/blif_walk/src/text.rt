@@ -8,14 +8,8 @@ use crate::frames::Place;
 use blif_text::token::Token;
 use fm_list::{Name, Names, Seq};
 use itoa::Buffer;
+use net_names::copies::own_name;
 use std::alloc::{AllocError, Global};
-
-/// A name of its own.
-pub fn own_name(alloc: Global, text: &[u8]) -> Result<Name, AllocError>
-    ensures { IfOk result (λ n. n ≡ text.now) }
-{
-    Ok(Seq::from_vec(Vec::from_slice(alloc, text)?))
-}
 
 /// Three texts as one name.
 pub fn joined_name(

@@ -14,7 +14,7 @@ use Rattle.campaign_board.specs.Boards.{Start, AreEntries, batches_of, next_row}
 use Rattle.campaign_board.specs.Kept.{AreRows, Seen}
 use Rattle.campaign_board.specs.Missing.{IsMissing, number_of, batch_numbered, added_rows, numbers_of, batches_with}
 use Rattle.campaign_board.specs.Headed.{IsHeaded}
-use Rattle.campaign_board.proofs.Distinct.{once_few}
+use Rattle.fm_base.proofs.SumsBelow.{once_few}
 use Rattle.campaign_board.proofs.Adding.{rows_push}
 use Rattle.campaign_board.proofs.Numbering.{batch_back, same_number}
 

@@ -15,7 +15,7 @@ use Rattle.campaign_board.specs.declared.entry.Entry.{Entry}
 use Rattle.fm_base.specs.Once.{Lacks, IsOnce}
 use Rattle.campaign_board.specs.Boards.{Start, AreEntries, entry_of, batches_of, sums_over, row_with, row_due, next_row, row_at_place, text_of}
 use Rattle.campaign_board.specs.Kept.{AreRows}
-use Rattle.campaign_board.proofs.Distinct.{once_le, once_few, sum_up-list}
+use Rattle.fm_base.proofs.SumsBelow.{once_le, once_few, sum_up-list}
 use Rattle.fm_base.proofs.OnceLists.{once_push}
 
 -- the sums over distinct batches are small

@@ -11,7 +11,7 @@ use Rattle.fm_base.specs.Once.{Lacks}
 use Rattle.campaign_board.specs.Boards.{Start, batches_of, sums_over, next_row, text_of}
 use Rattle.campaign_board.specs.Kept.{AreRows, IsTorn, IsBoard, IsStart, IsWhole, IsHeaderTorn}
 use Rattle.campaign_board.specs.Posts.{sums_at_end}
-use Rattle.campaign_board.proofs.Distinct.{once_few}
+use Rattle.fm_base.proofs.SumsBelow.{once_few}
 use Rattle.campaign_board.proofs.Adding.{rows_push, batches_push, text_push}
 
 -- a text and more

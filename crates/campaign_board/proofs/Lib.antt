@@ -1,4 +1,3 @@
-pub mod Distinct
 pub mod Adding
 pub mod Boards
 pub mod Posting

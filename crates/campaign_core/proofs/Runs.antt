@@ -2,7 +2,7 @@
 use Rattle.std.proofs.Common.{◌≡◌, ℕ, ◌+◌, ◌<◌, ◌≤◌, ◌==◌, ◌&&◌, ◌||◌, Bool, true, false, not, cond, nat_lt, List, [], ◌∷◌, ◌++◌, sym, refl, ap, ◌∙◌, subst, arith, append_assoc}
 use Rattle.std.proofs.lemmas.List.{append-nil}
 use Rattle.std.proofs.lemmas.List.Sums.{sum_by-cons, sum_by_push}
-use Rattle.std.proofs.lemmas.Bool.{false≢true}
+use Rattle.std.proofs.lemmas.Bool.{false≢true, and_parts, not-true}
 use Rattle.std.proofs.lemmas.Bool.Decides.{nat_tests}
 use mathlib.Core.List.{IsPrefix}
 use Rattle.metric_sums.specs.declared.Sums.{Sums}
@@ -11,19 +11,6 @@ use Rattle.campaign_core.specs.declared.event.Event.{Event}
 use Rattle.campaign_core.specs.declared.event.Event.TheVariants.{Draw, Post, Look, Fail}
 use Rattle.campaign_core.specs.Machines.{Machine, fresh, is_claimed, is_posted, is_lawful, with_draw, after, after_all, all_lawful, times, times_claimed, once_below}
 use Rattle.campaign_core.specs.Laws.{own, from_scratch, grown}
-
--- the parts of a conjunction
-and_left : (a b : Bool) → (a && b) ≡ true → a ≡ true
-and_left true b e = refl
-and_left false b e = e
-
-and_right : (a b : Bool) → (a && b) ≡ true → b ≡ true
-and_right true b e = e
-and_right false b e = absurd (false≢true e)
-
-not_true : (b : Bool) → not b ≡ true → b ≡ false
-not_true true e = absurd (false≢true e)
-not_true false e = refl
 
 -- how often a number stands in a list that one more was appended to
 times-snoc : (x n : ℕ) (history : List ℕ) → times x (history ++ n ∷ []) ≡ times x history + cond (n == x) 1 0
@@ -35,7 +22,7 @@ claimed-snoc x w n cs = sum_by_push (λ (c : ℕ × ℕ). cond (c.1 == x) 1 0) c
 -- a claim of this worker is a claim
 some_claim : (w n : ℕ) (c : ℕ × ℕ) (cs : List (ℕ × ℕ)) (b : Bool) → ((c.0 == w) && (c.1 == n)) ≡ b → (is_claimed w n cs ≡ true → 0 < times_claimed n cs) → is_claimed w n (c ∷ cs) ≡ true → 0 < times_claimed n (c ∷ cs)
 some_claim w n c cs true is rest h =
-    let here : (c.1 == n) ≡ true = and_right (c.0 == w) (c.1 == n) is in
+    let here : (c.1 == n) ≡ true = (and_parts (c.0 == w) (c.1 == n) is).1 in
     let one : cond {A = ℕ} (c.1 == n) 1 0 ≡ 1 = ap (λ (b : Bool). cond b 1 0) here in
     omega (arith, sum_by-cons (λ (c : ℕ × ℕ). cond (c.1 == n) 1 0) c cs)
 some_claim w n c cs false is rest h =
@@ -77,16 +64,16 @@ post_fits x n m false is h some_claim none_ = omega (arith, h.history x)
 pub good_after : (m : Machine) (e : Event) → Good m → is_lawful m e ≡ true → Good (after m e)
 good_after m (Draw w) h ok = good_draw m w (nat_lt m.next m.limit) h
 good_after m (Post w n) h ok =
-    let first = and_left (is_claimed w n m.claims && not (is_posted n m.history)) (not m.failed) ok in
-    let some_claim = claimed_some w n m.claims (and_left (is_claimed w n m.claims) (not (is_posted n m.history)) first) in
-    let none_ = not_listed n m.history (not_true (is_posted n m.history) (and_right (is_claimed w n m.claims) (not (is_posted n m.history)) first)) in
+    let first = (and_parts (is_claimed w n m.claims && not (is_posted n m.history)) (not m.failed) ok).0 in
+    let some_claim = claimed_some w n m.claims (and_parts (is_claimed w n m.claims) (not (is_posted n m.history)) first).0 in
+    let none_ = not_listed n m.history (not-true (is_posted n m.history) (and_parts (is_claimed w n m.claims) (not (is_posted n m.history)) first).1) in
     record { claims = h.claims; history = λ x. omega (arith, times-snoc x n m.history, post_fits x n m (n == x) refl h some_claim none_) }
 good_after m (Look w) h ok = h
 good_after m (Fail w) h ok = record { claims = h.claims; history = h.history }
 
 pub good_all : (m : Machine) (es : List Event) → Good m → all_lawful m es ≡ true → Good (after_all m es)
 good_all m [] h ok = h
-good_all m (e ∷ es) h ok = good_all (after m e) es (good_after m e h (and_left (is_lawful m e) (all_lawful (after m e) es) ok)) (and_right (is_lawful m e) (all_lawful (after m e) es) ok)
+good_all m (e ∷ es) h ok = good_all (after m e) es (good_after m e h (and_parts (is_lawful m e) (all_lawful (after m e) es) ok).0) (and_parts (is_lawful m e) (all_lawful (after m e) es) ok).1
 
 pub good_fresh : (limit : ℕ) → Good (fresh limit)
 good_fresh limit = record { claims = λ x. grind (arith, nat_tests); history = λ x. omega arith }

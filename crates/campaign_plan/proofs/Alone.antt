@@ -17,14 +17,11 @@ use Rattle.campaign_plan.specs.Batches.{Entry, class_in_lane, class_of_fault, cl
 use Rattle.campaign_plan.specs.Danger.{is_dangerous, is_noticed}
 use Rattle.campaign_plan.specs.Laws.{FaultsAreClassedAlone, SumsAreOfFaults, TrueSumsAreOfFaultsAlone, class_alone, fault_share}
 use Rattle.campaign_plan.specs.Weights.{weight}
-use Rattle.campaign_plan.proofs.Small.{blocks, cut, cut_is, sum_by-map}
-use Rattle.campaign_plan.proofs.SumsBelow.{sum_up, sum_up-zero, sum_up-push, sum_by-below, sum_by-filter, where_true}
+use Rattle.campaign_plan.proofs.Small.{blocks, cut, cut_is}
+use Rattle.fm_base.proofs.SumsBelow.{sum_up, sum_up-zero, sum_up-push, sum_by-below, sum_by-filter, where_true, sum_by-map}
+use Rattle.fault_list.proofs.Numbers.{lane_back}
 
 -- ---- places
-
--- fault i stands in lane i mod 64 of batch i / 64
-placed : (i : ℕ) → fault_number (i / 64) (i % 64) ≡ i
-placed i = div-add-mod i 64
 
 lane_small : (i : ℕ) → i % 64 < 64
 lane_small i = mod-lt i (omega arith)
@@ -47,7 +44,7 @@ used_bit : (used test : ℕ → Bool) (k : ℕ) → k < 64 → used k ≡ true �
 used_bit used test k lt u = bit-plane_of (λ j. used j && test j) k lt ∙ ap (λ b. b && test k) u
 
 in_use : (p : Analysis) (i : ℕ) → i < fault_count p → is_used (fault_count p) (i / 64) (i % 64) ≡ true
-in_use p i lt = rw (placed i) (grind (arith, lt))
+in_use p i lt = rw (lane_back i) (grind (arith, lt))
 
 danger_bit : (p : Analysis) (i : ℕ) → i < fault_count p
     → bit (true_planes p (i / 64)).danger (i % 64) ≡ is_dangerous p.circuit p.points p.settings.ftti p.runs (fault_numbered p i ∷ [])
@@ -56,7 +53,7 @@ danger_bit p i lt =
     used_bit (is_used (fault_count p) (i / 64))
     (λ k. is_dangerous p.circuit p.points p.settings.ftti p.runs (fault_at (all_faults p) (fault_number (i / 64) k) ∷ []))
     (i % 64) (lane_small i) (in_use p i lt)
-    ∙ ap (λ n. is_dangerous p.circuit p.points p.settings.ftti p.runs (fault_at (all_faults p) n ∷ [])) (placed i)
+    ∙ ap (λ n. is_dangerous p.circuit p.points p.settings.ftti p.runs (fault_at (all_faults p) n ∷ [])) (lane_back i)
 
 notice_bit : (p : Analysis) (i : ℕ) → i < fault_count p
     → bit (true_planes p (i / 64)).noticed (i % 64) ≡ is_noticed p.circuit p.points p.runs (fault_numbered p i ∷ [])
@@ -65,11 +62,11 @@ notice_bit p i lt =
     used_bit (is_used (fault_count p) (i / 64))
     (λ k. is_noticed p.circuit p.points p.runs (fault_at (all_faults p) (fault_number (i / 64) k) ∷ []))
     (i % 64) (lane_small i) (in_use p i lt)
-    ∙ ap (λ n. is_noticed p.circuit p.points p.runs (fault_at (all_faults p) n ∷ [])) (placed i)
+    ∙ ap (λ n. is_noticed p.circuit p.points p.runs (fault_at (all_faults p) n ∷ [])) (lane_back i)
 
 pub classed_alone : FaultsAreClassedAlone
 classed_alone p i lt =
-    ap (λ n. class_with p n (bit (true_planes p (i / 64)).danger (i % 64)) (bit (true_planes p (i / 64)).noticed (i % 64))) (placed i)
+    ap (λ n. class_with p n (bit (true_planes p (i / 64)).danger (i % 64)) (bit (true_planes p (i / 64)).noticed (i % 64))) (lane_back i)
     ∙ ap₂ (class_with p i) (danger_bit p i lt) (notice_bit p i lt)
 
 -- ---- sums over all batches

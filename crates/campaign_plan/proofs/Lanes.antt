@@ -18,7 +18,7 @@ use Rattle.campaign_plan.specs.Batches.{own_sums, lane_sums, class_with, class_i
 use Rattle.campaign_plan.specs.Kept.{IsPlan}
 use Rattle.campaign_plan.specs.Weights.{weight}
 use Rattle.campaign_plan.proofs.Small.{cut, cut_is, weights_small}
-use Rattle.campaign_plan.proofs.SumsBelow.{sum_up, sum_up-mono, sum_up-split, sum_by-below, sum_by-filter, where_true}
+use Rattle.fm_base.proofs.SumsBelow.{sum_up, sum_up-mono, sum_up-split, sum_by-below, sum_by-filter, where_true}
 
 -- the lanes below m that hold faults
 abbrev lanes_below : Analysis → ℕ → ℕ → List ℕ

@@ -5,6 +5,5 @@ pub mod Refusing
 pub mod Running
 pub mod Sharing
 pub mod Small
-pub mod SumsBelow
 pub mod Tabled
 pub mod Weighing

@@ -1,6 +1,6 @@
 -- Counts of faults and shares of rates, one fault after the other.
 use Rattle.std.proofs.Common.{◌≡◌, ◌≢◌, ℕ, zero, suc, ◌+◌, ◌-◌, ◌/◌, ◌%◌, ◌<◌, ◌≤◌, ◌^◌, ◌⊎◌, inl, inr, Bool, true, false, List, [], ◌∷◌, ◌++◌, length, map, take, set, get_or, refl, ap, ap₂, sym, subst, ◌∙◌, arith, add-one, get_or-set_same, get_or-set_other, length-set}
-use Rattle.std.proofs.Math.Bool.{beq}
+use Rattle.std.proofs.Math.Bool.{beq, and-false}
 use Rattle.std.specs.Prelude.{count_by, filter_map, slice_get, Option, Some, None, option_map, if◌then◌else◌, nat_lt, ◌==◌, ◌&&◌}
 use Rattle.std.proofs.lemmas.List.Sums.{count_by_more_no, count_by_more_yes, count_by-le-length, sum_by-take-le, get_or-le-sum_by}
 use Rattle.std.proofs.lemmas.List.{get_or-map, get_or_default, length-take, get_or_append_left, get_or-append_right}
@@ -34,10 +34,6 @@ other_kind true false e = refl
 other_kind false true e = refl
 other_kind false false e = absurd (e refl)
 
-and_no : (b : Bool) → (b && false) ≡ false
-and_no true = refl
-and_no false = refl
-
 -- whether a fault is of a part and kind
 is_mine : (p : Analysis) (k : ℕ) (permanent : Bool) (f : Fault) → is_permanent f ≡ permanent → part_of p f ≡ k → is_of p k permanent f ≡ true
 is_mine p k permanent f kind part =
@@ -47,7 +43,7 @@ is_mine p k permanent f kind part =
 not_part : (p : Analysis) (k : ℕ) (permanent : Bool) (f : Fault) → k ≢ part_of p f → is_of p k permanent f ≡ false
 not_part p k permanent f ne =
     let here : (part_of p f == k) ≡ false = grind (arith, ne) in
-    ap (λ b. same_bit (is_permanent f) permanent && b) here ∙ and_no (same_bit (is_permanent f) permanent)
+    ap (λ b. same_bit (is_permanent f) permanent && b) here ∙ and-false (same_bit (is_permanent f) permanent)
 
 not_kind : (p : Analysis) (k : ℕ) (permanent : Bool) (f : Fault) → is_permanent f ≢ permanent → is_of p k permanent f ≡ false
 not_kind p k permanent f ne = ap (λ b. b && (part_of p f == k)) (other_kind (is_permanent f) permanent ne)

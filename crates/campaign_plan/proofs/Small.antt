@@ -18,7 +18,7 @@ use Rattle.campaign_plan.specs.Analysis.{Analysis, fault_count, fault_numbered, 
 use Rattle.campaign_plan.specs.Weights.{rate_of_kind, is_of, weight}
 use Rattle.campaign_plan.specs.Batches.{Entry, total, batches, own_sums, lane_sums, class_in_lane, AreDistinct}
 use Rattle.campaign_plan.specs.Kept.{IsPlan}
-use Rattle.campaign_plan.proofs.SumsBelow.{sum_up, sum_up-zero, sum_up-push, sum_up-split, sum_up-mono, sum_up-plus, sum_up-less, sum_up-keys, sum_up-list, sum_by-below, sum_by-filter, where_true, once_le}
+use Rattle.fm_base.proofs.SumsBelow.{sum_up, sum_up-zero, sum_up-push, sum_up-split, sum_up-mono, sum_up-plus, sum_up-less, sum_up-keys, sum_up-list, sum_by-below, sum_by-filter, where_true, once_le, sum_by-map}
 use Rattle.campaign_plan.proofs.Weighing.{class_small}
 
 -- ---- the weights of all faults are within the rates of all parts
@@ -126,10 +126,6 @@ unfolding own_sums
 own_within p batch planes =
     sums_within (lane_sums p batch planes) (λ lane. weight p (fault_number batch lane)) (used_lanes (fault_count p) batch)
     (λ lane. share_within (class_in_lane p batch planes lane) (is_permanent (fault_numbered p (fault_number batch lane))) (weight p (fault_number batch lane)))
-
-pub sum_by-map : {X Y : Type 0} (f : Y → ℕ) (g : X → Y) (xs : List X) → sum_by f (map g xs) ≡ sum_by (λ x. f (g x)) xs
-sum_by-map f g [] = refl
-sum_by-map f g (x ∷ xs) = omega (arith, sum_by-cons f (g x) (map g xs), sum_by-cons (λ x. f (g x)) x xs, sum_by-map f g xs)
 
 total_within : (p : Analysis) (entries : List Entry) → AreWithin (sum_by (batch_weight p) (batches entries)) (total p entries)
 total_within p entries =

@@ -9,10 +9,10 @@ use Rattle.circuit.specs.declared.parts.Fault.TheVariants.{Stuck}
 use Rattle.circuit.specs.Effects.{is_permanent}
 use Rattle.fault_list.specs.Faults.{net}
 use Rattle.fm_base.specs.Lists.{same_bit, below}
-use Rattle.fm_base.proofs.Tests.{and_both}
+use Rattle.fm_base.proofs.Tests.{and_both, same_bit_true}
 use Rattle.campaign_plan.specs.Analysis.{Analysis, all_faults, fault_count, fault_numbered, part_numbered, part_of}
 use Rattle.campaign_plan.specs.Weights.{rate_of_kind, is_of, weight}
-use Rattle.campaign_plan.proofs.SumsBelow.{sum_up, sum_up-zero, sum_up-push, sum_by-below, sum_by-filter, where_true}
+use Rattle.fm_base.proofs.SumsBelow.{sum_up, sum_up-zero, sum_up-push, sum_by-below, sum_by-filter, where_true}
 
 -- the whole part for each, and one more for the first ones
 shared : ℕ → ℕ → ℕ → ℕ
@@ -65,12 +65,6 @@ so_far test fs q r w d each (suc m) le = by_cases (test (get_or fs m d)) refl (s
         let more : shared q r (count_by test (take (suc m) fs)) ≡ shared q r (count_by test (take m fs)) = ap (shared q r) count in
         omega (arith, sum_up-push m (λ i. where_true (test (get_or fs i d)) (w i)), rest, here, more)
 
-kind_of : (a b : Bool) → same_bit a b ≡ true → a ≡ b
-kind_of true true e = refl
-kind_of true false e = absurd (cc)
-kind_of false true e = absurd (cc)
-kind_of false false e = refl
-
 -- the weight of a fault of a part and kind
 weight_of : (p : Analysis) (k : ℕ) (permanent : Bool) (i : ℕ) → is_of p k permanent (fault_numbered p i) ≡ true
     → weight p i ≡ one_more (rate_of_kind permanent (part_numbered p k) / count_by (is_of p k permanent) (all_faults p))
@@ -79,7 +73,7 @@ weight_of : (p : Analysis) (k : ℕ) (permanent : Bool) (i : ℕ) → is_of p k 
 unfolding weight one_more
 weight_of p k permanent i e =
     let parts = and_both (same_bit (is_permanent (fault_numbered p i)) permanent) (part_of p (fault_numbered p i) == k) e in
-    let kind : is_permanent (fault_numbered p i) ≡ permanent = kind_of (is_permanent (fault_numbered p i)) permanent parts.0 in
+    let kind : is_permanent (fault_numbered p i) ≡ permanent = same_bit_true (is_permanent (fault_numbered p i)) permanent parts.0 in
     let part : part_of p (fault_numbered p i) ≡ k = grind (arith, parts.1) in
     λ j. rate_of_kind (kind j) (part_numbered p (part j)) / count_by (is_of p (part j) (kind j)) (all_faults p)
     + (if nat_lt (count_by (is_of p (part j) (kind j)) (take i (all_faults p)))

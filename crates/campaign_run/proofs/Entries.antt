@@ -19,6 +19,7 @@ use Rattle.campaign_board.specs.declared.entry.Entry.{Entry}
 use Rattle.campaign_board.specs.Boards.{Start, AreEntries, entry_of}
 use Rattle.campaign_board.specs.AsResult.{HasOwnSums}
 use Rattle.campaign_run.specs.Origins.{entry_with, entries_for}
+use Rattle.fm_base.proofs.SumsBelow.{sum_by-map}
 
 -- a plan has at most 2^14 batches
 few_batches : (p : Analysis) → plan_refusal p ≡ None → batch_count p ≤ 16384
@@ -40,10 +41,6 @@ length_entries p planes = length-map-range_with_len (entry_with p planes) 0 (bat
 pub entry_at : (p : Analysis) (planes : ℕ → Outcome) (batch : ℕ) → batch < batch_count p → entry_of (entries_for p planes) batch ≡ entry_with p planes batch
 unfolding below
 entry_at p planes batch lt = get_or-map-range_with_len (entry_with p planes) 0 (batch_count p) batch batch _ lt (omega arith)
-
-sum_by-map : {X Y : Type 0} (f : Y → ℕ) (g : X → Y) (xs : List X) → sum_by f (map g xs) ≡ sum_by (λ x. f (g x)) xs
-sum_by-map f g [] = refl
-sum_by-map f g (x ∷ xs) = omega (arith, sum_by-cons f (g x) (map g xs), sum_by-cons (λ x. f (g x)) x xs, sum_by-map f g xs)
 
 pub sums_by-map : {X Y : Type 0} (f : Y → Sums) (g : X → Y) (xs : List X) → sums_by f (map g xs) ≡ sums_by (λ x. f (g x)) xs
 sums_by-map f g xs = λ i. record {

@@ -23,6 +23,7 @@ use Rattle.campaign_run.specs.Starting.{StartsFrom}
 use Rattle.campaign_run.specs.Origins.{entry_with, entries_for}
 use Rattle.campaign_run.proofs.Entries.{sums_by-map, length_entries, entry_at}
 use Rattle.campaign_run.proofs.KeptRows.{AreKept, kept_is, nothing_kept}
+use Rattle.fm_shelf.proofs.Changes.{take-nil}
 
 -- ---- rows of distinct batches, and the sums over them
 
@@ -146,10 +147,6 @@ starts_whole own p told k o many start e = elim start as (λ _. IsWhole o k.rows
         | inr some ↦ inr (some.0, now_is told held.0 (λ bytes. take k.whole bytes ≡ text_of o.header k.rows) held.1 (some.1 ∙ ap (λ h. text_of h k.rows) (sym e)))
       ]
 ]
-
-take-nil : (n : ℕ) → take {A = ℕ} n [] ≡ []
-take-nil zero = refl
-take-nil (suc n) = refl
 
 -- the bytes that are kept of the file are none, or the header and the rows that are kept
 pub starts_text : (own : List ℕ) (p : Analysis) (told : Told) (k : KeptRows) → length own ≡ 89 → StartsFrom own p told k

@@ -27,6 +27,7 @@ use Rattle.result_file.proofs.Pieces.{length-pieces}
 use Rattle.result_file.proofs.Whole.{no_row}
 use Rattle.campaign_board.specs.Boards.{text_of}
 use Rattle.campaign_run.specs.Starting.{nothing}
+use Rattle.fm_base.proofs.Options.{none_both, none_mapped}
 
 -- rows of distinct batches, each with the sums of the rows up to it
 pub record AreKept (p : Analysis) (rows : List Row) : Type 0 where
@@ -92,14 +93,6 @@ row_passes p before piece h none =
     )
 
 -- ---- all rows
-
-none_both : {Y : Type 0} (a b : Option Y) → option_or a b ≡ None → (a ≡ None) × (b ≡ None)
-none_both None b h = (refl, h)
-none_both (Some y) b h = absurd (cc)
-
-none_mapped : {X Y : Type 0} (f : X → Y) (o : Option X) → option_map f o ≡ None → o ≡ None
-none_mapped f None h = refl
-none_mapped f (Some x) h = absurd (cc)
 
 pieces_pass : (p : Analysis) (ps before : List (List ℕ)) → first_after (numbered_fault (row_fault p)) before ps ≡ None → AreKept p (map row_read before)
     → All (λ piece. row_text (row_read piece) ≡ piece) before

@@ -16,7 +16,7 @@ use Rattle.result_file.specs.KeptRows.{entry_of as planed}
 use Rattle.campaign_board.specs.Boards.{Start, AreEntries, batches_of}
 use Rattle.campaign_board.specs.Kept.{Seen as Board, AreRows, IsBoard, IsStart, IsHeaderTorn}
 use Rattle.campaign_board.specs.Missing.{IsMissing}
-use Rattle.campaign_board.proofs.Distinct.{once_few}
+use Rattle.fm_base.proofs.SumsBelow.{once_few}
 use Rattle.campaign_workers.specs.Truth.{HasTrueEntries}
 use Rattle.campaign_run.specs.declared.run.End.{End}
 use Rattle.campaign_run.specs.declared.run.End.TheVariants.{Done, NoMemory, ResultFault, OutFault}
@@ -34,18 +34,9 @@ use Rattle.result_merge.specs.Parts.{is_of_part, HasPart}
 use Rattle.campaign_shard.specs.PartSeats.{IsPartDone}
 use Rattle.campaign_shard.specs.RanPart.{PartCampaign, IsPartTold, EndsPartAs, HasRunPart}
 use Rattle.campaign_shard.specs.PartSteps.{whole_campaign, part_origin, HasPartWorked}
+use Rattle.campaign_workers.proofs.Ends.{counted}
 
 -- ---- numbers in a list
-
--- a number that is counted stands in the list
-counted : (x : ℕ) (xs : List ℕ) → 0 < times x xs → Contains xs x
-counted x [] h = absurd (omega arith)
-counted x (y ∷ ys) h = elim (cases_eq y x) as (λ _. Contains (y ∷ ys) x) [
-  | inl e ↦ (0, omega arith, e)
-  | inr ne ↦
-      (let skip : cond {A = ℕ} (y == x) 1 0 ≡ 0 = ap (λ (t : Bool). cond {A = ℕ} t 1 0) (ne_eqb y x ne) in
-      let rest : Contains ys x = counted x ys (omega (arith, sum_by-cons (λ z. cond {A = ℕ} (z == x) 1 0) y ys, skip)) in (suc rest.0, omega (arith, rest.1), rest.2))
-]
 
 counted_later : (y : ℕ) (ys : List ℕ) (x : ℕ) → 0 < times x ys → 0 < times x (y ∷ ys)
 counted_later y ys x h = omega (arith, sum_by-cons (λ z. cond {A = ℕ} (z == x) 1 0) y ys, h)
@@ -59,12 +50,6 @@ each_counted (y ∷ ys) zero d lt =
 each_counted (y ∷ ys) (suc i) d lt = counted_later y ys (get_or ys i d) (each_counted ys i d (omega (arith, lt)))
 
 -- ---- what a part begins with
-
--- a board has at most as many rows as a plan has batches
-pub few_rows : (o : Start) (rows : List Row) → AreEntries o.entries → AreRows o rows → length rows ≤ 16384
-few_rows o rows are h =
-    let le = once_few (batches_of rows) (length o.entries) h.within h.once in
-    omega (arith, le, are.few, length-map rows (λ (r : Row). r.batch))
 
 pub starts : (name own : Bytes) (p : Analysis) (files : List (List ℕ × List ℕ)) (rest_absent : Bool) (faults batches : ℕ) → IsPlan p → length own ≡ 89
     → batches ≡ batch_count p → IsStart (part_origin name own p files rest_absent faults) name [] batches files rest_absent faults

@@ -22,7 +22,7 @@ use Rattle.campaign_workers.specs.Workplaces.{seats_of}
 use Rattle.campaign_workers.proofs.Hiring.{seats_push, all_seats}
 
 -- a number that is counted stands in the list
-counted : (x : ℕ) (xs : List ℕ) → 0 < times x xs → Contains xs x
+pub counted : (x : ℕ) (xs : List ℕ) → 0 < times x xs → Contains xs x
 counted x [] h = absurd (omega arith)
 counted x (y ∷ ys) h = elim (cases_eq y x) as (λ _. Contains (y ∷ ys) x) [
   | inl e ↦ (0, omega arith, e)

@@ -17,14 +17,11 @@ use Rattle.campaign_board.specs.Boards.{Start}
 use Rattle.campaign_board.specs.Missing.{IsMissing, number_of}
 use Rattle.campaign_board.specs.Sharing.{IsDrawn, MayPost, IsPosted, IsLook}
 use Rattle.campaign_workers.specs.Rounds.{Owes}
+use Rattle.claim_counter.proofs.Few.{times-cons}
 
 -- the seat is the table's, with this view
 pub same_seat : (now : Seated) (table : _) (view : View) → now.table ≡ table → now.view ≡ view → record { table = table; view = view } ≡ now
 same_seat now table view a b = λ i. record { table = sym a i; view = sym b i }
-
--- one more at the front
-times-cons : (x y : ℕ) (xs : List ℕ) → times x (y ∷ xs) ≡ cond (y == x) 1 0 + times x xs
-times-cons x y xs = sum_by-cons (λ z. cond (z == x) 1 0) y xs
 
 times_self : (x : ℕ) (xs : List ℕ) → times x (x ∷ xs) ≡ 1 + times x xs
 times_self x xs = grind (arith, nat_tests, times-cons x x xs)

@@ -13,11 +13,6 @@ use Rattle.campaign_workers.specs.declared.worker.Worker.{Worker}
 use Rattle.campaign_workers.specs.Workplaces.{AreToolsFor, AreFor, seats_of}
 use Rattle.campaign_workers.proofs.Owing.{same_seat}
 
--- what is written back to a vector through its slice
-pub written_whole : {X : Type 0} (now items : List X) (len : ℕ) → length now ≡ length items → len ≡ length items → take len (now ++ drop (length now) items) ≡ now
-written_whole now items len same full =
-    ap (λ l. take len (now ++ l)) (drop_all (length now) items (omega arith)) ∙ ap (take len) (append-nil now) ∙ take_all len now (omega arith)
-
 module _ {F N : Type 0} where
   all_workers : (P : Seated → Type 0) (workers : List (Worker F N)) → All P (seats_of workers) → All (λ w. P w.seat) workers
   all_workers P workers h =

@@ -4,3 +4,5 @@ pub mod Flips
 pub mod Cycles
 pub mod Drivers
 pub mod Passing
+pub mod ValuesAgain
+pub mod FewTables

@@ -2,7 +2,7 @@
 use Rattle.std.proofs.Common.{◌≡◌, ℕ, zero, suc, ◌^◌, ◌<◌, Bool, true, false, not, ◌&&◌, ◌||◌, ◌⊎◌, inl, inr, List, [], ◌∷◌, length, refl, ap, sym, ◌∙◌, arith}
 use Rattle.std.specs.Prelude.{Option, Some, None, ◌==◌, nat_lt, nat_le, bytes_eq}
 use Rattle.std.specs.List.{All, slice_get, list_any, list_all}
-use Rattle.std.proofs.lemmas.Bool.{eqb-true, eq-eqb, ltb-true, leb-true}
+use Rattle.std.proofs.lemmas.Bool.{eqb-true, eq-eqb, ltb-true, leb-true, and_parts, both_ways, not-true}
 use Rattle.std.proofs.lemmas.Option.{slice_get_within}
 use Rattle.std.proofs.lemmas.List.Sums.{AllPass-from_list_all}
 use Rattle.std.proofs.lemmas.Slice.Eq.{bytes_eq-Decides}
@@ -19,14 +19,6 @@ use Rattle.circuit.specs.Sound.{AreApart, IsNet, IsNetOf, IsNetlist}
 
 -- ---- tests
 
-first_of : (a b : Bool) → (a && b) ≡ true → a ≡ true
-first_of true b h = refl
-first_of false b h = absurd (cc)
-
-second_of : (a b : Bool) → (a && b) ≡ true → b ≡ true
-second_of true b h = h
-second_of false b h = absurd (cc)
-
 abbrev all_below : ℕ → (ℕ → Bool) → Bool
 all_below zero test = true
 all_below (suc n) test = all_below n test && test n
@@ -36,13 +28,13 @@ below_all zero test h k lt = absurd (omega arith)
 below_all (suc n) test h k lt =
     let split : (k < n) ⊎ (k ≡ n) = grind arith in
     elim split as (λ _. test k ≡ true) [
-      | inl low ↦ below_all n test (first_of (all_below n test) (test n) h) k low
-      | inr e ↦ ap test e ∙ second_of (all_below n test) (test n) h
+      | inl low ↦ below_all n test (and_parts (all_below n test) (test n) h).0 k low
+      | inr e ↦ ap test e ∙ (and_parts (all_below n test) (test n) h).1
     ]
 
 -- ---- lists whose items are apart
 
-any_at : {X : Type 0} (test : X → Bool) (xs : List X) (i : ℕ) (x : X) → slice_get xs i ≡ Some x → test x ≡ true → list_any test xs ≡ true
+pub any_at : {X : Type 0} (test : X → Bool) (xs : List X) (i : ℕ) (x : X) → slice_get xs i ≡ Some x → test x ≡ true → list_any test xs ≡ true
 any_at test [] i x e h = absurd (cc)
 any_at {X} test (y ∷ xs) zero x e h =
     let same : y ≡ x = cc in
@@ -56,10 +48,6 @@ any_at test (y ∷ xs) (suc i) x e h = later (test y) (list_any test xs) (any_at
 abbrev all_apart : {X : Type 0} → (X → X → Bool) → List X → Bool
 all_apart same [] = true
 all_apart same (x ∷ xs) = not (list_any (same x) xs) && all_apart same xs
-
-clash : (b : Bool) → b ≡ true → not b ≡ true → ⊥
-clash true p q = cc
-clash false p q = cc
 
 any_found : {X : Type 0} (test : X → Bool) (xs : List X) → list_any test xs ≡ true → (i : ℕ) × (x : X) × (slice_get xs i ≡ Some x) × (test x ≡ true)
 any_found test [] h = absurd (cc)
@@ -75,12 +63,12 @@ apart same reflexive [] h i j x e f = absurd (cc)
 apart same reflexive (y ∷ xs) h zero zero x e f = refl
 apart same reflexive (y ∷ xs) h zero (suc j) x e f =
     let here : y ≡ x = cc in
-    absurd (clash (list_any (same y) xs) (any_at (same y) xs j x f (reflexive y x here)) (first_of (not (list_any (same y) xs)) (all_apart same xs) h))
+    absurd (both_ways (list_any (same y) xs) (not-true (list_any (same y) xs) (and_parts (not (list_any (same y) xs)) (all_apart same xs) h).0) (any_at (same y) xs j x f (reflexive y x here)))
 apart same reflexive (y ∷ xs) h (suc i) zero x e f =
     let here : y ≡ x = cc in
-    absurd (clash (list_any (same y) xs) (any_at (same y) xs i x e (reflexive y x here)) (first_of (not (list_any (same y) xs)) (all_apart same xs) h))
+    absurd (both_ways (list_any (same y) xs) (not-true (list_any (same y) xs) (and_parts (not (list_any (same y) xs)) (all_apart same xs) h).0) (any_at (same y) xs i x e (reflexive y x here)))
 apart same reflexive (y ∷ xs) h (suc i) (suc j) x e f =
-    ap (λ n. suc n) (apart same reflexive xs (second_of (not (list_any (same y) xs)) (all_apart same xs) h) i j x e f)
+    ap (λ n. suc n) (apart same reflexive xs (and_parts (not (list_any (same y) xs)) (all_apart same xs) h).1 i j x e f)
 
 -- ---- drivers
 
@@ -199,9 +187,9 @@ netlist_passes c p = record {
       let ok : is_table c table ≡ true = below_all (length c.tables) (λ i. is_table c (table_at c.tables i)) p.tables k lt in
       let wide = λ (row : List Lit). length row == length table.ins in
       record {
-        ins = nets_in c table.ins (first_of (list_all (is_net c) table.ins) (list_all wide table.rows) ok);
+        ins = nets_in c table.ins (and_parts (list_all (is_net c) table.ins) (list_all wide table.rows) ok).0;
         rows = All-weaker (λ row. wide row ≡ true) (λ row. length row ≡ length table.ins) (λ row e. eqb-true (length row) (length table.ins) e) table.rows
-            (AllPass-from_list_all wide table.rows (second_of (list_all (is_net c) table.ins) (list_all wide table.rows) ok));
+            (AllPass-from_list_all wide table.rows (and_parts (list_all (is_net c) table.ins) (list_all wide table.rows) ok).1);
       };
   sources = All-weaker (λ (latch : Latch). is_net c latch.from ≡ true) (λ (latch : Latch). IsNet c latch.from)
       (λ latch e. ltb-true latch.from.0 (length c.drivers) e) c.latches (AllPass-from_list_all (λ (latch : Latch). is_net c latch.from) c.latches p.sources);

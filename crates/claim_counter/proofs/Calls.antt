@@ -16,9 +16,7 @@ use Rattle.claim_counter.proofs.Opening.{opens}
 use Rattle.claim_counter.proofs.Notes.{notes}
 use Rattle.claim_counter.proofs.Closing.{Shown}
 use lib.ListN.{get_elem?}
-
-some_same : {V : Type 0} (x y : V) → Some x ≡ Some y → x ≡ y
-some_same x y e = cc e
+use Rattle.std.proofs.lemmas.Option.{same_Some}
 
 abbrev head_value : {V : Type 0} → List (ℕ × Option V) → Option V
 head_value [] = None
@@ -45,7 +43,7 @@ module _ {V : Type 0} (list : V → List ℕ) (failed : V → Bool) where
 
   pub closed_of : (todo m : ℕ) (v : View) (xs : List (Option V)) (x : V) → Shown list failed todo v xs → get_elem? xs 0 ≡ some (Some x) → todo ≡ m → Closed list failed m v x
   closed_of todo m v xs x shown at e =
-      let same : shown.value ≡ x = some_same shown.value x (some-injective (Some shown.value) (Some x) (sym shown.home ∙ at)) in
+      let same : shown.value ≡ x = same_Some shown.value x (some-injective (Some shown.value) (Some x) (sym shown.home ∙ at)) in
       subst (λ (p : ℕ × V). Closed list failed p.0 v p.1) (λ i. (e i, same i)) shown.closed
 
   pub opens_me : (todo slots id : ℕ) (me : Me (Option V) View) → me ≡ (opening_view todo, []) → Allows (Rule list failed todo) slots id me 1 (λ n. either (n == 0) 1 n) (Opens (step slots 1 0 1 none) me)
@@ -55,7 +53,7 @@ module _ {V : Type 0} (list : V → List ℕ) (failed : V → Bool) where
 
   -- what the exchange found in the slot is what was taken
   pub took_value : (n : ℕ) (v w : Me (Option V) View) (x : V) (r : List (ℕ × Option V)) → (t : Took list failed n v w) → w.1 ≡ (0, Some x) ∷ r → t.value ≡ x
-  took_value n v w x r t e = some_same t.value x (ap head_value (sym (ap (λ (m : Me (Option V) View). m.1) t.now) ∙ e))
+  took_value n v w x r t e = same_Some t.value x (ap head_value (sym (ap (λ (m : Me (Option V) View). m.1) t.now) ∙ e))
 
   -- the exchange found the word that was expected
   pub took_of : (slots n old : ℕ) (v w : Me (Option V) View) → n ≡ old → Takes list failed (step slots 1 old (old + 1) none) v n w → Took list failed n v w

@@ -3,29 +3,26 @@ use Rattle.std.proofs.Common.{◌^◌, ◌≡◌, ℕ, zero, suc, ◌+◌, ◌<�
 use Rattle.std.specs.List.{sum_by, All}
 use Rattle.std.proofs.lemmas.List.Sums.{sum_by-cons, sum_by_push}
 use Rattle.std.proofs.lemmas.List.Elements.{All-push}
-use Rattle.std.proofs.lemmas.Bool.{false≢true}
+use Rattle.std.proofs.lemmas.Bool.{false≢true, or_parts}
 use Rattle.campaign_core.specs.Machines.{times, once_below}
 use Rattle.claim_counter.specs.declared.view.View.{View}
 use Rattle.claim_counter.specs.Views.{joined, less_one, with_one, with_claim, with_none}
 use Rattle.claim_counter.specs.Seats.{Counter, Seated, IsOf, Closed}
 use Rattle.claim_counter.specs.Crews.{shares_of, IsReady, IsDone, IsCrew}
 use Rattle.claim_counter.proofs.Views.{times-append, claimed_self}
+use Rattle.std.proofs.Math.Seq.{get_or-append_seam}
 
 get_front : {X : Type 0} (xs : List X) (w : X) (k : ℕ) (d : X) → k < length xs → get_or (xs ++ w ∷ []) k d ≡ get_or xs k d
 get_front [] w k d h = absurd (omega arith)
 get_front (x ∷ xs) w zero d h = refl
 get_front (x ∷ xs) w (suc k) d h = get_front xs w k d (omega arith)
 
-get_last : {X : Type 0} (xs : List X) (w d : X) → get_or (xs ++ w ∷ []) (length xs) d ≡ w
-get_last [] w d = refl
-get_last (x ∷ xs) w d = get_last xs w d
-
 -- what holds of each holds of all but the last, and of the last
 pub all_front : {X : Type 0} (P : X → Type 0) (xs : List X) (w : X) → All P (xs ++ w ∷ []) → All P xs
 all_front P xs w h k d less = subst P (get_front xs w k d less) (h k d (omega (arith, length-append xs (w ∷ []))))
 
 pub all_last : {X : Type 0} (P : X → Type 0) (xs : List X) (w : X) → All P (xs ++ w ∷ []) → P w
-all_last P xs w h = subst P (get_last xs w w) (h (length xs) w (omega (arith, length-append xs (w ∷ []))))
+all_last P xs w h = subst P (get_or-append_seam xs w [] w) (h (length xs) w (omega (arith, length-append xs (w ∷ []))))
 
 -- the sums of two lists that are the same at each place
 pub sum_each : {X : Type 0} (f : X → ℕ) (xs ys : List X) → length ys ≡ length xs → ((i : ℕ) (d : X) → i < length xs → f (get_or ys i d) ≡ f (get_or xs i d)) → sum_by f ys ≡ sum_by f xs
@@ -36,14 +33,6 @@ sum_each f (x ∷ xs) (y ∷ ys) len each =
     let a = each 0 x (omega arith) in
     let b = sum_each f xs ys (omega arith) (λ i d h. each (suc i) d (omega arith)) in
     omega (arith, sum_by-cons f x xs, sum_by-cons f y ys)
-
-pub or_left : (a b : Bool) → (a || b) ≡ false → a ≡ false
-or_left true b e = e
-or_left false b e = refl
-
-pub or_right : (a b : Bool) → (a || b) ≡ false → b ≡ false
-or_right true b e = absurd (false≢true (sym e))
-or_right false b e = e
 
 -- one more seat is split from the first
 pub splits_one : (c : Counter) (first now seat : Seated) (seats : List Seated) → IsCrew c first seats → 2 ≤ first.view.share → now.table ≡ first.table → now.view ≡ less_one first.view → seat.table ≡ first.table → seat.view ≡ with_one first.view → IsCrew c now (seats ++ seat ∷ [])
@@ -103,10 +92,10 @@ joins_one c many first now left rest p h e table view =
     subst P same (record {
       of = record { table = h.of.table; todo = h.of.todo; share = let a = h.of.share in omega arith; opened = refl };
       free = h.free;
-      all = λ fine n. omega (arith, h.all (or_left v.fails u.fails fine) n, done.all (or_right v.fails u.fails fine) n, times-append n v.claims u.claims, times-append n v.posts u.posts);
+      all = λ fine n. omega (arith, h.all (or_parts v.fails u.fails fine).0 n, done.all (or_parts v.fails u.fails fine).1 n, times-append n v.claims u.claims, times-append n v.posts u.posts);
       ready = all_front (λ p. IsDone c p) rest p ready;
       shares = omega arith;
-      none = λ fine less. let a = done.none (or_right v.fails u.fails fine) in omega arith;
+      none = λ fine less. let a = done.none (or_parts v.fails u.fails fine).1 in omega arith;
     })
 
 fine_seat : {V : Type 0} (list : V → List ℕ) (failed : V → Bool) (todo : ℕ) (v : View) (x : V) (b : Bool) → v.fails ≡ b → Closed list failed todo v x → failed x ≡ false → v.fails ≡ false

@@ -3,7 +3,7 @@ use Rattle.std.proofs.Common.{◌≡◌, ℕ, zero, suc, ◌+◌, ◌<◌, ◌�
 use Rattle.std.specs.Prelude.{Option, Some, None}
 use Rattle.std.specs.Option.{option_map_or}
 use Rattle.std.specs.List.{All, Contains}
-use Rattle.std.proofs.lemmas.Bool.{eq-eqb, eqb-true}
+use Rattle.std.proofs.lemmas.Bool.{eq-eqb, eqb-true, both_ways, not-true}
 use Rattle.std.proofs.lemmas.List.{get_or-take, length-take-le}
 use Rattle.std.proofs.lemmas.List.Sums.{prefix_len_passes, prefix_len_stops}
 use Rattle.circuit.specs.declared.parts.Driver.TheVariants.{Table as FromTable}
@@ -54,10 +54,6 @@ follow-more c watched (suc steps) f e = by_next (next c watched f) refl (follow-
 
 -- ---- places in the order
 
-clash : (b : Bool) → b ≡ true → not b ≡ true → ⊥
-clash true e f = cc
-clash false e f = cc
-
 -- it comes no later than any place of the net
 pub place_least : (nets : List NetId) (n k : ℕ) → k < length nets → (net_at nets k).0 ≡ n → place_of nets n ≤ k
 place_least nets n k lt e = by_order (grind arith)
@@ -68,7 +64,7 @@ place_least nets n k lt e = by_order (grind arith)
     by_order : (place_of nets n ≤ k) ⊎ (k < place_of nets n) → place_of nets n ≤ k
     by_order (inl le) = le
     by_order (inr before) =
-        absurd (clash (is_net n (net_at nets k)) (eq-eqb (net_at nets k).0 n e) (prefix_len_passes (λ x. not (is_net n x)) nets k none before))
+        absurd (both_ways (is_net n (net_at nets k)) (not-true (is_net n (net_at nets k)) (prefix_len_passes (λ x. not (is_net n x)) nets k none before)) (eq-eqb (net_at nets k).0 n e))
 
 -- and it is one, where the net is there
 pub place_there : (nets : List NetId) (n k : ℕ) → k < length nets → (net_at nets k).0 ≡ n → (place_of nets n < length nets) × ((net_at nets (place_of nets n)).0 ≡ n)

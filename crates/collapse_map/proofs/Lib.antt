@@ -1,6 +1,5 @@
 pub mod Fixes
 pub mod Forced
-pub mod Settled
 pub mod Places
 pub mod OneCycle
 pub mod Runs

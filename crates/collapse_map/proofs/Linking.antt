@@ -30,7 +30,8 @@ use Rattle.collapse_map.proofs.Chain.{at_place, next_behind, place_least, place_
 use Rattle.collapse_map.proofs.Counted.{more_next, one_next}
 use Rattle.collapse_map.proofs.NextFault.{IsNext, next_is, table_net_alone}
 use Rattle.collapse_map.proofs.Numbered.{net_is}
-use Rattle.collapse_map.proofs.Places.{here_or_later, later}
+use Rattle.collapse_map.proofs.Places.{here_or_later}
+use Rattle.std.proofs.lemmas.List.Elements.{Contains-append_right}
 
 -- ---- numbers
 
@@ -57,7 +58,7 @@ taken_more {X} (y ∷ ys) (suc p) x d there = by_cases (here_or_later x y (take 
         → Contains (y ∷ take p ys) x ⊎ (x ≡ get_or ys p d)
     by_cases (inl same) more = inl (0, omega arith, same)
     by_cases (inr after) more = elim (more after) as (λ _. Contains (y ∷ take p ys) x ⊎ (x ≡ get_or ys p d)) [
-      | inl before ↦ inl (later x y (take p ys) before)
+      | inl before ↦ inl (Contains-append_right (y ∷ []) (take p ys) x before)
       | inr last ↦ inr last
     ]
 

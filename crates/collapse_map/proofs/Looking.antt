@@ -9,7 +9,7 @@ use Rattle.std.proofs.lemmas.List.Sums.{sum_by_push}
 use Rattle.circuit.specs.declared.parts.NetId.{NetId}
 use Rattle.std.specs.List.{All, list_any}
 use Rattle.std.proofs.lemmas.List.{length-map}
-use Rattle.std.proofs.lemmas.List.Elements.{All-head, All-tail}
+use Rattle.std.proofs.lemmas.List.Elements.{All-head, All-tail, All-append}
 use Rattle.std.proofs.lemmas.List.Folds.{list_any_at}
 use Rattle.std.proofs.lemmas.Map.Steps.{le-length_from_below}
 use Rattle.std.proofs.lemmas.Option.{get_or_from_slice_get, slice_get_within}
@@ -28,6 +28,7 @@ use Rattle.collapse_map.specs.Looks.{AreLooks, looks_for, one_more}
 use Rattle.collapse_map.specs.Next.{is_net}
 use Rattle.collapse_map.specs.declared.looks.Looks.{Looks}
 use Rattle.collapse_map.specs.declared.looks.Looks.TheVariants.{Nobody, One, More}
+use Rattle.fm_base.proofs.Lists.{all_left, all_right}
 
 more_for : (count : ℕ) → one_more (looks_for count) ≡ looks_for (suc count)
 more_for zero = refl
@@ -39,21 +40,6 @@ counted_push n seen net = sum_by_push (λ x. cond (is_net n x) 1 0) seen net
 
 differ : (a b : ℕ) → a ≢ b → (a == b) ≡ false
 differ a b apart = false_of (a == b) (λ e. apart (eqb-true a b e))
-
--- what holds of both lists holds of each
-all_left : {X : Type 0} (P : X → Type 0) (xs ys : List X) → All P (xs ++ ys) → All P xs
-all_left P [] ys all k d lt = absurd (omega arith)
-all_left P (x ∷ xs) ys all zero d lt = All-head P x (xs ++ ys) all
-all_left P (x ∷ xs) ys all (suc k) d lt = all_left P xs ys (All-tail P x (xs ++ ys) all) k d (omega arith)
-
-all_right : {X : Type 0} (P : X → Type 0) (xs ys : List X) → All P (xs ++ ys) → All P ys
-all_right P [] ys all = all
-all_right P (x ∷ xs) ys all = all_right P xs ys (All-tail P x (xs ++ ys) all)
-
-both_all : {X : Type 0} (P : X → Type 0) (xs ys : List X) → All P xs → All P ys → All P (xs ++ ys)
-both_all P [] ys f g k d lt = g k d lt
-both_all P (x ∷ xs) ys f g zero d lt = All-head P x xs f
-both_all P (x ∷ xs) ys f g (suc k) d lt = both_all P xs ys (All-tail P x xs f) g k d (omega arith)
 
 -- THE LOOKS at a net, after one more at a net
 pub looked : (looks : List Looks) (net : NetId) (seen : List NetId) → net.0 < length looks → AreLooks seen looks
@@ -97,24 +83,6 @@ each_more {X} f seen xs i d lt =
 
 -- ---- the number of tables
 
-table_number : Driver → ℕ
-table_number (FromTable k) = k
-table_number (Input k) = k
-table_number (FromLatch k) = k
-
--- there are no more tables than nets, since each table drives one
-pub few_tables : (c : Circuit) → IsNetlist c → length c.tables ≤ length c.drivers
-unfolding table_number
-few_tables c sound = subst (λ n. length c.tables ≤ n) (length-map c.drivers table_number) (le-length_from_below (map table_number c.drivers) (length c.tables) each)
-  where
-    each : (q : ℕ) → q < length c.tables → list_any (λ k. q == k) (map table_number c.drivers) ≡ true
-    each q lt =
-        let net = sound.driven q lt in
-        let within : net.0 < length (map table_number c.drivers) = omega (arith, length-map c.drivers table_number, slice_get_within c.drivers net.0 (FromTable q) net.1) in
-        let number : get_or (map table_number c.drivers) net.0 0 ≡ q =
-        get_or-map table_number c.drivers net.0 (Input 0) ∙ ap table_number (get_or_from_slice_get c.drivers net.0 (FromTable q) (Input 0) net.1) in
-        list_any_at (λ k. q == k) (map table_number c.drivers) net.0 0 within (eq-eqb q (get_or (map table_number c.drivers) net.0 0) (sym number))
-
 -- the nets of a table are nets
 pub table_nets : (c : Circuit) → IsNetlist c → (k : ℕ) → k < length c.tables → (ins : List NetId) → ins ≡ (table_at c.tables k).ins → All (IsNet c) ins
 table_nets c sound k lt ins e = subst (All (IsNet c)) (sym e) (sound.tables k lt).ins
@@ -132,7 +100,7 @@ goal_nets n (suc i) (goal ∷ goals) d nets lt e all =
 goals_nets : (P : NetId → Type 0) (goals : List Goal) → All (λ (goal : Goal). All P goal.observe) goals → All P (flat_map (λ goal. goal.observe) goals)
 goals_nets P [] all = λ k d lt. absurd (omega arith)
 goals_nets P (goal ∷ goals) all =
-    both_all P goal.observe (flat_map (λ g. g.observe) goals) (All-head (λ (g : Goal). All P g.observe) goal goals all)
+    All-append P goal.observe (flat_map (λ g. g.observe) goals) (All-head (λ (g : Goal). All P g.observe) goal goals all)
     (goals_nets P goals (All-tail (λ (g : Goal). All P g.observe) goal goals all))
 
 pub observed_nets : (c : Circuit) (points : Points) → ArePointsFor c points → All (IsNet c) (observed points)
@@ -140,7 +108,7 @@ observed_nets c points fit = goals_nets (IsNet c) points.goals (λ k d lt. (fit.
 
 -- so are all that are watched
 pub watched_nets : (c : Circuit) (points : Points) → ArePointsFor c points → All (IsNet c) (watched points)
-watched_nets c points fit = both_all (IsNet c) (observed points) points.alarm (observed_nets c points fit) fit.alarm
+watched_nets c points fit = All-append (IsNet c) (observed points) points.alarm (observed_nets c points fit) fit.alarm
 
 -- nobody has looked
 pub nobody : (looks : List Looks) → ((k : ℕ) → k < length looks → get_or looks k Nobody ≡ Nobody) → AreLooks [] looks

@@ -50,15 +50,12 @@ is_table-true k (FromTable j) e = ap FromTable (eqb-true j k e)
 is_table-true k (Input j) e = cc
 is_table-true k (FromLatch j) e = cc
 
-self_eq : (k : ℕ) → (k == k) ≡ true
-self_eq k = eq-eqb k k refl
-
 module _ (c : Circuit) (sound : IsNetlist c) where
   -- the net of a table is driven by it
   pub table_net : (k : ℕ) → k < length c.tables → slice_get c.drivers (net_of_table c k).0 ≡ Some (FromTable k)
   table_net k lt =
       let some = sound.driven k lt in
-      let found = first_place (is_table k) c.drivers some.0 (FromTable k) some.1 (self_eq k) in
+      let found = first_place (is_table k) c.drivers some.0 (FromTable k) some.1 ((eq-eqb k k refl)) in
       found.1 ∙ ap Some (is_table-true k found.0 found.2)
 
   pub table_net_alone : (k : ℕ) → k < length c.tables → (x : ℕ) → x < length c.drivers → driver_at c x ≡ FromTable k → x ≡ (net_of_table c k).0

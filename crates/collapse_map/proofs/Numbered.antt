@@ -2,7 +2,7 @@
 use Rattle.std.proofs.Common.{◌≡◌, ◌⊎◌, inl, inr, ℕ, zero, suc, ◌+◌, ◌*◌, ◌/◌, ◌%◌, ◌<◌, ◌≤◌, Bool, true, false, not, List, length, refl, ap, ap₂, sym, subst, ◌∙◌, arith}
 use Rattle.std.specs.Prelude.{Option, Some, None, ◌==◌}
 use Rattle.std.specs.Option.{option_map_or}
-use Rattle.std.proofs.lemmas.Bool.{eq-eqb, eqb-true}
+use Rattle.std.proofs.lemmas.Bool.{eq-eqb, eqb-true, both_ways, not-true}
 use Rattle.std.proofs.lemmas.List.Sums.{prefix_len_passes, prefix_len_stops}
 use Rattle.circuit.specs.declared.parts.Fault.{Fault}
 use Rattle.circuit.specs.declared.parts.Fault.TheVariants.{Stuck, Flip, Pulse}
@@ -13,18 +13,12 @@ use Rattle.fault_list.specs.Faults.{fault_at, faults_of}
 use Rattle.fault_list.specs.Kept.{count_for}
 use Rattle.fault_list.proofs.Numbers.{length_faults, stuck_at}
 use Rattle.fm_base.specs.Lists.{same_bit}
-use Rattle.fm_base.proofs.Tests.{and_both, both_true}
+use Rattle.fm_base.proofs.Tests.{and_both, both_true, same_bit_true, not_not}
 use Rattle.collapse_map.specs.Collapsed.{AreFaultsOf, Collapsed, number_of, rep_of, same_fault}
 use Rattle.collapse_map.specs.Next.{follow, next, representative}
 use Rattle.collapse_map.proofs.NextFault.{IsNext, next_is}
 
 -- ---- the same fault
-
-same_bit_true : (v w : Bool) → same_bit v w ≡ true → v ≡ w
-same_bit_true true true e = refl
-same_bit_true false false e = refl
-same_bit_true true false e = cc
-same_bit_true false true e = cc
 
 same_bit_self : (v : Bool) → same_bit v v ≡ true
 same_bit_self true = refl
@@ -52,14 +46,6 @@ same_fault_self (Pulse n t) = both_true (n.0 == n.0) (t == t) (eq-eqb n.0 n.0 re
 
 -- ---- numbers
 
-clash : (b : Bool) → b ≡ true → not b ≡ true → ⊥
-clash true e f = cc
-clash false e f = cc
-
-unnot : (b : Bool) → not b ≡ false → b ≡ true
-unnot true f = refl
-unnot false f = cc
-
 -- a fault that stands in a list stands at its number
 pub number_there : (faults : List Fault) (f : Fault) (k : ℕ) → k < length faults → fault_at faults k ≡ f
     → (number_of faults f < length faults) × (fault_at faults (number_of faults f) ≡ f)
@@ -67,7 +53,7 @@ number_there faults f k lt e =
     let first : number_of faults f ≤ k = by_order (grind arith) in
     let within : number_of faults f < length faults = omega arith in (
       within,
-      sym (same_fault_true f (fault_at faults (number_of faults f)) (unnot (same_fault f (fault_at faults (number_of faults f)))
+      sym (same_fault_true f (fault_at faults (number_of faults f)) (not_not (same_fault f (fault_at faults (number_of faults f)))
           (prefix_len_stops (λ g. not (same_fault f g)) faults no_fault within))),
     )
   where
@@ -77,7 +63,7 @@ number_there faults f k lt e =
     by_order : (number_of faults f ≤ k) ⊎ (k < number_of faults f) → number_of faults f ≤ k
     by_order (inl le) = le
     by_order (inr before) =
-        absurd (clash (same_fault f (fault_at faults k)) (ap (same_fault f) e ∙ same_fault_self f) (prefix_len_passes (λ g. not (same_fault f g)) faults k no_fault before))
+        absurd (both_ways (same_fault f (fault_at faults k)) (not-true (same_fault f (fault_at faults k)) (prefix_len_passes (λ g. not (same_fault f g)) faults k no_fault before)) (ap (same_fault f) e ∙ same_fault_self f))
 
 -- each stuck-at fault of a net stands in the list
 stuck_there : (c : Circuit) (flips pulses : List ℕ) (m : NetId) (u : Bool) → m.0 < length c.drivers

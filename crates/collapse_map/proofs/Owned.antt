@@ -11,10 +11,7 @@ use Rattle.circuit.specs.Order.{IsOrder}
 use Rattle.circuit.specs.Sound.{IsNet, IsNetlist}
 use Rattle.collapse_map.specs.Collapsed.{AreFaultsOf, Collapsed, Holds, rep_count, rep_of}
 use Rattle.fm_base.specs.Lists.{below}
-use Rattle.fm_base.proofs.Below.{below_push}
-
-counted_more : (p : ℕ → Bool) (i : ℕ) → count_by p (below (i + 1)) ≡ count_by p (below i) + cond (p i) 1 0
-counted_more p i = ap (λ n. count_by p (below n)) (add-one i) ∙ ap (count_by p) (below_push i) ∙ sum_by_push (λ k. cond (p k) 1 0) (below i) i
+use Rattle.fm_base.proofs.Below.{below_push, count_below}
 
 pub number_at : (numbers : List ℕ) (f : ℕ → ℕ) (i : ℕ) → i < length numbers → numbers ≡ map f (below (length numbers)) → get_or numbers i 0 ≡ f i
 unfolding below
@@ -24,10 +21,10 @@ pub unequal : (a b : ℕ) → a ≢ b → (a == b) ≡ false
 unequal a b apart = false_of (a == b) (λ e. apart (eqb-true a b e))
 
 pub counted_yes : (p : ℕ → Bool) (i : ℕ) → p i ≡ true → count_by p (below (i + 1)) ≡ count_by p (below i) + 1
-counted_yes p i e = counted_more p i ∙ ap (λ b. count_by p (below i) + cond b 1 0) e
+counted_yes p i e = count_below p i ∙ ap (λ b. count_by p (below i) + cond b 1 0) e
 
 pub counted_no : (p : ℕ → Bool) (i : ℕ) → p i ≡ false → count_by p (below (i + 1)) ≡ count_by p (below i) + 0
-counted_no p i e = counted_more p i ∙ ap (λ b. count_by p (below i) + cond b 1 0) e
+counted_no p i e = count_below p i ∙ ap (λ b. count_by p (below i) + cond b 1 0) e
 
 -- all that is kept
 pub holds_all : (s : Collapsed) (order : List NetId) (reps : List ℕ) (count : ℕ) → IsNetlist s.circuit → IsOrder s.circuit order → AreFaultsOf s.circuit s.faults → All (IsNet s.circuit) s.watched

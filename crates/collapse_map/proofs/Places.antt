@@ -4,6 +4,7 @@ use Rattle.std.specs.Prelude.{filter, flat_map}
 use Rattle.std.specs.List.{Contains}
 use Rattle.std.proofs.lemmas.List.FromFn.{length-range_with_len, get_or-range_with_len}
 use Rattle.fm_base.specs.Lists.{below}
+use Rattle.std.proofs.lemmas.List.Elements.{Contains-append_right}
 
 -- the first item is the one, or it is among the others
 pub here_or_later : {X : Type 0} (x y : X) (xs : List X) → Contains (y ∷ xs) x → (y ≡ x) ⊎ Contains xs x
@@ -12,9 +13,6 @@ here_or_later x y xs (suc k, lt, e) = inr (k, omega arith, e)
 
 pub first_of : {X : Type 0} (x : X) (xs : List X) → Contains (x ∷ xs) x
 first_of x xs = (0, omega arith, refl)
-
-pub later : {X : Type 0} (x y : X) (xs : List X) → Contains xs x → Contains (y ∷ xs) x
-later x y xs (k, lt, e) = (suc k, omega arith, e)
 
 pub in_below : (n k : ℕ) → k < n → Contains (below n) k
 unfolding below
@@ -52,7 +50,7 @@ first_kept {X} test (y ∷ xs) more x e = by_cases (test y) refl e (first_kept t
     by_cases true p f deeper =
         let same : y ≡ x = cc in
         ((0, omega arith, same), ap test (sym same) ∙ p)
-    by_cases false p f deeper = let found = deeper f in (later x y xs found.0, found.1)
+    by_cases false p f deeper = let found = deeper f in (Contains-append_right (y ∷ []) xs x found.0, found.1)
 
 pub none_mapped : {X Y : Type 0} (f : X → Y) (xs : List X) → map f xs ≡ [] → xs ≡ []
 none_mapped f [] e = refl
@@ -85,7 +83,7 @@ flat_one {X} f (k ∷ ks) x e = by_cases (f k) refl e (flat_one f ks x)
         let found = more g in
         record {
           k = found.k;
-          there = later found.k k ks found.there;
+          there = Contains-append_right (k ∷ []) ks found.k found.there;
           part = found.part;
           others = λ j there other. elim (here_or_later j k ks there) as (λ _. f j ≡ []) [ inl same ↦ ap f (sym same) ∙ p | inr after ↦ found.others j after other ];
         }

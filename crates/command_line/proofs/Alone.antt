@@ -13,9 +13,7 @@ use Rattle.command_line.specs.Commands.{Command, Classes, Check, Run, Resume, Au
 use Rattle.command_line.specs.Words.{entry, HasAsil, HasCampaign, HasInputs, HasPlanWords, HasSettings, HasWorkers, IsCommand, IsMet, IsNumber, SaidBy, word_of}
 use Rattle.command_line.specs.Table.{fmeda_app}
 use Rattle.command_line.proofs.CycleLists.{same_cycles}
-
-pub some_same : {T : Type 0} (p q : T) → Some p ≡ Some q → p ≡ q
-some_same p q e = cc
+use Rattle.std.proofs.lemmas.Option.{same_Some}
 
 -- texts that are told apart aren't equal
 pub apart : (a b : Text) → bytes_eq a b ≡ false → a ≡ b → ⊥
@@ -41,7 +39,7 @@ same_asil a b e = absurd (apart (asil_word a) (asil_word b) refl e)
 -- a text is read as one number
 same_number : (rows : List Row) (id : Text) (a b : ℕ) → IsNumber rows id a → IsNumber rows id b → a ≡ b
 same_number rows id a b p q =
-    let text : p.text ≡ q.text = some_same p.text q.text (sym p.said ∙ q.said) in
+    let text : p.text ≡ q.text = same_Some p.text q.text (sym p.said ∙ q.said) in
     p.reads.1 ∙ ap (λ t. digits_value 10 (without_leading_plus t)) text ∙ sym q.reads.1
 
 same_settings : (rows : List Row) (Fits : Asil → Type 0) → ((a b : Asil) → Fits a → Fits b → a ≡ b) → (a b : Settings) → HasSettings rows Fits a → HasSettings rows Fits b → a ≡ b
@@ -120,7 +118,7 @@ same_said rows a b e p q = absurd (apart (word_of a) (word_of b) refl e)
 -- what was met is one command at most
 same_met : (met : Option (Text × List Row)) (a b : Command) → IsMet met a → IsMet met b → a ≡ b
 same_met met a b p q =
-    let both : (word_of a, p.0) ≡ (word_of b, q.0) = some_same (word_of a, p.0) (word_of b, q.0) (sym p.1 ∙ q.1) in
+    let both : (word_of a, p.0) ≡ (word_of b, q.0) = same_Some (word_of a, p.0) (word_of b, q.0) (sym p.1 ∙ q.1) in
     let word : word_of a ≡ word_of b = ap (λ (w : Text × List Row). w.0) both in
     let rows : p.0 ≡ q.0 = ap (λ (w : Text × List Row). w.1) both in
     same_said q.0 a b word (subst (λ (r : List Row). SaidBy r a) rows p.2) q.2

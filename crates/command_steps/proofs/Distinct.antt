@@ -17,6 +17,7 @@ use Rattle.result_file.specs.declared.KeptRows.{KeptRows}
 use Rattle.result_file.specs.KeptRows.{kept, kept_unless, whole_pieces, is_torn_header, row_fault, row_read, entry_of}
 use Rattle.result_file.proofs.Checks.{once_more}
 use Rattle.result_file.proofs.Keeping.{kept_torn, kept_foreign, kept_own}
+use Rattle.fm_base.proofs.Options.{none_both, none_mapped}
 
 abbrev AreOnce : Analysis → List Row → Type 0
 AreOnce p rows = AreDistinct p (map entry_of rows)
@@ -42,14 +43,6 @@ row_once p before piece h none =
     let past : nat_le (batch_count p) row.batch ≡ false = new.0 in
     let lt : row.batch < batch_count p = grind (arith, nat_tests) in
     subst (AreOnce p) (sym (map-append row_read before (piece ∷ []))) (once_more p (map row_read before) row h lt new.1)
-
-none_both : {Y : Type 0} (a b : Option Y) → option_or a b ≡ None → (a ≡ None) × (b ≡ None)
-none_both None b h = (refl, h)
-none_both (Some y) b h = absurd (cc)
-
-none_mapped : {X Y : Type 0} (f : X → Y) (o : Option X) → option_map f o ≡ None → o ≡ None
-none_mapped f None h = refl
-none_mapped f (Some x) h = absurd (cc)
 
 rows_once : (p : Analysis) (pieces before : List Bytes) → first_after (numbered_fault (row_fault p)) before pieces ≡ None → AreOnce p (map row_read before)
     → AreOnce p (map row_read (before ++ pieces))

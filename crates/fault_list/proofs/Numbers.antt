@@ -8,7 +8,7 @@ use Rattle.circuit.specs.declared.parts.Fault.TheVariants.{Stuck, Flip, Pulse}
 use Rattle.circuit.specs.declared.parts.Latch.{Latch}
 use Rattle.circuit.specs.Circuit.{Circuit}
 use Rattle.fm_base.specs.Lists.{below}
-use Rattle.fault_list.specs.Faults.{net, stuck_pair, flips_of, pulses_of, faults_for, faults_of, fault_at}
+use Rattle.fault_list.specs.Faults.{net, stuck_pair, flips_of, pulses_of, faults_for, faults_of, fault_at, fault_number}
 use Rattle.fault_list.specs.Kept.{stuck_count, flip_count, count_for}
 use Rattle.fault_list.proofs.Rows.{some_wide, rows_length, rows_number}
 use Rattle.std.proofs.Math.Nat.{mod-lt}
@@ -100,3 +100,7 @@ pub counted : (c : Circuit) (flips pulses : List ℕ) (count nets : ℕ) (latche
     → count ≡ count_for nets (length latches) flips pulses → nets ≡ length c.drivers → latches ≡ c.latches → count ≡ length (faults_of c flips pulses)
 counted c flips pulses count nets latches e n l =
     e ∙ ap₂ (λ nets latches. count_for nets latches flips pulses) n (ap length l) ∙ sym (length_faults (length c.drivers) (length c.latches) flips pulses)
+
+-- the fault in the lane of a number is that of the number
+pub lane_back : (i : ℕ) → fault_number (i / 64) (i % 64) ≡ i
+lane_back i = grind arith

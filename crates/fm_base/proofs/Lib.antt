@@ -6,3 +6,8 @@ pub mod Bits
 pub mod Digits
 pub mod OnceLists
 pub mod Decimals
+pub mod SumsBelow
+pub mod Finding
+pub mod Options
+pub mod Lists
+pub mod Firsts

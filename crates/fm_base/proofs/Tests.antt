@@ -1,5 +1,6 @@
 -- Facts on tests that several proofs share.
 use Rattle.std.proofs.Common.{◌≡◌, Bool, true, false, not, ◌||◌, ◌&&◌, ◌⊎◌, inl, inr, refl}
+use Rattle.fm_base.specs.Lists.{same_bit}
 
 -- neither test passes where one of them doesn't
 pub or_false : (a b : Bool) → (a || b) ≡ false → (a ≡ false) × (b ≡ false)
@@ -47,3 +48,9 @@ false_of false h = refl
 pub not_not : (a : Bool) → not a ≡ false → a ≡ true
 not_not true h = refl
 not_not false h = absurd (cc)
+
+pub same_bit_true : (a b : Bool) → same_bit a b ≡ true → a ≡ b
+same_bit_true true true e = refl
+same_bit_true true false e = absurd (cc)
+same_bit_true false true e = absurd (cc)
+same_bit_true false false e = refl

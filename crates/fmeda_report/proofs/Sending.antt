@@ -17,7 +17,7 @@ use Rattle.fmeda_report.specs.Sends.{Sends}
 abbrev pub Answer : Type 0
 Answer = Result (Unit {0}) Failed
 
-told_none : (told : Option Bytes) → told ≡ told_more told []
+pub told_none : (told : Option Bytes) → told ≡ told_more told []
 told_none None = refl
 told_none (Some written) = ap (λ w. Some w) (sym (append-nil written))
 

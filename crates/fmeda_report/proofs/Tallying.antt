@@ -18,7 +18,7 @@ use Rattle.campaign_plan.specs.Analysis.{Analysis, fault_count, fault_numbered, 
 use Rattle.campaign_plan.specs.Batches.{class_of_fault}
 use Rattle.campaign_plan.specs.Weights.{weight}
 use Rattle.campaign_plan.proofs.Small.{weights_small}
-use Rattle.campaign_plan.proofs.SumsBelow.{sum_up-push, sum_up-mono, sum_by-below}
+use Rattle.fm_base.proofs.SumsBelow.{sum_up-push, sum_up-mono, sum_by-below}
 use Rattle.fmeda_report.specs.Report.{Planes}
 use Rattle.fmeda_report.specs.declared.tally.Amount.{Amount}
 use Rattle.fmeda_report.specs.declared.tally.Tally.{Tally}

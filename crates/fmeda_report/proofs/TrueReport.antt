@@ -45,7 +45,7 @@ true_rows p (row ∷ rows) are =
     All-cons (λ (r : Row). planes_of r ≡ true_planes p r.batch) row rows (All-head P (entry_of row) (map entry_of rows) are)
     (true_rows p rows (All-tail P (entry_of row) (map entry_of rows) are))
 
-true_at : (p : Analysis) (rows : List Row) → HoldEachOnce p rows → AreTrue p (map entry_of rows) → (batch : ℕ) → planes_in rows batch ≡ true_planes p batch
+pub true_at : (p : Analysis) (rows : List Row) → HoldEachOnce p rows → AreTrue p (map entry_of rows) → (batch : ℕ) → planes_in rows batch ≡ true_planes p batch
 true_at p rows hold are batch = by_cases (nat_lt batch (batch_count p)) refl
   where
     by_cases : (b : Bool) → nat_lt batch (batch_count p) ≡ b → planes_in rows batch ≡ true_planes p batch

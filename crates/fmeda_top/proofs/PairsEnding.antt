@@ -50,6 +50,7 @@ use Rattle.command_steps.proofs.Distinct.{kept_distinct}
 use Rattle.fmeda_top.specs.Causes.{Counts, CommandEnds}
 use Rattle.fmeda_top.specs.Tried.{TextAs, ChoosesAs, ArePaired, PairsAs}
 use Rattle.fmeda_top.proofs.Ending.{text_ends}
+use Rattle.pair_list.proofs.Placing.{under}
 
 -- ---- the pairs by the rows
 
@@ -69,19 +70,10 @@ chosen_err p k refusal is = by_why (pair_refusal p k.rows) refl is
         inr (ap (λ o. unless (refusal_of_pairs o) k) (e ∙ ap (λ r. Some r) same))
     by_why None e h = absurd (cc)
 
-in_class : (p : Analysis) (planes : Planes) (class : Class) → All (λ i. i < fault_count p) (faults_in_class p planes class)
-unfolding faults_in_class below
-in_class p planes class =
-    All-filter (λ i. is_class (class_of_fault p planes i) class) (λ i. i < fault_count p) (below (fault_count p))
-    (λ k d lt. (let size = length-range_with_len 0 (fault_count p) in
-    let within : k < fault_count p = omega (arith, size, lt) in
-    let at = get_or-range_with_len 0 (fault_count p) k d within in
-    omega (arith, at, within)))
-
 -- those that pair are faults of the plan
 pub chosen_are_faults : (p : Analysis) (planes : Planes) (c : Chosen) → c ≡ chosen p planes → AreFaults p c
 chosen_are_faults p planes c is =
-    subst (AreFaults p) (sym is) (record { latent = in_class p planes _; detected = in_class p planes _ })
+    subst (AreFaults p) (sym is) (record { latent = under p planes _; detected = under p planes _ })
 
 -- ---- each batch has a row
 

@@ -1,29 +1,14 @@
 -- Nets that no fault names, cycles without a pulse, and forces that were set in order.
 use Rattle.std.proofs.Common.{◌≡◌, inl, inr, ℕ, zero, suc, ◌+◌, ◌<◌, ◌==◌, ◌||◌, ◌&&◌, Bool, true, false, not, cond, List, [], ◌∷◌, length, drop, set, get_or, refl, ap, sym, ◌∙◌, Option}
 use Rattle.std.proofs.lemmas.List.{drop_more, get_or_default, get_or-set_same, get_or-set_other}
-use Rattle.std.proofs.lemmas.Bool.{cases_eq, true≢false}
+use Rattle.std.proofs.lemmas.Bool.{cases_eq, true≢false, or_parts}
 use Rattle.std.specs.List.{list_any}
 use Rattle.circuit.specs.declared.parts.Fault.{Fault}
 use Rattle.circuit.specs.declared.parts.Fault.TheVariants.{Stuck, Flip, Pulse}
 use Rattle.circuit.specs.Effects.{affected, forced, has_flip, has_pulse, inverted, is_flip_of, is_permanent, is_pulse_on}
 use Rattle.circuit.specs.Trace.{flipped, flipped_from}
 use Rattle.lane_kernel.specs.Loads.{somes, faults_of, is_on, is_pulse_in, names, named, has_pulses, has_transients}
-
-pub or_left : (a b : Bool) → (a || b) ≡ false → a ≡ false
-or_left true b e = absurd (true≢false e)
-or_left false b e = refl
-
-or_right : (a b : Bool) → (a || b) ≡ false → b ≡ false
-or_right true b e = absurd (true≢false e)
-or_right false b e = e
-
-and_false : (b : Bool) → (b && false) ≡ false
-and_false true = refl
-and_false false = refl
-
-pub or_false : (b : Bool) → (b || false) ≡ b
-or_false true = refl
-or_false false = refl
+use Rattle.std.proofs.Math.Bool.{and-false}
 
 pub merged : (a b s f : Bool) → cond b s (cond a s f) ≡ cond (a || b) s f
 merged true true s f = refl
@@ -52,21 +37,21 @@ named_more loads i n lt = ap (λ xs. named xs n) (drop_more loads i [] lt)
 none_passes : {X : Type 0} (p q : X → Bool) → ((x : X) → q x ≡ false → p x ≡ false) → (xs : List X) → list_any q xs ≡ false → list_any p xs ≡ false
 none_passes p q each [] e = refl
 none_passes p q each (x ∷ xs) e =
-    ap (λ b. b || list_any p xs) (each x (or_left (q x) (list_any q xs) e)) ∙ none_passes p q each xs (or_right (q x) (list_any q xs) e)
+    ap (λ b. b || list_any p xs) (each x (or_parts (q x) (list_any q xs) e).0) ∙ none_passes p q each xs (or_parts (q x) (list_any q xs) e).1
 
 -- where no lane passes a test, this lane doesn't
 lane_fails : (q : List (Option Fault) → Bool) → q [] ≡ false → (loads : List (List (Option Fault))) (k : ℕ) → list_any q loads ≡ false → q (get_or loads k []) ≡ false
 lane_fails q none [] k e = none
-lane_fails q none (faults ∷ loads) zero e = or_left (q faults) (list_any q loads) e
-lane_fails q none (faults ∷ loads) (suc k) e = lane_fails q none loads k (or_right (q faults) (list_any q loads) e)
+lane_fails q none (faults ∷ loads) zero e = (or_parts (q faults) (list_any q loads) e).0
+lane_fails q none (faults ∷ loads) (suc k) e = lane_fails q none loads k (or_parts (q faults) (list_any q loads) e).1
 
 forced_free : (faults : List Fault) (n : ℕ) (own : Bool) → list_any (is_on n) faults ≡ false → forced faults n own ≡ own
 forced_free [] n own e = refl
 forced_free (Stuck net value ∷ faults) n own e =
-    ap (λ b. cond b value (forced faults n own)) (or_left (net.0 == n) (list_any (is_on n) faults) e)
-    ∙ forced_free faults n own (or_right (net.0 == n) (list_any (is_on n) faults) e)
+    ap (λ b. cond b value (forced faults n own)) (or_parts (net.0 == n) (list_any (is_on n) faults) e).0
+    ∙ forced_free faults n own (or_parts (net.0 == n) (list_any (is_on n) faults) e).1
 forced_free (Flip latch cycle ∷ faults) n own e = forced_free faults n own e
-forced_free (Pulse net cycle ∷ faults) n own e = forced_free faults n own (or_right (net.0 == n) (list_any (is_on n) faults) e)
+forced_free (Pulse net cycle ∷ faults) n own e = forced_free faults n own (or_parts (net.0 == n) (list_any (is_on n) faults) e).1
 
 off_pulse : (n t : ℕ) (fault : Fault) → is_on n fault ≡ false → is_pulse_on n t fault ≡ false
 off_pulse n t (Stuck net value) e = refl
@@ -87,7 +72,7 @@ affected_free loads k t n own e = lane_free (faults_of loads k) t n own (lane_un
 other_cycle : (n t : ℕ) (fault : Fault) → is_pulse_in t fault ≡ false → is_pulse_on n t fault ≡ false
 other_cycle n t (Stuck net value) e = refl
 other_cycle n t (Flip latch cycle) e = refl
-other_cycle n t (Pulse net cycle) e = ap (λ b. (net.0 == n) && b) e ∙ and_false (net.0 == n)
+other_cycle n t (Pulse net cycle) e = ap (λ b. (net.0 == n) && b) e ∙ and-false (net.0 == n)
 
 lane_steady : (loads : List (List (Option Fault))) (k n t : ℕ) → has_pulses loads t ≡ false → has_pulse (faults_of loads k) n t ≡ false
 lane_steady loads k n t e =

@@ -7,14 +7,6 @@ use Rattle.std.proofs.lemmas.Bool.{cases_eq, eq-eqb, ne_eqb}
 use Rattle.fm_base.specs.Planes.{bit}
 use Rattle.lane_kernel.specs.Bits.{either, quad_bit}
 
-min_bits : (x y : ℕ) → x < 2 → y < 2 → (min x y == 1) ≡ ((x == 1) && (y == 1))
-min_bits zero zero p q = refl
-min_bits zero (suc zero) p q = refl
-min_bits (suc zero) zero p q = refl
-min_bits (suc zero) (suc zero) p q = refl
-min_bits (suc (suc x)) y p q = absurd (omega arith)
-min_bits x (suc (suc y)) p q = absurd (omega arith)
-
 xor_bits : (x y : ℕ) → x < 2 → y < 2 → ((x + y) % 2 == 1) ≡ either (x == 1) (y == 1)
 xor_bits zero zero p q = refl
 xor_bits zero (suc zero) p q = refl
@@ -22,9 +14,6 @@ xor_bits (suc zero) zero p q = refl
 xor_bits (suc zero) (suc zero) p q = refl
 xor_bits (suc (suc x)) y p q = absurd (omega arith)
 xor_bits x (suc (suc y)) p q = absurd (omega arith)
-
-pub bit_of_and : (a b k : ℕ) → bit (bit_and a b) k ≡ (bit a k && bit b k)
-bit_of_and a b k = ap (λ n. n == 1) (bit_at_and a b k) ∙ min_bits (bit_at a k) (bit_at b k) (bit_at-lt a k) (bit_at-lt b k)
 
 pub bit_of_xor : (a b k : ℕ) → bit (bit_xor a b) k ≡ either (bit a k) (bit b k)
 bit_of_xor a b k = ap (λ n. n == 1) (bit_at_xor a b k) ∙ xor_bits (bit_at a k) (bit_at b k) (bit_at-lt a k) (bit_at-lt b k)

@@ -1,5 +1,5 @@
 -- Many simulations of one circuit as contracts see them, one in each lane.
-use Rattle.std.specs.Prelude.{◌≡◌, ℕ, ◌<◌, Bool, List, Option}
+use Rattle.std.specs.Prelude.{◌≡◌, ℕ, ◌<◌, Bool, List, [], Option}
 use Rattle.circuit.specs.declared.parts.NetId.{NetId}
 use Rattle.circuit.specs.declared.parts.Fault.{Fault}
 use Rattle.circuit.specs.Circuit.{Circuit}
@@ -21,6 +21,10 @@ pub record Bank (W : Type 0) : Type 0 where
 pub record IsMadeFor {W : Type 0} (c : Circuit) (nets : List NetId) (bank : Bank W) : Type 0 where
   pub circuit : bank.circuit ≡ c
   pub order : bank.order ≡ nets
+
+-- no lane has a fault
+abbrev pub AreUnloaded : {W : Type 0} → Bank W → Type 0
+AreUnloaded bank = (k : ℕ) → faults_of bank.loads k ≡ []
 
 -- nothing was loaded in between
 pub record KeepsLoads {W : Type 0} (old new : Bank W) : Type 0 where

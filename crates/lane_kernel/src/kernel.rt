@@ -2,9 +2,10 @@
 ghost use Rattle.std.specs.Prelude.{◌≡◌, ◌<◌, ◌≤◌, ◌+◌, ◌⊎◌, ◌++◌, ◌∷◌, [], ℕ, Bool, List, Option, IfOk, length, map, slice_index_or};
 ghost use Rattle.circuit.specs.declared.parts.Fault.{Fault};
 ghost use Rattle.circuit.specs.Order.{IsOrder};
-ghost use Rattle.lane_kernel.specs.Bank.{AreAfter, IsMadeFor, KeepsLoads};
+ghost use Rattle.lane_kernel.specs.Bank.{AreAfter, AreUnloaded, IsMadeFor, KeepsLoads};
 ghost use Rattle.lane_kernel.specs.Gates.{plane};
 ghost use Rattle.lane_kernel.specs.Kernel.{IsKernel, bank_of};
+ghost use Rattle.lane_kernel.specs.Loads.{faults_of};
 ghost use Rattle.circuit.specs.Value.{bit_at};
 
 use crate::cycle::run;
@@ -47,18 +48,31 @@ fn first_state_of(alloc: Global, latches: &[Latch]) -> Result<Vec<bool>, AllocEr
     latches.iter().map(|latch| latch.start).collect(alloc)
 }
 
+// Lanes, so many of them, without faults.
+fn no_faults(alloc: Global, lanes: u32) -> Result<Vec<[Option<Fault>; 2]>, AllocError>
+    ensures count { IfOk result (λ loads. length loads.items ≡ lanes) }
+    ensures none { IfOk result (λ loads. (k : ℕ) → faults_of loads.items k ≡ []) }
+{
+    let mut loads = Vec::new(alloc);
+    for _ in 0..lanes {
+        loads.push([None, None])?;
+    }
+    Ok(loads)
+}
+
 impl<W: Word> Kernel<W> {
     /// Lanes for a netlist and an order of its tables, without faults.
     pub fn new(alloc: Global, netlist: &Netlist, order: &Order) -> Result<Self, AllocError>
         requires { IsOrder netlist.now order.now }
         ensures kernel { IfOk result (λ s. IsKernel W.lanes W.lane_bit s) }
         ensures made { IfOk result (λ s. IsMadeFor netlist.now order.now (bank_of s)) }
+        ensures unloaded { IfOk result (λ s. AreUnloaded (bank_of s)) }
     {
         let nets = netlist.nets();
         let gates = make_gates(alloc, netlist, order.nets())?;
         let masks = make_ops(alloc)?;
         let starts = first_state_of(alloc, netlist.latches())?;
-        let loads = vec![in alloc; [None, None]; W::count() as usize]?;
+        let loads = no_faults(alloc, W::count())?;
         let mut marks = vec![in alloc; false; nets]?;
         let mut next = vec![in alloc; 0; gates.len()]?;
         let forces = idle_forces(alloc, nets)?;

@@ -3,7 +3,7 @@ ghost use Rattle.std.specs.Prelude.{◌≡◌, ◌<◌, ◌≤◌, ◌+◌, ◌*
 ghost use Rattle.circuit.specs.Order.{IsOrder};
 ghost use Rattle.circuit.specs.Trace.{trace};
 ghost use Rattle.fm_base.specs.Planes.{bit};
-ghost use Rattle.lane_kernel.specs.Bank.{AreAfter, IsMadeFor, KeepsLoads};
+ghost use Rattle.lane_kernel.specs.Bank.{AreAfter, AreUnloaded, IsMadeFor, KeepsLoads};
 ghost use Rattle.lane_kernel.specs.Bits.{quad_bit};
 ghost use Rattle.lane_kernel.specs.Loads.{faults_of};
 
@@ -42,7 +42,8 @@ impl Lanes {
     /// Lanes for a netlist and an order of its tables, without faults and not yet started.
     pub fn new(alloc: Global, netlist: &Netlist, order: &Order) -> Result<Self, AllocError>
         requires { IsOrder netlist.now order.now }
-        ensures { IfOk result (λ lanes. IsMadeFor netlist.now order.now lanes) }
+        ensures made { IfOk result (λ lanes. IsMadeFor netlist.now order.now lanes) }
+        ensures unloaded { IfOk result (λ lanes. AreUnloaded lanes) }
     {
         let kernel = Kernel::new(alloc, netlist, order)?;
         Ok(Lanes { kernel })
@@ -128,7 +129,8 @@ impl Lanes4 {
     /// Lanes for a netlist and an order of its tables, without faults and not yet started.
     pub fn new(alloc: Global, netlist: &Netlist, order: &Order) -> Result<Self, AllocError>
         requires { IsOrder netlist.now order.now }
-        ensures { IfOk result (λ lanes. IsMadeFor netlist.now order.now lanes) }
+        ensures made { IfOk result (λ lanes. IsMadeFor netlist.now order.now lanes) }
+        ensures unloaded { IfOk result (λ lanes. AreUnloaded lanes) }
     {
         let kernel = Kernel::new(alloc, netlist, order)?;
         Ok(Lanes4 { kernel })

@@ -7,19 +7,7 @@ use Rattle.std.proofs.lemmas.List.{map-append, length-map}
 use Rattle.fm_base.specs.Names.{Name, is_one_of}
 use Rattle.indexmap.specs.IndexSet.{insert_key}
 use Rattle.name_index.specs.Index.{with_name}
-
--- a test on what a function gives
-pub list_any-map : {X Y : Type 0} (p : Y → Bool) (f : X → Y) (xs : List X) → list_any p (map f xs) ≡ list_any (λ x. p (f x)) xs
-list_any-map p f [] = refl
-list_any-map p f (x ∷ xs) = ap (λ b. p (f x) || b) (list_any-map p f xs)
-
-prefix_len-map : {X Y : Type 0} (p : Y → Bool) (f : X → Y) (xs : List X) → prefix_len p (map f xs) ≡ prefix_len (λ x. p (f x)) xs
-prefix_len-map p f [] = refl
-prefix_len-map p f (x ∷ xs) = rw (prefix_len-map p f xs) refl
-
--- the first place that passes
-pub position-map : {X Y : Type 0} (p : Y → Bool) (f : X → Y) (xs : List X) → position p (map f xs) ≡ position (λ x. p (f x)) xs
-position-map p f xs = rw (prefix_len-map (λ y. not (p y)) f xs, length-map) refl
+use Rattle.fm_base.proofs.Finding.{list_any-map}
 
 -- a name that is new goes to the end
 pub with_new : (names : List Name) (name : Name) → is_one_of names name ≡ false → with_name names name ≡ names ++ name ∷ []

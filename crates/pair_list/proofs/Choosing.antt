@@ -14,7 +14,7 @@ use Rattle.metric_sums.specs.declared.Class.{Class}
 use Rattle.metric_sums.specs.declared.Class.TheVariants.{Detected, Latent}
 use Rattle.campaign_plan.specs.Analysis.{Analysis, batch_count}
 use Rattle.campaign_plan.specs.Batches.{batches, AreDistinct}
-use Rattle.campaign_plan.proofs.SumsBelow.{sum_up, sum_up-zero, sum_up-push, once_le}
+use Rattle.fm_base.proofs.SumsBelow.{sum_up, sum_up-zero, sum_up-push, once_le, sum_by-ones, sum_up-ones}
 use Rattle.result_file.specs.declared.Row.{Row}
 use Rattle.result_file.specs.KeptRows.{entry_of}
 use Rattle.fmeda_report.specs.Report.{Planes}
@@ -127,18 +127,10 @@ length-batches : (rows : List Row) → length (batches (map entry_of rows)) ≡ 
 length-batches [] = refl
 length-batches (row ∷ rows) = ap suc (length-batches rows)
 
-count_ones : (ks : List ℕ) → sum_by (λ k. 1) ks ≡ length ks
-count_ones [] = refl
-count_ones (k ∷ ks) = omega (arith, sum_by-cons (λ (x : ℕ). 1) k ks, count_ones ks)
-
-ones_up : (n : ℕ) → sum_up (λ k. 1) n ≡ n
-ones_up zero = sum_up-zero (λ k. 1)
-ones_up (suc n) = omega (arith, sum_up-push n (λ k. 1), ones_up n)
-
 pub few_rows : (p : Analysis) (rows : List Row) → AreDistinct p (map entry_of rows) → length rows ≤ batch_count p
 few_rows p rows distinct =
     let le = once_le (batches (map entry_of rows)) (batch_count p) (λ k. 1) distinct.within distinct.once in
-    omega (arith, le, count_ones (batches (map entry_of rows)), ones_up (batch_count p), length-batches rows)
+    omega (arith, le, sum_by-ones (batches (map entry_of rows)), sum_up-ones (batch_count p), length-batches rows)
 
 -- ---- the cases
 

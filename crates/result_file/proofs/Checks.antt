@@ -20,15 +20,12 @@ use Rattle.result_file.specs.KeptRows.{entry_of}
 use Rattle.metric_sums.specs.Totals.{AreSmall}
 use Rattle.campaign_plan.specs.Batches.{AreDistinct}
 use Rattle.result_file.specs.Reading.{HasSmallSums}
-
-no_or : (a b : Bool) → (a || b) ≡ false → (a ≡ false) × (b ≡ false)
-no_or true b h = absurd (cc)
-no_or false b h = (refl, h)
+use Rattle.std.proofs.lemmas.Bool.{and_parts, or_parts}
 
 pub lacks_of : (rows : List Row) (batch : ℕ) → list_any (λ earlier. earlier.batch == batch) rows ≡ false → Lacks (map (λ (r : Row). r.batch) rows) batch
 lacks_of [] batch h = tt
 lacks_of (row ∷ rows) batch h =
-    let parts = no_or (row.batch == batch) (list_any (λ earlier. earlier.batch == batch) rows) h in
+    let parts = or_parts (row.batch == batch) (list_any (λ earlier. earlier.batch == batch) rows) h in
     let first : (row.batch == batch) ≡ false = parts.0 in
     let ne : row.batch ≢ batch = grind (arith, nat_tests) in
     (ne, lacks_of rows batch parts.1)
@@ -79,16 +76,12 @@ pub no_fault : (form range again lane same : Bool) (sums : RowFault) → form �
     → first_answer (given (not form) why.Form ∷ given range why.Range ∷ given again why.Repeated ∷ given lane why.UnusedLane ∷ given (not same) sums ∷ []) ≡ None
 no_fault form range again lane same sums a b c d e = rw (a, b, c, d, e) refl
 
-both : (a b : Bool) → (a && b) ≡ true → (a ≡ true) × (b ≡ true)
-both true b h = (refl, h)
-both false b h = absurd (cc)
-
 equal : (a b : ℕ) → (a == b) ≡ true → a ≡ b
 equal a b h = grind (arith, nat_tests)
 
 pub sums_equal : (a b : Sums) → same_sums a b ≡ true → a ≡ b
 sums_equal a b h =
-    let h4 = both _ _ h in let h3 = both _ _ h4.0 in let h2 = both _ _ h3.0 in let h1 = both _ _ h2.0 in
+    let h4 = and_parts _ _ h in let h3 = and_parts _ _ h4.0 in let h2 = and_parts _ _ h3.0 in let h1 = and_parts _ _ h2.0 in
     λ i. record {
       permanent_all = equal a.permanent_all b.permanent_all h1.0 i;
       permanent_danger = equal a.permanent_danger b.permanent_danger h1.1 i;

@@ -31,6 +31,7 @@ use Rattle.result_file.proofs.CheckSteps.{says_none}
 use Rattle.result_file.proofs.Pieces.{HasRead, read_none, read_more, read_all}
 use Rattle.result_file.proofs.Keeping.{kept_own}
 use Rattle.result_file.proofs.Whole.{no_row, length-rows, pieces_of}
+use Rattle.std.proofs.lemmas.Bool.{eq-eqb}
 
 pub length-result_rows : (p : Analysis) (entries : List Entry) → length (result_rows p entries) ≡ length entries
 unfolding result_rows below
@@ -69,11 +70,8 @@ not_any (row ∷ rows) batch h =
     let first : (row.batch == batch) ≡ false = grind (arith, nat_tests) in
     ap (λ b. b || list_any (λ earlier. earlier.batch == batch) rows) first ∙ not_any rows batch h.1
 
-eq_refl : (n : ℕ) → (n == n) ≡ true
-eq_refl n = grind (arith, nat_tests)
-
 same_refl : (s : Sums) → same_sums s s ≡ true
-same_refl s = rw (eq_refl s.permanent_all, eq_refl s.permanent_danger, eq_refl s.latent, eq_refl s.transient_all, eq_refl s.transient_danger) refl
+same_refl s = rw ((eq-eqb s.permanent_all s.permanent_all refl), (eq-eqb s.permanent_danger s.permanent_danger refl), (eq-eqb s.latent s.latent refl), (eq-eqb s.transient_all s.transient_all refl), (eq-eqb s.transient_danger s.transient_danger refl)) refl
 
 -- the batches of the first rows
 front_batches : (p : Analysis) (entries : List Entry) (k : ℕ) → map (λ (r : Row). r.batch) (take k (result_rows p entries)) ≡ take k (batches entries)

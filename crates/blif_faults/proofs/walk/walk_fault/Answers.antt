@@ -14,10 +14,7 @@ use Rattle.blif_faults.proofs.Passing.{control-fault, read-fault, driver-fault, 
 use Rattle.blif_faults.proofs.FirstClock.{two-clocks, clock_held, input_held, driven_held}
 use Rattle.blif_faults.proofs.Driving.{kind_here, kind_later}
 use Rattle.blif_faults.proofs.walk.walk_fault.Goals as goal
-
-or_none : {X : Type 0} (o : Option X) → option_or o None ≡ o
-or_none None = refl
-or_none (Some x) = refl
+use Rattle.fm_base.proofs.Options.{or_none}
 
 in_order : (steps : List Step)
     → option_or (two_clocks steps) (option_or (bad_clock steps) (option_or (clock_read steps) (option_or (two_drivers steps) (option_or (undriven steps) None)))) ≡ walk_fault steps

@@ -1,8 +1,8 @@
 use Rattle.std.proofs.Common.{◌∙◌, ap, sym, List, ℕ, Bor, not}
 use Rattle.std.specs.List.{list_any}
 use Rattle.fm_base.specs.Names.{Name, is_one_of}
-use Rattle.name_index.proofs.NameFacts.{list_any-map}
 use Rattle.blif_ports.proofs.links.has_other.Goals as goal
+use Rattle.fm_base.proofs.Finding.{list_any-map}
 
 pub returns : goal.returns
 returns c =

@@ -1,5 +1,5 @@
 use Rattle.std.proofs.Common.{◌≡◌, map, take}
-use Rattle.blif_model.specs.Net.{net_id}
+use Rattle.net_names.specs.Nets.{net_id}
 use Rattle.blif_walk.specs.Numbers.{owned_texts}
 use Rattle.blif_reader.proofs.ids.ids_of_keys.Given as goal
 

@@ -1,5 +1,5 @@
 use Rattle.std.proofs.Common.{◌≡◌, ◌++◌, map, drop}
-use Rattle.blif_model.specs.Net.{net_id}
+use Rattle.net_names.specs.Nets.{net_id}
 use Rattle.blif_walk.specs.Numbers.{owned_texts}
 use Rattle.blif_reader.specs.Parts.{unclocked_by}
 use Rattle.blif_reader.proofs.parts.put_inputs.Given as goal

@@ -1,8 +1,8 @@
 use Rattle.std.proofs.Common.{refl, sym, ◌∙◌}
 use Rattle.blif_model.specs.LineFault.{is_read, line_fault, Said}
-use Rattle.blif_text.proofs.Anys.{list_any-map}
 use Rattle.blif_says.proofs.FirstFaults.{said_of}
 use Rattle.blif_says.proofs.faults.fault_in.Goals as goal
+use Rattle.fm_base.proofs.Finding.{list_any-map}
 
 pub returns-then-any_read : goal.returns-then-any_read
 unfolding line_fault

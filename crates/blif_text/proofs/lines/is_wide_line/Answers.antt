@@ -1,10 +1,10 @@
 use Rattle.std.proofs.Common.{ap, sym, length, ◌∙◌}
 use Rattle.std.specs.Prelude.{nat_lt}
 use Rattle.std.specs.List.{list_any}
-use Rattle.blif_text.proofs.Anys.{list_any-map}
 use Rattle.blif_text.specs.Lines.{Piece}
 use Rattle.blif_text.specs.declared.token.Token.{Token}
 use Rattle.blif_text.proofs.lines.is_wide_line.Goals as goal
+use Rattle.fm_base.proofs.Finding.{list_any-map}
 
 pub returns : goal.returns
 returns c =

@@ -1,7 +1,8 @@
 use Rattle.std.proofs.Common.{◌<◌, length, ap, ◌∙◌, arith}
 use Rattle.campaign_workers.specs.Workplaces.{Made}
-use Rattle.campaign_workers.proofs.Workshops.{written_whole, at_work, first_free}
+use Rattle.campaign_workers.proofs.Workshops.{at_work, first_free}
 use Rattle.campaign_workers.proofs.fan_out.campaign.Goals as goal
+use Rattle.fm_base.proofs.Lists.{written_whole}
 
 pub work_all-requires-clause-ready : goal.work_all-requires-clause-ready
 work_all-requires-clause-ready g c = λ κs bounds.

@@ -7,8 +7,9 @@ use Rattle.circuit.specs.declared.parts.NetId.{NetId}
 use Rattle.circuit.specs.declared.parts.Table.{Table}
 use Rattle.circuit.specs.Value.{table_at}
 use Rattle.collapse_map.specs.Looks.{AreLooks}
-use Rattle.collapse_map.proofs.Looking.{few_tables, parts_more, table_nets}
+use Rattle.collapse_map.proofs.Looking.{parts_more, table_nets}
 use Rattle.collapse_map.proofs.looks.look_by_tables.Goals as goal
+use Rattle.circuit.proofs.FewTables.{few_tables}
 
 pub overflow_cast-k : goal.overflow_cast-k
 overflow_cast-k c =

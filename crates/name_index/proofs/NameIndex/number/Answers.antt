@@ -3,8 +3,8 @@ use Rattle.std.specs.Prelude.{position, IfSome}
 use Rattle.std.specs.Str.{bytes_eq}
 use Rattle.std.proofs.lemmas.List.{length-map}
 use Rattle.fm_base.specs.Names.{Name, is_one_of}
-use Rattle.name_index.proofs.NameFacts.{list_any-map, position-map}
 use Rattle.name_index.proofs.NameIndex.number.Goals as goal
+use Rattle.fm_base.proofs.Finding.{position-map, list_any-map}
 
 pub returns-clause-value : goal.returns-clause-value
 returns-clause-value c =

@@ -1,8 +1,8 @@
 use Rattle.std.proofs.Common.{◌∙◌, ap, sym, List, ℕ, Bor}
 use Rattle.std.specs.Str.{bytes_eq}
 use Rattle.fm_base.specs.Names.{Name, is_one_of}
-use Rattle.name_index.proofs.NameFacts.{list_any-map}
 use Rattle.blif_ports.proofs.names.NameSet.contains.Goals as goal
+use Rattle.fm_base.proofs.Finding.{list_any-map}
 
 pub returns : goal.returns
 returns c =

@@ -4,9 +4,9 @@ use Rattle.std.specs.Prelude.{bytes_eq}
 use Rattle.blif_model.specs.Models.{Model, model_named}
 use Rattle.blif_says.specs.declared.models.ModelLines.{ModelLines}
 use Rattle.blif_says.specs.Grouped.{model_of}
-use Rattle.blif_walk.proofs.Nets.{find-map}
 use Rattle.blif_walk.proofs.FirstPlaces.{first_found}
 use Rattle.blif_walk.proofs.table.ModelTable.find.Goals as goal
+use Rattle.fm_base.proofs.Finding.{find-map}
 
 pub returns-in-Some : goal.returns-in-Some
 returns-in-Some c =

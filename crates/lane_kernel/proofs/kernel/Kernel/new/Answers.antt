@@ -29,7 +29,7 @@ returns-clause-kernel g c =
           (subst (λ o. IsProgram c.args.netlist.now o gates) (c.nets.ensures ∙ sym order) c.in_ok-gates.ensures);
       ops = c.in_ok-masks.ensures;
       starts = starts;
-      loads = omega (arith, c.in_ok-loads.loads.ok.0, c.in_ok-loads.ensures.len, c.count.ensures);
+      loads = omega (arith, c.in_ok-loads.ensures.count, c.count.ensures);
       transient = c.is_some_transient-transient.ensures ∙ ap has_transients c.deref-3.ensures.value;
       marks = ap length marks ∙ c.prepare.auto.marks ∙ ap length c.deref_mut.ensures.value ∙ omega (arith, c.in_ok-marks.marks.ok.0, c.in_ok-marks.ensures.len, nets);
       marked = subst (AreMarks loads) (sym marks) (subst (λ ls. AreMarks ls c.prepare.new.marks) c.deref-2.ensures.value c.prepare.ensures.marks);

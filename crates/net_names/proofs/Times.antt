@@ -7,24 +7,11 @@ use Rattle.std.proofs.lemmas.Slice.Eq.{bytes_eq-Decides}
 use Rattle.std.proofs.lemmas.Option.{slice_get-map}
 use Rattle.fm_base.specs.Names.{Name, is_one_of, has_repeat}
 use Rattle.fm_base.proofs.Tests.{or_false, both_false, false_of, clash}
-use Rattle.fm_base.proofs.Distinct.{same_name, is_same}
+use Rattle.fm_base.proofs.Distinct.{same_name, is_same, bytes_eq-sym}
 use Rattle.circuit.specs.Sound.{AreApart}
-
--- names are compared alike from both sides
-pub same_turned : (a b : Name) → bytes_eq a b ≡ bytes_eq b a
-same_turned a b = by_cases (bytes_eq a b) (bytes_eq b a) refl refl
-  where
-    by_cases : (p q : Bool) → bytes_eq a b ≡ p → bytes_eq b a ≡ q → p ≡ q
-    by_cases true true e f = refl
-    by_cases false false e f = refl
-    by_cases true false e f = sym ((bytes_eq-Decides b a).1 (sym (same_name a b e))) ∙ f
-    by_cases false true e f = sym e ∙ (bytes_eq-Decides a b).1 (sym (same_name b a f))
+use Rattle.net_names.specs.Driven.{times}
 
 -- ---- how often
-
-abbrev pub times : Name → List Name → ℕ
-times name [] = 0
-times name (x ∷ xs) = cond (bytes_eq name x) 1 0 + times name xs
 
 pub times-append : (name : Name) (xs ys : List Name) → times name (xs ++ ys) ≡ times name xs + times name ys
 times-append name [] ys = omega arith
@@ -100,13 +87,27 @@ found-at (x ∷ xs) name e = by_cases (bytes_eq name x) refl e (found-at xs name
     by_cases true f e more = (0, ap Some (sym (same_name name x f)))
     by_cases false f e more = let there = more e in (suc there.0, there.1)
 
+-- a name of either list is one of both
+pub one_of_both : (xs ys : List Name) (name : Name) → is_one_of (xs ++ ys) name ≡ (is_one_of xs name || is_one_of ys name)
+one_of_both [] ys name = refl
+one_of_both (x ∷ xs) ys name = ap (λ b. bytes_eq name x || b) (one_of_both xs ys name) ∙ regrouped (bytes_eq name x) (is_one_of xs name) (is_one_of ys name)
+  where
+    regrouped : (a b c : Bool) → (a || (b || c)) ≡ ((a || b) || c)
+    regrouped true b c = refl
+    regrouped false b c = refl
+
 -- the place of a name
 abbrev pub place : List Name → Name → ℕ
 place names name = position_or_len (λ n. bytes_eq n name) names
 
+-- the place of a key is that of its text
+pub place-of-key : {K : Type 0} (text : K → Name) (keys : List K) (name : Name) → position_or_len (λ key. bytes_eq name (text key)) keys ≡ place (map text keys) name
+place-of-key text [] name = refl
+place-of-key text (key ∷ keys) name = rw (bytes_eq-sym name (text key)) (ap (λ n. cond (not (bytes_eq (text key) name)) (1 + n) 0) (place-of-key text keys name))
+
 pub place-found : (names : List Name) (name : Name) → is_one_of names name ≡ true → slice_get names (place names name) ≡ Some name
 place-found [] name e = cc
-place-found (x ∷ xs) name e = by_cases (bytes_eq x name) refl (ap (λ b. b || is_one_of xs name) (same_turned x name) ∙ e) (place-found xs name)
+place-found (x ∷ xs) name e = by_cases (bytes_eq x name) refl (ap (λ b. b || is_one_of xs name) (bytes_eq-sym x name) ∙ e) (place-found xs name)
   where
     by_cases : (b : Bool) → bytes_eq x name ≡ b → (b || is_one_of xs name) ≡ true → (is_one_of xs name ≡ true → slice_get xs (place xs name) ≡ Some name)
         → slice_get (x ∷ xs) (cond (not b) (1 + place xs name) 0) ≡ Some name

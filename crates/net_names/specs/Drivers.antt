@@ -3,8 +3,8 @@ use Rattle.std.specs.Prelude.{ℕ, ◌+◌, List, [], ◌∷◌, replicate, slic
 use Rattle.circuit.specs.declared.parts.Driver.{Driver}
 use Rattle.circuit.specs.declared.parts.Driver.TheVariants as drivers
 use Rattle.circuit.specs.declared.parts.NetId.{NetId}
-use Rattle.bench_reader.specs.declared.drivers.Role.{Role}
-use Rattle.bench_reader.specs.declared.drivers.Role.TheVariants.{Input, Table, Latch}
+use Rattle.net_names.specs.declared.drivers.Role.{Role}
+use Rattle.net_names.specs.declared.drivers.Role.TheVariants.{Input, Table, Latch}
 
 -- the driver of a role with a number
 abbrev pub role_driver : Role → ℕ → Driver

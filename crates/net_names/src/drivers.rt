@@ -1,9 +1,7 @@
 // The drivers of nets.
 ghost use Rattle.std.specs.Prelude.{◌≡◌, ◌<◌, ◌^◌, IfOk, length, slice_set};
-ghost use Rattle.blif_reader.specs.Parts.{drivers_by, put_drivers};
-ghost use Rattle.blif_reader.specs.Seen.{parts_seen, role_driver};
+ghost use Rattle.net_names.specs.Drivers.{drivers_by, put_drivers, role_driver};
 
-use crate::parts::NetParts;
 use circuit::parts::{Driver, Drivers, NetId};
 use fm_list::Seq;
 use std::alloc::{AllocError, Global};
@@ -45,16 +43,22 @@ fn put_role(drivers: &mut [Driver], nets: &[NetId], role: Role)
     }
 }
 
-/// The drivers of so many nets.
-pub fn drivers_of(alloc: Global, parts: &NetParts, count: usize) -> Result<Drivers, AllocError>
-    requires inputs { length parts.now.inputs < 2 ^ 32 }
-    requires tables { length parts.now.table_nets < 2 ^ 32 }
-    requires latches { length parts.now.latch_nets < 2 ^ 32 }
-    ensures { IfOk result (λ ds. ds ≡ drivers_by (parts_seen parts.now) count) }
+/// The drivers of so many nets, where these are driven by inputs, tables and latches.
+pub fn drivers_of(
+    alloc: Global,
+    inputs: &[NetId],
+    tables: &[NetId],
+    latches: &[NetId],
+    count: usize,
+) -> Result<Drivers, AllocError>
+    requires inputs { length inputs.now < 2 ^ 32 }
+    requires tables { length tables.now < 2 ^ 32 }
+    requires latches { length latches.now < 2 ^ 32 }
+    ensures { IfOk result (λ ds. ds ≡ drivers_by inputs.now tables.now latches.now count) }
 {
     let mut drivers = vec![in alloc; Driver::Input(0); count]?;
-    put_role(&mut drivers, parts.inputs.as_slice(), Role::Input);
-    put_role(&mut drivers, parts.table_nets.as_slice(), Role::Table);
-    put_role(&mut drivers, parts.latch_nets.as_slice(), Role::Latch);
+    put_role(&mut drivers, inputs, Role::Input);
+    put_role(&mut drivers, tables, Role::Table);
+    put_role(&mut drivers, latches, Role::Latch);
     Ok(Seq::from_vec(drivers))
 }

@@ -1,0 +1,8 @@
+pub mod Answers
+pub mod Times
+pub mod Few
+pub mod Driven
+pub mod Once
+pub mod Putting
+pub mod Brought
+pub mod Sound

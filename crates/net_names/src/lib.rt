@@ -1,0 +1,5 @@
+// Nets by their names, and their drivers.
+#![tactic(auto)]
+
+pub mod copies;
+pub mod drivers;
