@@ -25,7 +25,7 @@ use Rattle.fm_base.specs.Firsts.{first_after, first_fault, numbered_fault}
 use Rattle.fm_base.specs.Lists.{firsts}
 use Rattle.fm_base.specs.Names.{Bytes, Name, distinct, has_repeat, is_label, is_one_of}
 use Rattle.name_index.specs.Index.{with_name}
-use Rattle.fm_base.proofs.Distinct.{distinct-apart, is_same, same_name}
+use Rattle.fm_base.proofs.Distinct.{distinct-apart, is_same, same_name, distinct-nil}
 use Rattle.fm_base.proofs.Tests.{both_true, clash, false_of, not_not, or_false}
 use Rattle.fm_base.specs.declared.refusal.Refusal.{Refusal}
 use Rattle.alarm_points.specs.declared.Goal.{Goal}
@@ -37,7 +37,7 @@ use Rattle.alarm_points.specs.declared.header.Header.TheVariants.{OneGoal, Named
 use Rattle.alarm_points.specs.Listed.{goals_with}
 use Rattle.alarm_points.specs.PointsFile.{goal_from, goal_in, goals_named, header_of, interval_in, interval_read, is_alarm, is_bad_goal, is_dash, is_observe, kind_in, net_in, observed, observing, point_of, points_from, points_of, points_of_rows, points_under, points_unless, row_fault, same_goal, same_point}
 use Rattle.alarm_points.specs.PointsKept.{ArePointsFor, IsGoalFor}
-use Rattle.alarm_points.proofs.Listing.{goals_none, goals_step}
+use Rattle.alarm_points.proofs.Listing.{goals_step}
 use Rattle.alarm_points.proofs.Whole.{Passes, few_step, row_passes}
 
 -- ---- rows without a fault
@@ -222,7 +222,7 @@ goals_more names row true few eo e =
     rw eo (named_more names (goal_in NamedGoals row) (is_label (goal_in NamedGoals row)) (is_one_of names (goal_in NamedGoals row)) few refl (rw eo at e))
 
 named_few : (c : Circuit) (rows : List Fields) → AllPass c NamedGoals rows → (i : ℕ) → i ≤ length rows → length (goals_named NamedGoals (take i rows)) ≤ 4
-named_few c rows pass zero le = let none : length (goals_named NamedGoals []) ≡ 0 = ap length goals_none in omega (arith, none)
+named_few c rows pass zero le = let none : length (goals_named NamedGoals []) ≡ 0 = ap length distinct-nil in omega (arith, none)
 named_few c rows pass (suc i) le =
     let lt : i < length rows = omega (arith, le) in
     let row : Fields = get_or rows i [] in

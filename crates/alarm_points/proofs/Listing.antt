@@ -13,10 +13,11 @@ use Rattle.fm_base.specs.Names.{Name, distinct, is_one_of}
 use Rattle.fm_base.proofs.Distinct.{distinct-found, distinct-snoc, firsts-snoc, same_name}
 use Rattle.fm_base.proofs.Tests.{false_of}
 use Rattle.name_index.specs.Index.{with_name}
-use Rattle.name_index.proofs.NameFacts.{list_any-map, with_new}
+use Rattle.name_index.proofs.NameFacts.{with_new}
 use Rattle.alarm_points.specs.declared.header.Header.{Header}
 use Rattle.alarm_points.specs.Listed.{begins_goal, goals_with}
 use Rattle.alarm_points.specs.PointsFile.{goal_in, goals_named, is_observe, observing, same_goal}
+use Rattle.fm_base.proofs.Finding.{list_any-map}
 
 -- ---- the names of the nets
 
@@ -82,7 +83,3 @@ firsts_step h rows row b begins = by_cases (is_observe h row) (is_one_of (goals_
 pub firsts_none : (h : Header) → firsts (same_goal h) [] ≡ []
 unfolding firsts
 firsts_none h = refl
-
-pub goals_none : distinct [] ≡ []
-unfolding firsts
-goals_none = refl

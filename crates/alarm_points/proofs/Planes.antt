@@ -3,6 +3,7 @@ use Rattle.std.proofs.Common.{◌≡◌, ℕ, zero, suc, ◌-◌, ◌^◌, ◌<�
 use Rattle.std.specs.Int.{bit_at}
 use Rattle.std.proofs.lemmas.Nat.Bits.{bit_at_and, bit_at_or, bit_at_not, bit_at-lt, bit_at-zero}
 use Rattle.fm_base.specs.Planes.{bit}
+use Rattle.fm_base.proofs.Bits.{min_bits, bit_of_and}
 
 max_bits : (x y : ℕ) → x < 2 → y < 2 → (max x y == 1) ≡ ((x == 1) || (y == 1))
 max_bits zero zero p q = refl
@@ -12,14 +13,6 @@ max_bits (suc zero) (suc zero) p q = refl
 max_bits (suc (suc x)) y p q = absurd (omega arith)
 max_bits x (suc (suc y)) p q = absurd (omega arith)
 
-min_bits : (x y : ℕ) → x < 2 → y < 2 → (min x y == 1) ≡ ((x == 1) && (y == 1))
-min_bits zero zero p q = refl
-min_bits zero (suc zero) p q = refl
-min_bits (suc zero) zero p q = refl
-min_bits (suc zero) (suc zero) p q = refl
-min_bits (suc (suc x)) y p q = absurd (omega arith)
-min_bits x (suc (suc y)) p q = absurd (omega arith)
-
 not_bits : (x : ℕ) → x < 2 → (1 - x == 1) ≡ not (x == 1)
 not_bits zero p = refl
 not_bits (suc zero) p = refl
@@ -27,9 +20,6 @@ not_bits (suc (suc x)) p = absurd (omega arith)
 
 pub bit_of_or : (a b k : ℕ) → bit (bit_or a b) k ≡ (bit a k || bit b k)
 bit_of_or a b k = ap (λ n. n == 1) (bit_at_or a b k) ∙ max_bits (bit_at a k) (bit_at b k) (bit_at-lt a k) (bit_at-lt b k)
-
-pub bit_of_and : (a b k : ℕ) → bit (bit_and a b) k ≡ (bit a k && bit b k)
-bit_of_and a b k = ap (λ n. n == 1) (bit_at_and a b k) ∙ min_bits (bit_at a k) (bit_at b k) (bit_at-lt a k) (bit_at-lt b k)
 
 pub bit_of_not : (a k : ℕ) → a < 2 ^ 64 → k < 64 → bit (18446744073709551615 - a) k ≡ not (bit a k)
 bit_of_not a k small lt = ap (λ n. n == 1) (bit_at_not w64 a k small lt) ∙ not_bits (bit_at a k) (bit_at-lt a k)

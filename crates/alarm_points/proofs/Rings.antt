@@ -11,6 +11,7 @@ use Rattle.fm_base.specs.Planes.{bit}
 use Rattle.alarm_points.specs.Watch.{IsAfterPairs, IsWatch, Pair, Watch, differs_in, is_settled, pair_at, raised_in}
 use Rattle.alarm_points.proofs.Planes.{bit_of_or, bit_of_none}
 use Rattle.alarm_points.proofs.Settled.{is_settled-same, settled_due, settled_early, settled_none, some_below-same, some_below-suc, some_below-zero}
+use Rattle.std.proofs.Math.Bool.{or-false}
 
 -- the place after another
 pub next_in : (last place n : ℕ) → place ≡ n % (last + 1) → place < last → place + 1 ≡ (n + 1) % (last + 1)
@@ -71,10 +72,6 @@ after_none w place count differed raised settled = record {
   where
     none : (m : ℕ) → 0 ≡ min 0 m
     none m = omega arith
-
-or_none : (a : Bool) → (a || false) ≡ a
-or_none true = refl
-or_none false = refl
 
 -- the plane whose interval ends with this pair
 abbrev pub due_of : Watch → (recent : List ℕ) → (place : ℕ) → ℕ
@@ -190,7 +187,7 @@ after_pair pairs p old new sound after sees = record {
         → (bit old.settled k || (bit due k && not (bit new.raised k))) ≡ is_settled old.ftti (suc n) (differs_in longer k) (raised_in longer k)
     by_cases k lt (inl early) =
         ap₂ (λ a b. a || (b && not (bit new.raised k))) (settled_before k lt) (ap (λ m. bit m k) (due_none early) ∙ bit_of_none k)
-        ∙ or_none _ ∙ sym (settled_early old.ftti n (differs_in longer k) (raised_in longer k) early)
+        ∙ or-false _ ∙ sym (settled_early old.ftti n (differs_in longer k) (raised_in longer k) early)
     by_cases k lt (inr late) =
         ap₂ (λ a b. a || (b && not (bit new.raised k))) (settled_before k lt) (ap (λ m. bit m k) (due_one late))
         ∙ ap (λ b. is_settled old.ftti n (differs_in longer k) (raised_in longer k) || (differs_in longer k (n - old.ftti) && not b))

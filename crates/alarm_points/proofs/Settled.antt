@@ -1,6 +1,6 @@
 -- What goes unalarmed is settled, or differs and is quiet to the end.
 use Rattle.std.proofs.Common.{◌≡◌, ℕ, zero, suc, ◌+◌, ◌-◌, ◌<◌, ◌≤◌, Bool, true, false, not, ◌&&◌, ◌||◌, inl, inr, refl, ap, ap₂, sym, ◌∙◌, arith}
-use Rattle.std.proofs.lemmas.Bool.{cases_lt}
+use Rattle.std.proofs.lemmas.Bool.{cases_lt, or_left}
 use Rattle.fm_base.specs.Lists.{some_below}
 use Rattle.fm_base.proofs.Below.{some_below-true, some_below-false, some_below-at}
 use Rattle.fm_base.proofs.Tests.{and_both, both_true, or_cases, or_second, not_true, not_false, clash, false_of}
@@ -14,10 +14,6 @@ same_test true true f g = refl
 same_test false false f g = refl
 same_test true false f g = sym (f refl)
 same_test false true f g = g refl
-
-pub or_first : (a b : Bool) → a ≡ true → (a || b) ≡ true
-or_first true b e = refl
-or_first false b e = absurd (cc)
 
 pub some_below-zero : (test : ℕ → Bool) → some_below 0 test ≡ false
 unfolding some_below
@@ -80,7 +76,7 @@ unalarmed_is ftti n d r = same_test _ _ forth back
     forth h =
         let w : GoesUnalarmed ftti n d r = goes_unalarmed-says ftti n d r h in
         elim (cases_lt (w.t + ftti) n) [
-          | inl lt ↦ or_first _ _ (some_below-at (n - ftti) (λ t. d t && not (some_below (suc (t + ftti)) r)) w.t (omega arith)
+          | inl lt ↦ or_left _ _ (some_below-at (n - ftti) (λ t. d t && not (some_below (suc (t + ftti)) r)) w.t (omega arith)
               (both_true _ _ w.differs_at (quiet_below (suc (w.t + ftti)) r (λ u early. w.quiet u (omega arith) (omega arith)))))
           | inr ge ↦ or_second _ _ (both_true _ _ (some_below-at n d w.t w.within w.differs_at)
               (quiet_below n r (λ u lt. w.quiet u lt (omega arith))))

@@ -5,6 +5,7 @@ pub mod file;
 mod header;
 mod interval;
 mod listed;
+mod nets;
 pub mod outputs;
 pub mod window;
 pub mod windows;

@@ -10,6 +10,7 @@ ghost use Rattle.alarm_points.specs.PointsFile.{goal_from as goal_of, is_alarm, 
 
 use crate::header::Header;
 use crate::interval::{interval_of, is_dash};
+use crate::nets::NetNames;
 use crate::{Goal, GoalList, Points, PointsFault, PointsKind};
 use circuit::netlist::Netlist;
 use circuit::parts::{NetId, NetIds};
@@ -25,12 +26,12 @@ const MOST_POINTS: usize = 1024;
 const MOST_GOALS: usize = 4;
 
 // The names of the nets, in order of their numbers.
-fn names_of(alloc: Global, net: &Netlist) -> Result<NameIndex, AllocError>
+fn names_of(alloc: Global, net: &Netlist) -> Result<NetNames<'_>, AllocError>
     ensures names { IfOk result (λ index. index ≡ net.now.names) }
     ensures few { IfOk result (λ index. length index ≤ 2 ^ 18) }
     ensures sound { IsNetlist net.now }
 {
-    let mut index = NameIndex::new(alloc);
+    let mut index = NetNames::new(alloc);
     let names = net.names();
     for name in names {
         index.insert(name.as_slice())?;
@@ -38,7 +39,7 @@ fn names_of(alloc: Global, net: &Netlist) -> Result<NameIndex, AllocError>
     Ok(index)
 }
 
-fn find_net(nets: &NameIndex, name: &[u8]) -> Option<NetId>
+fn find_net(nets: &NetNames<'_>, name: &[u8]) -> Option<NetId>
     requires { length nets.now ≤ 2 ^ 18 }
     ensures { option_map (λ net. net.0) result ≡ position (bytes_eq name.now) nets.now }
 {
@@ -124,7 +125,7 @@ fn observes(header: Header, rows: &[Row]) -> bool
 }
 
 // The net that a row names.
-fn net_of(header: Header, nets: &NameIndex, row: &Row) -> NetId
+fn net_of(header: Header, nets: &NetNames<'_>, row: &Row) -> NetId
     requires { length nets.now ≤ 2 ^ 18 }
     ensures { (c : Circuit) → nets.now ≡ c.names → result ≡ point_of c header row.now }
 {
@@ -135,7 +136,7 @@ fn net_of(header: Header, nets: &NameIndex, row: &Row) -> NetId
 fn goal_from(
     alloc: Global,
     header: Header,
-    nets: &NameIndex,
+    nets: &NetNames<'_>,
     rows: &[Row],
     first: &Row,
 ) -> Result<Goal, AllocError>
@@ -158,7 +159,7 @@ fn goal_from(
 fn goals_of(
     alloc: Global,
     header: Header,
-    nets: &NameIndex,
+    nets: &NetNames<'_>,
     rows: &[Row],
 ) -> Result<GoalList, AllocError>
     requires { length nets.now ≤ 2 ^ 18 }
@@ -178,7 +179,7 @@ fn goals_of(
 fn alarms_of(
     alloc: Global,
     header: Header,
-    nets: &NameIndex,
+    nets: &NetNames<'_>,
     rows: &[Row],
 ) -> Result<NetIds, AllocError>
     requires { length nets.now ≤ 2 ^ 18 }
@@ -195,19 +196,19 @@ fn alarms_of(
 
 /// The rows under the header that were read, none of which has a fault.
 #[derive(Drop)]
-pub(crate) struct Listed {
+pub(crate) struct Listed<'n> {
     alloc: Global,
     header: Header,
     /// The names of all nets, in order of their numbers.
-    nets: NameIndex,
+    nets: NetNames<'n>,
     /// The names of the goals, in order of first row.
     goals: NameIndex,
     rows: Seq<Row>,
 }
 
-impl Listed {
+impl<'n> Listed<'n> {
     /// No rows yet.
-    pub(crate) fn new(alloc: Global, net: &Netlist, header: Header) -> Result<Self, AllocError>
+    pub(crate) fn new(alloc: Global, net: &'n Netlist, header: Header) -> Result<Self, AllocError>
         ensures lists { IfOk result (Lists net.now header []) }
         ensures sound { IsNetlist net.now }
     {
@@ -265,8 +266,8 @@ impl Listed {
     /// The points of all rows.
     pub(crate) fn finish(self) -> Result<Points, Refusal<PointsFault>>
         requires { length self.nets ≤ 2 ^ 18 }
-        ensures { (c : Circuit) → self.nets ≡ c.names
-            → Gives (points_unless None (list_any (is_observe self.header) self.rows) (points_from c self.header self.rows)) result }
+        ensures { (c : Circuit) → self.entry.nets ≡ c.names
+            → Gives (points_unless None (list_any (is_observe self.entry.header) self.entry.rows) (points_from c self.entry.header self.entry.rows)) result }
     {
         let Listed {
             alloc,

@@ -1,5 +1,5 @@
 // A window for each safety goal.
-ghost use Rattle.std.specs.Prelude.{◌≡◌, ◌≢◌, ◌<◌, ◌∷◌, ◌++◌, [], ℕ, List, IfOk, length, map, slice_index_or};
+ghost use Rattle.std.specs.Prelude.{◌≡◌, ◌≢◌, ◌<◌, ◌∷◌, ◌++◌, [], ℕ, All, List, IfOk, length, map, slice_index_or};
 ghost use Rattle.fm_base.specs.Lists.{some_below};
 ghost use Rattle.fm_base.specs.Planes.{bit};
 ghost use Rattle.alarm_points.specs.Interval.{interval_of};
@@ -18,7 +18,8 @@ fn interval(goal: &Goal, ftti: u32) -> u32
 }
 
 fn windows_for(alloc: Global, goals: &[Goal], ftti: u32) -> Result<Vec<Window>, AllocError>
-    ensures { IfOk result (λ windows. map (λ (w : Watch). w.ftti) windows.items ≡ map (interval_of ftti) goals.now) }
+    ensures intervals { IfOk result (λ windows. map (λ (w : Watch). w.ftti) windows.items ≡ map (interval_of ftti) goals.now) }
+    ensures start { IfOk result (λ windows. All (IsAfterPairs []) windows.items) }
 {
     let mut windows = Vec::new(alloc);
     for goal in goals {
@@ -68,6 +69,7 @@ impl Windows {
     pub fn new(alloc: Global, points: &Points, ftti: u32) -> Result<Self, AllocError>
         ensures made { IfOk result (λ windows. AreMadeFor points.now windows) }
         ensures ftti { IfOk result (λ windows. windows.ftti ≡ ftti) }
+        ensures start { IfOk result (λ windows. All (IsAfterPairs []) windows.windows) }
     {
         let windows = windows_for(alloc, points.goals.as_slice(), ftti)?;
         Ok(Windows { ftti, windows })

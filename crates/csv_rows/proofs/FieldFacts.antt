@@ -1,5 +1,5 @@
 -- The field at a place, and what is left of a comparison with words.
-use Rattle.std.proofs.Common.{◌≡◌, ◌∙◌, ℕ, zero, suc, ◌+◌, ◌<◌, Bool, true, false, List, [], ◌∷◌, length, drop, map, sym, refl, ap, arith, get_or, ◌≢◌, ◌≤◌, Bor, Option, Some, None}
+use Rattle.std.proofs.Common.{◌≡◌, ◌∙◌, ℕ, zero, suc, ◌<◌, Bool, true, false, List, [], ◌∷◌, length, drop, map, refl, ap, arith, get_or, ◌≢◌, ◌≤◌, Bor}
 use Rattle.std.specs.Prelude.{unwrap_or, ◌&&◌, ◌==◌}
 use Rattle.std.specs.List.{list_all, zip}
 use Rattle.std.specs.Str.{bytes_eq}

@@ -1,11 +1,9 @@
-use Rattle.std.proofs.Common.{add-one, ◌≡◌, ◌∙◌, ◌+◌, ◌<◌, ◌≤◌, ◌∷◌, ◌++◌, sym, refl, ap, arith, rules, Bool, true, false, ℕ, zero, suc, List, [], length, Option, Some, None}
-use Rattle.std.specs.Prelude.{◌==◌, ◌||◌, ◌&&◌, if◌then◌else◌}
-use Rattle.std.proofs.lemmas.Bool.{cases_Bool}
-use Rattle.csv.specs.Machine.{Read, step, in_field, ends_at_end, is_end, next_record, fields_after, field_after}
-use Rattle.csv.specs.Reading.{records, records_from, records_next, default_config}
+use Rattle.std.proofs.Common.{add-one, ◌≡◌, ◌+◌, ◌<◌, ◌≤◌, ◌∷◌, refl, ap, arith, Bool, true, false, ℕ, zero, suc, List, [], length, Option, Some, None}
+use Rattle.std.specs.Prelude.{◌==◌, ◌||◌, if◌then◌else◌}
+use Rattle.csv.specs.Machine.{Read, step, in_field, ends_at_end, is_end, next_record}
+use Rattle.csv.specs.Reading.{records_from, records_next, default_config}
 use Rattle.csv.specs.declared.parser.Action.{Action}
 use Rattle.csv.specs.declared.parser.Action.TheVariants as act
-use Rattle.csv.specs.declared.parser.Config.{Config}
 use Rattle.csv.specs.declared.parser.State.{State}
 use Rattle.csv.specs.declared.parser.State.TheVariants as st
 use Rattle.csv_rows.specs.Rows.{Fields}

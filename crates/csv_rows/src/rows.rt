@@ -1,9 +1,9 @@
 // The reader of the rows.
-ghost use Rattle.std.specs.Prelude.{◌≡◌, IfOk};
+ghost use Rattle.std.specs.Prelude.{◌≡◌, IfOk, Some, None, if◌then◌else◌};
 ghost use Rattle.csv_rows.specs.Rows.{Yields, rows_of};
 
 use crate::row::Row;
-use csv::{ByteRecord, Reader, ReaderBuilder};
+use csv::{Reader, ReaderBuilder};
 use std::alloc::{AllocError, Global};
 use std::marker::Model;
 
@@ -61,22 +61,32 @@ impl<'a> Rows<'a> {
     pub fn next(&mut self) -> Result<Option<Row>, AllocError>
         ensures { IfOk result (Yields self.old self.new) }
     {
+        let mut row = Row::new(self.alloc);
+        if self.read(&mut row)? {
+            Ok(Some(row))
+        } else {
+            Ok(None)
+        }
+    }
+
+    /// Reads the next row into the memory of `row`, whatever was in it, and answers whether there was one. Where memory ran out
+    /// once, it is refused from then on.
+    pub fn read(&mut self, row: &mut Row) -> Result<bool, AllocError>
+        ensures { IfOk result (λ found. Yields self.old self.new (if found then Some row.new else None)) }
+    {
         match self.stage {
             Stage::Between => {}
-            Stage::Ended => return Ok(None),
+            Stage::Ended => return Ok(false),
             Stage::Failed => return Err(AllocError),
         }
-        let mut record = ByteRecord::new(self.alloc);
-        match self.reader.read_byte_record(&mut record) {
-            Ok(true) => Ok(Some(Row { record })),
-            Ok(false) => {
-                self.stage = Stage::Ended;
-                Ok(None)
-            }
-            Err(_) => {
-                self.stage = Stage::Failed;
-                Err(AllocError)
-            }
+        let Ok(found) = self.reader.read_byte_record(&mut row.record) else {
+            self.stage = Stage::Failed;
+            return Err(AllocError);
+        };
+        if !found {
+            self.stage = Stage::Ended;
+            return Ok(false);
         }
+        Ok(true)
     }
 }

@@ -12,10 +12,8 @@ use Rattle.rate_table.specs.declared.Part.{Part}
 use Rattle.rate_table.specs.Table.{part_names}
 use Rattle.rate_table.specs.RatesFile.{has_star}
 use Rattle.rate_table.specs.Reading.{texts, is_named}
-use Rattle.rate_table.proofs.Rows.{prefix-map, list_any-map, bytes_eq-sym}
-
-pub position-map : {X Y : Type 0} (p : Y → Bool) (f : X → Y) (xs : List X) → position p (map f xs) ≡ position (λ x. p (f x)) xs
-position-map p f xs = rw (prefix-map p f xs, length-map xs f) refl
+use Rattle.fm_base.proofs.Finding.{list_any-map, position-map, position_or_len-map}
+use Rattle.fm_base.proofs.Distinct.{bytes_eq-sym}
 
 texts_if : (b : Bool) (xs ys : List (Vec ℕ Global)) → texts (if b then xs else ys) ≡ (if b then texts xs else texts ys)
 texts_if true xs ys = refl

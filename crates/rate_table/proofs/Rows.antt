@@ -16,7 +16,7 @@ use Rattle.metric_sums.specs.declared.Role.TheVariants.{Mission, Mechanism, Othe
 use Rattle.fm_base.specs.Lists.{firsts, same_bit}
 use Rattle.fm_base.specs.Firsts.{given, first_answer}
 use Rattle.fm_base.specs.Names.{Bytes, is_label, is_one_of, has_repeat}
-use Rattle.fm_base.proofs.Distinct.{firsts-snoc}
+use Rattle.fm_base.proofs.Distinct.{firsts-snoc, bytes_eq-sym}
 use Rattle.fm_base.proofs.Tests.{clash, or_false, both_false}
 use Rattle.csv_rows.specs.Rows.{Fields, field}
 use Rattle.rate_table.specs.declared.Part.{Part}
@@ -28,32 +28,14 @@ use Rattle.rate_table.specs.Table.{all_rates, part_names}
 use Rattle.rate_table.specs.RatesFile.{role_of, covered_of, part_of, same_part, same_meaning, first_row, parts_of, is_past, row_fault, has_star, without_star, pattern_of}
 use Rattle.rate_table.specs.Reading.{is_named, is_role, is_same, own_fault, Says, IsTold, HasRead, TakesPart, numbered}
 use Rattle.rate_table.proofs.Numbers.{position_some, position_none, any_or_none}
-
-pub bytes_eq-sym : (a b : Bytes) → bytes_eq a b ≡ bytes_eq b a
-bytes_eq-sym a b = by_cases (bytes_eq a b) (bytes_eq b a) refl refl
-  where
-    by_cases : (x y : Bool) → bytes_eq a b ≡ x → bytes_eq b a ≡ y → bytes_eq a b ≡ bytes_eq b a
-    by_cases true true p q = p ∙ sym q
-    by_cases false false p q = p ∙ sym q
-    by_cases true false p q = let same : a ≡ b = (bytes_eq-Decides a b).0 p in let back : bytes_eq b a ≡ true = (bytes_eq-Decides b a).1 (sym same) in absurd (cc)
-    by_cases false true p q = let same : b ≡ a = (bytes_eq-Decides b a).0 q in let back : bytes_eq a b ≡ true = (bytes_eq-Decides a b).1 (sym same) in absurd (cc)
+use Rattle.std.proofs.Math.Bool.{or-false}
+use Rattle.fm_base.proofs.Finding.{find-none, list_any-map, find-filter, position_or_len-map}
 
 -- ---- looking up a part by its name
 
 -- a row tells of the part of this name
 abbrev pub tells_of : Bytes → Fields → Bool
 tells_of name row = bytes_eq name (field row 1)
-
-find-filter : {X : Type 0} (p q : X → Bool) (xs : List X) → ((x : X) → p x ≡ true → q x ≡ true) → find p (filter q xs) ≡ find p xs
-find-filter p q [] h = refl
-find-filter p q (x ∷ xs) h = by_cases (p x) (q x) refl refl (find-filter p q xs h)
-  where
-    by_cases : (a b : Bool) → p x ≡ a → q x ≡ b → find p (filter q xs) ≡ find p xs
-        → find p (cond b (x ∷ filter q xs) (filter q xs)) ≡ cond a (Some x) (find p xs)
-    by_cases true true e f more = rw e refl
-    by_cases false true e f more = rw e more
-    by_cases false false e f more = more
-    by_cases true false e f more = absurd (clash (q x) (h x e) f)
 
 -- the first row of a name is among the first rows of parts
 find-firsts : (name : Bytes) (rows : List Fields) → find (tells_of name) (firsts same_part rows) ≡ find (tells_of name) rows
@@ -73,10 +55,6 @@ find-firsts name (row ∷ rows) = by_cases (tells_of name row) refl (find-firsts
     by_cases false e more =
         rw e (find-filter (tells_of name) (λ other. not (same_part other row)) (firsts same_part rows) (λ other t. others _ e other t refl)
         ∙ more)
-
-pub prefix-map : {X Y : Type 0} (p : Y → Bool) (f : X → Y) (xs : List X) → position_or_len p (map f xs) ≡ position_or_len (λ x. p (f x)) xs
-prefix-map p f [] = refl
-prefix-map p f (x ∷ xs) = rw (prefix-map p f xs) refl
 
 find_same : {X : Type 0} (p q : X → Bool) (xs : List X) → ((x : X) → p x ≡ q x) → find p xs ≡ find q xs
 find_same p q xs same = λ i. find (λ x. same x i) xs
@@ -104,7 +82,7 @@ part_found name rows n h =
     let at = position_some (is_named name) (parts_of rows) n h in
     let lt : n < length (firsts same_part rows) = subst (λ k. n < k) (length-map (firsts same_part rows) part_of) at.2 in
     let place : position_or_len (λ row. is_named name (part_of row)) (firsts same_part rows) ≡ n =
-    sym (prefix-map (is_named name) part_of (firsts same_part rows)) ∙ at.1 in
+    sym (position_or_len-map (is_named name) part_of (firsts same_part rows)) ∙ at.1 in
     let first = get_or (firsts same_part rows) n [] in
     record {
       first = first;
@@ -117,14 +95,6 @@ part_found name rows n h =
 
 any_same : {X : Type 0} (p q : X → Bool) (xs : List X) → ((x : X) → p x ≡ q x) → list_any p xs ≡ list_any q xs
 any_same p q xs same = λ i. list_any (λ x. same x i) xs
-
-pub list_any-map : {X Y : Type 0} (p : Y → Bool) (f : X → Y) (xs : List X) → list_any p (map f xs) ≡ list_any (λ x. p (f x)) xs
-list_any-map p f [] = refl
-list_any-map p f (x ∷ xs) = ap (λ b. p (f x) || b) (list_any-map p f xs)
-
-find_none : {X : Type 0} (p : X → Bool) (xs : List X) → list_any p xs ≡ false → find p xs ≡ None
-find_none p [] e = refl
-find_none p (x ∷ xs) e = let none = or_false (p x) (list_any p xs) e in rw none.0 (find_none p xs none.1)
 
 none_found : {X : Type 0} (p : X → Bool) (xs : List X) → find p xs ≡ None → list_any p xs ≡ false
 none_found p [] e = refl
@@ -139,12 +109,12 @@ some_found p xs x e = by_cases (list_any p xs) refl
   where
     by_cases : (b : Bool) → list_any p xs ≡ b → list_any p xs ≡ true
     by_cases true f = f
-    by_cases false f = let none : find p xs ≡ None = find_none p xs f in absurd (cc)
+    by_cases false f = let none : find p xs ≡ None = find-none p xs f in absurd (cc)
 
 pub part_missing : (name : Bytes) (rows : List Fields) → position (is_named name) (parts_of rows) ≡ None → find (tells_of name) rows ≡ None
 part_missing name rows h =
     let none : list_any (is_named name) (parts_of rows) ≡ false = position_none (is_named name) (parts_of rows) h in
-    sym (find-firsts name rows) ∙ find_none (tells_of name) (firsts same_part rows)
+    sym (find-firsts name rows) ∙ find-none (tells_of name) (firsts same_part rows)
     (sym (any_same (λ row. is_named name (part_of row)) (tells_of name) (firsts same_part rows) (named_same name))
     ∙ sym (list_any-map (is_named name) part_of (firsts same_part rows)) ∙ none)
 
@@ -159,7 +129,7 @@ parts_more rows row e =
     ap (map part_of) (firsts-snoc same_part rows row ∙ rw (none_found (same_part row) rows e) refl) ∙ map-append part_of (firsts same_part rows) (row ∷ [])
 
 -- what was found stays where it was found
-position_kept : {X : Type 0} (p : X → Bool) (xs more : List X) (n : ℕ) → position p xs ≡ Some n → position p (xs ++ more) ≡ Some n
+pub position_kept : {X : Type 0} (p : X → Bool) (xs more : List X) (n : ℕ) → position p xs ≡ Some n → position p (xs ++ more) ≡ Some n
 position_kept p [] more n h = absurd (cc)
 position_kept p (x ∷ xs) more n h =
     let at = position_some p (x ∷ xs) n h in
@@ -174,7 +144,7 @@ position_kept p (x ∷ xs) more n h =
     rw here (ap Some place)
 
 -- a part that is added behind others of other names stands at the end
-position_last : {X : Type 0} (p : X → Bool) (xs : List X) (x : X) → list_any p xs ≡ false → p x ≡ true → position p (xs ++ x ∷ []) ≡ Some (length xs)
+pub position_last : {X : Type 0} (p : X → Bool) (xs : List X) (x : X) → list_any p xs ≡ false → p x ≡ true → position p (xs ++ x ∷ []) ≡ Some (length xs)
 position_last p xs x none here = elim (any_or_none p xs) as (λ _. position p (xs ++ x ∷ []) ≡ Some (length xs)) [
   | inl found ↦ absurd (clash (list_any p xs) found.0 none)
   | inr past ↦
@@ -325,17 +295,13 @@ row_read before row keys0 keys sum0 sum patterns old parts n h part = record {
 
 -- ---- the part of a row
 
-or_false_right : (b : Bool) → (b || false) ≡ b
-or_false_right true = refl
-or_false_right false = refl
-
 -- the checks of a row whose part is there
 shared_old : (before : List Fields) (row first : Fields) (same : Bool) → first_row before row ≡ Some first → same_meaning row first ≡ same
     → shared_fault before row ≡ first_answer (given (not same) TwoMeanings ∷ given (nat_le 4096 (length before)) TooLarge ∷ [])
 shared_old before row first same e f =
     (λ i. first_answer (given (not (option_map_or (same_meaning row) (e i) true)) TwoMeanings
     ∷ given (nat_le 4096 (length before) || (is_none (e i) && nat_lt (10 ^ 18) (all_rates (parts_of before) + ((part_of row).permanent + (part_of row).transient)))) TooLarge ∷ []))
-    ∙ (λ i. first_answer (given (not (f i)) TwoMeanings ∷ given (or_false_right (nat_le 4096 (length before)) i) TooLarge ∷ []))
+    ∙ (λ i. first_answer (given (not (f i)) TwoMeanings ∷ given (or-false (nat_le 4096 (length before)) i) TooLarge ∷ []))
 
 -- the checks of a row whose part is new
 shared_new : (before : List Fields) (row : Fields) (large : Bool) → first_row before row ≡ None
@@ -403,7 +369,7 @@ takes_old before row first keys sum patterns parts n h own told found e f lt = r
 }
 
 one_of_more : (names : List Bytes) (name other : Bytes) → is_one_of (names ++ name ∷ []) other ≡ (is_one_of names other || bytes_eq other name)
-one_of_more names name other = list_any-append (λ n. bytes_eq other n) names (name ∷ []) ∙ ap (λ b. is_one_of names other || b) (or_false_right (bytes_eq other name))
+one_of_more names name other = list_any-append (λ n. bytes_eq other n) names (name ∷ []) ∙ ap (λ b. is_one_of names other || b) (or-false (bytes_eq other name))
 
 -- a name that is new stands once
 apart_more : (names : List Bytes) (name : Bytes) → has_repeat names ≡ false → is_one_of names name ≡ false → has_repeat (names ++ name ∷ []) ≡ false

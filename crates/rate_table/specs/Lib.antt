@@ -2,3 +2,4 @@ pub mod Table
 pub mod Rate
 pub mod RatesFile
 pub mod Reading
+pub mod Index

@@ -1,15 +1,18 @@
 // Failure rates of parts, and the part of each net.
 #![tactic(auto)]
 
-ghost use Rattle.std.specs.Prelude.{◌≡◌};
+ghost use Rattle.std.specs.Prelude.{◌≡◌, IfOk};
 ghost use Rattle.rate_table.specs.Table.{matches, part_named, IsTable};
 
+mod index;
 mod reading;
 mod units;
 
 use fm_list::{Name, Seq};
+use index::PatternIndex;
 use metric_sums::Role;
 pub use reading::read_rates;
+use std::alloc::{AllocError, Global};
 use std::marker::Model;
 
 /// A part, with its rates in units of 10^-6 FIT.
@@ -54,19 +57,34 @@ pub type Parts = Seq<Part>;
 pub struct Rates {
     pub patterns: Patterns,
     pub parts: Parts,
+    index: PatternIndex,
 }
 
 impl Model for Rates {
-    ghost use Rattle.rate_table.specs.Table.{RateTable, IsTable};
+    ghost use Rattle.rate_table.specs.Table.{RateTable};
+    ghost use Rattle.rate_table.specs.Index.{IsRates};
 
     ghost Value = { RateTable };
 
     ghost view = { λ r. record { patterns = r.patterns; parts = r.parts } };
 
-    ghost invariant = { λ r. IsTable (record { patterns = r.patterns; parts = r.parts }) };
+    ghost invariant = { λ r. IsRates r.patterns r.parts r.index };
 }
 
 impl Rates {
+    // A table of these patterns and parts.
+    fn new(alloc: Global, patterns: Patterns, parts: Parts) -> Result<Self, AllocError>
+        requires { IsTable (record { patterns = patterns; parts = parts }) }
+        ensures { IfOk result (λ rates. rates ≡ record { patterns = patterns; parts = parts }) }
+    {
+        let index = PatternIndex::new(alloc, patterns.as_slice())?;
+        Ok(Rates {
+            patterns,
+            parts,
+            index,
+        })
+    }
+
     /// The patterns, in order of rows.
     pub fn patterns(&self) -> &[Pattern]
         ensures value { result.now ≡ self.now.patterns }
@@ -88,10 +106,12 @@ impl Rates {
         ensures value { result ≡ part_named self.now name.now }
         ensures sound { IsTable self.now }
     {
-        self.patterns()
-            .iter()
-            .find(|pattern| pattern.matches(name))
-            .map(|pattern| pattern.part)
+        let patterns = self.patterns.as_slice();
+        let row = self.index.first_row(patterns, name);
+        match patterns.get(row) {
+            Some(pattern) => Some(pattern.part),
+            None => None,
+        }
     }
 }
 

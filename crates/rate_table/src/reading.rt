@@ -290,10 +290,7 @@ fn read_under(alloc: Global, rows: &mut Rows) -> Result<Rates, Refusal<RatesFaul
     'rows: loop {
         let row = match rows.next()? {
             Some(row) => row,
-            None => return Ok(Rates {
-                patterns: table.patterns,
-                parts: table.parts,
-            }),
+            None => return Ok(Rates::new(alloc, table.patterns, table.parts)?),
         };
         match table.take_row(alloc, &row) {
             Ok(()) => number += 1,

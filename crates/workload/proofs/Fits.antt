@@ -1,6 +1,6 @@
 -- Each vector of a workload has a bit for each input of the netlist that it was read for.
 use Rattle.std.proofs.Common.{◌≡◌, ◌∙◌, ℕ, Bool, List, [], ◌∷◌, length, map, subst, Option, Some, None}
-use Rattle.std.specs.Prelude.{All, Result, Ok, Err}
+use Rattle.std.specs.Prelude.{All, Ok}
 use Rattle.std.proofs.lemmas.List.{length-map}
 use Rattle.std.proofs.lemmas.List.Elements.{All-cons, All-nil}
 use Rattle.circuit.specs.Circuit.{Circuit}

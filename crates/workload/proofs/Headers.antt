@@ -30,17 +30,6 @@ list_all-done p [] (suc k) le = refl
 list_all-done p (x ∷ xs) zero le = absurd (omega arith)
 list_all-done p (x ∷ xs) (suc k) le = list_all-done p xs k (omega arith)
 
-pub drop-done : {X : Type 0} (xs : List X) (k : ℕ) → length xs ≤ k → drop k xs ≡ []
-drop-done [] zero le = refl
-drop-done [] (suc k) le = refl
-drop-done (x ∷ xs) zero le = absurd (omega arith)
-drop-done (x ∷ xs) (suc k) le = drop-done xs k (omega arith)
-
--- no name, and names that a function gives, with one more
-pub no_names : distinct [] ≡ []
-unfolding firsts
-no_names = refl
-
 pub with_taken : {X : Type 0} (f : X → Name) (xs : List X) (i : ℕ) (d : X) (names : List Name) → i < length xs → names ≡ distinct (map f (take i xs))
     → with_name names (f (get_or xs i d)) ≡ distinct (map f (take (i + 1) xs))
 with_taken f xs i d names lt e =

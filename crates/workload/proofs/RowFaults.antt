@@ -11,11 +11,11 @@ use Rattle.fm_base.specs.Text.{is_bit}
 use Rattle.fm_base.proofs.Distinct.{distinct-found, is_same}
 use Rattle.fm_base.proofs.Distinct as dis
 use Rattle.fm_base.proofs.Tests.{and_both}
-use Rattle.name_index.proofs.NameFacts.{list_any-map}
 use Rattle.workload.specs.Built.{IsBuilt, KeepsKind, fault_by, first_of, is_kind, joins, keeps_kind, last_says, name_in, row_says, word_of}
 use Rattle.workload.specs.declared.builder.Builder.{Builder}
 use Rattle.workload.specs.declared.builder.Last.{Last}
 use Rattle.workload.specs.WorkloadFile.{has_kind, is_split, row_fault, same_name}
+use Rattle.fm_base.proofs.Finding.{list_any-map, find-none}
 
 -- ---- the row before the next
 
@@ -30,15 +30,6 @@ some_last x (y ∷ ys) e = some_last y ys e
 pub none_last : (before : List Fields) → last_or None before ≡ None → before ≡ []
 none_last [] e = refl
 none_last (x ∷ xs) e = absurd (some_last x xs e)
-
-one_none : {X : Type 0} (p : X → Bool) (x : X) (xs : List X) (b : Bool) → p x ≡ b → (b || list_any p xs) ≡ false → (list_any p xs ≡ false → find p xs ≡ None)
-    → find p (x ∷ xs) ≡ None
-one_none p x xs true h e more = absurd (cc)
-one_none p x xs false h e more = rw h (more e)
-
-find-none : {X : Type 0} (p : X → Bool) (xs : List X) → list_any p xs ≡ false → find p xs ≡ None
-find-none p [] e = refl
-find-none p (x ∷ xs) e = one_none p x xs (p x) refl e (find-none p xs)
 
 -- ---- kinds
 

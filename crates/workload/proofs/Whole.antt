@@ -23,8 +23,8 @@ use Rattle.workload.specs.declared.run.Run.{Run}
 use Rattle.workload.specs.WorkloadFile.{header_fault, row_fault, run_of, runs_of_rows, runs_unless, vector_of, workload_of, workloads}
 use Rattle.workload.proofs.Building.{built_step}
 use Rattle.workload.proofs.Groups.{workloads-counted, workloads-each, workloads-nil}
-use Rattle.workload.proofs.Headers.{no_names}
 use Rattle.workload.proofs.RowFaults.{fault_by-is}
+use Rattle.fm_base.proofs.Distinct.{distinct-nil}
 
 -- ---- the loop
 
@@ -37,7 +37,7 @@ halfway_start c bytes b header left whole sound layout names runs last rows = re
   sound = sound;
   built = record {
     layout = layout;
-    names = names ∙ sym no_names;
+    names = names ∙ sym distinct-nil;
     last = rw last refl;
     kinds = λ row r e same. absurd (cc);
     grouped = rw (runs, last) (refl, refl);

@@ -62,7 +62,8 @@ pub fn read_workload(
     };
     let layout = Layout::new(alloc, net, &header)?;
     let mut builder = Builder::new(alloc, layout);
-    'each: while let Some(row) = rows.next()? {
+    let mut row = header;
+    'each: while rows.read(&mut row)? {
         if let Some(kind) = builder.fault(&row) {
             return Err(refusal(builder.rows + 2, kind));
         }

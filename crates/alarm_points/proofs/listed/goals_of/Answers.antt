@@ -6,13 +6,14 @@ use Rattle.fm_base.specs.Lists.{firsts}
 use Rattle.alarm_points.specs.declared.Goal.{Goal}
 use Rattle.alarm_points.specs.Listed.{begins_goal, goals_with}
 use Rattle.alarm_points.specs.PointsFile.{goal_from, goals_named, observing, same_goal}
-use Rattle.alarm_points.proofs.Listing.{firsts_none, firsts_step, goals_none, goals_step}
+use Rattle.alarm_points.proofs.Listing.{firsts_none, firsts_step, goals_step}
 use Rattle.alarm_points.proofs.listed.goals_of.Goals as goal
 use Rattle.alarm_points.proofs.listed.goals_of.Goals.{then-branch+in_ok-goal_from+in_ok-push, else-branch}
+use Rattle.fm_base.proofs.Distinct.{distinct-nil}
 
 pub loop-row-init : goal.loop-row-init
 loop-row-init c = record {
-  names = c.new-names.ensures ∙ sym goals_none;
+  names = c.new-names.ensures ∙ sym distinct-nil;
   goals = λ circuit same. c.new-goals.ensures ∙ sym (ap (map (goal_from circuit c.args.header c.args.rows.now)) (firsts_none c.args.header));
 }
 

@@ -13,4 +13,4 @@ loop-name-preserved c =
     let apart : AreApart names = subst AreApart (sym c.names-names.ensures.value) c.names-names.ensures.sound.names in
     let item : c.as_slice.result.now ≡ get_or names i [] =
     c.as_slice.ensures ∙ c.name-item.is ∙ sym (get_or_default names i [] c.name-item.result c.loop-name-test.true) in
-    c.in_ok-insert.ensures.names ∙ (λ t. with_name (c.loop-name.invariant t) (item t)) ∙ names_step names i apart c.loop-name-test.true
+    c.in_ok-insert.ensures ∙ (λ t. with_name (c.loop-name.invariant t) (item t)) ∙ names_step names i apart c.loop-name-test.true

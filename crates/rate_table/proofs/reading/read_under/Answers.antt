@@ -1,5 +1,5 @@
-use Rattle.std.proofs.Common.{true, sym, subst}
-use Rattle.std.specs.Prelude.{Err}
+use Rattle.std.proofs.Common.{true, ap, sym, subst, ◌∙◌}
+use Rattle.std.specs.Prelude.{Ok, Err}
 use Rattle.fm_base.specs.Answers.{Gives}
 use Rattle.csv_rows.specs.Rows.{Yields}
 use Rattle.rate_table.specs.RatesFile.{rates_under}
@@ -21,3 +21,4 @@ pub returns-in-None : goal.returns-in-None
 returns-in-None c =
     stands_end c.args.rows.now c.rows.rows c.rows.table c.rows.number c.rows.invariant
     (subst (Yields c.rows.rows c.next.new.self) c.in-None.is c.in_ok-row.ensures).0
+    ∙ ap Ok (sym c.in_ok-new-in-None.ensures)

@@ -33,15 +33,15 @@ each-init c =
 -- a row has a fault
 pub returns-in-Some-fault : goal.returns-in-Some-fault
 returns-in-Some-fault c =
-    let read : c.each.rows ≡ c.in-Some-2.row ∷ c.next-in-each.new.self = rw c.in-Some-2.is at c.in_ok-row.ensures in
+    let read : c.each.rows ≡ c.read.new.row ∷ c.read.new.self = rw c.if-branch.true at c.in_ok-read.ensures in
     rw c.refusal-in-Some-fault.ensures
-    (row_refused c.args.net.now c.args.bytes.now c.each.builder c.in-Some-2.row c.each.rows c.next-in-each.new.self c.in-Some-fault.kind c.each.invariant read (sym c.in-Some-fault.ensures))
+    (row_refused c.args.net.now c.args.bytes.now c.each.builder c.read.new.row c.each.rows c.read.new.self c.in-Some-fault.kind c.each.invariant read (sym c.in-Some-fault.ensures))
 
 -- it has none
 pub each-preserved : goal.each-preserved
 each-preserved c =
-    let read : c.each.rows ≡ c.in-Some-2.row ∷ c.next-in-each.new.self = rw c.in-Some-2.is at c.in_ok-row.ensures in
-    halfway_step c.args.net.now c.args.bytes.now c.each.builder c.add.new.self c.in-Some-2.row c.each.rows c.next-in-each.new.self c.each.invariant read
+    let read : c.each.rows ≡ c.read.new.row ∷ c.read.new.self = rw c.if-branch.true at c.in_ok-read.ensures in
+    halfway_step c.args.net.now c.args.bytes.now c.each.builder c.add.new.self c.read.new.row c.each.rows c.read.new.self c.each.invariant read
     (sym c.in_default-fault.ensures) c.in_ok-add.ensures
 
 pub finish-requires : goal.finish-requires
@@ -50,6 +50,6 @@ finish-requires c = halfway_runs c.args.net.now c.args.bytes.now c.each.builder 
 -- there is no further row
 pub returns : goal.returns
 returns c =
-    let read : (c.each.rows ≡ []) × (c.next-in-each.new.self ≡ []) = rw c.in_default-2.is at c.in_ok-row.ensures in
+    let read : (c.each.rows ≡ []) × (c.read.new.self ≡ []) = rw c.if-branch.false at c.in_ok-read.ensures in
     let given = λ (expected : Result (List Run) WorkloadFault). Gives expected c.finish.result in
     subst given (sym (gives_runs c.args.net.now c.args.bytes.now c.each.builder c.each.rows c.each.invariant read.0)) c.finish.ensures

@@ -1,13 +1,13 @@
-use Rattle.std.proofs.Common.{◌≡◌, ◌∙◌, ◌<◌, List, [], length, sym, ap, arith, get_or}
+use Rattle.std.proofs.Common.{◌≡◌, ◌∙◌, ◌<◌, List, length, sym, ap, arith, get_or}
 use Rattle.circuit.specs.Names.{net_name}
 use Rattle.circuit.specs.declared.parts.NetId.{NetId}
-use Rattle.fm_base.specs.Names.{Name}
 use Rattle.name_index.specs.Index.{with_name}
-use Rattle.workload.proofs.Headers.{no_names, with_taken}
+use Rattle.workload.proofs.Headers.{with_taken}
 use Rattle.workload.proofs.header.inputs_of.Goals as goal
+use Rattle.fm_base.proofs.Distinct.{distinct-nil}
 
 pub loop-input-init : goal.loop-input-init
-loop-input-init c = c.new-names.ensures ∙ sym no_names
+loop-input-init c = c.new-names.ensures ∙ sym distinct-nil
 
 -- the name of one more input
 pub loop-input-preserved : goal.loop-input-preserved

@@ -1,4 +1,4 @@
-use Rattle.std.proofs.Common.{add-one, ◌≡◌, ◌∙◌, Bor, Bool, true, false, List, ℕ, [], get_or, length, not, sym, ap}
+use Rattle.std.proofs.Common.{add-one, ◌≡◌, ◌∙◌, Bor, true, false, List, ℕ, [], get_or, length, sym}
 use Rattle.std.specs.Str.{bytes_eq}
 use Rattle.fm_base.proofs.Tests.{not_true, not_not}
 use Rattle.csv_rows.proofs.FieldFacts.{rest_differs, rest_same, as_fields, texts}
