@@ -11,24 +11,21 @@ use Rattle.fm_base.specs.Planes.{bit}
 use Rattle.campaign_plan.specs.declared.Outcome.{Outcome}
 use Rattle.campaign_plan.specs.Danger.{is_dangerous, is_dangerous_in, is_noticed, is_noticed_in}
 use Rattle.classifier.specs.Planes.{HasPlanes}
-
-or_none : (b : Bool) → (b || false) ≡ b
-or_none true = refl
-or_none false = refl
+use Rattle.std.proofs.Math.Bool.{or-false}
 
 danger_more : (c : Circuit) (points : Points) (ftti : ℕ) (runs : List Run) (run : Run) (faults : List Fault)
     → is_dangerous c points ftti (runs ++ run ∷ []) faults ≡ (is_dangerous c points ftti runs faults || is_dangerous_in c points ftti faults run)
 unfolding is_dangerous
 danger_more c points ftti runs run faults =
     let test = is_dangerous_in c points ftti faults in
-    list_any-append test runs (run ∷ []) ∙ ap (λ b. is_dangerous c points ftti runs faults || b) (or_none (test run))
+    list_any-append test runs (run ∷ []) ∙ ap (λ b. is_dangerous c points ftti runs faults || b) (or-false (test run))
 
 notice_more : (c : Circuit) (points : Points) (runs : List Run) (run : Run) (faults : List Fault)
     → is_noticed c points (runs ++ run ∷ []) faults ≡ (is_noticed c points runs faults || is_noticed_in c points faults run)
 unfolding is_noticed
 notice_more c points runs run faults =
     let test = is_noticed_in c points faults in
-    list_any-append test runs (run ∷ []) ∙ ap (λ b. is_noticed c points runs faults || b) (or_none (test run))
+    list_any-append test runs (run ∷ []) ∙ ap (λ b. is_noticed c points runs faults || b) (or-false (test run))
 
 no_danger : (c : Circuit) (points : Points) (ftti : ℕ) (faults : List Fault) → is_dangerous c points ftti [] faults ≡ false
 unfolding is_dangerous

@@ -14,8 +14,7 @@ ghost use Rattle.lane_kernel.specs.Loads.{faults_of};
 ghost use Rattle.classifier.specs.Batch.{alone_in, batch_at, fault_in_lane, outcome_for};
 ghost use Rattle.classifier.specs.Planes.{HasPlanes, outcome_at};
 
-use crate::noise::SILENT;
-use crate::outcome::{NOTHING, loaded_outcome, loaded_outcomes};
+use crate::outcome::{NOTHING, loaded_outcome, loaded_quad};
 use alarm_points::Points;
 use alarm_points::windows::Windows;
 use alarm_points::windows4::Windows4;
@@ -151,20 +150,7 @@ pub fn quad_outcomes<L: Ledger>(
     ensures cost { steps.new ≡ steps.old + all_cycles work.now * length net.now.tables }
 {
     load_words(faults, batches, lanes);
-    let mut noise = [SILENT; 4];
-    let mut outcomes = [NOTHING; 4];
-    loaded_outcomes(
-        net,
-        order,
-        work,
-        points,
-        golden,
-        lanes,
-        windows.words(),
-        &mut noise,
-        &mut outcomes,
-        steps,
-    );
+    let mut outcomes = loaded_quad(net, order, work, points, golden, lanes, windows, steps);
     of_batches(faults, batches, &mut outcomes);
     outcomes
 }

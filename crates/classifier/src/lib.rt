@@ -10,4 +10,5 @@ mod see;
 mod words;
 
 pub use batch::{batch_outcome, quad_outcomes};
-pub use outcome::loaded_outcome;
+pub use outcome::{loaded_outcome, loaded_outcomes, loaded_quad};
+pub use words::LaneWords;

@@ -1,5 +1,5 @@
 // What the faults in the lanes are found to be, over all runs.
-ghost use Rattle.std.specs.Prelude.{◌≡◌, ◌<◌, ◌+◌, ◌*◌, ◌++◌, ◌∷◌, [], ◌||◌, ℕ, List, length};
+ghost use Rattle.std.specs.Prelude.{◌≡◌, ◌<◌, ◌≤◌, ◌+◌, ◌*◌, ◌++◌, ◌∷◌, [], ◌||◌, ℕ, List, length};
 ghost use Rattle.circuit.specs.declared.parts.Fault.{Fault};
 ghost use Rattle.circuit.specs.Circuit.{Circuit};
 ghost use Rattle.workload.specs.declared.run.Run.{Run};
@@ -11,9 +11,9 @@ ghost use Rattle.campaign_plan.specs.Danger.{is_dangerous_in, is_noticed_in};
 ghost use Rattle.fm_base.specs.Planes.{bit};
 ghost use Rattle.lane_kernel.specs.Bank.{IsMadeFor};
 ghost use Rattle.lane_kernel.specs.Loads.{faults_of};
-ghost use Rattle.classifier.specs.Load.{IsLoadFor, Load, lane_faults};
+ghost use Rattle.classifier.specs.Load.{IsLoadFor, Load, lane_faults, load_of};
 ghost use Rattle.classifier.specs.Planes.{HasPlanes, outcome_at, planes_of};
-ghost use Rattle.alarm_points.specs.FourWatches.{AreAllMadeFor, windows_at};
+ghost use Rattle.alarm_points.specs.FourWatches.{AreAllMadeFor, AreFourMadeFor, windows_at};
 ghost use Rattle.classifier.specs.Seen.{HaveAllSeen, HaveSeen, KeepSettings};
 
 use crate::noise::{Noise, SILENT};
@@ -22,15 +22,18 @@ use crate::run::watch_run;
 use crate::words::LaneWords;
 use alarm_points::Points;
 use alarm_points::windows::Windows;
+use alarm_points::windows4::Windows4;
 use campaign_plan::Outcome;
 use circuit::netlist::Netlist;
 use fm_base::Steps;
 use golden_run::values::Golden;
-use lane_kernel::Lanes;
+use lane_kernel::{Lanes, Lanes4};
 use netlist_levels::Order;
 use std::slice::from_mut;
 use std::sync::ledger::Ledger;
 use workload::run::{Kind, Workload};
+
+const MOST_WORDS: usize = 4;
 
 /// No lane in danger, and none noticed.
 pub const NOTHING: Outcome = Outcome {
@@ -86,10 +89,8 @@ fn add_run(kind: Kind, windows: &[Windows], noise: &[Noise], outcomes: &mut [Out
     }
 }
 
-/// Simulates all runs in all lanes, as they are loaded. `outcomes`, all 0 before, are the planes of danger and of notice of
-/// each word: bit k of each is that of the faults of lane k together. What lanes, windows and noise held of earlier runs is no
-/// matter.
-pub fn loaded_outcomes<B: LaneWords, L: Ledger>(
+// Simulates all runs in all lanes, and adds what each shows in each word; `outcomes` are all 0 before.
+fn judge_runs<B: LaneWords, L: Ledger>(
     net: &Netlist,
     order: &Order,
     work: &Workload,
@@ -108,7 +109,7 @@ pub fn loaded_outcomes<B: LaneWords, L: Ledger>(
     requires windows_made { AreAllMadeFor points.now windows.old }
     requires noise { length noise.old ≡ B.words }
     requires outcomes { length outcomes.old ≡ B.words }
-    requires nothing { (word : ℕ) → outcome_at outcomes.old word ≡ record { danger = 0; noticed = 0 } }
+    requires nothing { (word : ℕ) → word < B.words → outcome_at outcomes.old word ≡ record { danger = 0; noticed = 0 } }
     ensures load { B.load lanes.new ≡ B.load lanes.old }
     ensures windows_made { AreAllMadeFor points.now windows.new }
     ensures ftti { KeepSettings windows.old windows.new }
@@ -122,6 +123,60 @@ pub fn loaded_outcomes<B: LaneWords, L: Ledger>(
         );
         add_run(work.kind(run), windows, noise, outcomes);
     }
+}
+
+// No word has shown anything.
+fn forget(outcomes: &mut [Outcome])
+    ensures { (word : ℕ) → word < length outcomes.old → outcome_at outcomes.new word ≡ record { danger = 0; noticed = 0 } }
+{
+    for word in 0..outcomes.len() {
+        outcomes[word] = NOTHING;
+    }
+}
+
+/// Simulates all runs in all circuits of `lanes`, as they are loaded, and puts the planes of danger and of notice of each word
+/// into `outcomes`: bit k of word w's is that of the faults of lane 64w + k together. `windows` are those of each word, and have
+/// the fault tolerant time intervals. What lanes, windows and outcomes held before is no matter. It takes no memory, and one step
+/// for each table and cycle, for all words together.
+pub fn loaded_outcomes<B: LaneWords, L: Ledger>(
+    net: &Netlist,
+    order: &Order,
+    work: &Workload,
+    points: &Points,
+    golden: &Golden,
+    lanes: &mut B,
+    windows: &mut [Windows],
+    outcomes: &mut [Outcome],
+    steps: &mut Steps<L>,
+)
+    requires golden { golden.now ≡ record { circuit = net.now; runs = work.now; points = points.now } }
+    requires points { ArePointsFor net.now points.now }
+    requires lanes { IsLoadFor net.now order.now (B.load lanes.old) }
+    requires count { length windows.old ≡ B.words }
+    requires windows { AreAllMadeFor points.now windows.old }
+    requires outcomes { length outcomes.old ≡ B.words }
+    ensures outcomes { (word : ℕ) → word < B.words
+        → outcome_at outcomes.new word ≡ planes_of net.now points.now (windows_at windows.old word).ftti work.now (lane_faults (B.load lanes.old) word) }
+    ensures loads { B.load lanes.new ≡ B.load lanes.old }
+    ensures windows { AreAllMadeFor points.now windows.new }
+    ensures ftti { KeepSettings windows.old windows.new }
+    ensures cost { steps.new ≡ steps.old + all_cycles work.now * length net.now.tables }
+{
+    let mut noise = [SILENT; MOST_WORDS];
+    let words = B::count() as usize;
+    forget(outcomes);
+    judge_runs(
+        net,
+        order,
+        work,
+        points,
+        golden,
+        lanes,
+        windows,
+        &mut noise[..words],
+        outcomes,
+        steps,
+    );
 }
 
 /// Simulates all runs in the 64 circuits of `lanes`, as they are loaded, and answers the planes of danger and of notice: bit
@@ -148,7 +203,6 @@ pub fn loaded_outcome<L: Ledger>(
     ensures ftti { windows.new.ftti ≡ windows.old.ftti }
     ensures cost { steps.new ≡ steps.old + all_cycles work.now * length net.now.tables }
 {
-    let mut noise = [SILENT];
     let mut outcomes = [NOTHING];
     loaded_outcomes(
         net,
@@ -158,9 +212,49 @@ pub fn loaded_outcome<L: Ledger>(
         golden,
         lanes,
         from_mut(windows),
-        &mut noise,
         &mut outcomes,
         steps,
     );
     outcomes[0]
+}
+
+/// Simulates all runs in the 256 circuits of `lanes`, as they are loaded, and answers the planes of danger and of notice of each
+/// word: bit k of word w's is that of the faults of lane 64w + k together. `windows` has the fault tolerant time intervals. What
+/// lanes and windows held of earlier runs is no matter. It takes no memory, and one step for each table and cycle, for all four
+/// words together.
+pub fn loaded_quad<L: Ledger>(
+    net: &Netlist,
+    order: &Order,
+    work: &Workload,
+    points: &Points,
+    golden: &Golden,
+    lanes: &mut Lanes4,
+    windows: &mut Windows4,
+    steps: &mut Steps<L>,
+) -> [Outcome; 4]
+    requires golden { golden.now ≡ record { circuit = net.now; runs = work.now; points = points.now } }
+    requires points { ArePointsFor net.now points.now }
+    requires lanes { IsMadeFor net.now order.now lanes.old }
+    requires windows { AreFourMadeFor points.now windows.old }
+    ensures outcomes { (word : ℕ) → word < 4
+        → outcome_at result word ≡ planes_of net.now points.now windows.old.ftti work.now (lane_faults (load_of lanes.old) word) }
+    ensures lanes { IsMadeFor net.now order.now lanes.new }
+    ensures loads { lanes.new.loads ≡ lanes.old.loads }
+    ensures windows { AreFourMadeFor points.now windows.new }
+    ensures ftti { windows.new.ftti ≡ windows.old.ftti }
+    ensures cost { steps.new ≡ steps.old + all_cycles work.now * length net.now.tables }
+{
+    let mut outcomes = [NOTHING; 4];
+    loaded_outcomes(
+        net,
+        order,
+        work,
+        points,
+        golden,
+        lanes,
+        windows.words(),
+        &mut outcomes,
+        steps,
+    );
+    outcomes
 }

@@ -1,19 +1,21 @@
 // Lanes in one word or in several.
-ghost use Rattle.std.specs.Prelude.{◌≡◌, ◌<◌, ◌+◌, ◌*◌, ◌++◌, ◌∷◌, [], ℕ, Bool, List, Option, length};
+ghost use Rattle.std.specs.Prelude.{◌≡◌, ◌≢◌, ◌<◌, ◌≤◌, ◌+◌, ◌*◌, ◌++◌, ◌∷◌, [], ℕ, Bool, List, Option, length};
 ghost use Rattle.circuit.specs.Trace.{trace};
 ghost use Rattle.fm_base.specs.Planes.{bit};
 ghost use Rattle.lane_kernel.specs.Bank.{AreAfter};
 ghost use Rattle.lane_kernel.specs.Bits.{quad_bit};
+ghost use Rattle.lane_kernel.specs.Loads.{faults_of};
 ghost use Rattle.classifier.specs.Load.{IsLoadFor, Load, lane_faults, load_of};
 
 use circuit::netlist::Netlist;
-use circuit::parts::NetId;
+use circuit::parts::{Fault, NetId};
 use fm_base::Steps;
 use lane_kernel::{Lanes, Lanes4};
 use netlist_levels::Order;
 use std::sync::ledger::Ledger;
 
-/// Faulty circuits that run together, 64 of them in each word.
+/// Faulty circuits that run together, 64 of them in each of up to four words: lane k of word w is circuit 64w + k. `Lanes` is
+/// one word, `Lanes4` four.
 pub trait LaneWords: Drop {
     // how many words there are
     ghost words: { ℕ };
@@ -29,7 +31,17 @@ pub trait LaneWords: Drop {
 
     /// The number of words.
     fn count() -> u32
-        ensures { result ≡ words };
+        ensures count { result ≡ words }
+        ensures some { 0 < words }
+        ensures few { words ≤ 4 };
+
+    /// Gives each lane of a word up to two faults, and leaves the other words as they are loaded. The lanes have to be started
+    /// anew.
+    fn load_word(&mut self, word: u32, faults: &[[Option<Fault>; 2]; 64])
+        requires { word < words }
+        ensures made { IsLoadFor (load self.old).circuit (load self.old).order (load self.new) }
+        ensures loads { (k : ℕ) → k < 64 → lane_faults (load self.new) word k ≡ faults_of faults.now k }
+        ensures others { (other k : ℕ) → other < words → other ≢ word → k < 64 → lane_faults (load self.new) other k ≡ lane_faults (load self.old) other k };
 
     /// Goes to the initial state in all lanes.
     fn restart(&mut self)
@@ -73,6 +85,10 @@ impl LaneWords for Lanes {
         1
     }
 
+    fn load_word(&mut self, _word: u32, faults: &[[Option<Fault>; 2]; 64]) {
+        self.load(faults);
+    }
+
     fn restart(&mut self) {
         self.start();
     }
@@ -103,6 +119,10 @@ impl LaneWords for Lanes4 {
 
     fn count() -> u32 {
         4
+    }
+
+    fn load_word(&mut self, word: u32, faults: &[[Option<Fault>; 2]; 64]) {
+        self.load(word, faults);
     }
 
     fn restart(&mut self) {

@@ -7,7 +7,7 @@ use Rattle.std.proofs.lemmas.Simd.{map-map}
 use Rattle.std.proofs.lemmas.List.Elements.{All-map}
 use Rattle.std.proofs.lemmas.List.FromFn.{length-range_with_len, get_or-range_with_len, length-map-range_with_len, get_or-map-range_with_len}
 use Rattle.fm_base.specs.Lists.{below}
-use Rattle.fm_base.proofs.Below.{map-below}
+use Rattle.fm_base.proofs.Below.{map-below, below_small}
 use Rattle.fault_collapse.specs.Outcomes.{all_planes}
 use Rattle.campaign_plan.specs.declared.Outcome.{Outcome}
 use Rattle.fm_base.specs.Once.{Lacks, IsOnce}
@@ -34,14 +34,6 @@ once_below : (n : ℕ) → IsOnce (below n)
 unfolding below
 once_below n = once_range 0 n
 
-within_below : (n : ℕ) → All (λ batch. batch < n) (below n)
-unfolding below
-within_below n k d lt =
-    let size = length-range_with_len 0 n in
-    let within : k < n = omega (arith, size, lt) in
-    let at = get_or-range_with_len 0 n k d within in
-    omega (arith, at, within)
-
 batches_are : (p : Analysis) (n : ℕ) → batches (true_entries p n) ≡ below n
 batches_are p n = map-map (λ (entry : Entry). entry.0) (λ batch. (batch, true_planes p batch)) (below n) ∙ map-id (below n)
 
@@ -51,7 +43,7 @@ each_once p rows are =
     let same : batches (map entry_of rows) ≡ below n = ap batches are ∙ batches_are p n in
     record {
       distinct = record {
-        within = subst (All (λ batch. batch < n)) (sym same) (within_below n);
+        within = subst (All (λ batch. batch < n)) (sym same) (below_small n);
         once = subst IsOnce (sym same) (once_below n);
       };
       each = λ batch lt. subst (λ bs. Contains bs batch) (sym same) (in_below n batch lt);

@@ -8,14 +8,14 @@ ghost use Rattle.fmeda_report.specs.Rows.{HoldEachOnce};
 ghost use Rattle.result_file.specs.KeptRows.{entry_of};
 ghost use Rattle.collapsed_rows.specs.TrueRows.{true_entries};
 
-use alarm_points::windows::Windows;
+use alarm_points::windows4::Windows4;
 use campaign_plan::{Outcome, Plan};
 use collapse_map::Collapse;
-use fault_collapse::{OutcomeList, collapsed_outcomes};
+use fault_collapse::{OutcomeList, collapsed_quads};
 use fm_base::Steps;
 use fm_list::Seq;
 use golden_run::make::golden;
-use lane_kernel::Lanes;
+use lane_kernel::Lanes4;
 use metric_sums::Sums;
 use netlist_levels::Order;
 use result_file::{Row, RowList};
@@ -39,10 +39,10 @@ fn counted_outcomes<L: Ledger>(
     let (net, points) = (plan.net(), plan.points());
     let collapse = Collapse::new(alloc, net, order, plan.faults(), points)?;
     let golden = golden(alloc, net, order, plan.work(), points)?;
-    let mut lanes = Lanes::new(alloc, net, order)?;
-    let mut windows = Windows::new(alloc, points, plan.settings().ftti)?;
+    let mut lanes = Lanes4::new(alloc, net, order)?;
+    let mut windows = Windows4::new(alloc, points, plan.settings().ftti)?;
     let mut steps: Steps<L> = Steps::fresh(blank);
-    collapsed_outcomes(
+    collapsed_quads(
         alloc,
         plan,
         order,

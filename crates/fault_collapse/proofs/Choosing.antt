@@ -1,6 +1,6 @@
 -- The faults that are simulated show what each fault is.
 use Rattle.std.proofs.Common.{◌≡◌, ◌≢◌, ◌⊎◌, inl, inr, ℕ, zero, suc, ◌+◌, ◌*◌, ◌/◌, ◌%◌, ◌<◌, ◌≤◌, Bool, true, false, ◌&&◌, cond, List, [], ◌∷◌, ◌++◌, length, length-append, map, get_or, set, refl, add-one, suc-mul, ap, ap₂, sym, subst, ◌∙◌, arith}
-use Rattle.std.specs.Prelude.{filter, count_by, Option, Some, None, slice_get, slice_index, ◌==◌, nat_lt}
+use Rattle.std.specs.Prelude.{filter, Option, Some, slice_get, slice_index}
 use Rattle.std.specs.Option.{option_map, option_to_list}
 use Rattle.std.proofs.lemmas.Bool.{eq-eqb, eqb-true}
 use Rattle.std.proofs.lemmas.List.Elements.{All-filter, filter-append}
@@ -12,11 +12,10 @@ use Rattle.circuit.specs.declared.parts.Fault.{Fault}
 use Rattle.circuit.specs.declared.parts.NetId.{NetId}
 use Rattle.circuit.specs.Circuit.{Circuit}
 use Rattle.circuit.specs.Order.{IsOrder}
-use Rattle.circuit.specs.Sound.{IsNet, IsNetlist}
 use Rattle.fault_list.specs.Faults.{fault_at, fault_number, is_used}
 use Rattle.fm_base.specs.Lists.{below}
-use Rattle.fm_base.specs.Planes.{bit, lanes, plane_of}
-use Rattle.fm_base.proofs.Below.{below_push}
+use Rattle.fm_base.specs.Planes.{bit, plane_of}
+use Rattle.fm_base.proofs.Below.{below_push, below_small}
 use Rattle.fm_base.proofs.Bits.{bit-plane_of, plane_small}
 use borrow.Author.Tests.{ltb-true}
 use Rattle.campaign_plan.specs.declared.Outcome.{Outcome}
@@ -24,17 +23,18 @@ use Rattle.campaign_plan.specs.Analysis.{Analysis, all_faults}
 use Rattle.campaign_plan.specs.Batches.{outcome_of, true_planes}
 use Rattle.campaign_plan.specs.Danger.{is_dangerous, is_noticed}
 use Rattle.campaign_plan.specs.Kept.{IsPlan}
-use Rattle.classifier.specs.Planes.{outcome_at, planes_of}
+use Rattle.classifier.specs.Planes.{planes_of}
 use Rattle.classifier.proofs.PlaneBits.{plane_is, planes_alike, planes_are, planes_have}
 use Rattle.workload.specs.declared.run.Run.{Run}
 use Rattle.alarm_points.specs.declared.Points.{Points}
-use Rattle.collapse_map.specs.Collapsed.{AreFaultsOf, Collapsed, is_own, rep_count, rep_of, watched}
-use Rattle.collapse_map.specs.Same.{LookSame}
+use Rattle.collapse_map.specs.Collapsed.{AreFaultsOf, Collapsed, is_own, rep_count, rep_of}
 use Rattle.collapse_map.proofs.Kept.{looks_same, rep_again}
 use Rattle.collapse_map.proofs.Numbered.{rep_there}
 use Rattle.fault_collapse.specs.Chosen.{AreChosen, AreSimulated, danger_shown, faults_in, group_planes, notice_shown, place_for, planes_shown}
 use Rattle.fault_collapse.specs.Outcomes.{AreAlike, collapsed_of}
-use Rattle.fault_collapse.proofs.Alike.{look_alike, watched_nets}
+use Rattle.fault_collapse.proofs.Alike.{look_alike}
+use Rattle.collapse_map.proofs.Looking.{watched_nets}
+use Rattle.std.proofs.Math.Seq.{get_or-append_seam}
 
 -- ---- the list of chosen faults grows
 
@@ -50,10 +50,6 @@ chosen_yes p n numbers e same =
 pub chosen_no : (p : ℕ → Bool) (n : ℕ) (numbers : List ℕ) → p n ≡ false → numbers ≡ filter p (below n) → numbers ≡ filter p (below (n + 1))
 chosen_no p n numbers e same =
     same ∙ sym (append-nil (filter p (below n))) ∙ sym (ap (λ b. filter p (below n) ++ cond b (n ∷ []) []) e) ∙ sym (chosen_more p n) ∙ ap (λ k. filter p (below k)) (sym (add-one n))
-
-last_at : {X : Type 0} (xs : List X) (y d : X) → get_or (xs ++ y ∷ []) (length xs) d ≡ y
-last_at [] y d = refl
-last_at (x ∷ xs) y d = last_at xs y d
 
 -- the places so far
 abbrev pub Places : Collapsed → List ℕ → List ℕ → ℕ → Type 0
@@ -75,7 +71,7 @@ places_yes s numbers places i within each k lt own = by_place (grind arith)
     by_place (inr same) =
         let here : get_or (set places i (length numbers)) k 0 ≡ length numbers =
         ap (λ j. get_or (set places i (length numbers)) j 0) same ∙ get_or-set_same places i (length numbers) 0 within in
-        (omega (arith, here, size), ap (λ j. get_or (numbers ++ i ∷ []) j 0) here ∙ last_at numbers i 0 ∙ sym same)
+        (omega (arith, here, size), ap (λ j. get_or (numbers ++ i ∷ []) j 0) here ∙ get_or-append_seam numbers i [] 0 ∙ sym same)
 
 pub places_no : (s : Collapsed) (numbers places : List ℕ) (i : ℕ) → (rep_of s i ≡ i → ⊥) → Places s numbers places i → Places s numbers places (i + 1)
 places_no s numbers places i other each k lt own = by_place (grind arith)
@@ -84,17 +80,10 @@ places_no s numbers places i other each k lt own = by_place (grind arith)
     by_place (inl before) = each k before own
     by_place (inr same) = absurd (other (subst (λ j. rep_of s j ≡ j) same (eqb-true (rep_of s k) k own)))
 
-all_below : (n : ℕ) → All (λ k. k < n) (below n)
-unfolding below
-all_below n k d lt =
-    let size = length-range_with_len 0 n in
-    let at = get_or-range_with_len 0 n k d (omega (arith, size)) in
-    omega (arith, at, size, lt)
-
 module _ (s : Collapsed) (numbers places : List ℕ) (chosen : AreChosen s numbers places) where
   -- the numbers are those of faults
   pub numbers_below : All (λ k. k < length s.faults) numbers
-  numbers_below = subst (All (λ k. k < length s.faults)) (sym chosen.listed) (All-filter (is_own s) (λ k. k < length s.faults) (below (length s.faults)) (all_below (length s.faults)))
+  numbers_below = subst (All (λ k. k < length s.faults)) (sym chosen.listed) (All-filter (is_own s) (λ k. k < length s.faults) (below (length s.faults)) (below_small (length s.faults)))
 
   -- there are as many as faults that are their own representatives
   pub numbers_counted : length numbers ≡ rep_count s

@@ -6,4 +6,4 @@ mod outcomes;
 mod simulate;
 mod spread;
 
-pub use outcomes::{OutcomeList, collapsed_outcomes};
+pub use outcomes::{OutcomeList, collapsed_outcomes, collapsed_quads};

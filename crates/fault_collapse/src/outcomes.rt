@@ -1,22 +1,29 @@
 // The outcomes of all faults of a plan.
-ghost use Rattle.std.specs.Prelude.{◌≡◌, ◌≤◌, ◌+◌, IfOk};
+ghost use Rattle.std.specs.Prelude.{◌≡◌, ◌≤◌, ◌+◌, ◌*◌, IfOk, length};
 ghost use Rattle.circuit.specs.Order.{IsOrder};
+ghost use Rattle.alarm_points.specs.FourWatches.{AreAllMadeFor, AreFourMadeFor};
 ghost use Rattle.alarm_points.specs.Watch.{AreMadeFor};
+ghost use Rattle.classifier.specs.Load.{IsLoadFor};
+ghost use Rattle.classifier.specs.Seen.{KeepSettings};
 ghost use Rattle.lane_kernel.specs.Bank.{IsMadeFor};
-ghost use Rattle.fault_collapse.specs.Outcomes.{all_planes, collapsed_of, most_steps};
+ghost use Rattle.fault_collapse.specs.Chosen.{HaveInterval};
+ghost use Rattle.fault_collapse.specs.Outcomes.{all_planes, collapsed_of, most_steps, most_steps_by};
 
 use crate::chosen::choose;
 use crate::simulate::simulate;
 use crate::spread::spread;
 use alarm_points::windows::Windows;
+use alarm_points::windows4::Windows4;
 use campaign_plan::{Outcome, Plan};
+use classifier::LaneWords;
 use collapse_map::Collapse;
 use fm_base::Steps;
 use fm_list::Seq;
 use golden_run::values::Golden;
-use lane_kernel::Lanes;
+use lane_kernel::{Lanes, Lanes4};
 use netlist_levels::Order;
 use std::alloc::{AllocError, Global};
+use std::slice::from_mut;
 use std::sync::ledger::Ledger;
 
 const LANES: usize = 64;
@@ -30,9 +37,55 @@ const NOTHING: Outcome = Outcome {
 /// The planes of batches, in rising order.
 pub type OutcomeList = Seq<Outcome>;
 
+// The planes that each batch of a plan truly has, with a group of 64 faults that are their own representatives in each word.
+fn outcomes_by<B: LaneWords, L: Ledger>(
+    alloc: Global,
+    plan: &Plan,
+    order: &Order,
+    collapse: &Collapse,
+    golden: &Golden,
+    lanes: &mut B,
+    windows: &mut [Windows],
+    steps: &mut Steps<L>,
+) -> Result<OutcomeList, AllocError>
+    requires order { IsOrder plan.now.circuit order.now }
+    requires collapse { collapse.now ≡ collapsed_of plan.now }
+    requires golden { golden.now ≡ record { circuit = plan.now.circuit; runs = plan.now.runs; points = plan.now.points } }
+    requires lanes { IsLoadFor plan.now.circuit order.now (B.load lanes.old) }
+    requires count { length windows.old ≡ B.words }
+    requires windows { AreAllMadeFor plan.now.points windows.old }
+    requires ftti { HaveInterval plan.now.settings.ftti windows.old }
+    ensures outcomes { IfOk result (λ list. list ≡ all_planes plan.now) }
+    ensures lanes { IsLoadFor plan.now.circuit order.now (B.load lanes.new) }
+    ensures windows { AreAllMadeFor plan.now.points windows.new }
+    ensures ftti { KeepSettings windows.old windows.new }
+    ensures cost { steps.new ≤ steps.old + most_steps_by (64 * B.words) plan.now }
+{
+    let count = plan.faults().len();
+    let words = B::count() as usize;
+    let chosen = choose(alloc, collapse, count)?;
+    let rounds = chosen.numbers.len().div_ceil(LANES * words);
+    let mut found = vec![in alloc; NOTHING; rounds * words]?;
+    let mut list = vec![in alloc; NOTHING; plan.batches() as usize]?;
+    simulate(
+        plan,
+        order,
+        golden,
+        &chosen.numbers,
+        rounds,
+        &mut found,
+        lanes,
+        windows,
+        steps,
+    );
+    spread(collapse, &chosen.places, &found, count, &mut list);
+    Ok(Seq::from_vec(list))
+}
+
 /// The planes that each batch of a plan truly has, in rising order. Only faults that are their own representatives are
 /// simulated, 64 at once; each other fault has the bits of its representative. What lanes and windows held before is no matter.
-/// It takes at most one step for each table and cycle, for each 64 faults that are their own representatives.
+/// It takes at most one step for each table and cycle, for each 64 faults that are their own representatives. `report` uses
+/// `collapsed_quads`; this call is for a caller that has one word of lanes.
 pub fn collapsed_outcomes<L: Ledger>(
     alloc: Global,
     plan: &Plan,
@@ -55,20 +108,50 @@ pub fn collapsed_outcomes<L: Ledger>(
     ensures ftti { windows.new.ftti ≡ windows.old.ftti }
     ensures cost { steps.new ≤ steps.old + most_steps plan.now }
 {
-    let count = plan.faults().len();
-    let chosen = choose(alloc, collapse, count)?;
-    let mut found = vec![in alloc; NOTHING; chosen.numbers.len().div_ceil(LANES)]?;
-    let mut list = vec![in alloc; NOTHING; plan.batches() as usize]?;
-    simulate(
+    outcomes_by(
+        alloc,
         plan,
         order,
+        collapse,
         golden,
-        &chosen.numbers,
-        &mut found,
         lanes,
-        windows,
+        from_mut(windows),
         steps,
-    );
-    spread(collapse, &chosen.places, &found, count, &mut list);
-    Ok(Seq::from_vec(list))
+    )
+}
+
+/// The same with 256 faults at once: the planes that each batch of a plan truly has, in rising order. It takes at most one step for
+/// each table and cycle, for each 256 faults that are their own representatives.
+pub fn collapsed_quads<L: Ledger>(
+    alloc: Global,
+    plan: &Plan,
+    order: &Order,
+    collapse: &Collapse,
+    golden: &Golden,
+    lanes: &mut Lanes4,
+    windows: &mut Windows4,
+    steps: &mut Steps<L>,
+) -> Result<OutcomeList, AllocError>
+    requires order { IsOrder plan.now.circuit order.now }
+    requires collapse { collapse.now ≡ collapsed_of plan.now }
+    requires golden { golden.now ≡ record { circuit = plan.now.circuit; runs = plan.now.runs; points = plan.now.points } }
+    requires lanes { IsMadeFor plan.now.circuit order.now lanes.old }
+    requires windows { AreFourMadeFor plan.now.points windows.old }
+    requires ftti { windows.old.ftti ≡ plan.now.settings.ftti }
+    ensures outcomes { IfOk result (λ list. list ≡ all_planes plan.now) }
+    ensures lanes { IsMadeFor plan.now.circuit order.now lanes.new }
+    ensures windows { AreFourMadeFor plan.now.points windows.new }
+    ensures ftti { windows.new.ftti ≡ windows.old.ftti }
+    ensures cost { steps.new ≤ steps.old + most_steps_by 256 plan.now }
+{
+    outcomes_by(
+        alloc,
+        plan,
+        order,
+        collapse,
+        golden,
+        lanes,
+        windows.words(),
+        steps,
+    )
 }

@@ -1,21 +1,20 @@
-// The simulation of chosen faults, 64 at once, each alone in its lane.
-ghost use Rattle.std.specs.Prelude.{◌≡◌, ◌+◌, ◌*◌, ◌<◌, ◌^◌, ℕ, All, length};
-ghost use Rattle.circuit.specs.Order.{IsOrder};
-ghost use Rattle.alarm_points.specs.Watch.{AreMadeFor};
+// The simulation of chosen faults, 64 in each word of the lanes, each alone in its lane.
+ghost use Rattle.std.specs.Prelude.{◌≡◌, ◌+◌, ◌*◌, ◌<◌, ◌≤◌, ◌^◌, ℕ, All, length};
+ghost use Rattle.alarm_points.specs.FourWatches.{AreAllMadeFor};
 ghost use Rattle.campaign_plan.specs.Analysis.{all_faults};
-ghost use Rattle.lane_kernel.specs.Bank.{IsMadeFor};
+ghost use Rattle.classifier.specs.Load.{IsLoadFor, lane_faults};
+ghost use Rattle.classifier.specs.Seen.{KeepSettings};
 ghost use Rattle.lane_kernel.specs.Loads.{faults_of};
 ghost use Rattle.workload.specs.Runs.{all_cycles};
-ghost use Rattle.fault_collapse.specs.Chosen.{AreSimulated, chosen_at, faults_in};
+ghost use Rattle.fault_collapse.specs.Chosen.{AreSimulated, HaveInterval, chosen_at, faults_in};
 
 use alarm_points::windows::Windows;
 use campaign_plan::{Outcome, Plan};
 use circuit::parts::Fault;
-use classifier::loaded_outcome;
+use classifier::{LaneWords, loaded_outcomes};
 use fault_list::FaultList;
 use fm_base::Steps;
 use golden_run::values::Golden;
-use lane_kernel::Lanes;
 use netlist_levels::Order;
 use std::sync::ledger::Ledger;
 
@@ -45,33 +44,51 @@ fn loads_of(faults: &FaultList, numbers: &[u32], group: usize) -> [[Option<Fault
     loads
 }
 
-/// The planes of each group of 64 of the faults of these numbers, one after the other. It takes no memory, and one step for each
-/// group, table and cycle.
-pub(crate) fn simulate<L: Ledger>(
+// Loads each word with a group, from the first group of a round on.
+fn load_groups<B: LaneWords>(faults: &FaultList, numbers: &[u32], first: usize, lanes: &mut B)
+    requires numbers { All (λ number. number < length faults.now) numbers.now }
+    requires few { first + B.words ≤ 2 ^ 32 }
+    ensures made { IsLoadFor (B.load lanes.old).circuit (B.load lanes.old).order (B.load lanes.new) }
+    ensures loads { (word k : ℕ) → word < B.words → k < 64
+        → lane_faults (B.load lanes.new) word k ≡ faults_in faults.now numbers.now (first + word) k }
+{
+    for word in 0..B::count() {
+        lanes.load_word(word, &loads_of(faults, numbers, first + word as usize));
+    }
+}
+
+/// The planes of each group of 64 of the faults of these numbers, one after the other; in each round as many groups as the lanes
+/// have words. It takes no memory, and one step for each round, table and cycle.
+pub(crate) fn simulate<B: LaneWords, L: Ledger>(
     plan: &Plan,
     order: &Order,
     golden: &Golden,
     numbers: &[u32],
+    rounds: usize,
     found: &mut [Outcome],
-    lanes: &mut Lanes,
-    windows: &mut Windows,
+    lanes: &mut B,
+    windows: &mut [Windows],
     steps: &mut Steps<L>,
 )
     requires golden { golden.now ≡ record { circuit = plan.now.circuit; runs = plan.now.runs; points = plan.now.points } }
     requires numbers { All (λ number. number < length (all_faults plan.now)) numbers.now }
     requires few { length found.old < 2 ^ 32 }
-    requires lanes { IsMadeFor plan.now.circuit order.now lanes.old }
-    requires windows { AreMadeFor plan.now.points windows.old }
-    requires ftti { windows.old.ftti ≡ plan.now.settings.ftti }
+    requires rounds { length found.old ≡ rounds * B.words }
+    requires lanes { IsLoadFor plan.now.circuit order.now (B.load lanes.old) }
+    requires count { length windows.old ≡ B.words }
+    requires windows { AreAllMadeFor plan.now.points windows.old }
+    requires ftti { HaveInterval plan.now.settings.ftti windows.old }
     ensures found { AreSimulated plan.now numbers.now found.new }
-    ensures lanes { IsMadeFor plan.now.circuit order.now lanes.new }
-    ensures windows { AreMadeFor plan.now.points windows.new }
-    ensures ftti { windows.new.ftti ≡ windows.old.ftti }
-    ensures cost { steps.new ≡ steps.old + length found.old * (all_cycles plan.now.runs * length plan.now.circuit.tables) }
+    ensures lanes { IsLoadFor plan.now.circuit order.now (B.load lanes.new) }
+    ensures windows { AreAllMadeFor plan.now.points windows.new }
+    ensures ftti { KeepSettings windows.old windows.new }
+    ensures cost { steps.new ≡ steps.old + rounds * (all_cycles plan.now.runs * length plan.now.circuit.tables) }
 {
-    for group in 0..found.len() {
-        lanes.load(&loads_of(plan.faults(), numbers, group));
-        found[group] = loaded_outcome(
+    let words = B::count() as usize;
+    for round in 0..rounds {
+        let first = round * words;
+        load_groups(plan.faults(), numbers, first, lanes);
+        loaded_outcomes(
             plan.net(),
             order,
             plan.work(),
@@ -79,6 +96,7 @@ pub(crate) fn simulate<L: Ledger>(
             golden,
             lanes,
             windows,
+            &mut found[first..first + words],
             steps,
         );
     }

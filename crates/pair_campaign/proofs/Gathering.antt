@@ -12,11 +12,6 @@ use Rattle.pair_campaign.specs.declared.worker.PairWorker.{PairWorker}
 use Rattle.pair_campaign.specs.PairPlanes.{pair_plane, pair_planes}
 use Rattle.pair_campaign.specs.Work.{HasJudged}
 
--- what is written back to a vector through its slice
-pub written_whole : {X : Type 0} (now items : List X) (len : ℕ) → length now ≡ length items → len ≡ length items → take len (now ++ drop (length now) items) ≡ now
-written_whole now items len same full =
-    ap (λ l. take len (now ++ l)) (drop_all (length now) items (omega arith)) ∙ ap (take len) (append-nil now) ∙ take_all len now (omega arith)
-
 module _ (p : Analysis) (c : Chosen) where
   planes_length : length (pair_planes p c) ≡ batches_for (pair_count c)
   unfolding pair_planes below

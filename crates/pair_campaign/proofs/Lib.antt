@@ -5,3 +5,4 @@ pub mod Masking
 pub mod Within
 pub mod Gathering
 pub mod Counting
+pub mod Rounds

@@ -1,12 +1,16 @@
 -- What a worker judges pairs with, and what it has judged.
-use Rattle.std.specs.Prelude.{◌≡◌, ℕ, ◌%◌, ◌<◌, List, [], length, slice_index, if◌then◌else◌}
+use Rattle.std.specs.Prelude.{◌≡◌, ℕ, ◌+◌, ◌*◌, ◌%◌, ◌<◌, List, [], length, slice_index, if◌then◌else◌}
 use Rattle.circuit.specs.declared.parts.Fault.{Fault}
 use Rattle.circuit.specs.declared.parts.NetId.{NetId}
-use Rattle.alarm_points.specs.Watch.{AreMadeFor, Watches}
+use Rattle.alarm_points.specs.FourWatches.{AreFourMadeFor, FourWatches}
 use Rattle.lane_kernel.specs.Bank.{Bank, IsMadeFor}
 use Rattle.golden_run.specs.Recording.{Recording}
 use Rattle.fault_list.specs.Faults.{batches_for, fault_number, is_used}
+use Rattle.fm_base.specs.Planes.{bit}
 use Rattle.campaign_plan.specs.Analysis.{Analysis}
+use Rattle.campaign_plan.specs.Danger.{is_dangerous}
+use Rattle.campaign_plan.specs.declared.Outcome.{Outcome}
+use Rattle.classifier.specs.Planes.{outcome_at}
 use Rattle.pair_list.specs.Chosen.{Chosen, pair_count, pair_numbered}
 use Rattle.pair_campaign.specs.declared.worker.PairWorker.{PairWorker}
 use Rattle.pair_campaign.specs.Together.{both_faults}
@@ -20,10 +24,19 @@ faults_in_lane p c plane lane = if is_used (pair_count c) plane lane then both_f
 abbrev pub golden_of : Analysis → Recording
 golden_of p = record { circuit = p.circuit; runs = p.runs; points = p.points }
 
--- lanes and windows for a plan, by an order of its tables
-pub record AreToolsFor (p : Analysis) (order : List NetId) (lanes : Bank ℕ) (windows : Watches) : Type 0 where
+-- the danger of each lane is that of the faults there, as a plane of pairs is loaded
+abbrev pub ShowsPlane : Analysis → Chosen → ℕ → Outcome → Type 0
+ShowsPlane p c plane outcome =
+    (k : ℕ) → k < 64 → bit outcome.danger k ≡ is_dangerous p.circuit p.points p.settings.ftti p.runs (faults_in_lane p c plane k)
+
+-- so in each of four words: the first is of plane `first`, and each other of the plane `apart` further
+abbrev pub ShowPlanes : Analysis → Chosen → (first apart : ℕ) → List Outcome → Type 0
+ShowPlanes p c first apart outcomes = (word : ℕ) → word < 4 → ShowsPlane p c (first + word * apart) (outcome_at outcomes word)
+
+-- four words of lanes and of windows for a plan, by an order of its tables
+pub record AreToolsFor (p : Analysis) (order : List NetId) (lanes : Bank (List ℕ)) (windows : FourWatches) : Type 0 where
   pub lanes_made : IsMadeFor p.circuit order lanes
-  pub windows_made : AreMadeFor p.points windows
+  pub windows_made : AreFourMadeFor p.points windows
   pub ftti : windows.ftti ≡ p.settings.ftti
 
 -- a worker with such tools, and with room for so many planes

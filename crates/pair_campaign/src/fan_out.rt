@@ -1,5 +1,5 @@
 // The workers, each in a thread, and their planes put together.
-ghost use Rattle.std.specs.Prelude.{◌≡◌, ◌<◌, ◌%◌, ℕ, All, length, slice_index, slice_index_or};
+ghost use Rattle.std.specs.Prelude.{◌≡◌, ◌<◌, ◌≤◌, ◌%◌, ℕ, All, length, slice_index, slice_index_or};
 ghost use Rattle.fault_list.specs.Faults.{batches_for};
 ghost use Rattle.pair_list.specs.Chosen.{AreFaults, pair_count};
 ghost use Rattle.pair_campaign.specs.declared.worker.PairWorker.{PairWorker as Worker};
@@ -28,6 +28,7 @@ fn work_all<R: Threads + Sync>(
 )
     requires golden { golden.now ≡ golden_of plan.now }
     requires pairs { AreFaults plan.now pairs.now }
+    requires few { length workers.old ≤ 32 }
     requires equipped { All (IsEquippedFor plan.now order.now (batches_for (pair_count pairs.now))) workers.old }
     ensures { (w : ℕ) (d : Worker) → w < length workers.old → HasJudged plan.now pairs.now (length workers.old) w (slice_index_or workers.new w d).planes.items }
 {
@@ -37,9 +38,19 @@ fn work_all<R: Threads + Sync>(
         workers,
         32,
         &|number, worker: &mut PairWorker|
-            requires { IsEquippedFor plan.now order.now (batches_for (pair_count pairs.now)) worker.now × (golden.now ≡ golden_of plan.now) × AreFaults plan.now pairs.now × (0 < count) }
+            requires { IsEquippedFor plan.now order.now (batches_for (pair_count pairs.now)) worker.now × (golden.now ≡ golden_of plan.now) × AreFaults plan.now pairs.now × (number < count) × (count ≤ 32) }
             ensures { HasJudged plan.entry.now pairs.entry.now count number worker.exit.now.planes.items }
-        { work(plan, order, golden, pairs, number, count, worker) },
+        {
+            work(
+                plan,
+                order,
+                golden,
+                pairs,
+                number as u32,
+                count as u32,
+                worker,
+            )
+        },
     );
 }
 
@@ -68,6 +79,7 @@ fn judge_all<R: Threads + Sync>(
     requires golden { golden.now ≡ golden_of plan.now }
     requires pairs { AreFaults plan.now pairs.now }
     requires some { 0 < length workers.old }
+    requires few { length workers.old ≤ 32 }
     requires equipped { All (IsEquippedFor plan.now order.now (batches_for (pair_count pairs.now))) workers.old }
     requires room { length planes.old ≡ batches_for (pair_count pairs.now) }
     ensures { planes.new ≡ pair_planes plan.now pairs.now }

@@ -1,13 +1,16 @@
 // The planes of pairs, and what the lanes of a plane are loaded with.
-ghost use Rattle.std.specs.Prelude.{◌≡◌, ◌<◌, ℕ, nat_lt};
+ghost use Rattle.std.specs.Prelude.{◌≡◌, ◌+◌, ◌*◌, ◌<◌, ◌≤◌, ◌^◌, ℕ, nat_lt};
 ghost use Rattle.fault_list.specs.Faults.{batches_for, is_used};
 ghost use Rattle.fm_base.specs.Planes.{bit};
+ghost use Rattle.classifier.specs.Load.{lane_faults, load_of};
+ghost use Rattle.lane_kernel.specs.Bank.{IsMadeFor};
 ghost use Rattle.lane_kernel.specs.Loads.{faults_of, somes};
 ghost use Rattle.pair_list.specs.Chosen.{AreFaults, pair_count};
 ghost use Rattle.pair_campaign.specs.Work.{faults_in_lane};
 
 use campaign_plan::Plan;
 use circuit::parts::Fault;
+use lane_kernel::Lanes4;
 use pair_list::Pairs;
 
 /// The number of pairs in a plane.
@@ -15,7 +18,8 @@ pub(crate) const LANES: u32 = 64;
 
 /// The number of planes of these pairs; the last may have lanes without a pair.
 pub(crate) fn planes_for(pairs: &Pairs) -> u32
-    ensures { result ≡ batches_for (pair_count pairs.now) }
+    ensures planes { result ≡ batches_for (pair_count pairs.now) }
+    ensures few { result ≤ 2 ^ 26 }
 {
     pairs.count().div_ceil(LANES)
 }
@@ -36,8 +40,8 @@ fn both_in(plan: &Plan, pairs: &Pairs, plane: u32, lane: u32) -> [Option<Fault>;
     [Some(first), Some(second)]
 }
 
-/// Both faults of each pair of a plane, the latent one first.
-pub(crate) fn loads_of(plan: &Plan, pairs: &Pairs, plane: u32) -> [[Option<Fault>; 2]; 64]
+// Both faults of each pair of a plane, the latent one first.
+fn loads_of(plan: &Plan, pairs: &Pairs, plane: u32) -> [[Option<Fault>; 2]; 64]
     requires { AreFaults plan.now pairs.now }
     ensures { (k : ℕ) → k < 64 → faults_of result k ≡ faults_in_lane plan.now pairs.now plane k }
 {
@@ -46,6 +50,19 @@ pub(crate) fn loads_of(plan: &Plan, pairs: &Pairs, plane: u32) -> [[Option<Fault
         loads[lane as usize] = both_in(plan, pairs, plane, lane);
     }
     loads
+}
+
+/// Loads each word with a plane: with the first, and with each `apart` further.
+pub(crate) fn load_planes(plan: &Plan, pairs: &Pairs, first: u32, apart: u32, lanes: &mut Lanes4)
+    requires pairs { AreFaults plan.now pairs.now }
+    requires few { first + 4 * apart < 2 ^ 32 }
+    ensures made { IsMadeFor lanes.old.circuit lanes.old.order lanes.new }
+    ensures loads { (word k : ℕ) → word < 4 → k < 64
+        → lane_faults (load_of lanes.new) word k ≡ faults_in_lane plan.now pairs.now (first + word * apart) k }
+{
+    for word in 0..4 {
+        lanes.load(word, &loads_of(plan, pairs, first + word * apart));
+    }
 }
 
 /// The lanes of a plane that hold pairs.

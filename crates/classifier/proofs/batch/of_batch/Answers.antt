@@ -2,10 +2,9 @@ use Rattle.std.proofs.Common.{◌≡◌, ◌<◌, ◌^◌, ◌&&◌, ℕ, Bool, 
 use Rattle.std.specs.Prelude.{Option, Some, None, if◌then◌else◌}
 use Rattle.std.proofs.lemmas.Nat.{and_le_r}
 use Rattle.circuit.specs.declared.parts.Fault.{Fault}
-use Rattle.alarm_points.proofs.Planes.{bit_of_and}
 use Rattle.fault_list.specs.Faults.{fault_at, fault_number, is_used}
 use Rattle.fm_base.specs.Planes.{bit}
-use Rattle.fm_base.proofs.Bits.{bit-plane_of}
+use Rattle.fm_base.proofs.Bits.{bit-plane_of, bit_of_and}
 use Rattle.lane_kernel.specs.Loads.{somes}
 use Rattle.campaign_plan.specs.declared.Outcome.{Outcome}
 use Rattle.campaign_plan.specs.Batches.{outcome_of}
@@ -13,19 +12,12 @@ use Rattle.campaign_plan.specs.Danger.{is_dangerous, is_noticed}
 use Rattle.classifier.specs.Batch.{fault_in_lane, outcome_for}
 use Rattle.classifier.proofs.PlaneBits.{plane_is}
 use Rattle.classifier.proofs.batch.of_batch.Goals as goal
-
-and_true : (b : Bool) → (b && true) ≡ b
-and_true true = refl
-and_true false = refl
-
-and_false : (b : Bool) → (b && false) ≡ false
-and_false true = refl
-and_false false = refl
+use Rattle.std.proofs.Math.Bool.{and-true, and-false}
 
 -- a test of a lane's fault, where the lane is used
 used_alone : (test : List Fault → Bool) (used : Bool) (fault : Fault) → (test (somes ((if used then Some fault else None) ∷ [])) && used) ≡ (used && test (fault ∷ []))
-used_alone test true fault = and_true (test (fault ∷ []))
-used_alone test false fault = and_false (test [])
+used_alone test true fault = and-true (test (fault ∷ []))
+used_alone test false fault = and-false (test [])
 
 -- the lanes in use of a plane
 masked : (test : List Fault → Bool) (used : ℕ → Bool) (fault : ℕ → Fault) (lanes : ℕ → List Fault) (plane mask : ℕ)

@@ -1,39 +1,60 @@
-use Rattle.std.proofs.Common.{◌≡◌, ◌≢◌, ◌<◌, ◌≤◌, ◌+◌, ◌-◌, ◌*◌, ◌∙◌, ℕ, suc, List, [], ◌∷◌, ◌++◌, length, map, take, get_or, set, ap, ap₂, sym, subst, arith, refl, add-one, below_more, get_or-set_other, get_or-set_same}
+use Rattle.std.proofs.Common.{◌≡◌, ◌<◌, ◌≤◌, ◌+◌, ◌-◌, ◌*◌, ◌∙◌, ℕ, List, length, drop, ap, ap₂, subst, arith, length-take, length-drop}
+use Rattle.std.proofs.Math.Nat.{add-mul}
+use Rattle.std.proofs.lemmas.Nat.{row_fits}
 use Rattle.circuit.specs.declared.parts.Fault.{Fault}
 use Rattle.circuit.specs.Circuit.{Circuit}
 use Rattle.workload.specs.declared.run.Run.{Run}
 use Rattle.workload.specs.Runs.{all_cycles}
 use Rattle.alarm_points.specs.declared.Points.{Points}
-use Rattle.alarm_points.specs.Watch.{AreMadeFor}
+use Rattle.alarm_points.specs.FourWatches.{AreAllMadeFor, windows_at}
 use Rattle.campaign_plan.specs.declared.Outcome.{Outcome}
-use Rattle.lane_kernel.specs.Bank.{IsMadeFor}
-use Rattle.lane_kernel.specs.Loads.{faults_of}
+use Rattle.campaign_plan.specs.Analysis.{Analysis}
+use Rattle.classifier.specs.Load.{Load, lane_faults}
 use Rattle.fault_collapse.specs.Chosen.{faults_in, group_planes}
 use Rattle.fault_collapse.proofs.Choosing.{group_is, times_more}
+use Rattle.fault_collapse.proofs.Rounds.{groups_more}
 use Rattle.fault_collapse.proofs.simulate.simulate.Goals as goal
 
-pub loop-group-preserved : goal.loop-group-preserved
-loop-group-preserved g c =
-    let group : ℕ = c.loop-group.group in
-    let found : List Outcome = c.loop-group.found in
-    let inv = c.loop-group.invariant in
-    let none : Outcome = record { danger = 0; noticed = 0 } in
-    let within : group < length found = omega (arith, c.loop-group-test.true, c.loop-group.auto.found) in
-    let tables : ℕ = length c.args.plan.now.circuit.tables in
-    let each : ℕ = all_cycles c.args.plan.now.runs * tables in
+pub loop-round-preserved : goal.loop-round-preserved
+loop-round-preserved g c =
+    let p : Analysis = c.args.plan.now in
+    let numbers : List ℕ = c.args.numbers.now in
+    let words : ℕ = g.B.LaneWords.words in
+    let round : ℕ = c.loop-round.round in
+    let found : List Outcome = c.loop-round.found in
+    let inv = c.loop-round.invariant in
+    let loaded : Load = g.B.LaneWords.load c.load_groups.new.lanes in
+    let own : List Outcome = c.loaded_outcomes.new.outcomes in
+    let count : ℕ = c.count-words.result in
+    let same : count ≡ words = c.count-words.ensures.count in
+    let first : ℕ = round * count in
+    let begins : first ≡ round * words = ap (λ n. round * n) same in
+    let few : words ≤ words = omega arith in
+    let fits : round * words + words ≤ c.args.rounds * words = row_fits round words c.args.rounds words c.loop-round-test.true few in
+    let room : first + count ≤ length found = omega (arith, begins, same, fits, c.loop-round.auto.found, c.requires.rounds) in
+    let size : length own ≡ count =
+    omega (arith, c.loaded_outcomes.auto.outcomes, length-take (first + count - first) (drop first found), length-drop first found, room) in
+    let next : (round + 1) * words ≡ round * words + 1 * words = add-mul round 1 words in
+    let each : ℕ = all_cycles p.runs * length p.circuit.tables in
     let spent : all_cycles c.work.result.now * length c.net.result.now.tables ≡ each =
     ap₂ (λ (runs : List Run) (net : Circuit). all_cycles runs * length net.tables) c.work.ensures.value c.net.ensures.value in
-    let own : c.loaded_outcome.result ≡ group_planes c.args.plan.now c.args.numbers.now group =
-    c.loaded_outcome.ensures.outcome
-    ∙ group_is c.args.plan.now c.net.result.now c.points.result.now c.work.result.now c.loop-group.windows.ftti (faults_of c.load.new.self.loads) c.args.numbers.now group
-    c.net.ensures.value c.points.ensures.value c.work.ensures.value inv.ftti
-    (λ k lane. c.load.ensures.loads k lane ∙ c.loads_of.ensures k lane ∙ ap (λ (faults : List Fault). faults_in faults c.args.numbers.now group k) c.faults.ensures.value) in
     record {
-      simulated = below_more _ _
-          (λ k before. let apart : k ≢ group = omega (arith, before) in get_or-set_other found group k c.loaded_outcome.result none apart ∙ inv.simulated k before)
-          (get_or-set_same found group c.loaded_outcome.result none within ∙ own);
-      lanes = subst (λ (net : Circuit). IsMadeFor net c.args.order.now c.loaded_outcome.new.lanes) c.net.ensures.value c.loaded_outcome.ensures.lanes;
-      windows = subst (λ (points : Points). AreMadeFor points c.loaded_outcome.new.windows) c.points.ensures.value c.loaded_outcome.ensures.windows;
-      ftti = c.loaded_outcome.ensures.ftti ∙ inv.ftti;
-      cost = c.loaded_outcome.ensures.cost ∙ ap₂ (λ m n. m + n) inv.cost spent ∙ times_more c.args.steps.now group each;
+      simulated = λ group lt.
+          groups_more (λ j o. o ≡ group_planes p numbers j) found own (drop (first + count - first) (drop first found)) first count room size
+          (λ j early. let before : j < round * words = omega (arith, early, begins) in inv.simulated j before)
+          (λ word within.
+          let inside : word < words = omega (arith, within, same) in
+          let watched : word < length c.args.windows.now = omega (arith, inside, c.requires.count) in
+          c.loaded_outcomes.ensures.outcomes word inside
+          ∙ group_is p c.net.result.now c.points.result.now c.work.result.now (windows_at c.loop-round.windows word).ftti (lane_faults loaded word) numbers (first + word)
+          c.net.ensures.value c.points.ensures.value c.work.ensures.value (inv.ftti word ∙ c.requires.ftti word watched)
+          (λ k lane. c.load_groups.ensures.loads word k inside lane ∙ ap (λ (faults : List Fault). faults_in faults numbers (first + word) k) c.faults.ensures.value))
+          group (omega (arith, lt, next, begins, same));
+      lanes = record {
+        circuit = ap (λ (l : Load). l.circuit) c.loaded_outcomes.ensures.loads ∙ c.load_groups.ensures.made.circuit ∙ inv.lanes.circuit;
+        order = ap (λ (l : Load). l.order) c.loaded_outcomes.ensures.loads ∙ c.load_groups.ensures.made.order ∙ inv.lanes.order;
+      };
+      windows = subst (λ (points : Points). AreAllMadeFor points c.loaded_outcomes.new.windows) c.points.ensures.value c.loaded_outcomes.ensures.windows;
+      ftti = λ word. c.loaded_outcomes.ensures.ftti word ∙ inv.ftti word;
+      cost = c.loaded_outcomes.ensures.cost ∙ ap₂ (λ m n. m + n) inv.cost spent ∙ times_more c.args.steps.now round each;
     }

@@ -1,5 +1,4 @@
-use Rattle.std.proofs.Common.{◌≡◌, ◌≢◌, ◌<◌, ◌≤◌, ◌+◌, ◌-◌, ◌*◌, ◌∙◌, ℕ, suc, List, [], ◌∷◌, ◌++◌, length, map, take, get_or, set, ap, ap₂, sym, subst, arith, refl, add-one, below_more, get_or-set_other, get_or-set_same}
-use Rattle.std.proofs.Common.{Bool}
+use Rattle.std.proofs.Common.{◌≤◌, ℕ, length, ap₂, arith}
 use Rattle.std.specs.Prelude.{◌&&◌}
 use Rattle.campaign_plan.specs.declared.Outcome.{Outcome}
 use Rattle.fault_list.specs.Faults.{fault_number, is_used}

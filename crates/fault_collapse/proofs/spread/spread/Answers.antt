@@ -1,5 +1,5 @@
-use Rattle.std.proofs.Common.{◌≡◌, ◌≢◌, ◌<◌, ◌≤◌, ◌+◌, ◌-◌, ◌*◌, ◌∙◌, ℕ, suc, List, [], ◌∷◌, ◌++◌, length, map, take, get_or, set, ap, ap₂, sym, subst, arith, refl, add-one, below_more, get_or-set_other, get_or-set_same}
-use Rattle.std.proofs.lemmas.List.{take_all, take_more_set}
+use Rattle.std.proofs.Common.{◌<◌, ◌∙◌, ℕ, List, [], ◌∷◌, ◌++◌, length, map, ap, ap₂, sym, arith, refl, add-one}
+use Rattle.std.proofs.lemmas.List.{take_more_set}
 use Rattle.campaign_plan.specs.declared.Outcome.{Outcome}
 use Rattle.fm_base.specs.Lists.{below}
 use Rattle.fm_base.proofs.Below.{map-below}

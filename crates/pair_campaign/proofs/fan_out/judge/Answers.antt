@@ -1,6 +1,6 @@
 use Rattle.std.proofs.Common.{length, ap, ◌∙◌}
-use Rattle.pair_campaign.proofs.Gathering.{written_whole}
 use Rattle.pair_campaign.proofs.fan_out.judge.Goals as goal
+use Rattle.fm_base.proofs.Lists.{written_whole}
 
 pub returns : goal.returns
 returns g c =

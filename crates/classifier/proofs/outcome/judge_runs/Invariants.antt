@@ -4,7 +4,7 @@ use Rattle.classifier.specs.Load.{lane_faults}
 use Rattle.classifier.specs.Planes.{HasPlanes, outcome_at}
 use Rattle.alarm_points.specs.FourWatches.{AreAllMadeFor, windows_at}
 use Rattle.classifier.specs.Seen.{KeepSettings}
-use Rattle.classifier.proofs.outcome.loaded_outcomes.Given as goal
+use Rattle.classifier.proofs.outcome.judge_runs.Given as goal
 
 -- the runs so far are judged
 abbrev pub invariant-loop-run : goal.invariant-loop-run

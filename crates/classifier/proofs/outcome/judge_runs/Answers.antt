@@ -1,0 +1,69 @@
+use Rattle.std.proofs.Common.{◌≡◌, ◌+◌, ◌*◌, ◌<◌, ℕ, List, [], ◌∷◌, ◌++◌, length, take, refl, ap, sym, ◌∙◌, subst, arith}
+use Rattle.std.proofs.lemmas.List.{take_more}
+use Rattle.std.proofs.lemmas.List.Sums.{sum_by_push}
+use Rattle.workload.specs.declared.run.Kind.TheVariants.{Mission}
+use Rattle.workload.specs.declared.run.Run.{Run}
+use Rattle.workload.specs.Runs.{all_cycles, cycles_of, run_at}
+use Rattle.campaign_plan.specs.declared.Outcome.{Outcome}
+use Rattle.classifier.specs.Load.{Load, lane_faults}
+use Rattle.classifier.specs.Planes.{HasPlanes, outcome_at}
+use Rattle.alarm_points.specs.FourWatches.{windows_at}
+use Rattle.classifier.proofs.RunByRun.{planes_none}
+use Rattle.classifier.proofs.outcome.judge_runs.Goals as goal
+
+-- the cycles up to one run more
+more_cycles : (runs : List Run) (n : ℕ) → n < length runs → all_cycles (take (n + 1) runs) ≡ all_cycles (take n runs) + cycles_of (run_at runs n)
+more_cycles runs n lt =
+    let none : Run = record { kind = Mission; vectors = [] } in
+    ap (λ (rs : List Run). all_cycles rs) (take_more runs n none lt) ∙ sum_by_push cycles_of (take n runs) (run_at runs n)
+
+-- the steps of one run more
+cost_more : (start before now all own tables more : ℕ) → before ≡ start + all * tables → more ≡ all + own → now ≡ before + own * tables → now ≡ start + more * tables
+cost_more start before now all own tables more b m n = rw m (omega arith)
+
+pub loop-run-init : goal.loop-run-init
+loop-run-init g c =
+    let net = c.args.net.now in
+    let points = c.args.points.now in
+    let none : c.args.steps.now ≡ c.args.steps.now + 0 * length net.tables = grind arith in
+    record {
+      load = refl;
+      made = c.requires.windows_made;
+      ftti = λ word. refl;
+      planes = λ word lt.
+          let ftti = (windows_at c.args.windows.now word).ftti in
+          let faults = lane_faults (g.B.LaneWords.load c.args.lanes.now) word in
+          subst (λ (o : Outcome). HasPlanes net points ftti [] faults o) (sym (c.requires.nothing word lt)) (planes_none net points ftti faults);
+      cost = none;
+    }
+
+pub loop-run-preserved : goal.loop-run-preserved
+loop-run-preserved g c =
+    let net = c.args.net.now in
+    let points = c.args.points.now in
+    let runs = c.args.work.now in
+    let n = c.loop-run.run in
+    let run = run_at runs n in
+    let inv = c.loop-run.invariant in
+    let watched = c.watch_run.ensures in
+    let before = g.B.LaneWords.load c.loop-run.lanes in
+    let load = g.B.LaneWords.load c.args.lanes.now in
+    let outcomes = c.add_run.new.outcomes in
+    let within : n < length runs = omega (arith, c.runs-run-end.ensures.count) in
+    let none : Run = record { kind = Mission; vectors = [] } in
+    record {
+      load = watched.load ∙ inv.load;
+      made = λ word lt. (watched.seen word lt).made;
+      ftti = λ word. watched.ftti word ∙ inv.ftti word;
+      planes = λ word lt.
+          let ftti = (windows_at c.args.windows.now word).ftti in
+          let same : (windows_at c.watch_run.new.windows word).ftti ≡ ftti = watched.ftti word ∙ inv.ftti word in
+          let inside : word < length c.loop-run.outcomes = omega (arith, c.requires.outcomes, c.loop-run.auto.outcomes) in
+          subst (λ f. HasPlanes net points f (take (n + 1) runs) (lane_faults load word) (outcome_at outcomes word)) same
+          (subst (λ (rs : List Run). HasPlanes net points (windows_at c.watch_run.new.windows word).ftti rs (lane_faults load word) (outcome_at outcomes word)) (sym (take_more runs n none within))
+          (subst (λ (l : Load). HasPlanes net points (windows_at c.watch_run.new.windows word).ftti (take n runs ++ run ∷ []) (lane_faults l word) (outcome_at outcomes word)) inv.load
+          (c.add_run.ensures net points (take n runs) run before word (sym c.kind.ensures) watched.seen inside
+          (subst (λ (l : Load). HasPlanes net points (windows_at c.watch_run.new.windows word).ftti (take n runs) (lane_faults l word) (outcome_at c.loop-run.outcomes word)) (sym inv.load)
+          (subst (λ f. HasPlanes net points f (take n runs) (lane_faults load word) (outcome_at c.loop-run.outcomes word)) (sym same) (inv.planes word lt))))));
+      cost = cost_more _ _ _ _ _ (length net.tables) _ inv.cost (more_cycles runs n within) watched.cost;
+    }

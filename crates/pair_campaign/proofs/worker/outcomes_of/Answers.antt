@@ -1,0 +1,17 @@
+use Rattle.std.proofs.Common.{ℕ, List, ap, ◌∙◌}
+use Rattle.circuit.specs.declared.parts.Fault.{Fault}
+use Rattle.campaign_plan.specs.Analysis.{Analysis}
+use Rattle.campaign_plan.specs.Danger.{is_dangerous}
+use Rattle.campaign_plan.specs.declared.Outcome.{Outcome}
+use Rattle.classifier.specs.Load.{lane_faults, load_of}
+use Rattle.classifier.proofs.PlaneBits.{planes_have}
+use Rattle.fm_base.specs.Planes.{bit}
+use Rattle.pair_campaign.proofs.worker.outcomes_of.Goals as goal
+
+pub returns-clause-shown : goal.returns-clause-shown
+returns-clause-shown c = λ word lt k lane.
+    let p : Analysis = c.args.plan.now in
+    let lanes : ℕ → List Fault = lane_faults (load_of c.load_planes.new.lanes) word in
+    ap (λ (o : Outcome). bit o.danger k) (c.counted_outcomes.ensures.outcomes word lt)
+    ∙ (planes_have p.circuit p.points p.settings.ftti p.runs lanes).danger k lane
+    ∙ ap (is_dangerous p.circuit p.points p.settings.ftti p.runs) (c.load_planes.ensures.loads word k lt lane)
