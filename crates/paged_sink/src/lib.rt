@@ -1,0 +1,95 @@
+// An output that goes out in pages.
+#![tactic(auto)]
+
+ghost use Rattle.std.specs.Prelude.{◌≡◌, ◌<◌, ◌≤◌, ◌-◌, ◌++◌, [], length, take, drop, OnOk, OnErr, if◌then◌else◌};
+ghost use Rattle.fm_shelf.specs.Shelf.{told_more, HasPrefix, Rose};
+
+use fm_shelf::shelf::{Failed, Sink};
+use std::alloc::Global;
+
+/// The bytes of a page: 64 KiB.
+const PAGE: usize = 1 << 16;
+
+/// A sink that collects what it is given, and sends it on in pages of 64 KiB. What it tells as written is what went out, and then
+/// what waits in its page; `flush` sends that on. So after a call that failed what went out is a prefix of what was written.
+#[derive(Drop)]
+pub struct Paged<O: Sink + Drop> {
+    /// The sink that pages go to.
+    out: O,
+    page: Vec<u8>,
+    /// How many bytes of the page went out: none, but after a write of it that failed.
+    sent: usize,
+}
+
+// Writes a piece from a place on, and moves the place past what went out.
+fn send<O: Sink>(out: &mut O, piece: &[u8], sent: &mut usize) -> Result<(), Failed>
+    ensures whole { OnOk result (length piece.now ≤ sent.new) }
+    ensures forward { sent.old ≤ sent.new }
+    ensures within { sent.new - sent.old ≤ length piece.now - sent.old }
+    ensures written { O.written out.new ≡ told_more (O.written out.old) (take (sent.new - sent.old) (drop sent.old piece.now)) }
+    ensures failed { OnErr result (Rose (O.faults out.old) (O.faults out.new)) }
+    ensures grows { O.faults out.old ≤ O.faults out.new }
+{
+    'rest: while *sent < piece.len() {
+        let n = out.write(&piece[*sent..])?;
+        *sent += n;
+    }
+    Ok(())
+}
+
+impl<O: Sink + Drop> Paged<O> {
+    /// A sink in front of another. All its memory is taken here; where there is none, each piece goes out by itself.
+    pub fn new(alloc: Global, out: O) -> Self
+        ensures out { result.out ≡ out }
+        ensures waits { drop result.sent result.page.items ≡ [] }
+    {
+        let page = match Vec::with_capacity(alloc, PAGE) {
+            Ok(page) => page,
+            Err(_) => Vec::new(alloc),
+        };
+        Paged { out, page, sent: 0 }
+    }
+
+    // Takes a piece into the page, where there is room for it and nothing of the page went out, and answers whether it did.
+    fn takes(&mut self, piece: &[u8]) -> bool
+        ensures out { self.new.out ≡ self.old.out }
+        ensures waits { drop self.new.sent self.new.page.items ≡ drop self.old.sent self.old.page.items ++ (if result then piece.now else []) }
+    {
+        if self.sent > 0 || piece.len() > self.page.capacity().saturating_sub(self.page.len()) {
+            return false;
+        }
+        self.page.extend_from_slice(piece).is_ok()
+    }
+
+    /// Sends on all that waits. After `Failed` a prefix of it went out, and the rest waits.
+    pub fn flush(&mut self) -> Result<(), Failed>
+        ensures ok { OnOk result (O.written self.new.out ≡ told_more (O.written self.old.out) (drop self.old.sent self.old.page.items)) }
+        ensures empty { OnOk result (drop self.new.sent self.new.page.items ≡ []) }
+        ensures torn { OnErr result (HasPrefix (O.written self.old.out) (O.written self.new.out) (drop self.old.sent self.old.page.items)) }
+        ensures waits { OnErr result (told_more (O.written self.new.out) (drop self.new.sent self.new.page.items) ≡ told_more (O.written self.old.out) (drop self.old.sent self.old.page.items)) }
+        ensures failed { OnErr result (Rose (O.faults self.old.out) (O.faults self.new.out)) }
+        ensures grows { O.faults self.old.out ≤ O.faults self.new.out }
+    {
+        send(&mut self.out, self.page.as_slice(), &mut self.sent)?;
+        self.page.clear();
+        self.sent = 0;
+        Ok(())
+    }
+}
+
+impl<O: Sink + Drop> Sink for Paged<O> {
+    ghost use Rattle.std.specs.Prelude.{drop};
+    ghost use Rattle.fm_shelf.specs.Shelf.{told_more};
+
+    ghost written = { λ s. told_more (O.written s.out) (drop s.sent s.page.items) };
+
+    ghost faults = { λ s. O.faults s.out };
+
+    fn write(&mut self, piece: &[u8]) -> Result<usize, Failed> {
+        if self.takes(piece) {
+            return Ok(piece.len());
+        }
+        self.flush()?;
+        self.out.write(piece)
+    }
+}
