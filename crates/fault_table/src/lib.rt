@@ -1,0 +1,9 @@
+//! The table of faults, as a CSV text.
+#![tactic(auto)]
+
+mod fields;
+mod row;
+mod table;
+pub mod words;
+
+pub use table::write_fault_table;

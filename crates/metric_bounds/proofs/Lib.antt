@@ -1,0 +1,8 @@
+mod Comparing
+mod Sharing
+mod Ratios
+mod Bounding
+mod Narrowing
+mod Targeting
+mod Rowing
+mod Ending

@@ -1,0 +1,4 @@
+pub mod Missing
+pub mod Bounds
+pub mod Progress
+pub mod Laws

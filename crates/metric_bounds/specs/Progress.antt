@@ -1,0 +1,75 @@
+-- The text of `progress`.
+use Rattle.std.specs.Prelude.{ℕ, List, [], ◌∷◌, ◌++◌, length, Option, Some, None, codes, decimal}
+use Rattle.metric_sums.specs.declared.Asil.{Asil}
+use Rattle.metric_sums.specs.declared.Sums.{Sums}
+use Rattle.metric_sums.specs.Metrics.{lfm_target, spfm_target}
+use Rattle.metric_sums.specs.Totals.{AreConsistent}
+use Rattle.fm_base.specs.Names.{Bytes}
+use Rattle.fm_base.specs.Text.{line}
+use Rattle.campaign_plan.specs.Analysis.{Analysis, batch_count}
+use Rattle.campaign_plan.specs.Batches.{Entry, total}
+use Rattle.fmeda_report.specs.Words.{fraction_word}
+use Rattle.metric_bounds.specs.declared.Ends.{Ends}
+use Rattle.metric_bounds.specs.declared.EndSums.{EndSums}
+use Rattle.metric_bounds.specs.declared.Standing.{Standing}
+use Rattle.metric_bounds.specs.declared.Standing.TheVariants.{Met, Missed, Open}
+use Rattle.metric_bounds.specs.Bounds.{end_sums, greatest_term, least_term, lfm_ends, spfm_permanent_ends, spfm_transient_ends, standing_of, term_standing}
+
+-- how a target stands, or `-` where the metric has no value
+abbrev pub standing_word : Option Standing → Bytes
+standing_word None = codes "-"
+standing_word (Some Met) = codes "met"
+standing_word (Some Missed) = codes "missed"
+standing_word (Some Open) = codes "open"
+
+-- so much of so much
+abbrev pub part_line : Bytes → (part whole : ℕ) → Bytes
+part_line label part whole = line (label ∷ decimal part ∷ codes "of" ∷ decimal whole ∷ [])
+
+-- the ends of a metric
+abbrev pub ends_line : Bytes → Ends → Bytes
+ends_line label ends = line (label ∷ codes "from" ∷ fraction_word ends.least ∷ codes "to" ∷ fraction_word ends.greatest ∷ [])
+
+-- those of the term
+abbrev pub term_line : (least greatest : ℕ) → Bytes
+term_line least greatest = line (codes "term" ∷ codes "from" ∷ decimal least ∷ codes "to" ∷ decimal greatest ∷ [])
+
+-- a target
+abbrev pub standing_line : Bytes → Option Standing → Bytes
+standing_line label stands = line (codes "target" ∷ label ∷ standing_word stands ∷ [])
+
+-- the kept rows, and the weights without class outside: of the kept batches, and of all
+unfoldable pub judged_lines : (rows batches : ℕ) → (judged all : Sums) → Bytes
+judged_lines rows batches judged all =
+    part_line (codes "rows") rows batches
+    ++ part_line (codes "judged permanent") judged.permanent_all all.permanent_all
+    ++ part_line (codes "judged transient") judged.transient_all all.transient_all
+
+-- the bounds of the metrics
+unfoldable pub bound_lines : EndSums → Bytes
+bound_lines s =
+    ends_line (codes "spfm permanent") (spfm_permanent_ends s)
+    ++ ends_line (codes "spfm transient") (spfm_transient_ends s)
+    ++ ends_line (codes "lfm") (lfm_ends s)
+    ++ term_line (least_term s) (greatest_term s)
+
+-- how the targets stand
+unfoldable pub standing_lines : Asil → EndSums → Bytes
+standing_lines asil s =
+    standing_line (codes "spfm permanent") (standing_of (spfm_target asil) (spfm_permanent_ends s))
+    ++ standing_line (codes "spfm transient") (standing_of (spfm_target asil) (spfm_transient_ends s))
+    ++ standing_line (codes "lfm") (standing_of (lfm_target asil) (lfm_ends s))
+    ++ standing_line (codes "term") (Some (term_standing asil s))
+
+-- THE TEXT of `progress` for these kept batches; all planes give the same weights without class outside
+unfoldable pub progress : Analysis → List Entry → Bytes
+progress p entries =
+    judged_lines (length entries) (batch_count p) (total p entries) (end_sums p entries).best
+    ++ bound_lines (end_sums p entries)
+    ++ standing_lines p.settings.asil (end_sums p entries)
+
+-- the sums at all ends are consistent
+pub record AreAllConsistent (s : EndSums) : Type 0 where
+  pub best : AreConsistent s.best
+  pub worst : AreConsistent s.worst
+  pub most_latent : AreConsistent s.most_latent

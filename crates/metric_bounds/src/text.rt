@@ -1,0 +1,190 @@
+// The text of `progress`.
+ghost use Rattle.std.specs.Prelude.{◌≡◌, ◌++◌, codes, decimal, map};
+ghost use Rattle.campaign_plan.specs.Analysis.{batch_count};
+ghost use Rattle.campaign_plan.specs.Batches.{AreDistinct};
+ghost use Rattle.result_file.specs.KeptRows.{entry_of};
+ghost use Rattle.result_merge.specs.Tables.{table_of};
+ghost use Rattle.fmeda_report.specs.Sends.{Sends};
+ghost use Rattle.fmeda_report.specs.Words.{fraction_word as word_of_fraction};
+ghost use Rattle.metric_bounds.specs.Progress.{bound_lines, ends_line, judged_lines, part_line, progress, standing_line, standing_lines, standing_word as word_of_standing, term_line, AreAllConsistent};
+
+use crate::sums::{kept_sums, sums_at_ends};
+use crate::{EndSums, Ends, Standing};
+use campaign_plan::Plan;
+use fm_base::Line;
+use fm_shelf::shelf::{Failed, Sink};
+use fmeda_report::lines::write_line;
+use fmeda_report::words::number_word;
+use metric_sums::{Asil, Fraction, Sums};
+use result_file::Row;
+use result_merge::PlanesTable;
+
+// How a target stands, or `-` where the metric has no value.
+fn standing_word(standing: &Option<Standing>) -> &[u8]
+    ensures { result.now ≡ word_of_standing standing.now }
+{
+    match *standing {
+        None => b"-",
+        Some(Standing::Met) => b"met",
+        Some(Standing::Missed) => b"missed",
+        Some(Standing::Open) => b"open",
+    }
+}
+
+// Two numbers with a slash between them.
+fn ratio_word(fraction: Fraction) -> Line
+    ensures { result ≡ decimal fraction.num ++ codes "/" ++ decimal fraction.den }
+{
+    let mut word = Line::new();
+    word.put_dec(fraction.num);
+    word.put(b"/");
+    word.put_dec(fraction.den);
+    word
+}
+
+// What stands where there is no fraction.
+fn dash() -> Line
+    ensures { result ≡ codes "-" }
+{
+    let mut word = Line::new();
+    word.put(b"-");
+    word
+}
+
+// A fraction that isn't reduced, or `-` where there is none.
+fn fraction_word(fraction: Option<Fraction>) -> Line
+    ensures { result ≡ word_of_fraction fraction }
+{
+    match fraction {
+        None => dash(),
+        Some(fraction) => ratio_word(fraction),
+    }
+}
+
+// Writes a label and how much there is of how much.
+fn write_part<O: Sink>(label: &[u8], part: u64, whole: u64, out: &mut O) -> Result<(), Failed>
+    ensures { Sends (O.written out.old) (O.written out.new) (O.faults out.old) (O.faults out.new) (part_line label.now part whole) result }
+{
+    write_line(
+        out,
+        &[
+            label,
+            number_word(part).bytes(),
+            b"of",
+            number_word(whole).bytes(),
+        ],
+    )
+}
+
+// Writes how many rows there are, and the weights of their batches and of all.
+fn write_judged<O: Sink>(
+    rows: u64,
+    batches: u64,
+    judged: &Sums,
+    all: &Sums,
+    out: &mut O,
+) -> Result<(), Failed>
+    ensures { Sends (O.written out.old) (O.written out.new) (O.faults out.old) (O.faults out.new)
+        (judged_lines rows batches judged.now all.now) result }
+{
+    write_part(b"rows", rows, batches, out)?;
+    write_part(
+        b"judged permanent",
+        judged.permanent_all,
+        all.permanent_all,
+        out,
+    )?;
+    write_part(
+        b"judged transient",
+        judged.transient_all,
+        all.transient_all,
+        out,
+    )
+}
+
+// Writes a label and both ends of a metric.
+fn write_ends<O: Sink>(label: &[u8], ends: Ends, out: &mut O) -> Result<(), Failed>
+    ensures { Sends (O.written out.old) (O.written out.new) (O.faults out.old) (O.faults out.new) (ends_line label.now ends) result }
+{
+    write_line(
+        out,
+        &[
+            label,
+            b"from",
+            fraction_word(ends.least).bytes(),
+            b"to",
+            fraction_word(ends.greatest).bytes(),
+        ],
+    )
+}
+
+// Writes the ends of the term.
+fn write_term<O: Sink>(least: u64, greatest: u64, out: &mut O) -> Result<(), Failed>
+    ensures { Sends (O.written out.old) (O.written out.new) (O.faults out.old) (O.faults out.new) (term_line least greatest) result }
+{
+    write_line(
+        out,
+        &[
+            b"term",
+            b"from",
+            number_word(least).bytes(),
+            b"to",
+            number_word(greatest).bytes(),
+        ],
+    )
+}
+
+// Writes the bounds of the metrics.
+fn write_bounds<O: Sink>(sums: &EndSums, out: &mut O) -> Result<(), Failed>
+    requires { AreAllConsistent sums.now }
+    ensures { Sends (O.written out.old) (O.written out.new) (O.faults out.old) (O.faults out.new) (bound_lines sums.now) result }
+{
+    write_ends(b"spfm permanent", sums.spfm_permanent(), out)?;
+    write_ends(b"spfm transient", sums.spfm_transient(), out)?;
+    write_ends(b"lfm", sums.lfm(), out)?;
+    write_term(sums.least_term(), sums.greatest_term(), out)
+}
+
+// Writes the name of a target and how it stands.
+fn write_standing<O: Sink>(
+    label: &[u8],
+    standing: Option<Standing>,
+    out: &mut O,
+) -> Result<(), Failed>
+    ensures { Sends (O.written out.old) (O.written out.new) (O.faults out.old) (O.faults out.new) (standing_line label.now standing) result }
+{
+    write_line(out, &[b"target", label, standing_word(&standing)])
+}
+
+// Writes how the targets of a level stand.
+fn write_standings<O: Sink>(asil: Asil, sums: &EndSums, out: &mut O) -> Result<(), Failed>
+    requires { AreAllConsistent sums.now }
+    ensures { Sends (O.written out.old) (O.written out.new) (O.faults out.old) (O.faults out.new) (standing_lines asil sums.now) result }
+{
+    let spfm = asil.spfm_target();
+    write_standing(b"spfm permanent", sums.spfm_permanent().standing(spfm), out)?;
+    write_standing(b"spfm transient", sums.spfm_transient().standing(spfm), out)?;
+    write_standing(b"lfm", sums.lfm().standing(asil.lfm_target()), out)?;
+    write_standing(b"term", Some(sums.term_standing(asil)), out)
+}
+
+/// Writes how far a campaign is that has kept these rows, the bounds of its metrics, and how its targets stand. `table` has the
+/// planes of the rows. It takes no memory, and the time of three reports.
+pub fn write_progress<O: Sink>(
+    plan: &Plan,
+    rows: &[Row],
+    table: &PlanesTable,
+    out: &mut O,
+) -> Result<(), Failed>
+    requires distinct { AreDistinct plan.now (map entry_of rows.now) }
+    requires table { table.now ≡ table_of (batch_count plan.now) (map entry_of rows.now) }
+    ensures { Sends (O.written out.old) (O.written out.new) (O.faults out.old) (O.faults out.new)
+        (progress plan.now (map entry_of rows.now)) result }
+{
+    let batches = u64::from(plan.batches());
+    let judged = kept_sums(plan, rows);
+    let sums = sums_at_ends(plan, table);
+    write_judged(rows.len() as u64, batches, &judged, &sums.best, out)?;
+    write_bounds(&sums, out)?;
+    write_standings(plan.settings().asil, &sums, out)
+}
