@@ -1,0 +1,6 @@
+pub mod Notes
+pub mod Latching
+pub mod Forcing
+pub mod Walking
+pub mod Begun
+pub mod Stepped

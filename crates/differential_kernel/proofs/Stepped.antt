@@ -1,0 +1,49 @@
+-- One cycle more in one lane.
+use Rattle.std.proofs.Common.{◌≡◌, ℕ, ◌+◌, ◌<◌, Bool, List, [], ◌∷◌, ◌++◌, length, refl, ap, ap₂, sym, ◌∙◌}
+use Rattle.circuit.specs.declared.parts.Fault.{Fault}
+use Rattle.circuit.specs.After.{Moment}
+use Rattle.circuit.specs.Circuit.{Circuit}
+use Rattle.circuit.specs.Sound.{IsNetlist}
+use Rattle.circuit.specs.Trace.{cycle_at, flipped, trace}
+use Rattle.circuit.specs.Value.{Cycle, bit_at, net_value}
+use Rattle.golden_difference.specs.Beside.{AreBeside, IsBeside, IsGoldenRow, trace_differs}
+use Rattle.golden_difference.proofs.Exclusive.{either_back}
+use Rattle.golden_difference.proofs.NextCycle.{beside_more, flipped_differs}
+use Rattle.lane_kernel.specs.Bank.{Bank}
+use Rattle.lane_kernel.specs.Bits.{either}
+use Rattle.lane_kernel.specs.Gates.{latch_at}
+use Rattle.lane_kernel.specs.Loads.{faults_of}
+use Rattle.differential_kernel.specs.Differences.{read_in}
+use Rattle.differential_kernel.specs.Walk.{IsPair}
+
+-- where each net holds what it differs in, in every pair of cycles that begins as the lane stands
+pub stepped : (c : Circuit) (faults : List Fault) (vectors : List (List Bool)) (inputs : List Bool) (row : List ℕ) (old new : Moment)
+    → IsNetlist c → IsBeside c faults vectors old → length old.raw ≡ length c.latches
+    → IsGoldenRow c (vectors ++ inputs ∷ []) (length vectors) row
+    → ((x golden : Cycle) → IsPair c row x golden → x.faults ≡ faults → x.number ≡ old.cycle
+    → ((l : ℕ) → l < length c.latches → bit_at (flipped faults old.cycle old.raw) l ≡ either (bit_at x.state l) (bit_at golden.state l))
+    → (n : ℕ) → n < length c.drivers → bit_at new.values n ≡ either (net_value x n) (net_value golden n))
+    → ((l : ℕ) → l < length c.latches → bit_at new.raw l ≡ bit_at new.values (latch_at c.latches l).from.0)
+    → new.cycle ≡ old.cycle + 1
+    → IsBeside c faults (vectors ++ inputs ∷ []) new
+stepped c faults vectors inputs row old new sound beside size golden_row each raw cycle =
+    beside_more c faults vectors inputs old new sound beside values raw cycle
+  where
+    longer : List (List Bool)
+    longer = vectors ++ inputs ∷ []
+
+    pair : IsPair c row (cycle_at c faults longer (length vectors)) (cycle_at c [] longer (length vectors))
+    pair = record { circuit = refl; golden_circuit = refl; none = refl; inputs = refl; values = golden_row }
+
+    values : (net : ℕ) → net < length c.drivers → bit_at new.values net ≡ trace_differs c faults longer (length vectors) net
+    values net lt =
+        each (cycle_at c faults longer (length vectors)) (cycle_at c [] longer (length vectors)) pair refl (sym beside.cycle)
+        (λ l within. ap (λ t. bit_at (flipped faults t old.raw) l) beside.cycle ∙ flipped_differs c faults vectors inputs old.raw l size within beside.raw) net lt
+
+-- the value of a net, from its golden one and what it differs in
+pub read_value : {W : Type 0} (lanes : ℕ) (bit : W → ℕ → Bool) (bank : Bank W) (vectors : List (List Bool)) (row : List ℕ) (t k n : ℕ)
+    → AreBeside lanes bit vectors bank → IsGoldenRow bank.circuit vectors t row → t + 1 ≡ length vectors → k < lanes → n < length bank.circuit.drivers
+    → read_in bit k row bank.words n ≡ trace bank.circuit (faults_of bank.loads k) vectors t n
+read_value lanes bit bank vectors row t k n beside golden last lt within =
+    ap₂ either (golden n within) ((beside k lt).values t n last within)
+    ∙ either_back (trace bank.circuit [] vectors t n) (trace bank.circuit (faults_of bank.loads k) vectors t n)

@@ -1,0 +1,114 @@
+-- Places that aren't marked, and one that is evaluated, in one lane.
+use Rattle.std.proofs.Common.{◌≡◌, ◌≢◌, ℕ, zero, suc, ◌+◌, ◌-◌, ◌<◌, ◌≤◌, Bool, false, List, [], ◌∷◌, length, map, take, get_or, refl, ap, sym, subst, ◌∙◌, arith}
+use Rattle.std.specs.List.{Contains}
+use Rattle.std.proofs.lemmas.List.{get_or-append_right, get_or-map, get_or_append_left, length-map}
+use Rattle.circuit.specs.declared.parts.Driver.TheVariants.{Table as FromTable}
+use Rattle.circuit.specs.declared.parts.Latch.{Latch}
+use Rattle.circuit.specs.declared.parts.NetId.{NetId}
+use Rattle.circuit.specs.Circuit.{Circuit}
+use Rattle.circuit.specs.Effects.{affected}
+use Rattle.circuit.specs.Order.{IsOrder, net_at}
+use Rattle.circuit.specs.Sound.{IsNetlist}
+use Rattle.circuit.specs.Value.{Cycle, bit_at, driven, driver_at, table_at, table_gives}
+use Rattle.fanout.specs.Readers.{IsReadAt, Ordered, all_reads, driver_reads}
+use Rattle.golden_difference.proofs.Exclusive.{either_back}
+use Rattle.golden_difference.proofs.Walked.{Walked, quiet_place, walked_more}
+use Rattle.lane_kernel.specs.Bits.{either}
+use Rattle.lane_kernel.specs.Gates.{latch_at, plane}
+use Rattle.place_set.specs.Places.{Places, has, value_in}
+use Rattle.differential_kernel.specs.declared.force.Force.{Force}
+use Rattle.differential_kernel.specs.Differences.{IsNoted, read_in}
+use Rattle.differential_kernel.specs.Forces.{force_value}
+use Rattle.differential_kernel.specs.Walk.{AreForces, IsAhead, IsPair}
+
+-- a table's place reads what the table reads
+pub table_read : (o : Ordered) (j k : ℕ) (m : NetId) → j < length o.order → driver_at o.circuit (net_at o.order j).0 ≡ FromTable k
+    → Contains (table_at o.circuit.tables k).ins m → IsReadAt o m.0 j
+table_read o j k m lt driver there =
+    subst (λ (nets : List NetId). Contains nets (record { 0 = m.0 })) (sym reads) there
+  where
+    reads : get_or (all_reads o) j [] ≡ (table_at o.circuit.tables k).ins
+    reads =
+        get_or_append_left (map (λ (net : NetId). driver_reads o.circuit (driver_at o.circuit net.0)) o.order) (map (λ (latch : Latch). latch.from ∷ []) o.circuit.latches) [] j
+        (omega (arith, length-map o.order (λ (net : NetId). driver_reads o.circuit (driver_at o.circuit net.0)), lt))
+        ∙ get_or-map (λ (net : NetId). driver_reads o.circuit (driver_at o.circuit net.0)) o.order j (record { 0 = 0 }) [] lt
+        ∙ ap (driver_reads o.circuit) driver
+
+-- a latch's place reads the net that the latch takes
+pub latch_read : (o : Ordered) (l : ℕ) → l < length o.circuit.latches → IsReadAt o (latch_at o.circuit.latches l).from.0 (length o.order + l)
+latch_read o l lt =
+    subst (λ (nets : List NetId). Contains nets (latch_at o.circuit.latches l).from) (sym reads) (0, omega arith, refl)
+  where
+    size : length (map (λ (net : NetId). driver_reads o.circuit (driver_at o.circuit net.0)) o.order) ≡ length o.order
+    size = length-map o.order (λ (net : NetId). driver_reads o.circuit (driver_at o.circuit net.0))
+
+    reads : get_or (all_reads o) (length o.order + l) [] ≡ (latch_at o.circuit.latches l).from ∷ []
+    reads =
+        let back : length o.order + l - length o.order ≡ l = omega arith in
+        get_or-append_right (map (λ (net : NetId). driver_reads o.circuit (driver_at o.circuit net.0)) o.order) (map (λ (latch : Latch). latch.from ∷ []) o.circuit.latches)
+        (length o.order) (length o.order + l) [] size (omega arith)
+        ∙ ap (λ i. get_or (map (λ (latch : Latch). latch.from ∷ []) o.circuit.latches) i []) back
+        ∙ get_or-map (λ (latch : Latch). latch.from ∷ []) o.circuit.latches l (record { from = record { 0 = 0 }; to = record { 0 = 0 }; start = false }) [] lt
+
+-- a force, where there is one
+pub some_force : {W : Type 0} (forces : List (Force W)) (n : ℕ) → n < length forces → Force W
+some_force [] n lt = absurd (omega arith)
+some_force (force ∷ forces) n lt = force
+
+module _ {W : Type 0} (lanes : ℕ) (bit : W → ℕ → Bool) (k : ℕ) (lt_k : k < lanes) (c : Circuit) (order : List NetId) (sound : IsNetlist c) (ordered : IsOrder c order)
+    (row : List ℕ) (forces : List (Force W)) (size : length forces ≡ length c.drivers)
+    (x golden : Cycle) (pair : IsPair c row x golden) (are : AreForces bit k forces x) where
+  abbrev ordered_of : Ordered
+  ordered_of = record { circuit = c; order = order }
+
+  -- A PLACE THAT ISN'T MARKED
+  quiet : (words : List W) (touched marks : Places) (from j : ℕ) → from ≤ j → j < length order → IsNoted lanes bit ordered_of from words touched marks
+      → IsAhead lanes bit order row forces from words marks → has marks j ≡ false
+      → Walked x (read_in bit k row words) (take j order) j → Walked x (read_in bit k row words) (take (j + 1) order) (j + 1)
+  quiet words touched marks from j le lt noted ahead none walked =
+      let back : c ≡ x.circuit = sym pair.circuit in
+      let inside : (net_at order j).0 < length forces = omega (arith, ordered.nets j (record { 0 = 0 }) lt, size) in
+      let d : Force W = some_force forces (net_at order j).0 inside in
+      walked_more x (read_in bit k row words) (read_in bit k row words) order j (subst IsNetlist back sound) (subst (λ (m : Circuit). IsOrder m order) back ordered) lt
+      (λ m within other. refl)
+      (quiet_place x golden (value_in row) (bit_at (plane bit k words)) order j (subst IsNetlist back sound) (subst (λ (m : Circuit). IsOrder m order) back ordered) lt
+      (pair.golden_circuit ∙ back) pair.none (λ m within. pair.values m (subst (λ (e : Circuit). m < length e.drivers) pair.circuit within))
+      (λ i m driver there. noted.places j m.0 le
+      (table_read ordered_of j i m lt (ap (λ (e : Circuit). driver_at e (net_at order j).0) back ∙ driver) (subst (λ (e : Circuit). Contains (table_at e.tables i).ins m) pair.circuit there))
+      none k lt_k)
+      (ahead.same j le lt k lt_k)
+      (ap (λ b. either b (value_in row (net_at order j).0)) (sym (are (net_at order j).0 d (value_in row (net_at order j).0) inside))
+      ∙ ahead.free k j d lt_k le lt none))
+      walked
+
+  -- places that aren't marked, one after the other
+  pub quiet_run : (words : List W) (touched marks : Places) (from n : ℕ) → from + n ≤ length order → IsNoted lanes bit ordered_of from words touched marks
+      → IsAhead lanes bit order row forces from words marks → ((q : ℕ) → from ≤ q → q < from + n → has marks q ≡ false)
+      → Walked x (read_in bit k row words) (take from order) from → Walked x (read_in bit k row words) (take (from + n) order) (from + n)
+  quiet_run words touched marks from zero le noted ahead none walked =
+      let same : from ≡ from + 0 = omega arith in
+      subst (λ j. Walked x (read_in bit k row words) (take j order) j) same walked
+  quiet_run words touched marks from (suc n) le noted ahead none walked =
+      let same : (from + n) + 1 ≡ from + suc n = omega arith in
+      subst (λ j. Walked x (read_in bit k row words) (take j order) j) same
+      (quiet words touched marks from (from + n) (omega arith) (omega arith) noted ahead (none (from + n) (omega arith) (omega arith))
+      (quiet_run words touched marks from n (omega arith) noted ahead (λ q low less. none q low (omega arith)) walked))
+
+  -- A PLACE THAT IS EVALUATED
+  pub evaluated : (d : Force W) (words next : List W) (j : ℕ) → j < length order
+      → ((state inputs : List Bool) → bit_at (plane bit k next) (net_at order j).0
+      ≡ either (force_value bit k (get_or forces (net_at order j).0 d) (driven state inputs (table_gives c (read_in bit k row words)) (driver_at c (net_at order j).0))) (value_in row (net_at order j).0))
+      → ((n : ℕ) → n ≢ (net_at order j).0 → bit_at (plane bit k next) n ≡ bit_at (plane bit k words) n)
+      → Walked x (read_in bit k row words) (take j order) j → Walked x (read_in bit k row next) (take (j + 1) order) (j + 1)
+  evaluated d words next j lt value others walked =
+      let back : c ≡ x.circuit = sym pair.circuit in
+      walked_more x (read_in bit k row words) (read_in bit k row next) order j (subst IsNetlist back sound) (subst (λ (m : Circuit). IsOrder m order) back ordered) lt
+      (λ m within other. ap (either (value_in row m)) (others m other))
+      (ap (either (value_in row n)) (value x.state x.inputs)
+      ∙ either_back (value_in row n) (force_value bit k (get_or forces n d) (driven x.state x.inputs (table_gives c (read_in bit k row words)) (driver_at c n)))
+      ∙ are n d (driven x.state x.inputs (table_gives c (read_in bit k row words)) (driver_at c n)) (omega (arith, ordered.nets j (record { 0 = 0 }) lt, size))
+      ∙ ap (λ (m : Circuit). affected x.faults x.number n (driven x.state x.inputs (table_gives m (read_in bit k row words)) (driver_at m n))) back)
+      walked
+    where
+      n : ℕ
+      n = (net_at order j).0

@@ -1,0 +1,48 @@
+use Rattle.std.proofs.Common.{◌≡◌, List, length, ap, sym, ◌∙◌, subst, arith}
+use Rattle.std.proofs.lemmas.Bool.{false≢true}
+use Rattle.circuit.specs.declared.parts.Latch.{Latch}
+use Rattle.circuit.specs.declared.parts.NetId.{NetId}
+use Rattle.circuit.specs.Circuit.{Circuit}
+use Rattle.circuit.specs.Order.{IsOrder}
+use Rattle.circuit.specs.Sound.{IsNetlist}
+use Rattle.circuit.proofs.FewTables.{few_tables}
+use Rattle.lane_kernel.specs.Loads.{has_transients}
+use Rattle.differential_kernel.specs.Places.{ArePlaces}
+use Rattle.differential_kernel.proofs.kernel.Kernel.new.Goals as goal
+
+pub overflow_cast-tables : goal.overflow_cast-tables
+overflow_cast-tables g c =
+    let sound = c.nets-nets.ensures.sound in
+    let order : length c.nets-tables.result.now ≡ length c.args.order.now = ap (λ (nets : List NetId). length nets) c.nets-tables.ensures in
+    let latches : length c.latches-latches.result.now ≡ length c.args.netlist.now.latches = ap (λ (ls : List Latch). length ls) c.latches-latches.ensures.value in
+    omega (arith, order, latches, few_tables c.args.netlist.now sound, sound.few, sound.few_latches, c.requires.count)
+
+pub returns-clause-kernel : goal.returns-clause-kernel
+returns-clause-kernel g c =
+    let circuit : c.of.result.value ≡ c.args.netlist.now = c.of.ensures in
+    let order : c.of-2.result.value ≡ c.args.order.now = c.of-2.ensures in
+    let nets : c.nets-nets.result ≡ length c.of.result.value.drivers = c.nets-nets.ensures.count ∙ ap (λ (m : Circuit). length m.drivers) (sym circuit) in
+    let latches : length c.latches-latches.result.now ≡ length c.of.result.value.latches =
+    ap (λ (ls : List Latch). length ls) c.latches-latches.ensures.value ∙ ap (λ (m : Circuit). length m.latches) (sym circuit) in
+    let tables : length c.nets-tables.result.now ≡ length c.of-2.result.value = ap (λ (ns : List NetId). length ns) (c.nets-tables.ensures ∙ sym order) in
+    record {
+      sound = subst IsNetlist (sym circuit) c.nets-nets.ensures.sound;
+      ordered = subst (λ (m : Circuit). IsOrder m c.of-2.result.value) (sym circuit) (subst (λ (o : List NetId). IsOrder c.args.netlist.now o) (sym order) c.requires);
+      places = subst (λ (m : Circuit). ArePlaces m c.of-2.result.value c.in_ok-places.places.items) (sym circuit)
+          (subst (λ (o : List NetId). ArePlaces c.args.netlist.now o c.in_ok-places.places.items) (c.nets.ensures ∙ sym order) c.in_ok-places.ensures.places);
+      loads = omega (arith, c.in_ok-loads.loads.ok.0, c.in_ok-loads.ensures.len, c.count.ensures);
+      transient = c.is_some_transient-transient.ensures ∙ ap has_transients c.deref.ensures.value;
+      named_bound = c.in_ok-named.ensures.bound ∙ nets;
+      forces = c.in_ok-forces.ensures.count ∙ nets;
+      off = λ n lt none. c.in_ok-forces.ensures.idle n lt;
+      named = λ noted. absurd (false≢true noted);
+      idle = λ noted. absurd (false≢true noted);
+      steady = λ noted. absurd (false≢true noted);
+      raw = c.in_ok-raw.ensures.count ∙ latches;
+      words = c.in_ok-words.ensures.count ∙ nets;
+      live_bound = c.in_ok-live.ensures.bound ∙ sym c.in_ok-raw.ensures.count;
+      touched_bound = c.in_ok-touched.ensures.bound ∙ sym c.in_ok-words.ensures.count;
+      marks_bound = omega (arith, c.in_ok-marks.ensures.bound, tables, c.in_ok-raw.ensures.count);
+      held = λ n none. c.in_ok-raw.ensures.same n;
+      same = λ n none. c.in_ok-words.ensures.same n;
+    }

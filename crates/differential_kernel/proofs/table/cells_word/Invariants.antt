@@ -1,0 +1,14 @@
+use Rattle.std.proofs.Common.{◌≡◌, ◌<◌, ◌-◌, ◌&&◌, ℕ, length, map, drop}
+use Rattle.circuit.specs.Table.{row_matches}
+use Rattle.differential_kernel.specs.Differences.{read_in}
+use Rattle.differential_kernel.proofs.table.cells_word.Given as goal
+
+abbrev pub decreases-lits : goal.decreases-lits
+decreases-lits g l = length l.cells - l.i
+
+-- what is left decides as all of them do
+abbrev pub invariant-lits : goal.invariant-lits
+invariant-lits g l =
+    (k : ℕ) → k < g.W.Word.lanes
+    → (g.W.Word.lane_bit l.every k && row_matches (drop l.i l.cells) (map (λ m. read_in g.W.Word.lane_bit k l.row l.words m.0) (drop l.i l.ins)))
+    ≡ row_matches l.cells (map (λ m. read_in g.W.Word.lane_bit k l.row l.words m.0) l.ins)

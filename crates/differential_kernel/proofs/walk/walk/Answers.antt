@@ -1,0 +1,86 @@
+use Rattle.std.proofs.Common.{◌≡◌, ◌<◌, ◌+◌, ◌-◌, List, length, take, sym, ◌∙◌, subst, arith}
+use Rattle.std.proofs.lemmas.List.{take_all}
+use Rattle.circuit.specs.declared.parts.NetId.{NetId}
+use Rattle.circuit.specs.Circuit.{Circuit}
+use Rattle.circuit.specs.Order.{IsOrder, net_at}
+use Rattle.fanout.specs.Readers.{Ordered}
+use Rattle.golden_difference.proofs.Apart.{order_apart}
+use Rattle.golden_difference.proofs.Walked.{Walked, walked_all}
+use Rattle.differential_kernel.specs.declared.force.Force.{Force}
+use Rattle.differential_kernel.specs.Differences.{IsNoted, read_in}
+use Rattle.differential_kernel.proofs.Notes.{grows_none, taken_other}
+use Rattle.differential_kernel.proofs.Walking.{evaluated, quiet_run, some_force}
+use Rattle.differential_kernel.proofs.walk.walk.Goals as goal
+
+pub evaluate-requires-clause-places : goal.evaluate-requires-clause-places
+evaluate-requires-clause-places g c = λ n place reads. omega (arith, c.requires.places n place reads, c.remove.ensures.bound, c.places.invariant.bound)
+
+pub places-preserved : goal.places-preserved
+places-preserved g c =
+    let lanes = g.W.Word.lanes in
+    let bit = g.W.Word.lane_bit in
+    let circuit = c.args.netlist.now in
+    let order = c.args.order.now in
+    let row = c.args.row.now in
+    let forces = c.args.forces.now in
+    let from = c.places.from in
+    let p = c.in-Some.place in
+    let found = c.in-Some.ensures in
+    let inside : (net_at order p).0 < length forces = omega (arith, c.requires.order.nets p (record { 0 = 0 }) found.1, c.requires.forces) in
+    let noted : IsNoted lanes bit (record { circuit = circuit; order = order }) from c.places.words c.places.touched c.places.marks =
+    subst (λ (o : Ordered). IsNoted lanes bit o from c.places.words c.places.touched c.places.marks) c.requires.fanout c.places.invariant.noted in
+    let up : from + (p - from) ≡ p = omega (arith, found.0) in
+    record {
+      within = omega (arith, found.1);
+      touched = c.evaluate.ensures.touched ∙ c.places.invariant.touched;
+      bound = c.evaluate.ensures.bound ∙ c.remove.ensures.bound ∙ c.places.invariant.bound;
+      noted = c.evaluate.ensures.noted (p + 1) (record {
+        nets = c.places.invariant.noted.nets;
+        places = λ place n le reads none.
+            c.places.invariant.noted.places place n (omega (arith, le, found.0)) reads
+            (sym (taken_other c.places.marks c.remove.new.self p place c.remove.ensures.has (omega (arith, le))) ∙ none);
+      });
+      ahead = record {
+        same = λ q le lt k lt_k.
+            c.evaluate.ensures.others k (net_at order q).0 (order_apart circuit order c.requires.sound c.requires.order q p lt found.1 (omega (arith, le)))
+            ∙ c.places.invariant.ahead.same q (omega (arith, le, found.0)) lt k lt_k;
+        free = λ k q d lt_k le lt none.
+            c.places.invariant.ahead.free k q d lt_k (omega (arith, le, found.0)) lt
+            (sym (taken_other c.places.marks c.remove.new.self p q c.remove.ensures.has (omega (arith, le))) ∙ grows_none c.remove.new.self c.evaluate.new.marks q c.evaluate.ensures.kept none);
+      };
+      values = λ k x golden lt pair are first.
+          let d : Force g.row.W.Denot = some_force forces (net_at order p).0 inside in
+          evaluated lanes bit k lt circuit order c.requires.sound c.requires.order row forces c.requires.forces x golden pair are d c.places.words c.evaluate.new.words p found.1
+          (λ state inputs. c.evaluate.ensures.value k d state inputs lt) (λ n other. c.evaluate.ensures.others k n other)
+          (subst (λ j. Walked x (read_in bit k row c.places.words) (take j order) j) up
+          (quiet_run lanes bit k lt circuit order c.requires.sound c.requires.order row forces c.requires.forces x golden pair are c.places.words c.places.touched c.places.marks from (p - from)
+          (omega (arith, up, found.1)) noted c.places.invariant.ahead (λ q low less. found.3 q low (omega (arith, up, less)))
+          (c.places.invariant.values k x golden lt pair are first)));
+      cost = omega (arith, c.tick.ensures, c.places.invariant.cost, found.0);
+    }
+
+pub returns-clause-values : goal.returns-clause-values
+returns-clause-values g c = λ k x golden lt pair are first n net.
+    let lanes = g.W.Word.lanes in
+    let bit = g.W.Word.lane_bit in
+    let circuit = c.args.netlist.now in
+    let order = c.args.order.now in
+    let row = c.args.row.now in
+    let forces = c.args.forces.now in
+    let from = c.places.from in
+    let noted : IsNoted lanes bit (record { circuit = circuit; order = order }) from c.places.words c.places.touched c.places.marks =
+    subst (λ (o : Ordered). IsNoted lanes bit o from c.places.words c.places.touched c.places.marks) c.requires.fanout c.places.invariant.noted in
+    let up : from + (length order - from) ≡ length order = omega (arith, c.places.invariant.within) in
+    let run = quiet_run lanes bit k lt circuit order c.requires.sound c.requires.order row forces c.requires.forces x golden pair are c.places.words c.places.touched c.places.marks from (length order - from)
+    (omega (arith, up)) noted c.places.invariant.ahead (λ q low less. c.in_default.ensures q low (omega (arith, up, less)))
+    (c.places.invariant.values k x golden lt pair are first) in
+    walked_all x (read_in bit k row c.places.words) order (subst (λ (m : Circuit). IsOrder m order) (sym pair.circuit) c.requires.order)
+    (subst (λ (nets : List NetId). Walked x (read_in bit k row c.places.words) nets (length order)) (take_all (length order) order (omega arith))
+    (subst (λ j. Walked x (read_in bit k row c.places.words) (take j order) j) up run)) n
+    (subst (λ (m : Circuit). n < length m.drivers) (sym pair.circuit) net)
+
+pub returns-clause-noted : goal.returns-clause-noted
+returns-clause-noted g c = record {
+  nets = c.places.invariant.noted.nets;
+  places = λ place n le reads none. c.places.invariant.noted.places place n (omega (arith, le, c.places.invariant.within)) reads none;
+}

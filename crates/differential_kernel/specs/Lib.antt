@@ -1,0 +1,5 @@
+pub mod Forces
+pub mod Differences
+pub mod Walk
+pub mod Places
+pub mod Kernel

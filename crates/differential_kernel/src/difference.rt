@@ -1,0 +1,102 @@
+// One net's difference: read, forced and stored.
+ghost use Rattle.std.specs.Prelude.{◌≡◌, ◌<◌, ◌≤◌, ℕ, true, false, All, Contains, IfOk, length, slice_index_or, slice_set};
+ghost use Rattle.circuit.specs.Value.{bit_at};
+ghost use Rattle.fanout.specs.Readers.{IsReadAt};
+ghost use Rattle.lane_kernel.specs.Bits.{either};
+ghost use Rattle.lane_kernel.specs.Gates.{plane};
+ghost use Rattle.place_set.specs.Places.{has, value_in};
+ghost use Rattle.differential_kernel.specs.declared.force.Force.{Force as ForceValue};
+ghost use Rattle.differential_kernel.specs.Differences.{Grows, IsNoted, IsSame, read_in};
+ghost use Rattle.differential_kernel.specs.Forces.{force_value};
+
+use crate::force::{Force, forced_word};
+use crate::lane_word::LaneWord;
+use circuit::parts::NetId;
+use fanout::Fanout;
+use lane_kernel::Word;
+use place_set::{PlaceSet, value_in_words};
+use std::alloc::{AllocError, Global};
+
+/// What is held at a place; behind the end nothing differs.
+pub fn word_at<W: Word>(words: &[W], at: usize) -> W
+    ensures { (k : ℕ) → k < W.lanes → W.lane_bit result k ≡ bit_at (plane W.lane_bit k words.now) at }
+{
+    match words.get(at) {
+        Some(word) => *word,
+        None => W::all(false),
+    }
+}
+
+/// Words in which nothing differs.
+pub fn same_words<W: Word>(alloc: Global, count: usize) -> Result<Vec<W>, AllocError>
+    ensures count { IfOk result (λ words. length words.items ≡ count) }
+    ensures same { IfOk result (λ words. (n : ℕ) → IsSame W.lanes W.lane_bit words.items n) }
+{
+    let mut words = Vec::with_capacity(alloc, count)?;
+    for n in 0..count {
+        words.push(W::all(false))?;
+    }
+    Ok(words)
+}
+
+/// A net's golden value, the same in each lane.
+pub fn golden_word<W: Word>(row: &[u64], net: u32) -> W
+    ensures { (k : ℕ) → k < W.lanes → W.lane_bit result k ≡ value_in row.now net }
+{
+    W::all(value_in_words(row, net as usize))
+}
+
+/// A net's value in each lane.
+pub fn value_word<W: Word>(row: &[u64], words: &[W], net: u32) -> W
+    ensures { (k : ℕ) → k < W.lanes → W.lane_bit result k ≡ read_in W.lane_bit k row.now words.now net }
+{
+    let golden: W = golden_word(row, net);
+    golden.xor(word_at(words, net as usize))
+}
+
+/// What a net differs in, where its own value is forced.
+pub fn forced_difference<W: Word>(row: &[u64], forces: &[Force<W>], net: u32, own: W) -> W
+    requires { net < length forces.now }
+    ensures { (k : ℕ) (d : ForceValue W) → k < W.lanes
+        → W.lane_bit result k ≡ either (force_value W.lane_bit k (slice_index_or forces.now net d) (W.lane_bit own k)) (value_in row.now net) }
+{
+    forced_word(&forces[net as usize], own).xor(golden_word(row, net))
+}
+
+fn mark_all(places: &[u32], marks: &mut PlaceSet)
+    requires { All (λ place. place < marks.old.bound) places.now }
+    ensures bound { marks.new.bound ≡ marks.old.bound }
+    ensures kept { Grows marks.old marks.new }
+    ensures marked { (p : ℕ) → Contains places.now p → has marks.new p ≡ true }
+{
+    for place in places {
+        marks.put(*place as usize);
+    }
+}
+
+/// Sets what a net differs in, and notes it where it differs in some lane.
+pub fn store<W: LaneWord>(
+    net: NetId,
+    word: W,
+    fanout: &Fanout,
+    words: &mut [W],
+    touched: &mut PlaceSet,
+    marks: &mut PlaceSet,
+)
+    requires net { net.0 < length words.old }
+    requires nets { length words.old ≡ length fanout.now.circuit.drivers }
+    requires touched { touched.old.bound ≡ length words.old }
+    requires places { (n place : ℕ) → IsReadAt fanout.now n place → place < marks.old.bound }
+    ensures word { words.new ≡ slice_set words.old net.0 word }
+    ensures noted { (from : ℕ) → IsNoted W.lanes W.lane_bit fanout.now from words.old touched.old marks.old
+        → IsNoted W.lanes W.lane_bit fanout.now from words.new touched.new marks.new }
+    ensures touched_bound { touched.new.bound ≡ touched.old.bound }
+    ensures bound { marks.new.bound ≡ marks.old.bound }
+    ensures kept { Grows marks.old marks.new }
+{
+    words[net.0 as usize] = word;
+    if !word.is_none() {
+        touched.put(net.0 as usize);
+        mark_all(fanout.readers(net), marks);
+    }
+}

@@ -1,0 +1,123 @@
+// The latches that faults flip. What a latch differs in is inverted where its bit is.
+ghost use Rattle.std.specs.Prelude.{◌≡◌, ◌≢◌, ◌==◌, ◌<◌, ◌∷◌, ℕ, length};
+ghost use Rattle.circuit.specs.Effects.{has_flip, inverted};
+ghost use Rattle.circuit.specs.Value.{bit_at};
+ghost use Rattle.circuit.specs.Trace.{flipped};
+ghost use Rattle.lane_kernel.specs.Gates.{plane};
+ghost use Rattle.lane_kernel.specs.Loads.{faults_of, has_transients, somes};
+ghost use Rattle.differential_kernel.specs.Differences.{AreSameOff};
+
+use crate::difference::word_at;
+use circuit::parts::Fault;
+use lane_kernel::Word;
+use place_set::PlaceSet;
+
+fn is_flipped(faults: &[Option<Fault>], latch: u32, cycle: u32) -> bool
+    ensures { result ≡ has_flip (somes faults.now) latch cycle }
+{
+    for fault in faults {
+        if let Some(Fault::Flip(l, c)) = fault {
+            if *l == latch && *c == cycle {
+                return true;
+            }
+        }
+    }
+    false
+}
+
+// Inverts the bit of a lane in the word of a latch, which joins those that may differ.
+fn turn<W: Word>(latch: u32, lane: u32, raw: &mut [W], live: &mut PlaceSet)
+    requires lane { lane < W.lanes }
+    requires latches { live.old.bound ≡ length raw.old }
+    ensures own { (l : ℕ) → l < length raw.old
+        → bit_at (plane W.lane_bit lane raw.new) l ≡ inverted (latch == l) (bit_at (plane W.lane_bit lane raw.old) l) }
+    ensures others { (k : ℕ) → k < W.lanes → k ≢ lane → plane W.lane_bit k raw.new ≡ plane W.lane_bit k raw.old }
+    ensures latches { live.new.bound ≡ live.old.bound }
+    ensures same { AreSameOff W.lanes W.lane_bit live.old raw.old → AreSameOff W.lanes W.lane_bit live.new raw.new }
+{
+    let at = latch as usize;
+    if at < raw.len() {
+        let word = word_at(raw, at);
+        raw[at] = word.put(lane, !word.get(lane));
+        live.put(at);
+    }
+}
+
+// Inverts the latch that a fault flips in this cycle, unless a later fault of the lane does.
+fn flip_one<W: Word>(
+    fault: Option<Fault>,
+    rest: &[Option<Fault>],
+    cycle: u32,
+    lane: u32,
+    raw: &mut [W],
+    live: &mut PlaceSet,
+)
+    requires lane { lane < W.lanes }
+    requires latches { live.old.bound ≡ length raw.old }
+    ensures own { (l : ℕ) → l < length raw.old
+        → inverted (has_flip (somes rest.now) l cycle) (bit_at (plane W.lane_bit lane raw.new) l)
+        ≡ inverted (has_flip (somes (fault ∷ rest.now)) l cycle) (bit_at (plane W.lane_bit lane raw.old) l) }
+    ensures others { (k : ℕ) → k < W.lanes → k ≢ lane → plane W.lane_bit k raw.new ≡ plane W.lane_bit k raw.old }
+    ensures latches { live.new.bound ≡ live.old.bound }
+    ensures same { AreSameOff W.lanes W.lane_bit live.old raw.old → AreSameOff W.lanes W.lane_bit live.new raw.new }
+{
+    if let Some(Fault::Flip(latch, c)) = fault {
+        if c == cycle && !is_flipped(rest, latch, cycle) {
+            turn(latch, lane, raw, live);
+        }
+    }
+}
+
+// Inverts the latches that the faults of one lane flip in this cycle.
+fn flip_lane<W: Word>(
+    faults: &[Option<Fault>],
+    cycle: u32,
+    lane: u32,
+    raw: &mut [W],
+    live: &mut PlaceSet,
+)
+    requires lane { lane < W.lanes }
+    requires latches { live.old.bound ≡ length raw.old }
+    ensures own { (l : ℕ) → l < length raw.old
+        → bit_at (plane W.lane_bit lane raw.new) l ≡ inverted (has_flip (somes faults.now) l cycle) (bit_at (plane W.lane_bit lane raw.old) l) }
+    ensures others { (k : ℕ) → k < W.lanes → k ≢ lane → plane W.lane_bit k raw.new ≡ plane W.lane_bit k raw.old }
+    ensures latches { live.new.bound ≡ live.old.bound }
+    ensures same { AreSameOff W.lanes W.lane_bit live.old raw.old → AreSameOff W.lanes W.lane_bit live.new raw.new }
+{
+    for (i, fault) in faults.iter().enumerate() {
+        flip_one(*fault, &faults[i + 1..], cycle, lane, raw, live);
+    }
+}
+
+fn flip_all<W: Word>(loads: &[[Option<Fault>; 2]], cycle: u32, raw: &mut [W], live: &mut PlaceSet)
+    requires lanes { length loads.now ≡ W.lanes }
+    requires latches { live.old.bound ≡ length raw.old }
+    ensures flipped { (k : ℕ) → k < W.lanes → plane W.lane_bit k raw.new ≡ flipped (faults_of loads.now k) cycle (plane W.lane_bit k raw.old) }
+    ensures latches { live.new.bound ≡ live.old.bound }
+    ensures same { AreSameOff W.lanes W.lane_bit live.old raw.old → AreSameOff W.lanes W.lane_bit live.new raw.new }
+{
+    for lane in 0..W::count() {
+        flip_lane(&loads[lane as usize], cycle, lane, raw, live);
+    }
+}
+
+/// Inverts the latches that faults flip in this cycle.
+pub fn flip<W: Word>(
+    loads: &[[Option<Fault>; 2]],
+    transient: bool,
+    cycle: u32,
+    raw: &mut [W],
+    live: &mut PlaceSet,
+)
+    requires lanes { length loads.now ≡ W.lanes }
+    requires transient { transient ≡ has_transients loads.now }
+    requires latches { live.old.bound ≡ length raw.old }
+    requires same { AreSameOff W.lanes W.lane_bit live.old raw.old }
+    ensures flipped { (k : ℕ) → k < W.lanes → plane W.lane_bit k raw.new ≡ flipped (faults_of loads.now k) cycle (plane W.lane_bit k raw.old) }
+    ensures latches { live.new.bound ≡ live.old.bound }
+    ensures same { AreSameOff W.lanes W.lane_bit live.new raw.new }
+{
+    if transient {
+        flip_all(loads, cycle, raw, live);
+    }
+}

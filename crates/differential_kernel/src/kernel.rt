@@ -1,0 +1,210 @@
+// As many faulty circuits as a word has bits, beside the golden run, cycle by cycle.
+ghost use Rattle.std.specs.Prelude.{◌≡◌, ◌<◌, ◌≤◌, ◌+◌, ◌⊎◌, ◌++◌, ◌∷◌, [], ℕ, Bool, List, Option, IfOk, length, slice_index_or};
+ghost use Rattle.circuit.specs.declared.parts.Fault.{Fault as FaultValue};
+ghost use Rattle.circuit.specs.Order.{IsOrder};
+ghost use Rattle.circuit.specs.Sound.{IsNetlist};
+ghost use Rattle.circuit.specs.Value.{bit_at};
+ghost use Rattle.golden_difference.specs.Beside.{AreBeside, IsGoldenRow};
+ghost use Rattle.lane_kernel.specs.Bank.{IsMadeFor, KeepsLoads};
+ghost use Rattle.lane_kernel.specs.Gates.{plane};
+ghost use Rattle.differential_kernel.specs.Differences.{read_in};
+ghost use Rattle.differential_kernel.specs.Kernel.{IsKernel, bank_of};
+ghost use Rattle.differential_kernel.specs.Places.{ArePlaces};
+
+use crate::arm::{is_some_transient, place};
+use crate::cycle::run;
+use crate::difference::{same_words, value_word, word_at};
+use crate::flip::flip;
+use crate::force::{Force, idle_forces};
+use crate::lane_word::LaneWord;
+use crate::note::prepare;
+use crate::sources::clear;
+use circuit::netlist::Netlist;
+use circuit::parts::{Fault, NetId};
+use fanout::Fanout;
+use fm_base::Steps;
+use lane_kernel::Word;
+use netlist_levels::Order;
+use place_set::PlaceSet;
+use std::alloc::{AllocError, Global};
+use std::snapshot::Snapshot;
+use std::sync::ledger::Ledger;
+
+/// Simulations of one netlist, one in each lane of a word, which stand between two cycles and hold what differs from the golden run.
+#[derive(Drop)]
+pub struct Kernel<W> {
+    circuit: Snapshot<Netlist>,
+    order: Snapshot<Order>,
+    // The place of each net's table.
+    places: Vec<Option<u32>>,
+    loads: Vec<[Option<Fault>; 2]>,
+    transient: bool,
+    // Whether the nets of the faults are in `named`.
+    noted: bool,
+    named: PlaceSet,
+    forces: Vec<Force<W>>,
+    stale: bool,
+    cycle: u32,
+    // What the latches differ in; those that differ are in `live`.
+    raw: Vec<W>,
+    live: PlaceSet,
+    // What the nets differ in; those that differ are in `touched`.
+    words: Vec<W>,
+    touched: PlaceSet,
+    marks: PlaceSet,
+}
+
+// The place of the table of each net.
+fn places_of(
+    alloc: Global,
+    netlist: &Netlist,
+    order: &[NetId],
+) -> Result<Vec<Option<u32>>, AllocError>
+    requires { IsOrder netlist.now order.now }
+    ensures places { IfOk result (λ places. ArePlaces netlist.now order.now places.items) }
+    ensures sound { IsNetlist netlist.now }
+{
+    let mut places = vec![in alloc; None; netlist.nets()]?;
+    for (place, net) in order.iter().enumerate() {
+        places[net.0 as usize] = Some(place as u32);
+    }
+    Ok(places)
+}
+
+impl<W: LaneWord> Kernel<W> {
+    /// Lanes for a netlist and an order of its tables, without faults.
+    pub fn new(alloc: Global, netlist: &Netlist, order: &Order) -> Result<Self, AllocError>
+        requires { IsOrder netlist.now order.now }
+        ensures kernel { IfOk result (λ s. IsKernel W.lanes W.lane_bit s) }
+        ensures made { IfOk result (λ s. IsMadeFor netlist.now order.now (bank_of s)) }
+    {
+        let nets = netlist.nets();
+        let latches = netlist.latches().len();
+        let tables = order.nets().len();
+        let places = places_of(alloc, netlist, order.nets())?;
+        let loads = vec![in alloc; [None, None]; W::count() as usize]?;
+        let named = PlaceSet::new(alloc, nets as u32)?;
+        let forces = idle_forces(alloc, nets)?;
+        let raw = same_words(alloc, latches)?;
+        let live = PlaceSet::new(alloc, latches as u32)?;
+        let words = same_words(alloc, nets)?;
+        let touched = PlaceSet::new(alloc, nets as u32)?;
+        let marks = PlaceSet::new(alloc, (tables + latches) as u32)?;
+        let transient = is_some_transient(&loads);
+        Ok(Kernel {
+            circuit: Snapshot::of(netlist),
+            order: Snapshot::of(order),
+            places,
+            loads,
+            transient,
+            noted: false,
+            named,
+            forces,
+            stale: true,
+            cycle: 0,
+            raw,
+            live,
+            words,
+            touched,
+            marks,
+        })
+    }
+
+    /// Gives some lanes their faults, from a lane on.
+    pub fn load(&mut self, from: usize, faults: &[[Option<Fault>; 2]])
+        requires kernel { IsKernel W.lanes W.lane_bit self.old }
+        requires lanes { from + length faults.now ≤ W.lanes }
+        ensures kernel { IsKernel W.lanes W.lane_bit self.new }
+        ensures made { IsMadeFor self.old.circuit.value self.old.order.value (bank_of self.new) }
+        ensures placed { (k : ℕ) (d : List (Option FaultValue)) → k < length faults.now
+            → slice_index_or self.new.loads.items (from + k) d ≡ slice_index_or faults.now k d }
+        ensures others { (j : ℕ) (d : List (Option FaultValue)) → (j < from) ⊎ (from + length faults.now ≤ j)
+            → slice_index_or self.new.loads.items j d ≡ slice_index_or self.old.loads.items j d }
+    {
+        place(&mut self.loads, from, faults);
+        self.transient = is_some_transient(&self.loads);
+        self.noted = false;
+    }
+
+    /// Goes to the initial state in all lanes, where no latch differs.
+    pub fn start(&mut self)
+        requires { IsKernel W.lanes W.lane_bit self.old }
+        ensures kernel { IsKernel W.lanes W.lane_bit self.new }
+        ensures keeps { KeepsLoads (bank_of self.old) (bank_of self.new) }
+        ensures cycle { self.new.cycle ≡ 0 }
+        ensures start { AreBeside W.lanes W.lane_bit [] (bank_of self.new) }
+    {
+        clear(&mut self.live, &mut self.raw);
+        self.cycle = 0;
+    }
+
+    /// Runs the next cycle in all lanes. `row` has the golden value of each net in this cycle.
+    pub fn cycle<L: Ledger>(
+        &mut self,
+        netlist: &Netlist,
+        order: &Order,
+        fanout: &Fanout,
+        row: &[u64],
+        steps: &mut Steps<L>,
+    )
+        requires kernel { IsKernel W.lanes W.lane_bit self.old }
+        requires made { IsMadeFor netlist.now order.now (bank_of self.old) }
+        requires fanout { fanout.now ≡ record { circuit = netlist.now; order = order.now } }
+        requires few { self.old.cycle < 65536 }
+        ensures kernel { IsKernel W.lanes W.lane_bit self.new }
+        ensures keeps { KeepsLoads (bank_of self.old) (bank_of self.new) }
+        ensures cycle { self.new.cycle ≡ self.old.cycle + 1 }
+        ensures step { (vectors : List (List Bool)) (inputs : List Bool) → AreBeside W.lanes W.lane_bit vectors (bank_of self.old)
+            → IsGoldenRow netlist.now (vectors ++ inputs ∷ []) (length vectors) row.now
+            → AreBeside W.lanes W.lane_bit (vectors ++ inputs ∷ []) (bank_of self.new) }
+        ensures cost { steps.new ≤ steps.old + length netlist.now.tables }
+    {
+        self.stale = prepare(
+            &self.loads,
+            self.transient,
+            self.noted,
+            self.stale,
+            self.cycle,
+            &mut self.named,
+            &mut self.forces,
+        );
+        self.noted = true;
+        flip(
+            &self.loads,
+            self.transient,
+            self.cycle,
+            &mut self.raw,
+            &mut self.live,
+        );
+        run(
+            netlist,
+            order.nets(),
+            &self.places,
+            &self.named,
+            row,
+            &self.forces,
+            fanout,
+            &mut self.raw,
+            &mut self.live,
+            &mut self.words,
+            &mut self.touched,
+            &mut self.marks,
+            steps,
+        );
+        self.cycle += 1;
+    }
+
+    /// The values of a net in the last cycle, where `row` has the golden ones.
+    pub fn net(&self, net: NetId, row: &[u64]) -> W
+        ensures { (k : ℕ) → k < W.lanes → W.lane_bit result k ≡ read_in W.lane_bit k row.now self.now.words.items net.0 }
+    {
+        value_word(row, &self.words, net.0)
+    }
+
+    /// What a net differs in in the last cycle.
+    pub fn differs(&self, net: NetId) -> W
+        ensures { (k : ℕ) → k < W.lanes → W.lane_bit result k ≡ bit_at (plane W.lane_bit k self.now.words.items) net.0 }
+    {
+        word_at(&self.words, net.0 as usize)
+    }
+}

@@ -1,0 +1,215 @@
+// 64 lanes in one word, and 256 in four, beside the golden run.
+ghost use Rattle.std.specs.Prelude.{◌≡◌, ◌<◌, ◌≤◌, ◌+◌, ◌*◌, ◌⊎◌, ◌++◌, ◌∷◌, [], ℕ, Bool, List, IfOk, length};
+ghost use Rattle.circuit.specs.Order.{IsOrder};
+ghost use Rattle.circuit.specs.Trace.{trace};
+ghost use Rattle.fm_base.specs.Planes.{bit};
+ghost use Rattle.golden_difference.specs.Beside.{AreBeside, IsGoldenRow, trace_differs};
+ghost use Rattle.lane_kernel.specs.Bank.{IsMadeFor, KeepsLoads};
+ghost use Rattle.lane_kernel.specs.Bits.{quad_bit};
+ghost use Rattle.lane_kernel.specs.Loads.{faults_of};
+
+use crate::kernel::Kernel;
+use circuit::netlist::Netlist;
+use circuit::parts::{Fault, NetId};
+use fanout::Fanout;
+use fm_base::Steps;
+use netlist_levels::Order;
+use std::alloc::{AllocError, Global};
+use std::marker::Model;
+use std::simd::prelude::*;
+use std::sync::ledger::Ledger;
+
+/// 64 simulations of one netlist, one in each lane, which stand between two cycles and hold what differs from the golden run. No
+/// call but `new` takes memory.
+#[derive(Drop)]
+pub struct DifferentialLanes {
+    kernel: Kernel<u64>,
+}
+
+impl Model for DifferentialLanes {
+    ghost use Rattle.std.specs.Prelude.{ℕ};
+    ghost use Rattle.fm_base.specs.Planes.{bit};
+    ghost use Rattle.lane_kernel.specs.Bank.{Bank};
+    ghost use Rattle.differential_kernel.specs.Kernel.{IsKernel, bank_of};
+
+    ghost Value = { Bank ℕ };
+
+    ghost view = { λ s. bank_of s.kernel };
+
+    ghost invariant = { λ s. IsKernel 64 bit s.kernel };
+}
+
+impl DifferentialLanes {
+    /// Lanes for a netlist and an order of its tables, without faults and not yet started.
+    pub fn new(alloc: Global, netlist: &Netlist, order: &Order) -> Result<Self, AllocError>
+        requires { IsOrder netlist.now order.now }
+        ensures { IfOk result (λ lanes. IsMadeFor netlist.now order.now lanes) }
+    {
+        let kernel = Kernel::new(alloc, netlist, order)?;
+        Ok(DifferentialLanes { kernel })
+    }
+
+    /// Gives each lane up to two faults. The lanes have to be started anew.
+    pub fn load(&mut self, faults: &[[Option<Fault>; 2]; 64])
+        ensures made { IsMadeFor self.old.circuit self.old.order self.new }
+        ensures loads { (k : ℕ) → k < 64 → faults_of self.new.loads k ≡ faults_of faults.now k }
+    {
+        self.kernel.load(0, faults);
+    }
+
+    /// Goes to the initial state in all lanes, before the cycle of number 0.
+    pub fn start(&mut self)
+        ensures keeps { KeepsLoads self.old self.new }
+        ensures cycle { self.new.cycle ≡ 0 }
+        // No cycle was simulated yet.
+        ensures start { AreBeside 64 bit [] self.new }
+    {
+        self.kernel.start();
+    }
+
+    /// Simulates the next cycle in all lanes, where `row` has the golden value of each net in this cycle. There can be 65,536
+    /// cycles since the start.
+    pub fn cycle<L: Ledger>(
+        &mut self,
+        netlist: &Netlist,
+        order: &Order,
+        fanout: &Fanout,
+        row: &[u64],
+        steps: &mut Steps<L>,
+    )
+        requires made { IsMadeFor netlist.now order.now self.old }
+        requires fanout { fanout.now ≡ record { circuit = netlist.now; order = order.now } }
+        requires few { self.old.cycle < 65536 }
+        ensures keeps { KeepsLoads self.old self.new }
+        ensures cycle { self.new.cycle ≡ self.old.cycle + 1 }
+        // After cycles with some vectors, each lane is after those and this one, with its own faults alone.
+        ensures step { (vectors : List (List Bool)) (inputs : List Bool) → AreBeside 64 bit vectors self.old
+            → IsGoldenRow netlist.now (vectors ++ inputs ∷ []) (length vectors) row.now → AreBeside 64 bit (vectors ++ inputs ∷ []) self.new }
+        // At most one step for each table.
+        ensures cost { steps.new ≤ steps.old + length netlist.now.tables }
+    {
+        self.kernel.cycle(netlist, order, fanout, row, steps);
+    }
+
+    /// The value of a net in the cycle that was simulated last, in each lane, where `row` has the golden values of that cycle.
+    pub fn net(&self, net: NetId, row: &[u64]) -> u64
+        // After cycles with these vectors, t being the last: bit k is the net's trace under the faults of lane k alone.
+        ensures { (vectors : List (List Bool)) (t k : ℕ) → AreBeside 64 bit vectors self.now → IsGoldenRow self.now.circuit vectors t row.now
+            → t + 1 ≡ length vectors → k < 64 → net.0 < length self.now.circuit.drivers
+            → bit result k ≡ trace self.now.circuit (faults_of self.now.loads k) vectors t net.0 }
+    {
+        self.kernel.net(net, row)
+    }
+
+    /// The lanes in which a net has another value than in the golden run, in the cycle that was simulated last.
+    pub fn differs(&self, net: NetId) -> u64
+        ensures { (vectors : List (List Bool)) (t k : ℕ) → AreBeside 64 bit vectors self.now → t + 1 ≡ length vectors → k < 64
+            → net.0 < length self.now.circuit.drivers
+            → bit result k ≡ trace_differs self.now.circuit (faults_of self.now.loads k) vectors t net.0 }
+    {
+        self.kernel.differs(net)
+    }
+}
+
+fn word_of(words: u64x4, at: u32) -> u64
+    requires { at < 4 }
+    ensures { (k : ℕ) → k < 64 → bit result k ≡ quad_bit words (at * 64 + k) }
+{
+    words.to_array()[at as usize]
+}
+
+/// The same in four words, with 64 lanes in each: lane k of a word is the lane of number 64 * word + k.
+#[derive(Drop)]
+pub struct DifferentialLanes4 {
+    kernel: Kernel<u64x4>,
+}
+
+impl Model for DifferentialLanes4 {
+    ghost use Rattle.std.specs.Prelude.{ℕ, List};
+    ghost use Rattle.lane_kernel.specs.Bank.{Bank};
+    ghost use Rattle.lane_kernel.specs.Bits.{quad_bit};
+    ghost use Rattle.differential_kernel.specs.Kernel.{IsKernel, bank_of};
+
+    ghost Value = { Bank (List ℕ) };
+
+    ghost view = { λ s. bank_of s.kernel };
+
+    ghost invariant = { λ s. IsKernel 256 quad_bit s.kernel };
+}
+
+impl DifferentialLanes4 {
+    /// Lanes for a netlist and an order of its tables, without faults and not yet started.
+    pub fn new(alloc: Global, netlist: &Netlist, order: &Order) -> Result<Self, AllocError>
+        requires { IsOrder netlist.now order.now }
+        ensures { IfOk result (λ lanes. IsMadeFor netlist.now order.now lanes) }
+    {
+        let kernel = Kernel::new(alloc, netlist, order)?;
+        Ok(DifferentialLanes4 { kernel })
+    }
+
+    /// Gives each lane of a word up to two faults. The lanes have to be started anew.
+    pub fn load(&mut self, word: u32, faults: &[[Option<Fault>; 2]; 64])
+        requires { word < 4 }
+        ensures made { IsMadeFor self.old.circuit self.old.order self.new }
+        ensures loads { (k : ℕ) → k < 64 → faults_of self.new.loads (word * 64 + k) ≡ faults_of faults.now k }
+        ensures others { (j : ℕ) → (j < word * 64) ⊎ (word * 64 + 64 ≤ j) → faults_of self.new.loads j ≡ faults_of self.old.loads j }
+    {
+        self.kernel.load(word as usize * 64, faults);
+    }
+
+    /// Goes to the initial state in all lanes, before the cycle of number 0.
+    pub fn start(&mut self)
+        ensures keeps { KeepsLoads self.old self.new }
+        ensures cycle { self.new.cycle ≡ 0 }
+        // No cycle was simulated yet.
+        ensures start { AreBeside 256 quad_bit [] self.new }
+    {
+        self.kernel.start();
+    }
+
+    /// Simulates the next cycle in all lanes, where `row` has the golden value of each net in this cycle. There can be 65,536
+    /// cycles since the start.
+    pub fn cycle<L: Ledger>(
+        &mut self,
+        netlist: &Netlist,
+        order: &Order,
+        fanout: &Fanout,
+        row: &[u64],
+        steps: &mut Steps<L>,
+    )
+        requires made { IsMadeFor netlist.now order.now self.old }
+        requires fanout { fanout.now ≡ record { circuit = netlist.now; order = order.now } }
+        requires few { self.old.cycle < 65536 }
+        ensures keeps { KeepsLoads self.old self.new }
+        ensures cycle { self.new.cycle ≡ self.old.cycle + 1 }
+        // After cycles with some vectors, each lane is after those and this one, with its own faults alone.
+        ensures step { (vectors : List (List Bool)) (inputs : List Bool) → AreBeside 256 quad_bit vectors self.old
+            → IsGoldenRow netlist.now (vectors ++ inputs ∷ []) (length vectors) row.now → AreBeside 256 quad_bit (vectors ++ inputs ∷ []) self.new }
+        // At most one step for each table, for all four words together.
+        ensures cost { steps.new ≤ steps.old + length netlist.now.tables }
+    {
+        self.kernel.cycle(netlist, order, fanout, row, steps);
+    }
+
+    /// The value of a net in the cycle that was simulated last, in each lane of a word, where `row` has the golden values of that
+    /// cycle.
+    pub fn net(&self, net: NetId, word: u32, row: &[u64]) -> u64
+        requires { word < 4 }
+        // After cycles with these vectors, t being the last: bit k is the net's trace under the faults of lane k of the word alone.
+        ensures { (vectors : List (List Bool)) (t k : ℕ) → AreBeside 256 quad_bit vectors self.now → IsGoldenRow self.now.circuit vectors t row.now
+            → t + 1 ≡ length vectors → k < 64 → net.0 < length self.now.circuit.drivers
+            → bit result k ≡ trace self.now.circuit (faults_of self.now.loads (word * 64 + k)) vectors t net.0 }
+    {
+        word_of(self.kernel.net(net, row), word)
+    }
+
+    /// The lanes of a word in which a net has another value than in the golden run, in the cycle that was simulated last.
+    pub fn differs(&self, net: NetId, word: u32) -> u64
+        requires { word < 4 }
+        ensures { (vectors : List (List Bool)) (t k : ℕ) → AreBeside 256 quad_bit vectors self.now → t + 1 ≡ length vectors → k < 64
+            → net.0 < length self.now.circuit.drivers
+            → bit result k ≡ trace_differs self.now.circuit (faults_of self.now.loads (word * 64 + k)) vectors t net.0 }
+    {
+        word_of(self.kernel.differs(net), word)
+    }
+}

@@ -1,0 +1,17 @@
+// Many faulty circuits at once, of which only what differs from the golden run is simulated.
+#![tactic(auto)]
+
+mod arm;
+mod cycle;
+mod difference;
+mod flip;
+mod force;
+mod kernel;
+mod lane_word;
+mod lanes;
+mod note;
+mod sources;
+mod table;
+mod walk;
+
+pub use lanes::{DifferentialLanes, DifferentialLanes4};

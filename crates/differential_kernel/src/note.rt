@@ -1,0 +1,118 @@
+// The nets that faults name, and the forces on them.
+ghost use Rattle.std.specs.Prelude.{◌≡◌, ◌<◌, ◌||◌, ◌==◌, ℕ, Bool, true, false, length, if◌then◌else◌};
+ghost use Rattle.lane_kernel.specs.Loads.{has_transients, named, names};
+ghost use Rattle.place_set.specs.Places.{has};
+ghost use Rattle.differential_kernel.specs.Differences.{IsEmptySet};
+ghost use Rattle.differential_kernel.specs.Forces.{AreAllIdle, AreArmed, AreIdle, AreIdleOff, AreNamed, AreSteady};
+
+use crate::arm::arm_for;
+use crate::force::{Force, idle};
+use circuit::parts::{Fault, NetId};
+use lane_kernel::Word;
+use place_set::PlaceSet;
+
+/// Leaves all nets as they are, where only those in the set were changed, and takes them out of it.
+pub fn forget_all<W: Word>(set: &mut PlaceSet, forces: &mut [Force<W>])
+    requires bound { set.old.bound ≡ length forces.old }
+    requires idle { AreIdleOff W.lanes W.lane_bit set.old forces.old }
+    ensures bound { set.new.bound ≡ set.old.bound }
+    ensures none { IsEmptySet set.new }
+    ensures idle { AreAllIdle W.lanes W.lane_bit forces.new }
+{
+    let mut from = 0;
+    'nets: while let Some(n) = set.next_from(from) {
+        forces[n] = idle();
+        set.remove(n);
+        from = n + 1;
+    }
+}
+
+fn note(net: NetId, set: &mut PlaceSet)
+    ensures bound { set.new.bound ≡ set.old.bound }
+    ensures has { (n : ℕ) → n < set.old.bound → has set.new n ≡ ((net.0 == n) || has set.old n) }
+{
+    if net.0 < set.bound() {
+        set.put(net.0 as usize);
+    }
+}
+
+fn note_lane(faults: &[Option<Fault>], set: &mut PlaceSet)
+    ensures bound { set.new.bound ≡ set.old.bound }
+    ensures has { (n : ℕ) → n < set.old.bound → has set.new n ≡ (names faults.now n || has set.old n) }
+{
+    for fault in faults {
+        match fault {
+            Some(Fault::Stuck(net, _)) => note(*net, set),
+            Some(Fault::Pulse(net, _)) => note(*net, set),
+            _ => {}
+        }
+    }
+}
+
+fn note_lanes(loads: &[[Option<Fault>; 2]], set: &mut PlaceSet)
+    ensures bound { set.new.bound ≡ set.old.bound }
+    ensures has { (n : ℕ) → n < set.old.bound → has set.new n ≡ (named loads.now n || has set.old n) }
+{
+    for faults in loads {
+        note_lane(faults, set);
+    }
+}
+
+/// Puts the nets that faults name into the empty set.
+pub fn note_all(loads: &[[Option<Fault>; 2]], set: &mut PlaceSet)
+    requires { IsEmptySet set.old }
+    ensures bound { set.new.bound ≡ set.old.bound }
+    ensures named { AreNamed loads.now set.old.bound set.new }
+{
+    note_lanes(loads, set);
+}
+
+// Names the nets of the faults, and leaves all nets as they are, unless that was done.
+fn renew<W: Word>(
+    loads: &[[Option<Fault>; 2]],
+    noted: bool,
+    set: &mut PlaceSet,
+    forces: &mut [Force<W>],
+)
+    requires bound { set.old.bound ≡ length forces.old }
+    requires off { AreIdleOff W.lanes W.lane_bit set.old forces.old }
+    requires named { noted ≡ true → AreNamed loads.now (length forces.old) set.old }
+    requires idle { noted ≡ true → AreIdle W.lanes W.lane_bit loads.now forces.old }
+    ensures bound { set.new.bound ≡ set.old.bound }
+    ensures named { AreNamed loads.now (length forces.old) set.new }
+    ensures idle { AreIdle W.lanes W.lane_bit loads.now forces.new }
+    ensures same { noted ≡ true → forces.new ≡ forces.old }
+{
+    if !noted {
+        forget_all(set, forces);
+        note_all(loads, set);
+    }
+}
+
+/// Sets the forces to those of a cycle, after a load from anew, and answers whether they are of no use in the next one.
+pub fn prepare<W: Word>(
+    loads: &[[Option<Fault>; 2]],
+    transient: bool,
+    noted: bool,
+    stale: bool,
+    cycle: u32,
+    set: &mut PlaceSet,
+    forces: &mut [Force<W>],
+) -> bool
+    requires lanes { length loads.now ≡ W.lanes }
+    requires transient { transient ≡ has_transients loads.now }
+    requires bound { set.old.bound ≡ length forces.old }
+    requires off { AreIdleOff W.lanes W.lane_bit set.old forces.old }
+    requires named { noted ≡ true → AreNamed loads.now (length forces.old) set.old }
+    requires idle { noted ≡ true → AreIdle W.lanes W.lane_bit loads.now forces.old }
+    requires steady { noted ≡ true → stale ≡ false → AreSteady W.lanes W.lane_bit loads.now forces.old }
+    ensures bound { set.new.bound ≡ set.old.bound }
+    ensures named { AreNamed loads.now (length forces.old) set.new }
+    ensures idle { AreIdle W.lanes W.lane_bit loads.now forces.new }
+    ensures off { AreIdleOff W.lanes W.lane_bit set.new forces.new }
+    ensures armed { AreArmed W.lanes W.lane_bit loads.now cycle forces.new }
+    ensures steady { result ≡ false → AreSteady W.lanes W.lane_bit loads.now forces.new }
+{
+    renew(loads, noted, set, forces);
+    arm_for(loads, transient, stale || !noted, cycle, forces)
+}

@@ -1,0 +1,3 @@
+pub mod Readers
+pub mod Edges
+pub mod Kept

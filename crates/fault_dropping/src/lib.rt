@@ -1,0 +1,2 @@
+// When a fault can leave the simulation of a run: laws.
+#![tactic(auto)]

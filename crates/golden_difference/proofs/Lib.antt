@@ -1,0 +1,5 @@
+pub mod Exclusive
+pub mod Apart
+pub mod Walked
+pub mod NextCycle
+pub mod Sources
