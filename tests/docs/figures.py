@@ -1,4 +1,4 @@
-"""Which figures in the pages' text are computed from the program's reports: for each page the pieces of text that must stand in it."""
+"""Which figures in the pages' text are computed, most of them from the program's reports: for each page the pieces of text that must stand in it."""
 import pathlib
 import shutil
 import subprocess
@@ -174,7 +174,14 @@ def of_from_verilog(made):
     yield f"None of the\n{made.report('examples/bridge').head['latches']} latches".replace("None", "none")
 
 
-PAGES = {"README.md": of_readme, "docs/before-you-believe.md": of_believe, "docs/reading-the-report.md": of_reading, "docs/from-verilog.md": of_from_verilog, "examples/README.md": of_examples,
+def of_statement(_):
+    """What tools/statement counts, in place of a report's figures."""
+    done = subprocess.run([sys.executable, str(ROOT / "tools" / "statement")], stdout=subprocess.PIPE, text=True, check=True, timeout=60)
+    lines, definitions, files = [int(it) for it in done.stdout.splitlines()[-1].split() if it.isdigit()][:3]
+    yield f"{thousands(lines)} lines of {definitions} definitions in {files} files"
+
+
+PAGES = {"README.md": of_readme, "docs/reading-the-statement.md": of_statement, "docs/before-you-believe.md": of_believe, "docs/reading-the-report.md": of_reading, "docs/from-verilog.md": of_from_verilog, "examples/README.md": of_examples,
          "examples/lockstep/README.md": of_lockstep, "examples/secded_fifo/README.md": of_secded, "examples/watchdog/README.md": of_watchdog,
          "examples/voter/README.md": of_voter, "examples/bridge/README.md": of_bridge, "examples/duplicated/README.md": of_duplicated}
 
