@@ -1,5 +1,5 @@
 // Whole files and whole pieces.
-ghost use Rattle.std.specs.Prelude.{◌++◌, ◌≡◌, ◌<◌, ◌≤◌, ℕ, List, Some, None, length, OnOk, OnErr, IfOk, IsErr, IsErrOf};
+ghost use Rattle.std.specs.Prelude.{◌++◌, ◌≡◌, ◌<◌, ◌≤◌, ◌^◌, ℕ, List, Some, None, length, OnOk, OnErr, IfOk, IsErr, IsErrOf};
 ghost use Rattle.std.specs.List.{flat_map};
 ghost use Rattle.fm_shelf.specs.Shelf.{bytes_of, NowHas, NowIs, MayHaveMore, Stays, held_in, IfHeld, Rose, Counts, told_more, HasPrefix, greatest};
 ghost use Rattle.fm_shelf.specs.declared.whole.ReadRefusal.TheVariants.{Memory, Failed as ReadFailed};
@@ -10,6 +10,9 @@ use std::alloc::{AllocError, Global};
 
 // The greatest length of a file that is read, in bytes.
 const GREATEST: usize = 1 << 26;
+
+// How many bytes a read asks for. A read of the system's files opens and closes the file.
+const PIECE: usize = 1 << 16;
 
 /// Why a file wasn't read.
 #[derive(Clone, Copy, Debug, PartialEq, Eq)]
@@ -85,6 +88,13 @@ pub fn append_all<F: Shelf>(shelf: &mut F, name: &str, piece: &[u8]) -> Result<(
     Ok(())
 }
 
+// Room for what a read gives, on the heap.
+fn room_of_a_piece(alloc: Global) -> Result<Vec<u8>, AllocError>
+    ensures { IfOk result (λ room. length room.items ≡ 2 ^ 16) }
+{
+    vec![in alloc; 0; PIECE]
+}
+
 /// Reads a whole file of at most 2^26 bytes, in at most 2^26 + 2 reads. A longer file is `TooLong`, as soon as one byte more
 /// was taken.
 pub fn read_all<F: Shelf>(alloc: Global, shelf: &mut F, name: &str) -> Result<Seq<u8>, ReadRefusal>
@@ -100,10 +110,11 @@ pub fn read_all<F: Shelf>(alloc: Global, shelf: &mut F, name: &str) -> Result<Se
     ensures counts { Counts (held_in (F.files shelf.old) (F.rest_absent shelf.old)) name.now (F.read_faults shelf.old) (F.read_faults shelf.new) }
     ensures write_counts { (other : List ℕ) → F.write_faults shelf.new other ≡ F.write_faults shelf.old other }
 {
-    let mut piece = [0u8; 4096];
+    let mut room = room_of_a_piece(alloc)?;
+    let piece = room.as_mut_slice();
     let mut bytes = Vec::new(alloc);
     while bytes.len() <= GREATEST {
-        let n = shelf.read(name, bytes.len() as u64, &mut piece)?;
+        let n = shelf.read(name, bytes.len() as u64, piece)?;
         if n == 0 {
             return Ok(Seq::from_vec(bytes));
         }
