@@ -1,5 +1,5 @@
 // Names that stand in a file, each once.
-ghost use Rattle.std.specs.Prelude.{◌≡◌, [], not, IfOk, OnOk, map};
+ghost use Rattle.std.specs.Prelude.{◌≡◌, [], not, IfOk, OnErr, OnOk, map};
 ghost use Rattle.fm_base.specs.Names.{is_one_of};
 ghost use Rattle.name_index.specs.Index.{with_name};
 
@@ -50,6 +50,7 @@ impl<'a> NameSet<'a> {
     pub fn insert(&mut self, name: &'a [u8]) -> Result<bool, AllocError>
         ensures names { OnOk result (self.new ≡ with_name self.old name.now) }
         ensures added { IfOk result (λ added. added ≡ not (is_one_of self.old name.now)) }
+        ensures err { OnErr result (self.new ≡ self.old) }
     {
         if self.contains(name) {
             return Ok(false);

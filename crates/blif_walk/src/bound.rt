@@ -48,6 +48,7 @@ impl<'a> BoundNets<'a> {
     /// Binds a formal; of two with one name the first is found.
     pub fn push(&mut self, formal: &'a [u8], net: Name) -> Result<(), AllocError>
         ensures ok { OnOk result (self.new ≡ self.old ++ record { formal = formal.now; net = net } ∷ []) }
+        ensures err { OnErr result (self.new ≡ self.old) }
     {
         let place = self.nets.len();
         self.nets.push(BoundNet { formal, net })?;

@@ -61,3 +61,19 @@ pub struct NetStep<'m, 'a> {
     pub line: u32,
     pub act: NetAct<'m, 'a>,
 }
+
+/// What a line does with its nets, and the frame of the instance, if the line is one.
+#[derive(Drop)]
+pub struct Acting<'m, 'a> {
+    pub step: NetStep<'m, 'a>,
+    pub inner: Option<Frame<'m, 'a>>,
+}
+
+/// The line that a frame comes to: what it does, if anything, and what the frame has left behind it.
+#[derive(Drop)]
+pub struct Passed<'m, 'a> {
+    pub acting: Option<Acting<'m, 'a>>,
+    pub instance: u64,
+    pub lines: &'m [TextLine<'a>],
+    ghost room: { instance + length lines.now < 2 ^ 63 },
+}

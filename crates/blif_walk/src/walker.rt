@@ -1,14 +1,15 @@
 // The walk, a step at a time.
-ghost use Rattle.std.specs.Prelude.{◌≡◌, ◌∷◌, ◌++◌, [], IfOk, OnOk, MatchOption, ◌+◌, ◌<◌, ◌^◌, length, map};
+ghost use Rattle.std.specs.Prelude.{◌≡◌, ◌∷◌, ◌++◌, [], IfOk, OnErr, MatchOption, ◌+◌, ◌<◌, ◌^◌, length, vec_capacity, vec_len};
 ghost use Rattle.std.specs.Option.{option_to_list};
-ghost use Rattle.blif_model.specs.Walk.{enter, next, steps_of, walk};
+ghost use Rattle.blif_model.specs.Walk.{next, walk};
 ghost use Rattle.blif_says.specs.Meant.{meant};
-ghost use Rattle.blif_walk.specs.Seen.{scope_at, step_at};
+ghost use Rattle.blif_walk.specs.Passing.{IsPassed};
+ghost use Rattle.blif_walk.specs.Seen.{step_at};
 ghost use Rattle.blif_walk.specs.Coming.{to_come};
 
 use crate::acts::act_of;
 use crate::enter::inner_frame;
-use crate::frames::{Frame, NetStep, Place};
+use crate::frames::{Acting, Frame, NetStep, Passed, Place};
 use crate::table::ModelTable;
 use blif_says::says::Says;
 use blif_says::statement::line_says;
@@ -26,19 +27,53 @@ fn next_instance(instance: u64, says: Says<'_, '_>) -> u64
     }
 }
 
-/// A frame goes on top of the others, and maybe another on top of it.
-fn put_frames<'m, 'a>(
-    frames: &mut Vec<Frame<'m, 'a>>,
-    frame: Frame<'m, 'a>,
-    inner: Option<Frame<'m, 'a>>,
-) -> Result<(), AllocError>
-    ensures { OnOk result (frames.new.items ≡ frames.old.items ++ frame.entry ∷ [] ++ option_to_list inner.entry) }
+/// A frame goes on top of the others, where there is one.
+fn put_frame<'m, 'a>(frames: &mut Vec<Frame<'m, 'a>>, frame: Option<Frame<'m, 'a>>)
+    requires { vec_len frames.old < vec_capacity frames.old }
+    ensures { frames.new.items ≡ frames.old.items ++ option_to_list frame.entry }
 {
-    frames.push(frame)?;
-    if let Some(inner) = inner {
-        frames.push(inner)?;
+    if let Some(frame) = frame {
+        frames.push_reserved(frame);
     }
-    Ok(())
+}
+
+/// The line that a frame comes to, or nothing at its end.
+fn pass_line<'m, 'a>(
+    alloc: Global,
+    models: &ModelTable<'m, 'a>,
+    frame: &Frame<'m, 'a>,
+) -> Result<Option<Passed<'m, 'a>>, AllocError>
+    ensures { IfOk result (λ o. MatchOption o (frame.now.lines.now ≡ []) (IsPassed models.now frame.now)) }
+{
+    let [line, rest @ ..] = frame.lines else {
+        return Ok(None);
+    };
+    let says = line_says(line);
+    let instance = next_instance(frame.instance, says);
+    let Some(act) = act_of(alloc, &frame.place, says, rest)? else {
+        return Ok(Some(Passed {
+            acting: None,
+            instance,
+            lines: rest,
+        }));
+    };
+    let inner = inner_frame(
+        alloc,
+        models,
+        &frame.place,
+        frame.instance,
+        frame.fuel,
+        says,
+    )?;
+    let step = NetStep {
+        line: line.number,
+        act,
+    };
+    Ok(Some(Passed {
+        acting: Some(Acting { step, inner }),
+        instance,
+        lines: rest,
+    }))
 }
 
 /// The next step of the walk that the frames stand for.
@@ -47,44 +82,38 @@ pub fn next_step<'m, 'a>(
     models: &ModelTable<'m, 'a>,
     frames: &mut Vec<Frame<'m, 'a>>,
 ) -> Result<Option<NetStep<'m, 'a>>, AllocError>
-    ensures { IfOk result (λ o. MatchOption o (to_come models.now frames.old.items ≡ []) (λ s. to_come models.now frames.old.items ≡ step_at s ∷ to_come models.now frames.new.items)) }
+    ensures step { IfOk result (λ o. MatchOption o (to_come models.now frames.old.items ≡ []) (λ s. to_come models.now frames.old.items ≡ step_at s ∷ to_come models.now frames.new.items)) }
+    ensures same { OnErr result (to_come models.now frames.new.items ≡ to_come models.now frames.old.items) }
 {
     'frames: loop {
+        // With room for one more frame, nothing fails once the line is passed.
+        frames.reserve(1)?;
         let Some(frame) = frames.pop() else {
             return Ok(None);
         };
-        let Frame {
+        let passed = match pass_line(alloc, models, &frame) {
+            Ok(Some(passed)) => passed,
+            Ok(None) => continue,
+            Err(e) => {
+                frames.push_reserved(frame);
+                return Err(e);
+            }
+        };
+        let Frame { place, fuel, .. } = frame;
+        let Passed {
+            acting,
+            instance,
+            lines,
+        } = passed;
+        frames.push_reserved(Frame {
             place,
             instance,
             lines,
             fuel,
-        } = frame;
-        let [line, rest @ ..] = lines else {
-            continue;
-        };
-        let says = line_says(line);
-        let after = next_instance(instance, says);
-        match act_of(alloc, &place, says, rest)? {
-            None => frames.push(Frame {
-                place,
-                instance: after,
-                lines: rest,
-                fuel,
-            })?,
-            Some(act) => {
-                let inner = inner_frame(alloc, models, &place, instance, fuel, says)?;
-                let left = Frame {
-                    place,
-                    instance: after,
-                    lines: rest,
-                    fuel,
-                };
-                put_frames(frames, left, inner)?;
-                return Ok(Some(NetStep {
-                    line: line.number,
-                    act,
-                }));
-            }
+        });
+        if let Some(Acting { step, inner }) = acting {
+            put_frame(frames, inner);
+            return Ok(Some(step));
         }
     }
 }
@@ -141,9 +170,10 @@ impl<'t, 'm, 'a> Walker<'t, 'm, 'a> {
         })
     }
 
-    /// The next step, or none at the end.
+    /// The next step, or none at the end. Where there is no memory for it, the walk stands where it stood.
     pub fn next(&mut self) -> Result<Option<NetStep<'m, 'a>>, AllocError>
-        ensures { IfOk result (λ o. MatchOption o (self.old ≡ []) (λ s. self.old ≡ step_at s ∷ self.new)) }
+        ensures step { IfOk result (λ o. MatchOption o (self.old ≡ []) (λ s. self.old ≡ step_at s ∷ self.new)) }
+        ensures same { OnErr result (self.new ≡ self.old) }
     {
         next_step(self.alloc, self.models, &mut self.frames)
     }

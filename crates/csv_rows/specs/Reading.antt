@@ -6,7 +6,7 @@ use Rattle.csv.specs.Reading.{Ready, default_config, reader_config, reader_state
 use Rattle.csv.specs.declared.parser.State.{State}
 use Rattle.csv.specs.declared.reader.Reader.{Reader}
 use Rattle.csv.specs.declared.reader.Trim.TheVariants as trim
-use Rattle.csv_rows.specs.Rows.{Fields}
+use Rattle.csv_rows.specs.Rows.{Fields, refusing}
 use Rattle.csv_rows.specs.declared.rows.Stage.{Stage}
 use Rattle.csv_rows.specs.declared.rows.Stage.TheVariants.{Between, Ended, Failed}
 use Rattle.fm_base.specs.Names.{Bytes}
@@ -34,11 +34,11 @@ pub record IsBetween (r : Reader (Bor Bytes)) : Type 0 where
   pub between : ends_at_end (reader_state r) ≡ false
   pub known : text_left r ≡ Some (bytes_left r)
 
--- the rows to come; a reader that has failed goes on to refuse, as if a row without fields were to come, which no text has
+-- the rows to come; a reader that has failed goes on to refuse
 abbrev pub rows_to_come : Stage → Reader (Bor Bytes) → List Fields
 rows_to_come Between r = rows_left r
 rows_to_come Ended r = []
-rows_to_come Failed r = [] ∷ []
+rows_to_come Failed r = refusing
 
 -- a reader that goes on stands between two rows
 abbrev pub IsSound : Stage → Reader (Bor Bytes) → Type 0

@@ -30,6 +30,10 @@ has_word word k row = bytes_eq (field row k) word
 abbrev pub first_faulty_row : {K : Type 0} → (List Fields → Fields → Option K) → List Fields → Option (ℕ × K)
 first_faulty_row fault rows = option_map (λ found. (found.0 + 1, found.1)) (first_fault fault rows)
 
+-- what is to come of a reader for which memory ran out: a row without fields, which no file has and which is never given
+abbrev pub refusing : List Fields
+refusing = [] ∷ []
+
 -- what a reader answers of the rows to come: none where there is none, and else the first of them, the others being left
 abbrev pub Yields : List Fields → List Fields → Option Fields → Type 0
 Yields old new None = (old ≡ []) × (new ≡ [])

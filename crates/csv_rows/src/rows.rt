@@ -1,6 +1,6 @@
 // The reader of the rows.
-ghost use Rattle.std.specs.Prelude.{◌≡◌, IfOk, Some, None, if◌then◌else◌};
-ghost use Rattle.csv_rows.specs.Rows.{Yields, rows_of};
+ghost use Rattle.std.specs.Prelude.{◌≡◌, IfOk, IsErr, OnErr, Some, None, if◌then◌else◌};
+ghost use Rattle.csv_rows.specs.Rows.{Yields, refusing, rows_of};
 
 use crate::row::Row;
 use csv::{Reader, ReaderBuilder};
@@ -59,7 +59,9 @@ impl<'a> Rows<'a> {
 
     /// The next row, or `None` behind the last. Where memory ran out once, it is refused from then on.
     pub fn next(&mut self) -> Result<Option<Row>, AllocError>
-        ensures { IfOk result (Yields self.old self.new) }
+        ensures row { IfOk result (Yields self.old self.new) }
+        ensures failed { OnErr result (self.new ≡ refusing) }
+        ensures refuses { self.old ≡ refusing → IsErr result }
     {
         let mut row = Row::new(self.alloc);
         if self.read(&mut row)? {
@@ -72,7 +74,9 @@ impl<'a> Rows<'a> {
     /// Reads the next row into the memory of `row`, whatever was in it, and answers whether there was one. Where memory ran out
     /// once, it is refused from then on.
     pub fn read(&mut self, row: &mut Row) -> Result<bool, AllocError>
-        ensures { IfOk result (λ found. Yields self.old self.new (if found then Some row.new else None)) }
+        ensures row { IfOk result (λ found. Yields self.old self.new (if found then Some row.new else None)) }
+        ensures failed { OnErr result (self.new ≡ refusing) }
+        ensures refuses { self.old ≡ refusing → IsErr result }
     {
         match self.stage {
             Stage::Between => {}

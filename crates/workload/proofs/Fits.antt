@@ -1,14 +1,17 @@
 -- Each vector of a workload has a bit for each input of the netlist that it was read for.
 use Rattle.std.proofs.Common.{◌≡◌, ◌∙◌, ℕ, Bool, List, [], ◌∷◌, length, map, subst, Option, Some, None}
-use Rattle.std.specs.Prelude.{All, Ok}
+use Rattle.std.specs.Prelude.{All, IfOk, Result, Ok, Err}
 use Rattle.std.proofs.lemmas.List.{length-map}
 use Rattle.std.proofs.lemmas.List.Elements.{All-cons, All-nil}
 use Rattle.circuit.specs.Circuit.{Circuit}
 use Rattle.circuit.specs.Names.{net_name}
 use Rattle.circuit.specs.declared.parts.NetId.{NetId}
 use Rattle.csv_rows.specs.Rows.{Fields, first_faulty_row, rows_of}
+use Rattle.fm_base.specs.Answers.{Gives}
 use Rattle.fm_base.specs.Names.{Bytes}
+use Rattle.fm_base.specs.declared.refusal.Refusal.{Refusal}
 use Rattle.workload.specs.RunsKept.{AreRunsFor}
+use Rattle.workload.specs.declared.file.WorkloadFault.{WorkloadFault}
 use Rattle.workload.specs.declared.file.WorkloadKind.{WorkloadKind}
 use Rattle.workload.specs.declared.run.Run.{Run}
 use Rattle.workload.specs.WorkloadFile.{bit_of, header_fault, input_names, row_fault, run_of, runs_of_rows, runs_unless, vector_of, workload_of, workloads}
@@ -48,3 +51,8 @@ rows_fit c (header ∷ rows) runs e = unless_fit (header_fault c header) (first_
 -- the runs that a file gives for a netlist are made for it
 pub runs_fit : (c : Circuit) (bytes : Bytes) (runs : List Run) → workload_of c bytes ≡ Ok runs → AreRunsFor c runs
 runs_fit c bytes runs e = rows_fit c (rows_of bytes) runs e
+
+-- what is read of a file for a netlist is made for it
+pub answer_fits : (c : Circuit) (bytes : Bytes) (answer : Result (List Run) (Refusal WorkloadFault)) → Gives (workload_of c bytes) answer → IfOk answer (AreRunsFor c)
+answer_fits c bytes (Ok runs) is = runs_fit c bytes runs is
+answer_fits c bytes (Err refusal) is = tt

@@ -1,6 +1,7 @@
 // The workload file.
-ghost use Rattle.std.specs.Prelude.{◌≡◌};
+ghost use Rattle.std.specs.Prelude.{◌≡◌, IfOk};
 ghost use Rattle.fm_base.specs.Answers.{Gives};
+ghost use Rattle.workload.specs.RunsKept.{AreRunsFor};
 ghost use Rattle.workload.specs.WorkloadFile.{workload_of};
 
 use crate::builder::Builder;
@@ -45,15 +46,8 @@ pub(crate) fn refusal(row: u32, kind: WorkloadKind) -> Refusal<WorkloadFault>
     Refusal::Fault(WorkloadFault { row, kind })
 }
 
-/// Reads a workload for a netlist.
-///
-/// The header is `workload,kind` and the names of the inputs, each once, in any order. Each further row has the name of a
-/// workload, `mission` or `test`, and a bit for each input: one cycle. Consecutive rows of one name form one workload.
-pub fn read_workload(
-    alloc: Global,
-    bytes: &[u8],
-    net: &Netlist,
-) -> Result<Workload, Refusal<WorkloadFault>>
+/// The runs of a file's rows.
+fn read_rows(alloc: Global, bytes: &[u8], net: &Netlist) -> Result<Workload, Refusal<WorkloadFault>>
     ensures { Gives (workload_of net.now bytes.now) result }
 {
     let mut rows = Rows::new(alloc, bytes);
@@ -70,4 +64,19 @@ pub fn read_workload(
         builder.add(&row)?;
     }
     builder.finish()
+}
+
+/// Reads a workload for a netlist.
+///
+/// The header is `workload,kind` and the names of the inputs, each once, in any order. Each further row has the name of a
+/// workload, `mission` or `test`, and a bit for each input: one cycle. Consecutive rows of one name form one workload.
+pub fn read_workload(
+    alloc: Global,
+    bytes: &[u8],
+    net: &Netlist,
+) -> Result<Workload, Refusal<WorkloadFault>>
+    ensures answers { Gives (workload_of net.now bytes.now) result }
+    ensures fits { IfOk result (AreRunsFor net.now) }
+{
+    read_rows(alloc, bytes, net)
 }

@@ -1,42 +1,38 @@
-use Rattle.std.proofs.Common.{◌≡◌, ◌∷◌, ap, ◌∙◌, refl, take, drop, ◌-◌, arith, length, ◌<◌}
+use Rattle.std.proofs.Common.{◌≡◌, ◌∷◌, ◌++◌, [], List, ap, ◌∙◌, sym, arith, length, ◌<◌}
 use Rattle.std.proofs.lemmas.Grind.{common_steps}
-use Rattle.blif_walk.specs.Seen.{act_at}
+use Rattle.std.specs.Option.{option_to_list}
+use Rattle.blif_walk.specs.declared.frames.Frame.{Frame}
 use Rattle.blif_walk.specs.Coming.{to_come}
 use Rattle.blif_walk.proofs.Entering.{nothing_left}
-use Rattle.blif_walk.proofs.Splits.{empty_from, split_first}
+use Rattle.blif_walk.proofs.Splits.{empty_from}
 use Rattle.blif_walk.proofs.Coming.{to_come-done, to_come-passed, to_come-taken}
 use Rattle.blif_walk.proofs.walker.next_step.Goals as goal
 
-pub frames-preserved-in_default-lines : goal.frames-preserved-in_default-lines
-frames-preserved-in_default-lines c =
-    let ms = c.args.models.now in
-    c.frames.invariant ∙ ap (to_come ms) c.in-Some.ensures.items
-    ∙ to_come-done ms c.pop.new.self.items c.in-Some.frame (empty_from c.in-Some.frame.lines.now c.in_default-lines.len_below)
-
-pub frames-preserved : goal.frames-preserved
-frames-preserved c =
-    let ms = c.args.models.now in
-    let f = c.in-Some.frame in
-    let line = c.line-item.result in
-    let e : f.lines.now ≡ line ∷ take (length f.lines.now - 1) (drop 1 f.lines.now) = split_first f.lines.now line c.in-len1-up.len_at_least c.line-item.is in
-    let none = rw c.in-None.is at c.in_ok-act_of.ensures in
-    c.frames.invariant
-    ∙ to_come-passed ms c.frames.frames.items c.push.new.self.items c.pop.new.self.items f _ c.in-Some.ensures.items c.in_ok-push-in-None.ensures.items
-    line (take (length f.lines.now - 1) (drop 1 f.lines.now)) _ e c.line_says-says.ensures refl refl refl c.next_instance-after.ensures none
-
-pub returns-in-Some-2 : goal.returns-in-Some-2
-returns-in-Some-2 c =
-    let ms = c.args.models.now in
-    let f = c.in-Some.frame in
-    let line = c.line-item.result in
-    let e : f.lines.now ≡ line ∷ take (length f.lines.now - 1) (drop 1 f.lines.now) = split_first f.lines.now line c.in-len1-up.len_at_least c.line-item.is in
-    let one = rw c.in-Some-2.is at c.in_ok-act_of.ensures in
-    c.frames.invariant
-    ∙ to_come-taken ms c.frames.frames.items c.put_frames.new.frames.items c.pop.new.self.items _ f _ c.in-Some.ensures.items c.in_ok-put_frames-in-Some-2.ensures
-    line (take (length f.lines.now - 1) (drop 1 f.lines.now)) _ (act_at c.in-Some-2.act) e c.line_says-says.ensures refl refl refl c.next_instance-after.ensures one c.in_ok-inner-in-Some-2.ensures
-
-pub returns-in_default : goal.returns-in_default
-returns-in_default c =
+pub returns-in_default-clause-step : goal.returns-in_default-clause-step
+returns-in_default-clause-step c =
     let ms = c.args.models.now in
     let few : length c.frames.frames.items < 1 = grind (arith, common_steps) in
     c.frames.invariant ∙ ap (to_come ms) (empty_from c.frames.frames.items few) ∙ nothing_left ms
+
+pub frames-preserved-in-Ok-None : goal.frames-preserved-in-Ok-None
+frames-preserved-in-Ok-None c =
+    let ms = c.args.models.now in
+    let empty = rw c.in-Ok-None.field-0-is at c.in-Ok-None.ensures in
+    c.frames.invariant ∙ ap (to_come ms) (sym c.in_ok-reserve.ensures.items ∙ c.in-Some.ensures.items) ∙ to_come-done ms c.pop.new.self.items c.in-Some.frame empty
+
+pub frames-preserved : goal.frames-preserved
+frames-preserved c =
+    let passed = rw c.in-Ok-Some.field-0-is at c.in-Ok-Some.ensures in
+    let quiet = rw c.in_default-acting.is at passed.steps in
+    c.frames.invariant
+    ∙ to_come-passed c.args.models.now c.frames.frames.items c.push_reserved-in-frames.new.self.items c.pop.new.self.items c.in-Some.frame _
+    (sym c.in_ok-reserve.ensures.items ∙ c.in-Some.ensures.items) c.push_reserved-in-frames.ensures.items quiet
+
+pub returns-in-Some-acting-clause-step : goal.returns-in-Some-acting-clause-step
+returns-in-Some-acting-clause-step c =
+    let passed = rw c.in-Ok-Some.field-0-is at c.in-Ok-Some.ensures in
+    let acting = rw c.in-Some-acting.is at passed.steps in
+    c.frames.invariant
+    ∙ to_come-taken c.args.models.now c.frames.frames.items c.put_frame.new.frames.items c.pop.new.self.items (option_to_list c.in-Some-acting.field-0.inner) c.in-Some.frame _ _
+    (sym c.in_ok-reserve.ensures.items ∙ c.in-Some.ensures.items)
+    (c.put_frame.ensures ∙ ap (λ (frames : List Frame). frames ++ option_to_list c.in-Some-acting.field-0.inner) c.push_reserved-in-frames.ensures.items) acting

@@ -9,16 +9,16 @@ use Rattle.rate_table.proofs.reading.read_under.Goals as goal
 pub rows-preserved : goal.rows-preserved
 rows-preserved c =
     stands_more c.args.rows.now c.rows.rows c.next.new.self c.in-Some.row c.rows.table c.take_row.new.self c.rows.number c.rows.invariant
-    (subst (Yields c.rows.rows c.next.new.self) c.in-Some.is c.in_ok-row.ensures) c.in-Ok.ensures
+    (subst (Yields c.rows.rows c.next.new.self) c.in-Some.is c.in_ok-row.ensures.row) c.in-Ok.ensures
 
 pub returns-in-Err : goal.returns-in-Err
 returns-in-Err c =
     subst (λ r. Gives (rates_under true c.args.rows.now) (Err r)) (sym c.at_row.ensures)
     (stands_fault c.args.rows.now c.rows.rows c.next.new.self c.in-Some.row c.rows.table c.take_row.new.self c.rows.number c.in-Err.refusal c.rows.invariant
-    (subst (Yields c.rows.rows c.next.new.self) c.in-Some.is c.in_ok-row.ensures) c.in-Err.ensures)
+    (subst (Yields c.rows.rows c.next.new.self) c.in-Some.is c.in_ok-row.ensures.row) c.in-Err.ensures)
 
 pub returns-in-None : goal.returns-in-None
 returns-in-None c =
     stands_end c.args.rows.now c.rows.rows c.rows.table c.rows.number c.rows.invariant
-    (subst (Yields c.rows.rows c.next.new.self) c.in-None.is c.in_ok-row.ensures).0
+    (subst (Yields c.rows.rows c.next.new.self) c.in-None.is c.in_ok-row.ensures.row).0
     ∙ ap Ok (sym c.in_ok-new-in-None.ensures)

@@ -1,10 +1,12 @@
 use Rattle.std.proofs.Common.{◌≡◌, ◌∙◌, ◌∷◌, List, Bor, ap, sym, refl, ℕ}
 use Rattle.csv.specs.Records.{fields_of}
 use Rattle.csv.specs.declared.reader.Reader.{Reader}
-use Rattle.csv_rows.specs.Reading.{IsBetween, IsSound, rows_to_come, rows_left}
+use Rattle.csv_rows.specs.Reading.{IsBetween, IsSound, bytes_left, rows_to_come, rows_left}
+use Rattle.csv_rows.specs.Rows.{Fields, refusing}
 use Rattle.csv_rows.specs.declared.rows.Stage.{Stage}
 use Rattle.csv_rows.specs.declared.rows.Stage.TheVariants.{Between}
 use Rattle.csv_rows.proofs.ReaderFacts.{takes_row, ends_rows}
+use Rattle.csv_rows.proofs.RowFacts.{rest_goes_on}
 use Rattle.csv_rows.proofs.rows.Rows.read.Goals as goal
 
 is_between : (s : Stage) (r : Reader (Bor (List ℕ))) → s ≡ Between → IsSound s r → IsBetween r
@@ -26,13 +28,13 @@ took c =
 pub invariant_of-self-else-not-found : goal.invariant_of-self-else-not-found
 invariant_of-self-else-not-found c = sound c.self.inside.stage c.read_byte_record.new.self c.in-Between.is ((took c).0)
 
-pub returns : goal.returns
-returns c =
+pub returns-clause-row : goal.returns-clause-row
+returns-clause-row c =
     sym c.self.view_is ∙ to_come c.self.inside.stage c.self.inside.reader c.in-Between.is ∙ (took c).1
     ∙ ap (λ more. fields_of c.read_byte_record.new.row ∷ more) (sym (to_come c.self.inside.stage c.read_byte_record.new.self c.in-Between.is))
 
-pub returns-then-not-found : goal.returns-then-not-found
-returns-then-not-found c =
+pub returns-then-not-found-clause-row : goal.returns-then-not-found-clause-row
+returns-then-not-found-clause-row c =
     let e = c.in-Ok.ensures in
     let b = is_between c.self.inside.stage c.self.inside.reader c.in-Between.is c.self.invariant in (
       sym c.self.view_is ∙ to_come c.self.inside.stage c.self.inside.reader c.in-Between.is
@@ -40,3 +42,15 @@ returns-then-not-found c =
           (rw c.if-not-found.true at (e.reads b.trims b.ready)),
       refl,
     )
+
+-- a reader between two rows has not failed
+goes_on : (s : Stage) (r : Reader (Bor (List ℕ))) (rows : List Fields) → s ≡ Between → IsSound s r → rows_to_come s r ≡ rows → rows ≡ refusing → ⊥
+goes_on s r rows e h is refused =
+    let b = is_between s r e h in
+    rest_goes_on r.state (bytes_left r) b.between (sym (to_come s r e) ∙ is ∙ refused)
+
+pub returns-clause-refuses : goal.returns-clause-refuses
+returns-clause-refuses c = λ refused. absurd (goes_on c.self.inside.stage c.self.inside.reader c.args.self.now c.in-Between.is c.self.invariant c.self.view_is refused)
+
+pub returns-then-not-found-clause-refuses : goal.returns-then-not-found-clause-refuses
+returns-then-not-found-clause-refuses c = λ refused. absurd (goes_on c.self.inside.stage c.self.inside.reader c.args.self.now c.in-Between.is c.self.invariant c.self.view_is refused)
