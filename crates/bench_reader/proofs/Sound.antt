@@ -6,18 +6,19 @@ use Rattle.std.specs.Option.{option_or}
 use Rattle.std.proofs.lemmas.List.{length-map}
 use Rattle.std.proofs.lemmas.Bool.{ltb-false}
 use Rattle.circuit.specs.declared.parts.Latch.{Latch}
+use Rattle.circuit.specs.declared.parts.Table.{Table}
 use Rattle.circuit.specs.Circuit.{Circuit}
 use Rattle.circuit.specs.Sound.{IsNet, IsTable, IsNetlist}
 use Rattle.fm_base.specs.Names.{Bytes, Name, is_one_of, has_repeat}
 use Rattle.fm_base.proofs.Tests.{or_false, and_both}
 use Rattle.fm_base.proofs.Distinct.{distinct-apart}
-use Rattle.net_names.specs.Nets.{driver_of, net_id}
+use Rattle.net_names.specs.Nets.{net_id}
 use Rattle.net_names.specs.Driven.{AreBeside, drives, times, IsDrivenOnce}
 use Rattle.net_names.proofs.Answers.{not_given, same_answer}
 use Rattle.net_names.proofs.Brought.{all-brought, as-many, in-order}
 use Rattle.net_names.proofs.Driven.{drives-of-lines}
-use Rattle.net_names.proofs.Times.{times-there, times-found, times-once}
-use Rattle.net_names.proofs.Sound.{is-net, is-table, netlist-of-names}
+use Rattle.net_names.proofs.Once.{driven-once}
+use Rattle.net_names.proofs.Sound.{is-net, is-table, netlist-of-names, size-of-drivers}
 use Rattle.bench_reader.specs.declared.BenchFault.{BenchFault}
 use Rattle.bench_reader.specs.Bench.{bad_bench, bench_of, bench_unless}
 use Rattle.bench_reader.specs.Gates.{gate_plane, gate_rows}
@@ -101,40 +102,29 @@ module _ (lines : List Said) (once : two_drivers lines ≡ None) (driven : undri
       drives-of-lines (λ (line : Said). driven_at line.says) (λ (line : Said). input_at line.says) (λ (line : Said). table_net line.says) (λ (line : Said). latch_net line.says) name
       (λ line. one_driven name line.says) lines
 
-  -- a name is driven once at most
-  at_most : (name : Name) → drives ins tabs lats name ≤ 1
-  at_most name = let h = times-once name (driven_of lines) (driven_once lines once) in let e = drive_count name in omega arith
-
-  -- a net is driven
-  at_least : (name : Name) → is_one_of nets name ≡ true → 1 ≤ drives ins tabs lats name
-  at_least name e = let h = times-found name (driven_of lines) (net_driven lines driven name e) in let f = drive_count name in omega arith
-
-  -- and a driven name is a net
-  is_driven_net : (name : Name) → 1 ≤ drives ins tabs lats name → is_one_of nets name ≡ true
-  is_driven_net name h = let e = drive_count name in driven_net lines name (times-there name (driven_of lines) (omega arith))
-
-  nets_apart : has_repeat nets ≡ false
-  unfolding nets_of
-  nets_apart = distinct-apart (flat_map (λ (line : Said). nets_at line.says) lines)
-
   -- EACH NET OF THE LINES is driven once
   pub lines_driven : IsDrivenOnce nets ins tabs lats
-  lines_driven = record { apart = nets_apart; most = at_most; least = at_least; net = is_driven_net }
+  unfolding nets_of
+  lines_driven =
+      driven-once nets ins tabs lats (driven_of lines) drive_count (distinct-apart (flat_map (λ (line : Said). nets_at line.says) lines)) (driven_once lines once)
+      (λ name e. net_driven lines driven name e) (λ name e. driven_net lines name e)
 
   abbrev made : Circuit
   made = circuit_of lines
 
-  size_of_drivers : length made.drivers ≡ length nets
-  unfolding circuit_of
-  size_of_drivers = length-map nets (driver_of (drivers_of lines))
+  abbrev tables : List Table
+  tables = filter_map (λ (line : Said). line_table nets line.says) lines
+
+  abbrev latches : List Latch
+  latches = filter_map (λ (line : Said). latch_at nets line.says) lines
 
   -- the netlist of lines
   pub netlist_sound : AllByRecursion (λ line. StatementFits line.says) lines → length (nets_of lines) ≤ 2 ^ 18 → IsNetlist made
   unfolding circuit_of drivers_of outputs_of table_nets_of latch_nets_of
   netlist_sound fit small =
-      netlist-of-names nets ins tabs lats (outputs_of lines) (filter_map (λ (line : Said). line_table nets line.says) lines) (filter_map (λ (line : Said). latch_at nets line.says) lines)
-      lines_driven (beside nets lines) small
-      (tables_fit nets made size_of_drivers lines (names_nets lines) fit) (sources_fit nets made size_of_drivers lines (names_nets lines))
+      let size : length made.drivers ≡ length nets = size-of-drivers nets ins tabs lats (outputs_of lines) tables latches lines_driven (beside nets lines) in
+      netlist-of-names nets ins tabs lats (outputs_of lines) tables latches lines_driven (beside nets lines) small
+      (tables_fit nets made size lines (names_nets lines) fit) (sources_fit nets made size lines (names_nets lines))
       (distinct-apart (flat_map (λ (line : Said). output_at line.says) lines)) (λ name e. output_net lines name e)
 
 -- ---- the netlist of a file

@@ -10,7 +10,7 @@ use Rattle.blif_text.specs.declared.NetlistKind.TheVariants.{TwoClocks}
 use Rattle.blif_model.specs.LineFault.{at_line}
 use Rattle.blif_model.specs.Walk.{Act, takes, gives, clocks, visits, flat_table, flat_latch, Step, Visit, clocked, clock_names, is_clock, unclocked, taken, table_net, latch_net, names_at, drives_of}
 use Rattle.blif_model.specs.WalkFault.{edge_of, two_clocks, main_inputs, has_visit}
-use Rattle.blif_model.proofs.Drivers.{names_at-names}
+use Rattle.blif_model.proofs.Drivers.{names_at-names, visit-found}
 use Rattle.net_names.proofs.Times.{one_of_both}
 use Rattle.fm_base.proofs.Distinct.{filter-found}
 use Rattle.std.proofs.lemmas.List.{map-append}
@@ -100,10 +100,6 @@ pub input_held : (steps : List Step) (names : List Name) → names ≡ fold (add
 unfolding names_by main_inputs
 input_held steps names e q = ap (λ (all : List Name). is_one_of all q) e ∙ taken_found [] (names_by Input steps) q
 
-visit_found : (names : List Visit) (name : Name) → has_visit names name ≡ is_one_of (map (λ (v : Visit). v.name) names) name
-visit_found [] name = refl
-visit_found (v ∷ vs) name = rw (bytes_eq-sym v.name name) (ap (λ b. bytes_eq name v.name || b) (visit_found vs name))
-
 -- a name that is no clock name is driven alike
 drives_alike : (steps : List Step) (act : Act) (q : Name) → is_clock steps q ≡ false → is_one_of (drive_names act) q ≡ is_one_of (taken steps act ++ table_net act ++ latch_net act) q
 drives_alike steps (takes names) q e =
@@ -137,4 +133,4 @@ drives_held steps (s ∷ some) q e =
 pub driven_held : (steps : List Step) (names : List Name) → names ≡ fold (add_name []) [] (names_by Driven steps) → (q : Name) → is_clock steps q ≡ false → is_one_of names q ≡ has_visit (drives_of steps) q
 unfolding names_by drives_of
 driven_held steps names e q clock =
-    ap (λ (all : List Name). is_one_of all q) e ∙ taken_found [] (names_by Driven steps) q ∙ drives_held steps steps q clock ∙ sym (visit_found (drives_of steps) q)
+    ap (λ (all : List Name). is_one_of all q) e ∙ taken_found [] (names_by Driven steps) q ∙ drives_held steps steps q clock ∙ sym (visit-found (drives_of steps) q)

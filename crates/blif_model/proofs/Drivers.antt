@@ -10,13 +10,18 @@ use Rattle.blif_model.specs.Walk.{Step, Visit, is_clock, unclocked, nets_of, vis
 use Rattle.blif_model.specs.WalkFault.{has_visit, two_drivers, undriven}
 use Rattle.fm_base.proofs.Tests.{or_false, both_false, or_second}
 use Rattle.fm_base.specs.Names.{Name, is_one_of, has_repeat}
-use Rattle.fm_base.proofs.Distinct.{same_name, filter-found}
+use Rattle.fm_base.proofs.Distinct.{bytes_eq-sym, same_name, filter-found}
 use Rattle.blif_model.proofs.Nets.{nets-found}
 use Rattle.std.proofs.lemmas.List.Folds.{list_any-append}
 use Rattle.net_names.specs.Driven.{drives, times}
 use Rattle.net_names.proofs.Answers.{none_given}
 use Rattle.net_names.proofs.Driven.{drives-of-lines}
 use Rattle.net_names.proofs.Times.{one_of_both, times-append}
+
+-- a name is among visits where it is one of their names
+pub visit-found : (visits : List Visit) (name : Name) → has_visit visits name ≡ is_one_of (map (λ (v : Visit). v.name) visits) name
+visit-found [] name = refl
+visit-found (v ∷ vs) name = rw (bytes_eq-sym v.name name) (ap (λ b. bytes_eq name v.name || b) (visit-found vs name))
 
 -- no drive comes after one of its name, and none is a clock name
 pub record IsOnce (steps : List Step) (before ds : List Visit) : Type 0 where

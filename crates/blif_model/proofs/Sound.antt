@@ -5,22 +5,23 @@ use Rattle.std.specs.List.{AllByRecursion, cons_option, list_any, list_all}
 use Rattle.std.proofs.lemmas.List.{length-map}
 use Rattle.std.proofs.lemmas.Bool.{eqb-true}
 use Rattle.circuit.specs.declared.parts.Latch.{Latch}
+use Rattle.circuit.specs.declared.parts.Table.{Table}
 use Rattle.circuit.specs.Circuit.{Circuit}
 use Rattle.circuit.specs.Sound.{IsNet, IsTable, IsNetlist}
 use Rattle.fm_base.specs.Names.{Name, is_one_of}
 use Rattle.fm_base.proofs.Tests.{or_false, or_cases, and_both}
-use Rattle.fm_base.proofs.Distinct.{distinct-apart, same_name, bytes_eq-sym}
-use Rattle.net_names.specs.Nets.{net_id, driver_of}
+use Rattle.fm_base.proofs.Distinct.{distinct-apart, same_name}
+use Rattle.net_names.specs.Nets.{net_id}
 use Rattle.net_names.specs.Driven.{AreBeside, drives, times, IsDrivenOnce}
-use Rattle.net_names.proofs.Times.{times-there, times-found, times-once}
+use Rattle.net_names.proofs.Once.{driven-once}
 use Rattle.net_names.proofs.Brought.{all-brought, as-many, in-order}
-use Rattle.net_names.proofs.Sound.{is-net, is-table, netlist-of-names}
+use Rattle.net_names.proofs.Sound.{is-net, is-table, netlist-of-names, size-of-drivers}
 use Rattle.blif_model.specs.LineFault.{is_row_of}
 use Rattle.blif_model.specs.Walk.{Act, flat_table, flat_latch, Step, Visit, table_net, latch_net, nets_of, drives_of, visits_of, outputs_at, is_clock}
-use Rattle.blif_model.specs.WalkFault.{two_drivers, undriven, clock_read, read, has_visit}
+use Rattle.blif_model.specs.WalkFault.{two_drivers, undriven, clock_read, read}
 use Rattle.blif_model.specs.Net.{lit_of, lits_of, table_plane, table_of, latch_of, input_names_of, table_names_of, latch_names_of, output_names_of, drivers_of, circuit_of}
 use Rattle.blif_model.proofs.Nets.{nets-apart, nets-found}
-use Rattle.blif_model.proofs.Drivers.{drives-once, nets-driven, drives-visited, times-drives}
+use Rattle.blif_model.proofs.Drivers.{drives-once, nets-driven, drives-visited, times-drives, visit-found}
 use Rattle.blif_model.proofs.ReadNets.{reads-nets, outputs-nets}
 use Rattle.blif_model.proofs.Fits.{ActFits, StepsFit}
 
@@ -96,51 +97,39 @@ module _ (steps : List Step) (once : two_drivers steps ≡ None) (driven : undri
   unfolding drives_of input_names_of table_names_of latch_names_of
   drive_count name = times-drives name steps steps
 
-  visit_found : (names : List Visit) (name : Name) → has_visit names name ≡ is_one_of (map (λ (v : Visit). v.name) names) name
-  visit_found [] name = refl
-  visit_found (v ∷ vs) name = rw (bytes_eq-sym v.name name) (ap (λ b. bytes_eq name v.name || b) (visit_found vs name))
-
   none_among : (p : Name → Bool) (ds : List Visit) (name : Name) → list_any (λ (d : Visit). p d.name) ds ≡ false → is_one_of (map (λ (d : Visit). d.name) ds) name ≡ true → p name ≡ false
   none_among p [] name e f = cc
   none_among p (d ∷ ds) name e f =
       let parts = or_false (p d.name) (list_any (λ (x : Visit). p x.name) ds) e in
       elim (or_cases (bytes_eq name d.name) _ f) [ inl same ↦ ap p (same_name name d.name same) ∙ parts.0 | inr there ↦ none_among p ds name parts.1 there ]
 
-  -- a name is driven once at most
-  at_most : (name : Name) → drives ins tabs lats name ≤ 1
-  at_most name = let h = times-once name drive_names (drives-once steps once).apart in let e = drive_count name in omega arith
-
-  -- a net is driven
-  at_least : (name : Name) → is_one_of nets name ≡ true → 1 ≤ drives ins tabs lats name
-  at_least name e =
-      let h = times-found name drive_names (sym (visit_found (drives_of steps) name) ∙ nets-driven steps driven name e) in
-      let f = drive_count name in omega arith
-
-  -- and a driven name is a net
-  is_driven_net : (name : Name) → 1 ≤ drives ins tabs lats name → is_one_of nets name ≡ true
+  -- a driven name is a net
+  driven_net : (name : Name) → is_one_of drive_names name ≡ true → is_one_of nets name ≡ true
   unfolding nets_of
-  is_driven_net name h =
-      let e = drive_count name in
-      let there : is_one_of drive_names name ≡ true = times-there name drive_names (omega arith) in
+  driven_net name there =
       let clock : is_clock steps name ≡ false = none_among (is_clock steps) (drives_of steps) name (drives-once steps once).clock there in
       nets-found steps (map (λ (v : Visit). v.name) (visits_of steps)) name ∙ rw (clock, drives-visited steps name there) refl
 
   -- EACH NET OF THE WALK is driven once
   pub walk-driven : IsDrivenOnce nets ins tabs lats
-  walk-driven = record { apart = nets-apart steps; most = at_most; least = at_least; net = is_driven_net }
+  walk-driven =
+      driven-once nets ins tabs lats drive_names drive_count (nets-apart steps) (drives-once steps once).apart
+      (λ name e. sym (visit-found (drives_of steps) name) ∙ nets-driven steps driven name e) driven_net
 
   abbrev made : Circuit
   made = circuit_of steps
 
-  size_of_drivers : length made.drivers ≡ length nets
-  unfolding circuit_of
-  size_of_drivers = length-map nets (driver_of (drivers_of steps))
+  abbrev tables : List Table
+  tables = filter_map (λ (s : Step). table_of nets s.act) steps
+
+  abbrev latches : List Latch
+  latches = filter_map (λ (s : Step). latch_of nets s.act) steps
 
   -- the netlist of a walk
   pub netlist-sound : clock_read steps ≡ None → StepsFit steps → length (nets_of steps) ≤ 2 ^ 18 → IsNetlist made
   unfolding circuit_of drivers_of output_names_of table_names_of latch_names_of
   netlist-sound unread fit small =
-      netlist-of-names nets ins tabs lats (output_names_of steps) (filter_map (λ (s : Step). table_of nets s.act) steps) (filter_map (λ (s : Step). latch_of nets s.act) steps)
-      walk-driven (beside nets steps) small
-      (tables_fit nets made size_of_drivers steps (reads-nets steps unread) fit) (sources_fit nets made size_of_drivers steps (reads-nets steps unread))
+      let size : length made.drivers ≡ length nets = size-of-drivers nets ins tabs lats (output_names_of steps) tables latches walk-driven (beside nets steps) in
+      netlist-of-names nets ins tabs lats (output_names_of steps) tables latches walk-driven (beside nets steps) small
+      (tables_fit nets made size steps (reads-nets steps unread) fit) (sources_fit nets made size steps (reads-nets steps unread))
       (distinct-apart (flat_map (λ (s : Step). outputs_at s.act) steps)) (λ name e. outputs-nets steps unread name e)

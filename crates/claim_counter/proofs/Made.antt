@@ -2,7 +2,7 @@
 use Rattle.std.proofs.Common.{◌≡◌, ℕ, suc, ◌+◌, ◌-◌, ◌^◌, ◌%◌, ◌<◌, ◌≤◌, ◌≢◌, ◌==◌, ◌&&◌, Bool, true, false, not, cond, List, [], ◌∷◌, ◌++◌, length, replicate, set, sym, refl, ap, ◌∙◌, subst, arith, ◌⊎◌, nat_lt, min, Option, Some, None, slice_index}
 use Rattle.std.proofs.lemmas.List.{set-get_or}
 use Rattle.std.proofs.lemmas.Bool.Decides.{nat_tests}
-use Rattle.std.proofs.lemmas.Bool.{false≢true}
+use Rattle.std.proofs.lemmas.Bool.{false≢true, lt-ltb}
 use mathlib.Core.Option.{some}
 use lib.ListN.{get_elem?}
 use Rattle.atomic_table.specs.Table.{State, opening, stepped, gives}
@@ -23,7 +23,7 @@ use Rattle.claim_counter.proofs.Gives.{give_rule, is_two}
 use Rattle.claim_counter.proofs.Splits.{splits}
 use Rattle.claim_counter.proofs.Joins.{joins}
 use Rattle.claim_counter.proofs.Opening.{starts, first_only, fresh_found, open_rule}
-use Rattle.claim_counter.proofs.Showing.{shows_of, next_shown, history_shown, failed_shown, claims_shown, claimed_same, claimed_more, claimed_cut, claimed_join, history_zero, history_words, any_counted, none_counted}
+use Rattle.claim_counter.proofs.Showing.{shows_of, next_shown, history_shown, failed_shown, claims_shown, claimed_same, claimed_more, claimed_cut, claimed_join, history_zero, history_words, any_counts}
 
 min_lt : (x y : ℕ) → nat_lt (min x y) y ≡ nat_lt x y
 min_lt x y = grind (arith, nat_tests)
@@ -122,9 +122,9 @@ module _ {V : Type 0} (list : V → List ℕ) (failed : V → Bool) (todo id : �
         let o = out_held failed h.turn s.homes s.views id v h.turn_rule at holds in
         let turn : h.turn ≡ 1 = (o.holds id v at holds).1 ∙ ap (λ (b : Bool). cond b 3 1) fine in
         let isnt : m.failed ≡ false = failed_is ∙ ap (nat_lt 1) turn in
-        let claimed : is_claimed id d m.claims ≡ true = any_counted (λ (c : ℕ × ℕ). (c.0 == id) && (c.1 == d)) m.claims (let a = shows.claims id v at d in omega arith) in
+        let claimed : is_claimed id d m.claims ≡ true = any_counts (λ (c : ℕ × ℕ). (c.0 == id) && (c.1 == d)) m.claims ∙ lt-ltb 0 (times_claimed_by id d m.claims) (let a = shows.claims id v at d in omega arith) in
         let own : times d m.history ≡ 0 = ap (times d) history_is ∙ (history_own list todo h.counter h.tail h.history s.homes s.views h.claims_rule h.history_rule id v at d some_claim ∙ not_posted) in
-        let new : is_posted d m.history ≡ false = none_counted (λ (y : ℕ). y == d) m.history own in
+        let new : is_posted d m.history ≡ false = any_counts (λ (y : ℕ). y == d) m.history ∙ ap (nat_lt 0) own in
         ap (λ (p : Bool × Bool × Bool). p.0 && not p.1 && not p.2) (λ i. (claimed i, new i, isnt i))
 
     shows_note : Shows todo (after_note s id v d) (after m (Post id d))

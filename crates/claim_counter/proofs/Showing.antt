@@ -1,5 +1,5 @@
 -- What the table shows of the pure machine, after a step of each kind.
-use Rattle.std.proofs.Common.{◌≡◌, ℕ, zero, suc, ◌+◌, ◌-◌, ◌<◌, ◌≤◌, ◌≢◌, ◌==◌, ◌&&◌, ◌||◌, Bool, true, false, cond, List, [], ◌∷◌, ◌++◌, length, map, replicate, drop, set, sym, refl, ap, ◌∙◌, subst, arith, ◌⊎◌, inl, inr, ⊎_elim, nat_lt, min, slice_index, length-append}
+use Rattle.std.proofs.Common.{◌≡◌, ℕ, zero, suc, ◌+◌, ◌-◌, ◌<◌, ◌≤◌, ◌≢◌, ◌==◌, ◌&&◌, ◌||◌, Bool, true, false, cond, List, [], ◌∷◌, ◌++◌, length, map, replicate, drop, set, sym, refl, ap, ◌∙◌, subst, arith, ◌⊎◌, inl, inr, ⊎_elim, nat_lt, min, slice_index, length-append, zero-add}
 use Rattle.std.specs.List.{list_any, count_by}
 use Rattle.std.proofs.lemmas.List.{length-set}
 use Rattle.std.proofs.lemmas.List.Sums.{sum_by-cons, sum_by_push}
@@ -40,25 +40,19 @@ history_words (x ∷ hs) k =
     let back : x + 1 - 1 ≡ x = omega arith in
     ap (λ (p : Bool × ℕ × List ℕ). cond p.0 (p.1 ∷ p.2) p.2) (λ i. (some_ i, back i, history_words hs k i))
 
--- a list with an element that passes
-pub any_counted : {A : Type 0} (p : A → Bool) (xs : List A) → 0 < count_by p xs → list_any p xs ≡ true
-any_counted p [] h = absurd (omega arith)
-any_counted p (x ∷ xs) h =
-    let go : (b : Bool) → p x ≡ b → list_any p (x ∷ xs) ≡ true = λ b. elim b as (λ b. p x ≡ b → list_any p (x ∷ xs) ≡ true) [
-      | true ↦ λ is. ap (λ (b : Bool). b || list_any p xs) is
-      | false ↦ λ is. let zero_here : cond {A = ℕ} (p x) 1 0 ≡ 0 = ap (λ (b : Bool). cond b 1 0) is in ap (λ (b : Bool). b || list_any p xs) is ∙ any_counted p xs (omega (arith, sum_by-cons (λ y. cond (p y) 1 0) x xs))
-    ] in
-    go (p x) refl
-
--- a list with none that passes
-pub none_counted : {A : Type 0} (p : A → Bool) (xs : List A) → count_by p xs ≡ 0 → list_any p xs ≡ false
-none_counted p [] h = refl
-none_counted p (x ∷ xs) h =
-    let go : (b : Bool) → p x ≡ b → list_any p (x ∷ xs) ≡ false = λ b. elim b as (λ b. p x ≡ b → list_any p (x ∷ xs) ≡ false) [
-      | true ↦ λ is. absurd (let one : cond {A = ℕ} (p x) 1 0 ≡ 1 = ap (λ (b : Bool). cond b 1 0) is in omega (arith, sum_by-cons (λ y. cond (p y) 1 0) x xs))
-      | false ↦ λ is. ap (λ (b : Bool). b || list_any p xs) is ∙ none_counted p xs (omega (arith, sum_by-cons (λ y. cond (p y) 1 0) x xs))
-    ] in
-    go (p x) refl
+-- an element passes exactly where some of them are counted
+pub any_counts : {A : Type 0} (p : A → Bool) (xs : List A) → list_any p xs ≡ nat_lt 0 (count_by p xs)
+any_counts p [] = refl
+any_counts p (x ∷ xs) = by_cases (p x) refl (any_counts p xs)
+  where
+    by_cases : (b : Bool) → p x ≡ b → list_any p xs ≡ nat_lt 0 (count_by p xs) → list_any p (x ∷ xs) ≡ nat_lt 0 (count_by p (x ∷ xs))
+    by_cases true is more =
+        let some : count_by p (x ∷ xs) ≡ 1 + count_by p xs = sum_by-cons (λ y. cond (p y) 1 0) x xs ∙ ap (λ (b : Bool). cond b 1 0 + count_by p xs) is in
+        let there : nat_lt 0 (count_by p (x ∷ xs)) ≡ true = grind (arith, nat_tests, some) in
+        ap (λ (b : Bool). b || list_any p xs) is ∙ sym there
+    by_cases false is more =
+        let same : count_by p (x ∷ xs) ≡ count_by p xs = sum_by-cons (λ y. cond (p y) 1 0) x xs ∙ ap (λ (b : Bool). cond b 1 0 + count_by p xs) is ∙ zero-add (count_by p xs) in
+        ap (λ (b : Bool). b || list_any p xs) is ∙ more ∙ ap (nat_lt 0) (sym same)
 
 -- the views show these claims
 pub record Claimed (views : List View) (claims : List (ℕ × ℕ)) : Type 0 where

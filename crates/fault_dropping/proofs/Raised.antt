@@ -4,14 +4,9 @@ use Rattle.std.proofs.lemmas.Bool.{cases_lt, true≢false}
 use Rattle.fm_base.specs.Lists.{some_below}
 use Rattle.fm_base.proofs.Below.{some_below-at}
 use Rattle.alarm_points.specs.Interval.{GoesUnalarmed, goes_unalarmed}
+use Rattle.alarm_points.proofs.Settled.{same_test}
 use Rattle.alarm_points.proofs.Unalarmed.{goes_unalarmed-of, goes_unalarmed-says}
 use Rattle.fault_dropping.specs.Dropped.{AreRaisedAt}
-
--- two bits each of which is true where the other is
-same_bits : (a b : Bool) → (a ≡ true → b ≡ true) → (b ≡ true → a ≡ true) → a ≡ b
-same_bits true b to from = sym (to refl)
-same_bits false true to from = from refl
-same_bits false false to from = refl
 
 -- the run as it is seen from the other side
 turned : (u cycles : ℕ) (d r e s : ℕ → Bool) → AreRaisedAt u cycles d r e s → AreRaisedAt u cycles e s d r
@@ -39,7 +34,7 @@ unmet ftti u cycles d r e s both w = record {
 pub goes_unalarmed-dropped : (ftti u cycles : ℕ) (d r e s : ℕ → Bool) → AreRaisedAt u cycles d r e s
     → goes_unalarmed ftti cycles d r ≡ goes_unalarmed ftti cycles e s
 goes_unalarmed-dropped ftti u cycles d r e s both =
-    same_bits (goes_unalarmed ftti cycles d r) (goes_unalarmed ftti cycles e s)
+    same_test (goes_unalarmed ftti cycles d r) (goes_unalarmed ftti cycles e s)
     (λ is. goes_unalarmed-of ftti cycles e s (unmet ftti u cycles d r e s both (goes_unalarmed-says ftti cycles d r is)))
     (λ is. goes_unalarmed-of ftti cycles d r (unmet ftti u cycles e s d r (turned u cycles d r e s both) (goes_unalarmed-says ftti cycles e s is)))
 

@@ -4,15 +4,26 @@ use Rattle.std.specs.Prelude.{Some}
 use Rattle.std.specs.List.{slice_get}
 use Rattle.circuit.specs.declared.parts.Driver.{Driver}
 use Rattle.circuit.specs.declared.parts.Driver.TheVariants.{Input, Table as FromTable, Latch as FromLatch}
-use Rattle.fm_base.specs.Names.{Name, is_one_of}
+use Rattle.fm_base.specs.Names.{Name, is_one_of, has_repeat}
 use Rattle.net_names.specs.Nets.{driver_of}
 use Rattle.net_names.specs.Driven.{all_drivers, drives, times, IsDrivenBy, IsDrivenOnce}
 use Rattle.net_names.proofs.Driven.{driver-input, driver-table, driver-latch}
 use Rattle.net_names.proofs.Few.{no_more}
-use Rattle.net_names.proofs.Times.{at-found, found-at, once_no_repeat, times-found, times-none, times-there}
+use Rattle.net_names.proofs.Times.{at-found, found-at, once_no_repeat, times-found, times-none, times-once, times-there}
 
 some_same : (a b : Name) → Some a ≡ Some b → a ≡ b
 some_same a b e = cc
+
+-- where the names that are driven, by whatever, differ and are the nets, each net is driven once
+pub driven-once : (nets inputs tables latches driven : List Name) → ((name : Name) → times name driven ≡ drives inputs tables latches name)
+    → has_repeat nets ≡ false → has_repeat driven ≡ false → ((name : Name) → is_one_of nets name ≡ true → is_one_of driven name ≡ true)
+    → ((name : Name) → is_one_of driven name ≡ true → is_one_of nets name ≡ true) → IsDrivenOnce nets inputs tables latches
+driven-once nets inputs tables latches driven count apart once there net = record {
+  apart = apart;
+  most = λ name. let h = times-once name driven once in let e = count name in omega arith;
+  least = λ name is. let h = times-found name driven (there name is) in let e = count name in omega arith;
+  net = λ name h. let e = count name in net name (times-there name driven (omega arith));
+}
 
 module _ (nets inputs tables latches : List Name) (once : IsDrivenOnce nets inputs tables latches) where
   -- what is driven is a net
