@@ -1,15 +1,14 @@
 -- The netlist of a `.bench` file is one: each net has one driver and is the net of it, and all numbers are in range.
-use Rattle.std.proofs.Common.{◌≡◌, ◌≤◌, ◌^◌, true, false, ◌||◌, List, [], ◌∷◌, refl, subst, length, arith}
+use Rattle.std.proofs.Common.{◌≡◌, ◌≤◌, ◌^◌, true, ◌||◌, List, [], ◌∷◌, refl, subst, length, arith}
 use Rattle.std.specs.Prelude.{map, flat_map, filter_map, Option, Some, None, Ok, sum_by, nat_lt}
 use Rattle.std.specs.List.{AllByRecursion, cons_option, list_all}
 use Rattle.std.specs.Option.{option_or}
-use Rattle.std.proofs.lemmas.List.{length-map}
 use Rattle.std.proofs.lemmas.Bool.{ltb-false}
 use Rattle.circuit.specs.declared.parts.Latch.{Latch}
 use Rattle.circuit.specs.declared.parts.Table.{Table}
 use Rattle.circuit.specs.Circuit.{Circuit}
 use Rattle.circuit.specs.Sound.{IsNet, IsTable, IsNetlist}
-use Rattle.fm_base.specs.Names.{Bytes, Name, is_one_of, has_repeat}
+use Rattle.fm_base.specs.Names.{Bytes, Name, is_one_of}
 use Rattle.fm_base.proofs.Tests.{or_false, and_both}
 use Rattle.fm_base.proofs.Distinct.{distinct-apart}
 use Rattle.net_names.specs.Nets.{net_id}
