@@ -4,3 +4,4 @@ pub mod Forcing
 pub mod Walking
 pub mod Begun
 pub mod Stepped
+pub mod Dropping

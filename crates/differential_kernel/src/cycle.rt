@@ -4,7 +4,7 @@ ghost use Rattle.circuit.specs.Order.{IsOrder};
 ghost use Rattle.circuit.specs.Sound.{IsNetlist};
 ghost use Rattle.circuit.specs.Value.{Cycle, bit_at, net_value};
 ghost use Rattle.lane_kernel.specs.Bits.{either};
-ghost use Rattle.lane_kernel.specs.Gates.{latch_at, plane};
+ghost use Rattle.lane_kernel.specs.Gates.{AreOps, IsProgram, latch_at, plane};
 ghost use Rattle.differential_kernel.specs.Differences.{AreSameOff};
 ghost use Rattle.differential_kernel.specs.Forces.{AreIdleOff};
 ghost use Rattle.differential_kernel.specs.Places.{ArePlaces};
@@ -18,6 +18,7 @@ use circuit::netlist::Netlist;
 use circuit::parts::NetId;
 use fanout::Fanout;
 use fm_base::Steps;
+use lane_kernel::gate::{Gate, Masks};
 use place_set::PlaceSet;
 use std::sync::ledger::Ledger;
 
@@ -27,6 +28,8 @@ pub fn run<W: LaneWord, L: Ledger>(
     netlist: &Netlist,
     order: &[NetId],
     places: &[Option<u32>],
+    gates: &[Gate],
+    ops: &[Masks<W>],
     named: &PlaceSet,
     row: &[u64],
     forces: &[Force<W>],
@@ -41,6 +44,8 @@ pub fn run<W: LaneWord, L: Ledger>(
     requires order { IsOrder netlist.now order.now }
     requires fanout { fanout.now ≡ record { circuit = netlist.now; order = order.now } }
     requires places { ArePlaces netlist.now order.now places.now }
+    requires program { IsProgram netlist.now order.now gates.now }
+    requires ops { AreOps W.lanes W.lane_bit ops.now }
     requires named { named.now.bound ≡ length netlist.now.drivers }
     requires forces { length forces.now ≡ length netlist.now.drivers }
     requires idle { AreIdleOff W.lanes W.lane_bit named.now forces.now }
@@ -68,7 +73,7 @@ pub fn run<W: LaneWord, L: Ledger>(
     take_live(netlist, fanout, raw, live, words, touched, marks);
     force_all(named, places, row, forces, fanout, words, touched, marks);
     walk(
-        netlist, order, row, forces, fanout, words, touched, marks, steps,
+        netlist, order, gates, ops, named, row, forces, fanout, words, touched, marks, steps,
     );
     take_latches(netlist, order.len(), words, raw, live, marks);
 }

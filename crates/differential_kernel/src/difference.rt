@@ -7,7 +7,7 @@ ghost use Rattle.lane_kernel.specs.Gates.{plane};
 ghost use Rattle.place_set.specs.Places.{has, value_in};
 ghost use Rattle.differential_kernel.specs.declared.force.Force.{Force as ForceValue};
 ghost use Rattle.differential_kernel.specs.Differences.{Grows, IsNoted, IsSame, read_in};
-ghost use Rattle.differential_kernel.specs.Forces.{force_value};
+ghost use Rattle.differential_kernel.specs.Forces.{AreIdleOff, force_value};
 
 use crate::force::{Force, forced_word};
 use crate::lane_word::LaneWord;
@@ -61,6 +61,26 @@ pub fn forced_difference<W: Word>(row: &[u64], forces: &[Force<W>], net: u32, ow
         → W.lane_bit result k ≡ either (force_value W.lane_bit k (slice_index_or forces.now net d) (W.lane_bit own k)) (value_in row.now net) }
 {
     forced_word(&forces[net as usize], own).xor(golden_word(row, net))
+}
+
+/// The same, where the forces of the nets outside a set leave each net as it is; of these no force is read.
+pub fn named_difference<W: Word>(
+    named: &PlaceSet,
+    row: &[u64],
+    forces: &[Force<W>],
+    net: u32,
+    own: W,
+) -> W
+    requires net { net < length forces.now }
+    requires idle { AreIdleOff W.lanes W.lane_bit named.now forces.now }
+    ensures { (k : ℕ) (d : ForceValue W) → k < W.lanes
+        → W.lane_bit result k ≡ either (force_value W.lane_bit k (slice_index_or forces.now net d) (W.lane_bit own k)) (value_in row.now net) }
+{
+    if named.has(net as usize) {
+        forced_difference(row, forces, net, own)
+    } else {
+        own.xor(golden_word(row, net))
+    }
 }
 
 fn mark_all(places: &[u32], marks: &mut PlaceSet)

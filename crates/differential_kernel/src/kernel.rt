@@ -1,17 +1,19 @@
 // As many faulty circuits as a word has bits, beside the golden run, cycle by cycle.
-ghost use Rattle.std.specs.Prelude.{◌≡◌, ◌<◌, ◌≤◌, ◌+◌, ◌⊎◌, ◌++◌, ◌∷◌, [], ℕ, Bool, List, Option, IfOk, length, slice_index_or};
+ghost use Rattle.std.specs.Prelude.{◌≡◌, ◌<◌, ◌≤◌, ◌+◌, ◌⊎◌, ◌++◌, ◌∷◌, [], ℕ, Bool, true, false, List, Option, IfOk, length, slice_index_or};
 ghost use Rattle.circuit.specs.declared.parts.Fault.{Fault as FaultValue};
 ghost use Rattle.circuit.specs.Order.{IsOrder};
 ghost use Rattle.circuit.specs.Sound.{IsNetlist};
 ghost use Rattle.circuit.specs.Value.{bit_at};
 ghost use Rattle.golden_difference.specs.Beside.{AreBeside, IsGoldenRow};
-ghost use Rattle.lane_kernel.specs.Bank.{IsMadeFor, KeepsLoads};
+ghost use Rattle.golden_difference.specs.Lanes.{IsMadeFor, KeepsLoads};
 ghost use Rattle.lane_kernel.specs.Gates.{plane};
+ghost use Rattle.lane_kernel.specs.Loads.{faults_of};
 ghost use Rattle.differential_kernel.specs.Differences.{read_in};
-ghost use Rattle.differential_kernel.specs.Kernel.{IsKernel, bank_of};
+ghost use Rattle.differential_kernel.specs.Kernel.{IsKernel, bank_of, lanes_of};
 ghost use Rattle.differential_kernel.specs.Places.{ArePlaces};
 
 use crate::arm::{is_some_transient, place};
+use crate::drop::{keep_lanes, unload};
 use crate::cycle::run;
 use crate::difference::{same_words, value_word, word_at};
 use crate::flip::flip;
@@ -23,7 +25,8 @@ use circuit::netlist::Netlist;
 use circuit::parts::{Fault, NetId};
 use fanout::Fanout;
 use fm_base::Steps;
-use lane_kernel::Word;
+use lane_kernel::gate::{Gate, Masks};
+use lane_kernel::program::{make_gates, make_ops};
 use netlist_levels::Order;
 use place_set::PlaceSet;
 use std::alloc::{AllocError, Global};
@@ -37,7 +40,14 @@ pub struct Kernel<W> {
     order: Snapshot<Order>,
     // The place of each net's table.
     places: Vec<Option<u32>>,
+    // The table of each place in the order.
+    gates: Vec<Gate>,
+    ops: Vec<Masks<W>>,
     loads: Vec<[Option<Fault>; 2]>,
+    // The faults that are in force: none in lanes that were dropped.
+    in_force: Vec<[Option<Fault>; 2]>,
+    // Whether all that was loaded is in force.
+    whole: bool,
     transient: bool,
     // Whether the nets of the faults are in `named`.
     noted: bool,
@@ -76,13 +86,16 @@ impl<W: LaneWord> Kernel<W> {
     pub fn new(alloc: Global, netlist: &Netlist, order: &Order) -> Result<Self, AllocError>
         requires { IsOrder netlist.now order.now }
         ensures kernel { IfOk result (λ s. IsKernel W.lanes W.lane_bit s) }
-        ensures made { IfOk result (λ s. IsMadeFor netlist.now order.now (bank_of s)) }
+        ensures made { IfOk result (λ s. IsMadeFor netlist.now order.now (lanes_of s)) }
     {
         let nets = netlist.nets();
         let latches = netlist.latches().len();
         let tables = order.nets().len();
         let places = places_of(alloc, netlist, order.nets())?;
+        let gates = make_gates(alloc, netlist, order.nets())?;
+        let ops = make_ops(alloc)?;
         let loads = vec![in alloc; [None, None]; W::count() as usize]?;
+        let in_force = vec![in alloc; [None, None]; W::count() as usize]?;
         let named = PlaceSet::new(alloc, nets as u32)?;
         let forces = idle_forces(alloc, nets)?;
         let raw = same_words(alloc, latches)?;
@@ -90,12 +103,16 @@ impl<W: LaneWord> Kernel<W> {
         let words = same_words(alloc, nets)?;
         let touched = PlaceSet::new(alloc, nets as u32)?;
         let marks = PlaceSet::new(alloc, (tables + latches) as u32)?;
-        let transient = is_some_transient(&loads);
+        let transient = is_some_transient(&in_force);
         Ok(Kernel {
             circuit: Snapshot::of(netlist),
             order: Snapshot::of(order),
             places,
+            gates,
+            ops,
             loads,
+            in_force,
+            whole: false,
             transient,
             noted: false,
             named,
@@ -115,27 +132,63 @@ impl<W: LaneWord> Kernel<W> {
         requires kernel { IsKernel W.lanes W.lane_bit self.old }
         requires lanes { from + length faults.now ≤ W.lanes }
         ensures kernel { IsKernel W.lanes W.lane_bit self.new }
-        ensures made { IsMadeFor self.old.circuit.value self.old.order.value (bank_of self.new) }
+        ensures made { IsMadeFor self.old.circuit.value self.old.order.value (lanes_of self.new) }
         ensures placed { (k : ℕ) (d : List (Option FaultValue)) → k < length faults.now
             → slice_index_or self.new.loads.items (from + k) d ≡ slice_index_or faults.now k d }
         ensures others { (j : ℕ) (d : List (Option FaultValue)) → (j < from) ⊎ (from + length faults.now ≤ j)
             → slice_index_or self.new.loads.items j d ≡ slice_index_or self.old.loads.items j d }
     {
         place(&mut self.loads, from, faults);
-        self.transient = is_some_transient(&self.loads);
-        self.noted = false;
+        self.whole = false;
+    }
+
+    // Puts all that was loaded in force.
+    fn take_loads(&mut self)
+        requires { IsKernel W.lanes W.lane_bit self.old }
+        ensures kernel { IsKernel W.lanes W.lane_bit self.new }
+        ensures keeps { KeepsLoads (lanes_of self.old) (lanes_of self.new) }
+        ensures in_force { self.new.in_force.items ≡ self.new.loads.items }
+        ensures raw { self.new.raw.items ≡ self.old.raw.items }
+        ensures cycle { self.new.cycle ≡ self.old.cycle }
+    {
+        if !self.whole {
+            self.in_force.copy_from_slice(&self.loads);
+            self.transient = is_some_transient(&self.in_force);
+            self.noted = false;
+            self.whole = true;
+        }
     }
 
     /// Goes to the initial state in all lanes, where no latch differs.
     pub fn start(&mut self)
         requires { IsKernel W.lanes W.lane_bit self.old }
         ensures kernel { IsKernel W.lanes W.lane_bit self.new }
-        ensures keeps { KeepsLoads (bank_of self.old) (bank_of self.new) }
+        ensures keeps { KeepsLoads (lanes_of self.old) (lanes_of self.new) }
+        ensures in_force { self.new.in_force.items ≡ self.new.loads.items }
         ensures cycle { self.new.cycle ≡ 0 }
         ensures start { AreBeside W.lanes W.lane_bit [] (bank_of self.new) }
     {
+        self.take_loads();
         clear(&mut self.live, &mut self.raw);
         self.cycle = 0;
+    }
+
+    /// Drops the lanes whose bit is set: until the next start none of their faults is in force, and nothing differs in them.
+    pub fn drop_lanes(&mut self, out: W)
+        requires { IsKernel W.lanes W.lane_bit self.old }
+        ensures kernel { IsKernel W.lanes W.lane_bit self.new }
+        ensures keeps { KeepsLoads (lanes_of self.old) (lanes_of self.new) }
+        ensures cycle { self.new.cycle ≡ self.old.cycle }
+        ensures dropped { (k : ℕ) → k < W.lanes → W.lane_bit out k ≡ true → faults_of self.new.in_force.items k ≡ [] }
+        ensures others { (k : ℕ) → k < W.lanes → W.lane_bit out k ≡ false → faults_of self.new.in_force.items k ≡ faults_of self.old.in_force.items k }
+        ensures beside { (vectors : List (List Bool)) → AreBeside W.lanes W.lane_bit vectors (bank_of self.old) → AreBeside W.lanes W.lane_bit vectors (bank_of self.new) }
+    {
+        unload(out, &mut self.in_force);
+        keep_lanes(out, &self.live, &mut self.raw);
+        keep_lanes(out, &self.touched, &mut self.words);
+        self.transient = is_some_transient(&self.in_force);
+        self.noted = false;
+        self.whole = false;
     }
 
     /// Runs the next cycle in all lanes. `row` has the golden value of each net in this cycle.
@@ -148,11 +201,12 @@ impl<W: LaneWord> Kernel<W> {
         steps: &mut Steps<L>,
     )
         requires kernel { IsKernel W.lanes W.lane_bit self.old }
-        requires made { IsMadeFor netlist.now order.now (bank_of self.old) }
+        requires made { IsMadeFor netlist.now order.now (lanes_of self.old) }
         requires fanout { fanout.now ≡ record { circuit = netlist.now; order = order.now } }
         requires few { self.old.cycle < 65536 }
         ensures kernel { IsKernel W.lanes W.lane_bit self.new }
-        ensures keeps { KeepsLoads (bank_of self.old) (bank_of self.new) }
+        ensures keeps { KeepsLoads (lanes_of self.old) (lanes_of self.new) }
+        ensures in_force { self.new.in_force.items ≡ self.old.in_force.items }
         ensures cycle { self.new.cycle ≡ self.old.cycle + 1 }
         ensures step { (vectors : List (List Bool)) (inputs : List Bool) → AreBeside W.lanes W.lane_bit vectors (bank_of self.old)
             → IsGoldenRow netlist.now (vectors ++ inputs ∷ []) (length vectors) row.now
@@ -160,7 +214,7 @@ impl<W: LaneWord> Kernel<W> {
         ensures cost { steps.new ≤ steps.old + length netlist.now.tables }
     {
         self.stale = prepare(
-            &self.loads,
+            &self.in_force,
             self.transient,
             self.noted,
             self.stale,
@@ -170,7 +224,7 @@ impl<W: LaneWord> Kernel<W> {
         );
         self.noted = true;
         flip(
-            &self.loads,
+            &self.in_force,
             self.transient,
             self.cycle,
             &mut self.raw,
@@ -180,6 +234,8 @@ impl<W: LaneWord> Kernel<W> {
             netlist,
             order.nets(),
             &self.places,
+            &self.gates,
+            &self.ops,
             &self.named,
             row,
             &self.forces,

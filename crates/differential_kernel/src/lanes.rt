@@ -1,10 +1,10 @@
 // 64 lanes in one word, and 256 in four, beside the golden run.
-ghost use Rattle.std.specs.Prelude.{◌≡◌, ◌<◌, ◌≤◌, ◌+◌, ◌*◌, ◌⊎◌, ◌++◌, ◌∷◌, [], ℕ, Bool, List, IfOk, length};
+ghost use Rattle.std.specs.Prelude.{◌≡◌, ◌≢◌, ◌<◌, ◌≤◌, ◌+◌, ◌*◌, ◌⊎◌, ◌++◌, ◌∷◌, [], ℕ, Bool, true, false, List, IfOk, length};
 ghost use Rattle.circuit.specs.Order.{IsOrder};
 ghost use Rattle.circuit.specs.Trace.{trace};
 ghost use Rattle.fm_base.specs.Planes.{bit};
 ghost use Rattle.golden_difference.specs.Beside.{AreBeside, IsGoldenRow, trace_differs};
-ghost use Rattle.lane_kernel.specs.Bank.{IsMadeFor, KeepsLoads};
+ghost use Rattle.golden_difference.specs.Lanes.{IsMadeFor, KeepsLoads, bank_of};
 ghost use Rattle.lane_kernel.specs.Bits.{quad_bit};
 ghost use Rattle.lane_kernel.specs.Loads.{faults_of};
 
@@ -29,12 +29,12 @@ pub struct DifferentialLanes {
 impl Model for DifferentialLanes {
     ghost use Rattle.std.specs.Prelude.{ℕ};
     ghost use Rattle.fm_base.specs.Planes.{bit};
-    ghost use Rattle.lane_kernel.specs.Bank.{Bank};
-    ghost use Rattle.differential_kernel.specs.Kernel.{IsKernel, bank_of};
+    ghost use Rattle.golden_difference.specs.Lanes.{Lanes};
+    ghost use Rattle.differential_kernel.specs.Kernel.{IsKernel, lanes_of};
 
-    ghost Value = { Bank ℕ };
+    ghost Value = { Lanes ℕ };
 
-    ghost view = { λ s. bank_of s.kernel };
+    ghost view = { λ s. lanes_of s.kernel };
 
     ghost invariant = { λ s. IsKernel 64 bit s.kernel };
 }
@@ -60,11 +60,24 @@ impl DifferentialLanes {
     /// Goes to the initial state in all lanes, before the cycle of number 0.
     pub fn start(&mut self)
         ensures keeps { KeepsLoads self.old self.new }
+        // All that was loaded is in force.
+        ensures in_force { self.new.in_force ≡ self.new.loads }
         ensures cycle { self.new.cycle ≡ 0 }
         // No cycle was simulated yet.
-        ensures start { AreBeside 64 bit [] self.new }
+        ensures start { AreBeside 64 bit [] (bank_of self.new) }
     {
         self.kernel.start();
+    }
+
+    /// Drops the lanes whose bit is set: until the next start none of their faults is in force, and nothing differs in them.
+    pub fn drop_lanes(&mut self, out: u64)
+        ensures keeps { KeepsLoads self.old self.new }
+        ensures cycle { self.new.cycle ≡ self.old.cycle }
+        ensures dropped { (k : ℕ) → k < 64 → bit out k ≡ true → faults_of self.new.in_force k ≡ [] }
+        ensures others { (k : ℕ) → k < 64 → bit out k ≡ false → faults_of self.new.in_force k ≡ faults_of self.old.in_force k }
+        ensures beside { (vectors : List (List Bool)) → AreBeside 64 bit vectors (bank_of self.old) → AreBeside 64 bit vectors (bank_of self.new) }
+    {
+        self.kernel.drop_lanes(out);
     }
 
     /// Simulates the next cycle in all lanes, where `row` has the golden value of each net in this cycle. There can be 65,536
@@ -81,10 +94,11 @@ impl DifferentialLanes {
         requires fanout { fanout.now ≡ record { circuit = netlist.now; order = order.now } }
         requires few { self.old.cycle < 65536 }
         ensures keeps { KeepsLoads self.old self.new }
+        ensures in_force { self.new.in_force ≡ self.old.in_force }
         ensures cycle { self.new.cycle ≡ self.old.cycle + 1 }
-        // After cycles with some vectors, each lane is after those and this one, with its own faults alone.
-        ensures step { (vectors : List (List Bool)) (inputs : List Bool) → AreBeside 64 bit vectors self.old
-            → IsGoldenRow netlist.now (vectors ++ inputs ∷ []) (length vectors) row.now → AreBeside 64 bit (vectors ++ inputs ∷ []) self.new }
+        // After cycles with some vectors, each lane is after those and this one, with its own faults in force alone.
+        ensures step { (vectors : List (List Bool)) (inputs : List Bool) → AreBeside 64 bit vectors (bank_of self.old)
+            → IsGoldenRow netlist.now (vectors ++ inputs ∷ []) (length vectors) row.now → AreBeside 64 bit (vectors ++ inputs ∷ []) (bank_of self.new) }
         // At most one step for each table.
         ensures cost { steps.new ≤ steps.old + length netlist.now.tables }
     {
@@ -93,19 +107,19 @@ impl DifferentialLanes {
 
     /// The value of a net in the cycle that was simulated last, in each lane, where `row` has the golden values of that cycle.
     pub fn net(&self, net: NetId, row: &[u64]) -> u64
-        // After cycles with these vectors, t being the last: bit k is the net's trace under the faults of lane k alone.
-        ensures { (vectors : List (List Bool)) (t k : ℕ) → AreBeside 64 bit vectors self.now → IsGoldenRow self.now.circuit vectors t row.now
+        // After cycles with these vectors, t being the last: bit k is the net's trace under the faults in force in lane k alone.
+        ensures { (vectors : List (List Bool)) (t k : ℕ) → AreBeside 64 bit vectors (bank_of self.now) → IsGoldenRow self.now.circuit vectors t row.now
             → t + 1 ≡ length vectors → k < 64 → net.0 < length self.now.circuit.drivers
-            → bit result k ≡ trace self.now.circuit (faults_of self.now.loads k) vectors t net.0 }
+            → bit result k ≡ trace self.now.circuit (faults_of self.now.in_force k) vectors t net.0 }
     {
         self.kernel.net(net, row)
     }
 
     /// The lanes in which a net has another value than in the golden run, in the cycle that was simulated last.
     pub fn differs(&self, net: NetId) -> u64
-        ensures { (vectors : List (List Bool)) (t k : ℕ) → AreBeside 64 bit vectors self.now → t + 1 ≡ length vectors → k < 64
+        ensures { (vectors : List (List Bool)) (t k : ℕ) → AreBeside 64 bit vectors (bank_of self.now) → t + 1 ≡ length vectors → k < 64
             → net.0 < length self.now.circuit.drivers
-            → bit result k ≡ trace_differs self.now.circuit (faults_of self.now.loads k) vectors t net.0 }
+            → bit result k ≡ trace_differs self.now.circuit (faults_of self.now.in_force k) vectors t net.0 }
     {
         self.kernel.differs(net)
     }
@@ -118,6 +132,17 @@ fn word_of(words: u64x4, at: u32) -> u64
     words.to_array()[at as usize]
 }
 
+// Four words, all 0 but one.
+fn word_in(at: u32, word: u64) -> u64x4
+    requires { at < 4 }
+    ensures own { (k : ℕ) → k < 64 → quad_bit result (at * 64 + k) ≡ bit word k }
+    ensures others { (other k : ℕ) → other < 4 → other ≢ at → k < 64 → quad_bit result (other * 64 + k) ≡ false }
+{
+    let mut words = [0; 4];
+    words[at as usize] = word;
+    u64x4::from_array(words)
+}
+
 /// The same in four words, with 64 lanes in each: lane k of a word is the lane of number 64 * word + k.
 #[derive(Drop)]
 pub struct DifferentialLanes4 {
@@ -126,13 +151,13 @@ pub struct DifferentialLanes4 {
 
 impl Model for DifferentialLanes4 {
     ghost use Rattle.std.specs.Prelude.{ℕ, List};
-    ghost use Rattle.lane_kernel.specs.Bank.{Bank};
+    ghost use Rattle.golden_difference.specs.Lanes.{Lanes};
     ghost use Rattle.lane_kernel.specs.Bits.{quad_bit};
-    ghost use Rattle.differential_kernel.specs.Kernel.{IsKernel, bank_of};
+    ghost use Rattle.differential_kernel.specs.Kernel.{IsKernel, lanes_of};
 
-    ghost Value = { Bank (List ℕ) };
+    ghost Value = { Lanes (List ℕ) };
 
-    ghost view = { λ s. bank_of s.kernel };
+    ghost view = { λ s. lanes_of s.kernel };
 
     ghost invariant = { λ s. IsKernel 256 quad_bit s.kernel };
 }
@@ -160,11 +185,27 @@ impl DifferentialLanes4 {
     /// Goes to the initial state in all lanes, before the cycle of number 0.
     pub fn start(&mut self)
         ensures keeps { KeepsLoads self.old self.new }
+        // All that was loaded is in force.
+        ensures in_force { self.new.in_force ≡ self.new.loads }
         ensures cycle { self.new.cycle ≡ 0 }
         // No cycle was simulated yet.
-        ensures start { AreBeside 256 quad_bit [] self.new }
+        ensures start { AreBeside 256 quad_bit [] (bank_of self.new) }
     {
         self.kernel.start();
+    }
+
+    /// Drops the lanes of a word whose bit is set: until the next start none of their faults is in force, and nothing differs in
+    /// them.
+    pub fn drop_lanes(&mut self, word: u32, out: u64)
+        requires { word < 4 }
+        ensures keeps { KeepsLoads self.old self.new }
+        ensures cycle { self.new.cycle ≡ self.old.cycle }
+        ensures dropped { (k : ℕ) → k < 64 → bit out k ≡ true → faults_of self.new.in_force (word * 64 + k) ≡ [] }
+        ensures others { (other k : ℕ) → other < 4 → k < 64 → (other ≢ word) ⊎ (bit out k ≡ false)
+            → faults_of self.new.in_force (other * 64 + k) ≡ faults_of self.old.in_force (other * 64 + k) }
+        ensures beside { (vectors : List (List Bool)) → AreBeside 256 quad_bit vectors (bank_of self.old) → AreBeside 256 quad_bit vectors (bank_of self.new) }
+    {
+        self.kernel.drop_lanes(word_in(word, out));
     }
 
     /// Simulates the next cycle in all lanes, where `row` has the golden value of each net in this cycle. There can be 65,536
@@ -181,10 +222,11 @@ impl DifferentialLanes4 {
         requires fanout { fanout.now ≡ record { circuit = netlist.now; order = order.now } }
         requires few { self.old.cycle < 65536 }
         ensures keeps { KeepsLoads self.old self.new }
+        ensures in_force { self.new.in_force ≡ self.old.in_force }
         ensures cycle { self.new.cycle ≡ self.old.cycle + 1 }
-        // After cycles with some vectors, each lane is after those and this one, with its own faults alone.
-        ensures step { (vectors : List (List Bool)) (inputs : List Bool) → AreBeside 256 quad_bit vectors self.old
-            → IsGoldenRow netlist.now (vectors ++ inputs ∷ []) (length vectors) row.now → AreBeside 256 quad_bit (vectors ++ inputs ∷ []) self.new }
+        // After cycles with some vectors, each lane is after those and this one, with its own faults in force alone.
+        ensures step { (vectors : List (List Bool)) (inputs : List Bool) → AreBeside 256 quad_bit vectors (bank_of self.old)
+            → IsGoldenRow netlist.now (vectors ++ inputs ∷ []) (length vectors) row.now → AreBeside 256 quad_bit (vectors ++ inputs ∷ []) (bank_of self.new) }
         // At most one step for each table, for all four words together.
         ensures cost { steps.new ≤ steps.old + length netlist.now.tables }
     {
@@ -195,10 +237,10 @@ impl DifferentialLanes4 {
     /// cycle.
     pub fn net(&self, net: NetId, word: u32, row: &[u64]) -> u64
         requires { word < 4 }
-        // After cycles with these vectors, t being the last: bit k is the net's trace under the faults of lane k of the word alone.
-        ensures { (vectors : List (List Bool)) (t k : ℕ) → AreBeside 256 quad_bit vectors self.now → IsGoldenRow self.now.circuit vectors t row.now
+        // After cycles with these vectors, t being the last: bit k is the net's trace under the faults in force in lane k of the word alone.
+        ensures { (vectors : List (List Bool)) (t k : ℕ) → AreBeside 256 quad_bit vectors (bank_of self.now) → IsGoldenRow self.now.circuit vectors t row.now
             → t + 1 ≡ length vectors → k < 64 → net.0 < length self.now.circuit.drivers
-            → bit result k ≡ trace self.now.circuit (faults_of self.now.loads (word * 64 + k)) vectors t net.0 }
+            → bit result k ≡ trace self.now.circuit (faults_of self.now.in_force (word * 64 + k)) vectors t net.0 }
     {
         word_of(self.kernel.net(net, row), word)
     }
@@ -206,9 +248,9 @@ impl DifferentialLanes4 {
     /// The lanes of a word in which a net has another value than in the golden run, in the cycle that was simulated last.
     pub fn differs(&self, net: NetId, word: u32) -> u64
         requires { word < 4 }
-        ensures { (vectors : List (List Bool)) (t k : ℕ) → AreBeside 256 quad_bit vectors self.now → t + 1 ≡ length vectors → k < 64
+        ensures { (vectors : List (List Bool)) (t k : ℕ) → AreBeside 256 quad_bit vectors (bank_of self.now) → t + 1 ≡ length vectors → k < 64
             → net.0 < length self.now.circuit.drivers
-            → bit result k ≡ trace_differs self.now.circuit (faults_of self.now.loads (word * 64 + k)) vectors t net.0 }
+            → bit result k ≡ trace_differs self.now.circuit (faults_of self.now.in_force (word * 64 + k)) vectors t net.0 }
     {
         word_of(self.kernel.differs(net), word)
     }

@@ -4,6 +4,7 @@
 mod arm;
 mod cycle;
 mod difference;
+mod drop;
 mod flip;
 mod force;
 mod kernel;

@@ -1,16 +1,19 @@
-// What tables give in each lane, over values that are read as golden values and what differs.
+// What tables give in each lane, over values that are read as golden values and what differs: by the masks of their operation, or,
+// with more than two inputs, by their rows.
 ghost use Rattle.std.specs.Prelude.{◌≡◌, ◌<◌, ◌||◌, ℕ, List, Bool, not, length, map};
 ghost use Rattle.std.specs.List.{list_any};
 ghost use Rattle.circuit.specs.declared.parts.Driver.TheVariants.{Table as FromTable};
 ghost use Rattle.circuit.specs.Table.{lit_matches, row_matches, table_value};
 ghost use Rattle.circuit.specs.Value.{driven, driver_at, table_gives};
 ghost use Rattle.circuit.specs.Sound.{IsNet};
+ghost use Rattle.lane_kernel.specs.Gates.{AreOps, IsGate, gate_value};
 ghost use Rattle.differential_kernel.specs.Differences.{read_in};
 
 use crate::difference::value_word;
 use circuit::netlist::Netlist;
 use circuit::parts::{Driver, Lit, NetId, Row, Table};
 use lane_kernel::Word;
+use lane_kernel::gate::{Gate, Masks, apply};
 
 fn inverse<W: Word>(a: W) -> W
     ensures { (k : ℕ) → k < W.lanes → W.lane_bit result k ≡ not (W.lane_bit a k) }
@@ -65,8 +68,7 @@ fn table_word<W: Word>(table: &Table, row: &[u64], words: &[W]) -> W
     if table.on { some } else { inverse(some) }
 }
 
-/// What the table of a net gives.
-pub fn own_word<W: Word>(netlist: &Netlist, net: NetId, row: &[u64], words: &[W]) -> W
+fn net_word<W: Word>(netlist: &Netlist, net: NetId, row: &[u64], words: &[W]) -> W
     requires net { IsNet netlist.now net }
     requires table { (k : ℕ) × (driver_at netlist.now net.0 ≡ FromTable k) }
     ensures { (k : ℕ) (state inputs : List Bool) → k < W.lanes
@@ -75,5 +77,36 @@ pub fn own_word<W: Word>(netlist: &Netlist, net: NetId, row: &[u64], words: &[W]
     match netlist.driver(net) {
         Driver::Table(k) => table_word(netlist.table(k), row, words),
         _ => W::all(false),
+    }
+}
+
+// What a gate gives.
+fn gate_word<W: Word>(gate: &Gate, ops: &[Masks<W>], row: &[u64], words: &[W]) -> W
+    requires ops { AreOps W.lanes W.lane_bit ops.now }
+    requires narrow { gate.now.op < 16 }
+    ensures { (k : ℕ) → k < W.lanes → W.lane_bit result k ≡ gate_value gate.now (read_in W.lane_bit k row.now words.now) }
+{
+    let a = value_word(row, words, gate.a);
+    let b = value_word(row, words, gate.b);
+    apply(&ops[gate.op as usize], a, b)
+}
+
+/// What the table of a gate's net gives.
+pub fn own_word<W: Word>(
+    netlist: &Netlist,
+    gate: &Gate,
+    ops: &[Masks<W>],
+    row: &[u64],
+    words: &[W],
+) -> W
+    requires ops { AreOps W.lanes W.lane_bit ops.now }
+    requires gate { IsGate netlist.now gate.now }
+    ensures { (k : ℕ) (state inputs : List Bool) → k < W.lanes
+        → W.lane_bit result k ≡ driven state inputs (table_gives netlist.now (read_in W.lane_bit k row.now words.now)) (driver_at netlist.now gate.now.to) }
+{
+    if gate.op < 16 {
+        gate_word(gate, ops, row, words)
+    } else {
+        net_word(netlist, NetId(gate.to), row, words)
     }
 }

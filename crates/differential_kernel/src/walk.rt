@@ -1,20 +1,19 @@
 // The walk over the places that are marked.
 ghost use Rattle.std.specs.Prelude.{◌≡◌, ◌≢◌, ◌<◌, ◌≤◌, ◌+◌, ◌^◌, ℕ, Bool, List, [], false, length, slice_index_or, MatchOption};
-ghost use Rattle.circuit.specs.declared.parts.Driver.TheVariants.{Table as FromTable};
 ghost use Rattle.circuit.specs.Order.{IsOrder};
-ghost use Rattle.circuit.specs.Sound.{IsNet, IsNetlist};
+ghost use Rattle.circuit.specs.Sound.{IsNetlist};
 ghost use Rattle.circuit.specs.Value.{Cycle, bit_at, driven, driver_at, net_value, table_gives};
 ghost use Rattle.fanout.specs.Readers.{IsReadAt};
 ghost use Rattle.golden_difference.proofs.Walked.{Walked};
 ghost use Rattle.lane_kernel.specs.Bits.{either};
-ghost use Rattle.lane_kernel.specs.Gates.{latch_at, plane};
+ghost use Rattle.lane_kernel.specs.Gates.{AreOps, IsGate, IsProgram, latch_at, plane};
 ghost use Rattle.place_set.specs.Places.{has, value_in};
 ghost use Rattle.differential_kernel.specs.declared.force.Force.{Force as ForceValue};
 ghost use Rattle.differential_kernel.specs.Differences.{AreSameOff, Grows, IsEmptySet, IsNoted, IsSame, read_in};
-ghost use Rattle.differential_kernel.specs.Forces.{force_value};
+ghost use Rattle.differential_kernel.specs.Forces.{AreIdleOff, force_value};
 ghost use Rattle.differential_kernel.specs.Walk.{AreForces, IsAhead, IsPair};
 
-use crate::difference::{forced_difference, store, word_at};
+use crate::difference::{named_difference, store, word_at};
 use crate::force::Force;
 use crate::lane_word::LaneWord;
 use crate::table::own_word;
@@ -23,6 +22,7 @@ use circuit::parts::NetId;
 use fanout::Fanout;
 use fm_base::Steps;
 use lane_kernel::Word;
+use lane_kernel::gate::{Gate, Masks};
 use place_set::PlaceSet;
 use std::sync::ledger::Ledger;
 
@@ -42,6 +42,9 @@ fn next_table(marks: &PlaceSet, from: usize, tables: usize) -> Option<usize>
 fn evaluate<W: LaneWord>(
     netlist: &Netlist,
     net: NetId,
+    gate: &Gate,
+    ops: &[Masks<W>],
+    named: &PlaceSet,
     row: &[u64],
     forces: &[Force<W>],
     fanout: &Fanout,
@@ -49,8 +52,10 @@ fn evaluate<W: LaneWord>(
     touched: &mut PlaceSet,
     marks: &mut PlaceSet,
 )
-    requires net { IsNet netlist.now net }
-    requires table { (k : ℕ) × (driver_at netlist.now net.0 ≡ FromTable k) }
+    requires ops { AreOps W.lanes W.lane_bit ops.now }
+    requires gate { IsGate netlist.now gate.now }
+    requires to { gate.now.to ≡ net.0 }
+    requires idle { AreIdleOff W.lanes W.lane_bit named.now forces.now }
     requires fanout { fanout.now.circuit ≡ netlist.now }
     requires forces { length forces.now ≡ length netlist.now.drivers }
     requires nets { length words.old ≡ length netlist.now.drivers }
@@ -66,8 +71,8 @@ fn evaluate<W: LaneWord>(
     ensures bound { marks.new.bound ≡ marks.old.bound }
     ensures kept { Grows marks.old marks.new }
 {
-    let own = own_word(netlist, net, row, words);
-    let word = forced_difference(row, forces, net.0, own);
+    let own = own_word(netlist, gate, ops, row, words);
+    let word = named_difference(named, row, forces, net.0, own);
     store(net, word, fanout, words, touched, marks);
 }
 
@@ -75,6 +80,9 @@ fn evaluate<W: LaneWord>(
 pub fn walk<W: LaneWord, L: Ledger>(
     netlist: &Netlist,
     order: &[NetId],
+    gates: &[Gate],
+    ops: &[Masks<W>],
+    named: &PlaceSet,
     row: &[u64],
     forces: &[Force<W>],
     fanout: &Fanout,
@@ -85,6 +93,9 @@ pub fn walk<W: LaneWord, L: Ledger>(
 )
     requires sound { IsNetlist netlist.now }
     requires order { IsOrder netlist.now order.now }
+    requires program { IsProgram netlist.now order.now gates.now }
+    requires ops { AreOps W.lanes W.lane_bit ops.now }
+    requires idle { AreIdleOff W.lanes W.lane_bit named.now forces.now }
     requires fanout { fanout.now ≡ record { circuit = netlist.now; order = order.now } }
     requires forces { length forces.now ≡ length netlist.now.drivers }
     requires nets { length words.old ≡ length netlist.now.drivers }
@@ -106,6 +117,9 @@ pub fn walk<W: LaneWord, L: Ledger>(
         evaluate(
             netlist,
             order[place],
+            &gates[place],
+            ops,
+            named,
             row,
             forces,
             fanout,

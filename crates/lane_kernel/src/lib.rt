@@ -3,11 +3,11 @@
 
 mod cycle;
 mod force;
-mod gate;
+pub mod gate;
 mod kernel;
 mod lanes;
 mod load;
-mod program;
+pub mod program;
 mod quad;
 mod source;
 mod walk;

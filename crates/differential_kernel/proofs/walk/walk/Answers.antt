@@ -15,6 +15,16 @@ use Rattle.differential_kernel.proofs.walk.walk.Goals as goal
 pub evaluate-requires-clause-places : goal.evaluate-requires-clause-places
 evaluate-requires-clause-places g c = λ n place reads. omega (arith, c.requires.places n place reads, c.remove.ensures.bound, c.places.invariant.bound)
 
+pub evaluate-requires-clause-gate : goal.evaluate-requires-clause-gate
+evaluate-requires-clause-gate g c =
+    let lt : c.in-Some.place < length c.args.gates.now = omega (arith, c.in-Some.ensures.1, c.requires.program.count) in
+    c.requires.program.gates_are c.in-Some.place lt
+
+pub evaluate-requires-clause-to : goal.evaluate-requires-clause-to
+evaluate-requires-clause-to g c =
+    let lt : c.in-Some.place < length c.args.gates.now = omega (arith, c.in-Some.ensures.1, c.requires.program.count) in
+    c.requires.program.nets c.in-Some.place lt
+
 pub places-preserved : goal.places-preserved
 places-preserved g c =
     let lanes = g.W.Word.lanes in

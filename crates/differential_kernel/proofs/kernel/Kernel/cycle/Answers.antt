@@ -19,6 +19,11 @@ use Rattle.differential_kernel.specs.Walk.{AreForces, IsPair}
 use Rattle.differential_kernel.proofs.Stepped.{stepped}
 use Rattle.differential_kernel.proofs.kernel.Kernel.cycle.Goals as goal
 
+pub run-requires-clause-held : goal.run-requires-clause-held
+run-requires-clause-held g c =
+    let flips : c.deref_mut-3.result.now ≡ c.flip.new.raw = grind (arith, common_steps) in
+    subst (AreSameOff g.W.Word.lanes g.W.Word.lane_bit c.flip.new.live) (sym flips) c.flip.ensures.same
+
 pub returns-clause-kernel : goal.returns-clause-kernel
 returns-clause-kernel g c =
     let s = c.args.self.now in
@@ -39,6 +44,10 @@ returns-clause-kernel g c =
       sound = kept.sound;
       ordered = kept.ordered;
       places = kept.places;
+      program = kept.program;
+      ops = kept.ops;
+      given = kept.given;
+      whole = kept.whole;
       loads = kept.loads;
       transient = kept.transient;
       named_bound = c.prepare-self.ensures.bound ∙ kept.named_bound;
@@ -48,10 +57,10 @@ returns-clause-kernel g c =
           subst (λ (ls : List (List (Option Fault))). AreNamed ls (length s.circuit.value.drivers) c.prepare-self.new.set) c.deref.ensures.value
           (subst (λ n. AreNamed c.deref.result.now n c.prepare-self.new.set) size c.prepare-self.ensures.named);
       idle = λ noted.
-          subst (AreIdle lanes bit s.loads.items) (sym forces)
+          subst (AreIdle lanes bit s.in_force.items) (sym forces)
           (subst (λ (ls : List (List (Option Fault))). AreIdle lanes bit ls c.prepare-self.new.forces) c.deref.ensures.value c.prepare-self.ensures.idle);
       steady = λ noted fresh.
-          subst (AreSteady lanes bit s.loads.items) (sym forces)
+          subst (AreSteady lanes bit s.in_force.items) (sym forces)
           (subst (λ (ls : List (List (Option Fault))). AreSteady lanes bit ls c.prepare-self.new.forces) c.deref.ensures.value (c.prepare-self.ensures.steady fresh));
       raw = latches ∙ kept.raw;
       words = nets ∙ kept.words;
@@ -67,10 +76,10 @@ returns-clause-step g c = λ vectors inputs beside golden k lt.
     let s = c.args.self.now in
     let bit = g.W.Word.lane_bit in
     let circuit = s.circuit.value in
-    let faults = faults_of s.loads.items k in
+    let faults = faults_of s.in_force.items k in
     let row = c.args.row.now in
     let made : circuit ≡ c.args.netlist.now = c.requires.made.circuit in
-    let forces : c.deref-4.result.now ≡ c.prepare-self.new.forces = grind (arith, common_steps) in
+    let forces : c.deref-6.result.now ≡ c.prepare-self.new.forces = grind (arith, common_steps) in
     let flips : c.deref_mut-3.result.now ≡ c.flip.new.raw = grind (arith, common_steps) in
     let raw : (with_items (with_items s.raw c.flip.new.raw) c.run.new.raw).items ≡ c.run.new.raw = grind (arith, common_steps) in
     let words : (with_items s.words c.run.new.words).items ≡ c.run.new.words = grind (arith, common_steps) in

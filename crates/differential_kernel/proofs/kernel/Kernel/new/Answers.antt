@@ -6,6 +6,7 @@ use Rattle.circuit.specs.Circuit.{Circuit}
 use Rattle.circuit.specs.Order.{IsOrder}
 use Rattle.circuit.specs.Sound.{IsNetlist}
 use Rattle.circuit.proofs.FewTables.{few_tables}
+use Rattle.lane_kernel.specs.Gates.{IsProgram}
 use Rattle.lane_kernel.specs.Loads.{has_transients}
 use Rattle.differential_kernel.specs.Places.{ArePlaces}
 use Rattle.differential_kernel.proofs.kernel.Kernel.new.Goals as goal
@@ -30,7 +31,12 @@ returns-clause-kernel g c =
       ordered = subst (λ (m : Circuit). IsOrder m c.of-2.result.value) (sym circuit) (subst (λ (o : List NetId). IsOrder c.args.netlist.now o) (sym order) c.requires);
       places = subst (λ (m : Circuit). ArePlaces m c.of-2.result.value c.in_ok-places.places.items) (sym circuit)
           (subst (λ (o : List NetId). ArePlaces c.args.netlist.now o c.in_ok-places.places.items) (c.nets.ensures ∙ sym order) c.in_ok-places.ensures.places);
-      loads = omega (arith, c.in_ok-loads.loads.ok.0, c.in_ok-loads.ensures.len, c.count.ensures);
+      program = subst (λ (m : Circuit). IsProgram m c.of-2.result.value c.in_ok-gates.gates.items) (sym circuit)
+          (subst (λ (o : List NetId). IsProgram c.args.netlist.now o c.in_ok-gates.gates.items) (c.nets-2.ensures ∙ sym order) c.in_ok-gates.ensures);
+      ops = c.in_ok-ops.ensures;
+      given = omega (arith, c.in_ok-loads.loads.ok.0, c.in_ok-loads.ensures.len, c.count.ensures);
+      whole = λ whole. absurd (false≢true whole);
+      loads = omega (arith, c.in_ok-in_force.in_force.ok.0, c.in_ok-in_force.ensures.len, c.count-2.ensures);
       transient = c.is_some_transient-transient.ensures ∙ ap has_transients c.deref.ensures.value;
       named_bound = c.in_ok-named.ensures.bound ∙ nets;
       forces = c.in_ok-forces.ensures.count ∙ nets;

@@ -1,0 +1,15 @@
+use Rattle.std.proofs.Common.{◌≡◌, ◌<◌, ◌≤◌, ◌-◌, ◌&&◌, ℕ, not}
+use Rattle.circuit.specs.Value.{bit_at}
+use Rattle.lane_kernel.specs.Gates.{plane}
+use Rattle.differential_kernel.proofs.drop.keep_lanes.Given as goal
+
+abbrev pub decreases-places : goal.decreases-places
+decreases-places g l = l.set.bound - l.from
+
+-- at the places so far nothing is left in the lanes, and the others are as they were
+abbrev pub invariant-places : goal.invariant-places
+invariant-places g l = record {
+  done : (k n : ℕ) → k < g.W.Word.lanes → n < l.from
+      → bit_at (plane g.W.Word.lane_bit k l.words) n ≡ (not (g.W.Word.lane_bit l.fn.out k) && bit_at (plane g.W.Word.lane_bit k l.initial.words) n);
+  rest : (k n : ℕ) → l.from ≤ n → bit_at (plane g.W.Word.lane_bit k l.words) n ≡ bit_at (plane g.W.Word.lane_bit k l.initial.words) n;
+}

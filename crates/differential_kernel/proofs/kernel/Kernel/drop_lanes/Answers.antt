@@ -1,0 +1,110 @@
+use Rattle.std.proofs.Common.{◌≡◌, inl, inr, ◌+◌, ◌<◌, ◌&&◌, Bool, true, false, not, List, length, refl, ap, sym, ◌∙◌, subst, arith}
+use Rattle.std.specs.Prelude.{Option}
+use Rattle.std.proofs.lemmas.Bool.{cases_Bool, false≢true}
+use Rattle.std.proofs.lemmas.Grind.{common_steps}
+use Rattle.std.specs.Vec.{with_items}
+use Rattle.circuit.specs.declared.parts.Fault.{Fault}
+use Rattle.circuit.specs.After.{Moment}
+use Rattle.circuit.specs.Value.{bit_at}
+use Rattle.golden_difference.specs.Beside.{IsBeside}
+use Rattle.lane_kernel.specs.Bank.{lane_of}
+use Rattle.lane_kernel.specs.Gates.{plane}
+use Rattle.lane_kernel.specs.Loads.{faults_of, has_transients}
+use Rattle.differential_kernel.specs.Kernel.{bank_of}
+use Rattle.differential_kernel.proofs.Dropping.{all_kept, beside_dropped, beside_kept, none_kept, none_out}
+use Rattle.differential_kernel.proofs.kernel.Kernel.drop_lanes.Goals as goal
+
+pub returns-clause-kernel : goal.returns-clause-kernel
+returns-clause-kernel g c =
+    let s = c.args.self.now in
+    let kept = c.requires in
+    let bit = g.W.Word.lane_bit in
+    let out = c.args.out in
+    let loads : (with_items s.in_force c.unload.new.loads).items ≡ c.unload.new.loads = grind (arith, common_steps) in
+    let raw : (with_items s.raw c.keep_lanes.new.words).items ≡ c.keep_lanes.new.words = grind (arith, common_steps) in
+    let words : (with_items s.words c.keep_lanes-2.new.words).items ≡ c.keep_lanes-2.new.words = grind (arith, common_steps) in
+    let latches : length (with_items s.raw c.keep_lanes.new.words).items ≡ length s.raw.items =
+    ap (λ (ws : List g.row.W.Denot). length ws) raw ∙ c.keep_lanes.auto.words ∙ ap (λ (ws : List g.row.W.Denot). length ws) c.deref_mut-2.ensures.value in
+    let nets : length (with_items s.words c.keep_lanes-2.new.words).items ≡ length s.words.items =
+    ap (λ (ws : List g.row.W.Denot). length ws) words ∙ c.keep_lanes-2.auto.words ∙ ap (λ (ws : List g.row.W.Denot). length ws) c.deref_mut-3.ensures.value in
+    record {
+      sound = kept.sound;
+      ordered = kept.ordered;
+      places = kept.places;
+      program = kept.program;
+      ops = kept.ops;
+      given = kept.given;
+      whole = λ whole. absurd (false≢true whole);
+      loads =
+          ap (λ (ls : List (List (Option Fault))). length ls) loads ∙ c.unload.auto.loads ∙ ap (λ (ls : List (List (Option Fault))). length ls) c.deref_mut.ensures.value
+          ∙ kept.loads;
+      transient = c.is_some_transient-self.ensures ∙ ap has_transients c.deref.ensures.value;
+      named_bound = kept.named_bound;
+      forces = kept.forces;
+      off = kept.off;
+      named = λ noted. absurd (false≢true noted);
+      idle = λ noted. absurd (false≢true noted);
+      steady = λ noted. absurd (false≢true noted);
+      raw = latches ∙ kept.raw;
+      words = nets ∙ kept.words;
+      live_bound = kept.live_bound ∙ sym latches;
+      touched_bound = kept.touched_bound ∙ sym nets;
+      marks_bound = kept.marks_bound ∙ ap (λ n. length s.order.value + n) (sym latches);
+      held = λ n none k lt.
+          ap (λ ws. bit_at (plane bit k ws) n) raw ∙ c.keep_lanes.ensures k n lt
+          ∙ ap (λ b. not (bit out k) && b) (ap (λ ws. bit_at (plane bit k ws) n) c.deref_mut-2.ensures.value ∙ kept.held n none k lt) ∙ none_kept (bit out k);
+      same = λ n none k lt.
+          ap (λ ws. bit_at (plane bit k ws) n) words ∙ c.keep_lanes-2.ensures k n lt
+          ∙ ap (λ b. not (bit out k) && b) (ap (λ ws. bit_at (plane bit k ws) n) c.deref_mut-3.ensures.value ∙ kept.same n none k lt) ∙ none_kept (bit out k);
+    }
+
+pub returns-clause-dropped : goal.returns-clause-dropped
+returns-clause-dropped g c = λ k lt is.
+    let s = c.args.self.now in
+    let loads : (with_items s.in_force c.unload.new.loads).items ≡ c.unload.new.loads = grind (arith, common_steps) in
+    ap (λ (ls : List (List (Option Fault))). faults_of ls k) loads ∙ c.unload.ensures.dropped k lt is
+
+pub returns-clause-others : goal.returns-clause-others
+returns-clause-others g c = λ k lt is.
+    let s = c.args.self.now in
+    let loads : (with_items s.in_force c.unload.new.loads).items ≡ c.unload.new.loads = grind (arith, common_steps) in
+    ap (λ (ls : List (List (Option Fault))). faults_of ls k) loads ∙ c.unload.ensures.others k lt is
+    ∙ ap (λ (ls : List (List (Option Fault))). faults_of ls k) c.deref_mut.ensures.value
+
+pub returns-clause-beside : goal.returns-clause-beside
+returns-clause-beside g c = λ vectors beside k lt.
+    let s = c.args.self.now in
+    let bit = g.W.Word.lane_bit in
+    let out = c.args.out in
+    let circuit = s.circuit.value in
+    let faults = faults_of (with_items s.in_force c.unload.new.loads).items k in
+    let before = faults_of s.in_force.items k in
+    let old : Moment = lane_of bit k (bank_of s) in
+    let new : Moment = record {
+      cycle = s.cycle;
+      raw = plane bit k (with_items s.raw c.keep_lanes.new.words).items;
+      values = plane bit k (with_items s.words c.keep_lanes-2.new.words).items;
+    } in
+    let loads : (with_items s.in_force c.unload.new.loads).items ≡ c.unload.new.loads = grind (arith, common_steps) in
+    let raw : (with_items s.raw c.keep_lanes.new.words).items ≡ c.keep_lanes.new.words = grind (arith, common_steps) in
+    let words : (with_items s.words c.keep_lanes-2.new.words).items ≡ c.keep_lanes-2.new.words = grind (arith, common_steps) in
+    elim (cases_Bool (bit out k)) as (λ _. IsBeside circuit faults vectors new) [
+      | inl is ↦
+          beside_dropped circuit faults vectors new
+          (ap (λ (ls : List (List (Option Fault))). faults_of ls k) loads ∙ c.unload.ensures.dropped k lt is)
+          (beside k lt).cycle
+          (λ l. ap (λ ws. bit_at (plane bit k ws) l) raw ∙ c.keep_lanes.ensures k l lt ∙ none_out (bit out k) _ is)
+          (λ n. ap (λ ws. bit_at (plane bit k ws) n) words ∙ c.keep_lanes-2.ensures k n lt ∙ none_out (bit out k) _ is)
+      | inr is ↦
+          beside_kept circuit faults before vectors old new
+          (ap (λ (ls : List (List (Option Fault))). faults_of ls k) loads ∙ c.unload.ensures.others k lt is
+          ∙ ap (λ (ls : List (List (Option Fault))). faults_of ls k) c.deref_mut.ensures.value)
+          refl
+          (λ l.
+          ap (λ ws. bit_at (plane bit k ws) l) raw ∙ c.keep_lanes.ensures k l lt ∙ all_kept (bit out k) _ is
+          ∙ ap (λ ws. bit_at (plane bit k ws) l) c.deref_mut-2.ensures.value)
+          (λ n.
+          ap (λ ws. bit_at (plane bit k ws) n) words ∙ c.keep_lanes-2.ensures k n lt ∙ all_kept (bit out k) _ is
+          ∙ ap (λ ws. bit_at (plane bit k ws) n) c.deref_mut-3.ensures.value)
+          (beside k lt)
+    ]
