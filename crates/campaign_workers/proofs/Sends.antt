@@ -5,8 +5,9 @@ use Rattle.std.proofs.Crossing.{crosses}
 use Rattle.circuit.proofs.parts.Fault.TheSendSync as fault
 use Rattle.lane_kernel.proofs.gate.Gate.TheSendSync as gate
 use Rattle.lane_kernel.proofs.gate.Masks.TheSendSync as masks
-use Rattle.lane_kernel.proofs.force.Force.TheSendSync as force
-use Rattle.lane_kernel.specs.contracts.lanes.Lanes4.{the_row}
+use Rattle.differential_kernel.proofs.force.Force.TheSendSync as force
+use Rattle.differential_kernel.specs.contracts.lanes.DifferentialLanes4.{the_row}
+use Rattle.place_set.proofs.set.PlaceSet.TheSendSync as places
 use Rattle.claim_counter.proofs.seat.Seat.TheSendSync as seat
 use Rattle.campaign_board.proofs.headed.Headed.TheSendSync as headed
 use Rattle.alarm_points.proofs.windows4.Windows4.TheSendSync as windows
@@ -15,7 +16,7 @@ use Rattle.campaign_board.specs.declared.board.Origin.{Ghosts as OriginGhosts}
 use Rattle.campaign_workers.specs.contracts.worker.Worker.{the_row as worker_row}
 
 pub lanes_send : IsSend the_row
-lanes_send = search (sendable, crosses, fault.the_send, gate.the_send, masks.the_send, force.the_send) depth 30
+lanes_send = search (sendable, crosses, fault.the_send, gate.the_send, masks.the_send, force.the_send, places.the_send) depth 30
 
 pub worker_send : (F N : RattleType) (f : ShelfGhosts F.Denot) (n : OriginGhosts N.Denot) → IsSend F → IsSend (worker_row F N f n)
 worker_send F N f n s = search (sendable, crosses, seat.the_send, headed.the_send, windows.the_send, lanes_send) depth 20

@@ -3,19 +3,19 @@ use Rattle.std.specs.Prelude.{◌≡◌, ℕ, ◌<◌, [], true, false, List, le
 use Rattle.circuit.specs.declared.parts.NetId.{NetId}
 use Rattle.circuit.specs.Order.{IsOrder}
 use Rattle.alarm_points.specs.FourWatches.{FourWatches, AreFourMadeFor}
-use Rattle.lane_kernel.specs.Bank.{Bank, IsMadeFor}
+use Rattle.golden_difference.specs.Lanes.{IsMadeFor, Lanes}
 use Rattle.golden_run.specs.Recording.{Recording}
 use Rattle.campaign_plan.specs.Analysis.{Analysis}
 use Rattle.claim_counter.specs.Seats.{Counter, Seated}
 use Rattle.claim_counter.specs.Crews.{IsCrew}
 use Rattle.campaign_workers.specs.declared.worker.Worker.{Worker}
 
--- the golden run of a plan
-abbrev pub golden_of : Analysis → Recording
-golden_of p = record { circuit = p.circuit; runs = p.runs; points = p.points }
+-- the golden run of a plan, by an order of its tables
+abbrev pub golden_of : Analysis → List NetId → Recording
+golden_of p order = record { circuit = p.circuit; order = order; runs = p.runs }
 
 -- four words of lanes and of windows for a plan, by an order of its tables
-pub record AreToolsFor (p : Analysis) (order : List NetId) (lanes : Bank (List ℕ)) (windows : FourWatches) : Type 0 where
+pub record AreToolsFor (p : Analysis) (order : List NetId) (lanes : Lanes (List ℕ)) (windows : FourWatches) : Type 0 where
   pub lanes_made : IsMadeFor p.circuit order lanes
   pub windows_made : AreFourMadeFor p.points windows
   pub ftti : windows.ftti ≡ p.settings.ftti
@@ -28,7 +28,7 @@ seats_of workers = map (λ w. w.seat) workers
 -- some: there is a worker
 pub record AreFor {F N : Type 0} (p : Analysis) (order : List NetId) (golden : Recording) (table : Counter) (first : Seated) (workers : List (Worker F N)) : Type 0 where
   pub order_is : IsOrder p.circuit order
-  pub golden_is : golden ≡ golden_of p
+  pub golden_is : golden ≡ golden_of p order
   pub tools : All (λ w. AreToolsFor p order w.lanes w.windows) workers
   pub crew : IsCrew table first (seats_of workers)
   pub held : (first.view.holds ≡ true) × (first.view.fails ≡ false)

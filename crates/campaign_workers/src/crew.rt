@@ -8,10 +8,9 @@ use crate::worker::Worker;
 use alarm_points::windows4::Windows4;
 use campaign_board::{Board, Origin, Seat, Shared, missing_batches};
 use campaign_plan::Plan;
+use differential_kernel::DifferentialLanes4;
 use fm_shelf::shelf::Shelf;
-use golden_run::make::golden;
-use golden_run::values::Golden;
-use lane_kernel::Lanes4;
+use golden_run::Golden;
 use netlist_levels::Order;
 use std::alloc::{AllocError, Global};
 use std::marker::Model;
@@ -111,7 +110,7 @@ impl<F: Shelf + Drop, N: Origin> Workshop<F, N> {
         requires rows { board.now.rows ≡ N.start.rows }
         ensures { IfOk result (λ s. s ≡ record { plan = plan.now; order = order.now }) }
     {
-        let golden = golden(alloc, plan.net(), order, plan.work(), plan.points())?;
+        let golden = Golden::new(alloc, plan.net(), order, plan.work())?;
         let todo = missing_batches(alloc, plan.batches(), board.rows())?;
         let (shared, mut first) = Shared::table(alloc, board, todo)?;
         let workers = hired(alloc, plan, order, &shared, &mut first, workers)?;
@@ -138,7 +137,7 @@ fn worker_at<F: Shelf + Drop, N: Origin>(
     ensures seat { IfOk result (λ w. w.seat ≡ seat) }
     ensures tools { IfOk result (λ w. AreToolsFor plan.now order.now w.lanes w.windows) }
 {
-    let lanes = Lanes4::new(alloc, plan.net(), order)?;
+    let lanes = DifferentialLanes4::new(alloc, plan.net(), order)?;
     let windows = Windows4::new(alloc, plan.points(), plan.settings().ftti)?;
     Ok(Worker {
         number,

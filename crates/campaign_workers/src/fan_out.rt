@@ -12,7 +12,7 @@ use crate::worker::{Worker, work};
 use campaign_board::{Board, Origin, Seat, Shared};
 use campaign_plan::Plan;
 use fm_shelf::shelf::Shelf;
-use golden_run::values::Golden;
+use golden_run::Golden;
 use netlist_levels::Order;
 use std::sync::Wait;
 use std::thread;
@@ -41,7 +41,7 @@ fn work_all<
     workers: &mut [Worker<F, N>],
 )
     requires ready { All (λ w. IsReady shared.now w.seat × AreToolsFor plan.now order.now w.lanes w.windows) workers.old }
-    requires golden { golden.now ≡ golden_of plan.now }
+    requires golden { golden.now ≡ golden_of plan.now order.now }
     requires entries { HasTrueEntries plan.now N.start × (length N.start.entries ≡ batch_count plan.now) }
     ensures done { All (λ w. IsDone shared.now w.seat) workers.new }
     ensures shares { shares_of (seats_of workers.new) ≡ shares_of (seats_of workers.old) }
@@ -51,7 +51,7 @@ fn work_all<
         workers,
         32,
         &|_, worker: &mut Worker<F, N>|
-            requires { IsReady shared.now worker.now.seat × AreToolsFor plan.now order.now worker.now.lanes worker.now.windows × (golden.now ≡ golden_of plan.now) × HasTrueEntries plan.now N.start × (length N.start.entries ≡ batch_count plan.now) }
+            requires { IsReady shared.now worker.now.seat × AreToolsFor plan.now order.now worker.now.lanes worker.now.windows × (golden.now ≡ golden_of plan.now order.now) × HasTrueEntries plan.now N.start × (length N.start.entries ≡ batch_count plan.now) }
             ensures { IsDone shared.entry.now worker.exit.now.seat × (worker.exit.now.seat.view.share ≡ worker.entry.now.seat.view.share) }
         { work(rt, plan, order, golden, shared, gate, worker) },
     );

@@ -9,9 +9,9 @@ use alarm_points::windows4::Windows4;
 use campaign_board::Entry;
 use campaign_plan::{Outcome, Plan, own_sums};
 use classifier::quad_outcomes;
+use differential_kernel::DifferentialLanes4;
 use fm_base::Steps;
-use golden_run::values::Golden;
-use lane_kernel::Lanes4;
+use golden_run::Golden;
 use netlist_levels::Order;
 use std::marker::Brand;
 use std::sync::ledger::{Blank, Ledger};
@@ -22,12 +22,12 @@ fn counted_outcomes<L: Ledger>(
     order: &Order,
     golden: &Golden,
     batches: &[Option<u32>; 4],
-    lanes: &mut Lanes4,
+    lanes: &mut DifferentialLanes4,
     windows: &mut Windows4,
     blank: Blank,
 ) -> [Outcome; 4]
     requires blank { (blank.name ≡ L.name) × (blank.parts ≡ L.parts) × (0 < blank.parts) }
-    requires golden { golden.now ≡ golden_of plan.now }
+    requires golden { golden.now ≡ golden_of plan.now order.now }
     requires tools { AreToolsFor plan.now order.now lanes.old windows.old }
     ensures planes { result ≡ true_planes_in plan.now batches.now }
     ensures tools { AreToolsFor plan.now order.now lanes.new windows.new }
@@ -54,10 +54,10 @@ pub(crate) fn simulated_planes(
     order: &Order,
     golden: &Golden,
     batches: &[Option<u32>; 4],
-    lanes: &mut Lanes4,
+    lanes: &mut DifferentialLanes4,
     windows: &mut Windows4,
 ) -> [Outcome; 4]
-    requires golden { golden.now ≡ golden_of plan.now }
+    requires golden { golden.now ≡ golden_of plan.now order.now }
     requires tools { AreToolsFor plan.now order.now lanes.old windows.old }
     ensures planes { result ≡ true_planes_in plan.now batches.now }
     ensures tools { AreToolsFor plan.now order.now lanes.new windows.new }

@@ -10,9 +10,9 @@ use crate::round::{Round, draw_round};
 use alarm_points::windows4::Windows4;
 use campaign_board::{Origin, Posted, Seat, Shared};
 use campaign_plan::{Outcome, Plan};
+use differential_kernel::DifferentialLanes4;
 use fm_shelf::shelf::Shelf;
-use golden_run::values::Golden;
-use lane_kernel::Lanes4;
+use golden_run::Golden;
 use netlist_levels::Order;
 use std::sync::Wait;
 use worker_gate::Gate;
@@ -22,7 +22,7 @@ use worker_gate::Gate;
 pub struct Worker<F: Shelf + Drop, N: Origin> {
     pub(crate) number: u32,
     pub(crate) seat: Seat<F, N>,
-    pub(crate) lanes: Lanes4,
+    pub(crate) lanes: DifferentialLanes4,
     pub(crate) windows: Windows4,
 }
 
@@ -78,7 +78,7 @@ fn finish_round<R: Wait, F: Shelf + Drop, N: Origin>(
     worker: &mut Worker<F, N>,
 ) -> Result<(), BoardFailed>
     requires owes { Owes shared.now N.start worker.old.seat (drawn_in round.now.batches) }
-    requires golden { golden.now ≡ golden_of plan.now }
+    requires golden { golden.now ≡ golden_of plan.now order.now }
     requires tools { AreToolsFor plan.now order.now worker.old.lanes worker.old.windows }
     requires entries { HasTrueEntries plan.now N.start × (length N.start.entries ≡ batch_count plan.now) }
     ensures owes { OnOk result (Owes shared.now N.start worker.new.seat []) }
@@ -114,7 +114,7 @@ pub(crate) fn work<R: Wait, F: Shelf + Drop, N: Origin, G: Gate>(
     worker: &mut Worker<F, N>,
 )
     requires ready { IsReady shared.now worker.old.seat }
-    requires golden { golden.now ≡ golden_of plan.now }
+    requires golden { golden.now ≡ golden_of plan.now order.now }
     requires tools { AreToolsFor plan.now order.now worker.old.lanes worker.old.windows }
     requires entries { HasTrueEntries plan.now N.start × (length N.start.entries ≡ batch_count plan.now) }
     ensures done { IsDone shared.now worker.new.seat }

@@ -7,7 +7,7 @@ use Rattle.std.proofs.lemmas.List.Folds.{list_any_more}
 use Rattle.circuit.specs.declared.parts.Fault.{Fault}
 use Rattle.circuit.specs.Circuit.{Circuit}
 use Rattle.workload.specs.declared.run.Run.{Run}
-use Rattle.workload.specs.Runs.{cycles_of}
+use Rattle.workload.specs.Runs.{cycles_of, is_mission}
 use Rattle.alarm_points.specs.declared.Goal.{Goal}
 use Rattle.alarm_points.specs.declared.Points.{Points}
 use Rattle.alarm_points.specs.Interval.{goes_unalarmed, interval_of}
@@ -16,9 +16,8 @@ use Rattle.alarm_points.proofs.Settled.{some_below-same, some_below-suc, some_be
 use Rattle.fm_base.specs.Lists.{some_below}
 use Rattle.fm_base.specs.Planes.{bit}
 use Rattle.campaign_plan.specs.Danger.{differs, is_raised}
-use Rattle.classifier.specs.declared.noise.Noise.{Noise}
 use Rattle.classifier.specs.Seen.{HasSeen, HaveSeen, goal_at}
-use Rattle.classifier.proofs.GoalPoints.{window_count}
+use Rattle.classifier.proofs.WindowCounts.{window_count}
 use Rattle.classifier.proofs.Views.{sees_all}
 
 -- where there is something for each number below n, some function gives it
@@ -65,13 +64,13 @@ interval_at points ws g made lt within =
     ∙ get_or-map (interval_of ws.ftti) points.goals g (goal_at [] g) 0 within
 
 -- what goes unalarmed in a lane for some goal
-pub end_says : (c : Circuit) (points : Points) (run : Run) (faults : ℕ → List Fault) (ws : Watches) (noise : Noise) (plane k : ℕ) → k < 64
-    → HaveSeen c points run faults (cycles_of run) ws noise
+pub end_says : (c : Circuit) (points : Points) (run : Run) (faults : ℕ → List Fault) (ws : Watches) (noticed plane k : ℕ) → k < 64 → is_mission run.kind ≡ true
+    → HaveSeen c points run faults (cycles_of run) ws noticed
     → ((pairs : ℕ → List Pair) (j : ℕ) → ((g : ℕ) → g < length ws.windows → IsAfterPairs (pairs g) (window_at ws g)) → j < 64
     → bit plane j ≡ some_below (length ws.windows) (λ g. lane_goes_unalarmed (window_at ws g).ftti (pairs g) j))
     → bit plane k ≡ list_any (λ (goal : Goal). goes_unalarmed (interval_of ws.ftti goal) (cycles_of run)
     (differs c goal (faults k) run) (is_raised c points (faults k) run)) points.goals
-end_says c points run faults ws noise plane k lane seen says =
+end_says c points run faults ws noticed plane k lane mission seen says =
     says pairs.0 k (λ g lt. (pairs.1 g lt).0) lane
     ∙ some_below-same (length ws.windows) _ (λ g. unalarmed (goal_at points.goals g))
     (λ g lt. (pairs.1 g lt).1 (window_at ws g).ftti k lane
@@ -97,7 +96,7 @@ end_says c points run faults ws noise plane k lane seen says =
     each : (g : ℕ) → g < length ws.windows → (pairs : List Pair) × Says g pairs
     each g lt =
         let own : HasSeen c points run faults (goal_at points.goals g) (cycles_of run) (window_at ws g) = seen.seen g (within g lt) in
-        (own.pairs, (own.after, λ f j small. sees_all c points run faults (goal_at points.goals g) (window_at ws g) f j small own))
+        (own.pairs, (own.after, λ f j small. sees_all c points run faults (goal_at points.goals g) (window_at ws g) f j small mission own))
 
     pairs : (f : ℕ → List Pair) × ((g : ℕ) → g < length ws.windows → Says g (f g))
     pairs = choose (length ws.windows) [] Says each

@@ -1,5 +1,6 @@
 pub mod Views
-pub mod GoalPoints
+pub mod WindowCounts
+pub mod PointBits
 pub mod EachWord
 pub mod PlaneBits
 pub mod Ends

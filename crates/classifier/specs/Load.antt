@@ -3,7 +3,7 @@ use Rattle.std.specs.Prelude.{◌≡◌, ℕ, ◌+◌, ◌*◌, List, Option}
 use Rattle.circuit.specs.declared.parts.Fault.{Fault}
 use Rattle.circuit.specs.declared.parts.NetId.{NetId}
 use Rattle.circuit.specs.Circuit.{Circuit}
-use Rattle.lane_kernel.specs.Bank.{Bank}
+use Rattle.golden_difference.specs.Lanes.{Lanes}
 use Rattle.lane_kernel.specs.Loads.{faults_of}
 
 -- the circuit, the order of its tables, and the faults of each lane, one word of 64 lanes behind the other
@@ -13,12 +13,16 @@ pub record Load : Type 0 where
   pub faults : List (List (Option Fault))
 
 -- those of lanes
-abbrev pub load_of : {W : Type 0} → Bank W → Load
-load_of bank = record { circuit = bank.circuit; order = bank.order; faults = bank.loads }
+abbrev pub load_of : {W : Type 0} → Lanes W → Load
+load_of lanes = record { circuit = lanes.circuit; order = lanes.order; faults = lanes.loads }
 
--- the faults of a lane of a word
+-- the faults in a lane of a word
+abbrev pub in_lane : List (List (Option Fault)) → ℕ → ℕ → List Fault
+in_lane faults word lane = faults_of faults (word * 64 + lane)
+
+-- those that it was loaded with
 abbrev pub lane_faults : Load → ℕ → ℕ → List Fault
-lane_faults load word lane = faults_of load.faults (word * 64 + lane)
+lane_faults load word lane = in_lane load.faults word lane
 
 -- they were made for this circuit and this order of its tables
 pub record IsLoadFor (c : Circuit) (nets : List NetId) (load : Load) : Type 0 where

@@ -1,8 +1,9 @@
 -- What was seen of a run.
-use Rattle.std.specs.Prelude.{◌≡◌, ℕ, ◌<◌, List, [], length, None, slice_index_or}
+use Rattle.std.specs.Prelude.{◌≡◌, ℕ, ◌+◌, ◌<◌, ◌&&◌, ◌||◌, Bool, true, false, List, [], length, None, Option, slice_index_or}
 use Rattle.circuit.specs.declared.parts.Fault.{Fault}
 use Rattle.circuit.specs.Circuit.{Circuit}
 use Rattle.workload.specs.declared.run.Run.{Run}
+use Rattle.workload.specs.Runs.{is_mission, is_test}
 use Rattle.alarm_points.specs.declared.Goal.{Goal}
 use Rattle.alarm_points.specs.declared.Points.{Points}
 use Rattle.alarm_points.specs.FourWatches.{windows_at}
@@ -10,36 +11,59 @@ use Rattle.alarm_points.specs.Watch.{AreMadeFor, IsAfterPairs, Pair, Watch, Watc
 use Rattle.fm_base.specs.Lists.{some_below}
 use Rattle.fm_base.specs.Planes.{bit}
 use Rattle.campaign_plan.specs.Danger.{differs, is_raised, is_silenced}
-use Rattle.classifier.specs.Load.{Load, lane_faults}
-use Rattle.classifier.specs.declared.noise.Noise.{Noise}
+use Rattle.classifier.specs.Load.{Load, in_lane, lane_faults}
 
 -- the goal of a number
 abbrev pub goal_at : List Goal → ℕ → Goal
 goal_at goals g = slice_index_or goals g (record { name = []; ftti = None; observe = [] })
 
--- the window has seen the first n cycles of the run: where a point of the goal differs in each lane, and where an alarm is raised
+-- noticed in the first n cycles of a run: an alarm is raised, or the run is of kind `test` and an alarm is silenced
+abbrev pub is_noticed_by : Circuit → Points → List Fault → Run → ℕ → Bool
+is_noticed_by c points x run n = some_below n (is_raised c points x run) || (is_test run.kind && some_below n (is_silenced c points x run))
+
+-- in the first n of these pairs it shows where a point of the goal differs with these faults, and where an alarm is raised
+pub record AreShown (c : Circuit) (points : Points) (run : Run) (x : List Fault) (goal : Goal) (pairs : List Pair) (k n : ℕ) : Type 0 where
+  pub differ : (t : ℕ) → t < n → differs_in pairs k t ≡ differs c goal x run t
+  pub raise : (t : ℕ) → t < n → raised_in pairs k t ≡ is_raised c points x run t
+
+-- the pairs show the cycles of a run up to one in which an alarm is raised
+pub record AreShownToAlarm (c : Circuit) (points : Points) (run : Run) (x : List Fault) (goal : Goal) (pairs : List Pair) (k n : ℕ) : Type 0 where
+  pub u : ℕ
+  pub within : u < n
+  pub alarm : is_raised c points x run u ≡ true
+  pub shown : AreShown c points run x goal pairs k (u + 1)
+
+-- the window has seen the first n cycles of the run: where a point of the goal differs in each lane, and where an alarm is raised.
+-- Of a lane that is noticed in a mission it has seen them up to an alarm; what it has seen later decides nothing
 pub record HasSeen (c : Circuit) (points : Points) (run : Run) (faults : ℕ → List Fault) (goal : Goal) (n : ℕ) (w : Watch) : Type 0 where
   pub pairs : List Pair
   pub count : length pairs ≡ n
   pub after : IsAfterPairs pairs w
-  pub differ : (k t : ℕ) → k < 64 → t < n → differs_in pairs k t ≡ differs c goal (faults k) run t
-  pub raise : (k t : ℕ) → k < 64 → t < n → raised_in pairs k t ≡ is_raised c points (faults k) run t
+  pub whole : (k : ℕ) → k < 64 → is_noticed_by c points (faults k) run n ≡ false → AreShown c points run (faults k) goal pairs k n
+  pub early : (k : ℕ) → k < 64 → is_noticed_by c points (faults k) run n ≡ true → is_mission run.kind ≡ true → AreShownToAlarm c points run (faults k) goal pairs k n
 
--- each goal's window has seen the first n cycles of the run, and the alarms of these cycles are known
-pub record HaveSeen (c : Circuit) (points : Points) (run : Run) (faults : ℕ → List Fault) (n : ℕ) (windows : Watches) (noise : Noise) : Type 0 where
+-- each goal's window has seen the first n cycles of the run, and the lanes that are noticed in them are known
+pub record HaveSeen (c : Circuit) (points : Points) (run : Run) (faults : ℕ → List Fault) (n : ℕ) (windows : Watches) (noticed : ℕ) : Type 0 where
   pub made : AreMadeFor points windows
   pub seen : (g : ℕ) → g < length points.goals → HasSeen c points run faults (goal_at points.goals g) n (window_at windows g)
-  pub raised : (k : ℕ) → k < 64 → bit noise.raised k ≡ some_below n (is_raised c points (faults k) run)
-  pub silenced : (k : ℕ) → k < 64 → bit noise.silenced k ≡ some_below n (is_silenced c points (faults k) run)
+  pub noticed_is : (k : ℕ) → k < 64 → bit noticed k ≡ is_noticed_by c points (faults k) run n
 
--- the alarms in a word
-abbrev pub noise_at : List Noise → ℕ → Noise
-noise_at noise word = slice_index_or noise word (record { raised = 0; silenced = 0 })
+-- the faults of each lane that wasn't noticed are in force
+abbrev pub AreFollowed : Load → List (List (Option Fault)) → ℕ → ℕ → Type 0
+AreFollowed load in_force word noticed = (k : ℕ) → k < 64 → bit noticed k ≡ false → in_lane in_force word k ≡ lane_faults load word k
+
+-- the lanes that are noticed, in a word
+abbrev pub noticed_at : List ℕ → ℕ → ℕ
+noticed_at noticed word = slice_index_or noticed word 0
 
 -- so in each word
-abbrev pub HaveAllSeen : Circuit → Points → Run → Load → ℕ → List Watches → List Noise → Type 0
-HaveAllSeen c points run load n windows noise =
-    (word : ℕ) → word < length windows → HaveSeen c points run (lane_faults load word) n (windows_at windows word) (noise_at noise word)
+abbrev pub HaveAllSeen : Circuit → Points → Run → Load → ℕ → List Watches → List ℕ → Type 0
+HaveAllSeen c points run load n windows noticed =
+    (word : ℕ) → word < length windows → HaveSeen c points run (lane_faults load word) n (windows_at windows word) (noticed_at noticed word)
+
+-- the faults of each lane that wasn't noticed are in force, in each word
+abbrev pub AreAllFollowed : ℕ → Load → List (List (Option Fault)) → List ℕ → Type 0
+AreAllFollowed words load in_force noticed = (word : ℕ) → word < words → AreFollowed load in_force word (noticed_at noticed word)
 
 -- the windows of each word keep the interval of the settings
 abbrev pub KeepSettings : List Watches → List Watches → Type 0

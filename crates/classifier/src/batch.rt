@@ -1,5 +1,5 @@
 // What the faults of batches are found to be, each alone.
-ghost use Rattle.std.specs.Prelude.{◌≡◌, ◌<◌, ◌+◌, ◌*◌, ℕ, List, length, map};
+ghost use Rattle.std.specs.Prelude.{◌≡◌, ◌<◌, ◌≤◌, ◌+◌, ◌*◌, ℕ, List, length, map};
 ghost use Rattle.circuit.specs.declared.parts.Fault.{Fault};
 ghost use Rattle.circuit.specs.Circuit.{Circuit};
 ghost use Rattle.workload.specs.declared.run.Run.{Run};
@@ -9,7 +9,7 @@ ghost use Rattle.alarm_points.specs.FourWatches.{AreFourMadeFor};
 ghost use Rattle.alarm_points.specs.PointsKept.{ArePointsFor};
 ghost use Rattle.alarm_points.specs.Watch.{AreMadeFor};
 ghost use Rattle.campaign_plan.specs.Batches.{outcome_of};
-ghost use Rattle.lane_kernel.specs.Bank.{IsMadeFor};
+ghost use Rattle.golden_difference.specs.Lanes.{IsMadeFor};
 ghost use Rattle.lane_kernel.specs.Loads.{faults_of};
 ghost use Rattle.classifier.specs.Batch.{alone_in, batch_at, fault_in_lane, outcome_for};
 ghost use Rattle.classifier.specs.Planes.{HasPlanes, outcome_at};
@@ -21,10 +21,10 @@ use alarm_points::windows4::Windows4;
 use campaign_plan::Outcome;
 use circuit::netlist::Netlist;
 use circuit::parts::Fault;
+use differential_kernel::{DifferentialLanes, DifferentialLanes4};
 use fault_list::FaultList;
 use fm_base::Steps;
-use golden_run::values::Golden;
-use lane_kernel::{Lanes, Lanes4};
+use golden_run::Golden;
 use netlist_levels::Order;
 use std::sync::ledger::Ledger;
 use workload::run::Workload;
@@ -72,8 +72,8 @@ fn of_batch(faults: &FaultList, batch: Option<u32>, loaded: Outcome) -> Outcome
 }
 
 /// The planes of danger and of notice of a batch of 64 faults, each alone in its lane; bits of lanes that hold no fault are 0,
-/// as are all of a batch behind the last. What lanes and windows held before is no matter. It takes no memory, and one step
-/// for each table and cycle.
+/// as are all of a batch behind the last. What lanes and windows held before is no matter. It takes no memory, and at most
+/// one step for each table and cycle.
 pub fn batch_outcome<L: Ledger>(
     net: &Netlist,
     order: &Order,
@@ -82,11 +82,11 @@ pub fn batch_outcome<L: Ledger>(
     work: &Workload,
     points: &Points,
     golden: &Golden,
-    lanes: &mut Lanes,
+    lanes: &mut DifferentialLanes,
     windows: &mut Windows,
     steps: &mut Steps<L>,
 ) -> Outcome
-    requires golden { golden.now ≡ record { circuit = net.now; runs = work.now; points = points.now } }
+    requires golden { golden.now ≡ record { circuit = net.now; order = order.now; runs = work.now } }
     requires points { ArePointsFor net.now points.now }
     requires lanes { IsMadeFor net.now order.now lanes.old }
     requires windows { AreMadeFor points.now windows.old }
@@ -94,7 +94,7 @@ pub fn batch_outcome<L: Ledger>(
     ensures lanes { IsMadeFor net.now order.now lanes.new }
     ensures windows { AreMadeFor points.now windows.new }
     ensures ftti { windows.new.ftti ≡ windows.old.ftti }
-    ensures cost { steps.new ≡ steps.old + all_cycles work.now * length net.now.tables }
+    ensures cost { steps.new ≤ steps.old + all_cycles work.now * length net.now.tables }
 {
     lanes.load(&loads_of(faults, Some(batch)));
     let loaded = loaded_outcome(net, order, work, points, golden, lanes, windows, steps);
@@ -102,7 +102,7 @@ pub fn batch_outcome<L: Ledger>(
 }
 
 // Loads each word with its batch.
-fn load_words(faults: &FaultList, batches: &[Option<u32>; 4], lanes: &mut Lanes4)
+fn load_words(faults: &FaultList, batches: &[Option<u32>; 4], lanes: &mut DifferentialLanes4)
     ensures made { IsMadeFor lanes.old.circuit lanes.old.order lanes.new }
     ensures loads { (word k : ℕ) → word < 4 → k < 64
         → faults_of lanes.new.loads (word * 64 + k) ≡ alone_in faults.now (batch_at batches.now word) k }
@@ -125,8 +125,8 @@ fn of_batches(faults: &FaultList, batches: &[Option<u32>; 4], outcomes: &mut [Ou
 }
 
 /// The planes of danger and of notice of up to four batches at once, one in each word, each fault alone in its lane; both planes
-/// are 0 where there is no batch. What lanes and windows held before is no matter. It takes no memory, and one step for each
-/// table and cycle, for all four words together.
+/// are 0 where there is no batch. What lanes and windows held before is no matter. It takes no memory, and at most one step for
+/// each table and cycle, for all four words together.
 pub fn quad_outcomes<L: Ledger>(
     net: &Netlist,
     order: &Order,
@@ -135,11 +135,11 @@ pub fn quad_outcomes<L: Ledger>(
     work: &Workload,
     points: &Points,
     golden: &Golden,
-    lanes: &mut Lanes4,
+    lanes: &mut DifferentialLanes4,
     windows: &mut Windows4,
     steps: &mut Steps<L>,
 ) -> [Outcome; 4]
-    requires golden { golden.now ≡ record { circuit = net.now; runs = work.now; points = points.now } }
+    requires golden { golden.now ≡ record { circuit = net.now; order = order.now; runs = work.now } }
     requires points { ArePointsFor net.now points.now }
     requires lanes { IsMadeFor net.now order.now lanes.old }
     requires windows { AreFourMadeFor points.now windows.old }
@@ -147,7 +147,7 @@ pub fn quad_outcomes<L: Ledger>(
     ensures lanes { IsMadeFor net.now order.now lanes.new }
     ensures windows { AreFourMadeFor points.now windows.new }
     ensures ftti { windows.new.ftti ≡ windows.old.ftti }
-    ensures cost { steps.new ≡ steps.old + all_cycles work.now * length net.now.tables }
+    ensures cost { steps.new ≤ steps.old + all_cycles work.now * length net.now.tables }
 {
     load_words(faults, batches, lanes);
     let mut outcomes = loaded_quad(net, order, work, points, golden, lanes, windows, steps);

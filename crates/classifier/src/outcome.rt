@@ -9,14 +9,13 @@ ghost use Rattle.alarm_points.specs.Watch.{AreMadeFor};
 ghost use Rattle.alarm_points.specs.PointsKept.{ArePointsFor};
 ghost use Rattle.campaign_plan.specs.Danger.{is_dangerous_in, is_noticed_in};
 ghost use Rattle.fm_base.specs.Planes.{bit};
-ghost use Rattle.lane_kernel.specs.Bank.{IsMadeFor};
+ghost use Rattle.golden_difference.specs.Lanes.{IsMadeFor};
 ghost use Rattle.lane_kernel.specs.Loads.{faults_of};
 ghost use Rattle.classifier.specs.Load.{IsLoadFor, Load, lane_faults, load_of};
 ghost use Rattle.classifier.specs.Planes.{HasPlanes, outcome_at, planes_of};
 ghost use Rattle.alarm_points.specs.FourWatches.{AreAllMadeFor, AreFourMadeFor, windows_at};
 ghost use Rattle.classifier.specs.Seen.{HaveAllSeen, HaveSeen, KeepSettings};
 
-use crate::noise::{Noise, SILENT};
 use crate::points::either_lanes;
 use crate::run::watch_run;
 use crate::words::LaneWords;
@@ -25,9 +24,9 @@ use alarm_points::windows::Windows;
 use alarm_points::windows4::Windows4;
 use campaign_plan::Outcome;
 use circuit::netlist::Netlist;
+use differential_kernel::{DifferentialLanes, DifferentialLanes4};
 use fm_base::Steps;
-use golden_run::values::Golden;
-use lane_kernel::{Lanes, Lanes4};
+use golden_run::Golden;
 use netlist_levels::Order;
 use std::slice::from_mut;
 use std::sync::ledger::Ledger;
@@ -41,25 +40,21 @@ pub const NOTHING: Outcome = Outcome {
     noticed: 0,
 };
 
-// What a run of a kind shows in a word: the lanes that go unalarmed are in danger in the mission alone, and a silenced alarm
-// is noticed in a test alone.
-fn run_outcome(kind: Kind, windows: &Windows, noise: Noise) -> Outcome
+// What a run of a kind shows in a word: the lanes that go unalarmed are in danger in the mission alone.
+fn run_outcome(kind: Kind, windows: &Windows, noticed: u64) -> Outcome
     ensures danger { (c : Circuit) (points : PointsValue) (run : Run) (faults : ℕ → List Fault) (k : ℕ) → run.kind ≡ kind
-        → HaveSeen c points run faults (cycles_of run) windows.now noise → k < 64
+        → HaveSeen c points run faults (cycles_of run) windows.now noticed → k < 64
         → bit result.danger k ≡ is_dangerous_in c points windows.now.ftti (faults k) run }
     ensures noticed { (c : Circuit) (points : PointsValue) (run : Run) (faults : ℕ → List Fault) (k : ℕ) → run.kind ≡ kind
-        → HaveSeen c points run faults (cycles_of run) windows.now noise → k < 64
+        → HaveSeen c points run faults (cycles_of run) windows.now noticed → k < 64
         → bit result.noticed k ≡ is_noticed_in c points (faults k) run }
 {
     match kind {
         Kind::Mission => Outcome {
             danger: windows.end(),
-            noticed: noise.raised,
+            noticed,
         },
-        Kind::Test => Outcome {
-            danger: 0,
-            noticed: either_lanes(noise.raised, noise.silenced),
-        },
+        Kind::Test => Outcome { danger: 0, noticed },
     }
 }
 
@@ -75,16 +70,16 @@ fn either(a: Outcome, b: Outcome) -> Outcome
 }
 
 // Adds a run to what the runs before it have shown in each word.
-fn add_run(kind: Kind, windows: &[Windows], noise: &[Noise], outcomes: &mut [Outcome])
+fn add_run(kind: Kind, windows: &[Windows], noticed: &[u64], outcomes: &mut [Outcome])
     requires windows { length windows.now ≡ length outcomes.old }
-    requires noise { length noise.now ≡ length outcomes.old }
+    requires noticed { length noticed.now ≡ length outcomes.old }
     ensures { (c : Circuit) (points : PointsValue) (runs : List Run) (run : Run) (load : Load) (word : ℕ) → run.kind ≡ kind
-        → HaveAllSeen c points run load (cycles_of run) windows.now noise.now → word < length outcomes.old
+        → HaveAllSeen c points run load (cycles_of run) windows.now noticed.now → word < length outcomes.old
         → HasPlanes c points (windows_at windows.now word).ftti runs (lane_faults load word) (outcome_at outcomes.old word)
         → HasPlanes c points (windows_at windows.now word).ftti (runs ++ run ∷ []) (lane_faults load word) (outcome_at outcomes.new word) }
 {
     for word in 0..outcomes.len() {
-        let own = run_outcome(kind, &windows[word], noise[word]);
+        let own = run_outcome(kind, &windows[word], noticed[word]);
         outcomes[word] = either(outcomes[word], own);
     }
 }
@@ -98,16 +93,16 @@ fn judge_runs<B: LaneWords, L: Ledger>(
     golden: &Golden,
     lanes: &mut B,
     windows: &mut [Windows],
-    noise: &mut [Noise],
+    noticed: &mut [u64],
     outcomes: &mut [Outcome],
     steps: &mut Steps<L>,
 )
-    requires golden { golden.now ≡ record { circuit = net.now; runs = work.now; points = points.now } }
+    requires golden { golden.now ≡ record { circuit = net.now; order = order.now; runs = work.now } }
     requires points { ArePointsFor net.now points.now }
     requires made { IsLoadFor net.now order.now (B.load lanes.old) }
     requires windows { length windows.old ≡ B.words }
     requires windows_made { AreAllMadeFor points.now windows.old }
-    requires noise { length noise.old ≡ B.words }
+    requires noticed { length noticed.old ≡ B.words }
     requires outcomes { length outcomes.old ≡ B.words }
     requires nothing { (word : ℕ) → word < B.words → outcome_at outcomes.old word ≡ record { danger = 0; noticed = 0 } }
     ensures load { B.load lanes.new ≡ B.load lanes.old }
@@ -115,13 +110,13 @@ fn judge_runs<B: LaneWords, L: Ledger>(
     ensures ftti { KeepSettings windows.old windows.new }
     ensures planes { (word : ℕ) → word < B.words
         → HasPlanes net.now points.now (windows_at windows.old word).ftti work.now (lane_faults (B.load lanes.old) word) (outcome_at outcomes.new word) }
-    ensures cost { steps.new ≡ steps.old + all_cycles work.now * length net.now.tables }
+    ensures cost { steps.new ≤ steps.old + all_cycles work.now * length net.now.tables }
 {
     for run in 0..work.runs() {
         watch_run(
-            net, order, work, points, golden, run, lanes, windows, noise, steps,
+            net, order, work, points, golden, run, lanes, windows, noticed, steps,
         );
-        add_run(work.kind(run), windows, noise, outcomes);
+        add_run(work.kind(run), windows, noticed, outcomes);
     }
 }
 
@@ -136,8 +131,8 @@ fn forget(outcomes: &mut [Outcome])
 
 /// Simulates all runs in all circuits of `lanes`, as they are loaded, and puts the planes of danger and of notice of each word
 /// into `outcomes`: bit k of word w's is that of the faults of lane 64w + k together. `windows` are those of each word, and have
-/// the fault tolerant time intervals. What lanes, windows and outcomes held before is no matter. It takes no memory, and one step
-/// for each table and cycle, for all words together.
+/// the fault tolerant time intervals. What lanes, windows and outcomes held before is no matter. It takes no memory, and at most
+/// one step for each table and cycle, for all words together.
 pub fn loaded_outcomes<B: LaneWords, L: Ledger>(
     net: &Netlist,
     order: &Order,
@@ -149,7 +144,7 @@ pub fn loaded_outcomes<B: LaneWords, L: Ledger>(
     outcomes: &mut [Outcome],
     steps: &mut Steps<L>,
 )
-    requires golden { golden.now ≡ record { circuit = net.now; runs = work.now; points = points.now } }
+    requires golden { golden.now ≡ record { circuit = net.now; order = order.now; runs = work.now } }
     requires points { ArePointsFor net.now points.now }
     requires lanes { IsLoadFor net.now order.now (B.load lanes.old) }
     requires count { length windows.old ≡ B.words }
@@ -160,9 +155,9 @@ pub fn loaded_outcomes<B: LaneWords, L: Ledger>(
     ensures loads { B.load lanes.new ≡ B.load lanes.old }
     ensures windows { AreAllMadeFor points.now windows.new }
     ensures ftti { KeepSettings windows.old windows.new }
-    ensures cost { steps.new ≡ steps.old + all_cycles work.now * length net.now.tables }
+    ensures cost { steps.new ≤ steps.old + all_cycles work.now * length net.now.tables }
 {
-    let mut noise = [SILENT; MOST_WORDS];
+    let mut noticed = [0; MOST_WORDS];
     let words = B::count() as usize;
     forget(outcomes);
     judge_runs(
@@ -173,7 +168,7 @@ pub fn loaded_outcomes<B: LaneWords, L: Ledger>(
         golden,
         lanes,
         windows,
-        &mut noise[..words],
+        &mut noticed[..words],
         outcomes,
         steps,
     );
@@ -181,18 +176,18 @@ pub fn loaded_outcomes<B: LaneWords, L: Ledger>(
 
 /// Simulates all runs in the 64 circuits of `lanes`, as they are loaded, and answers the planes of danger and of notice: bit
 /// k of each is that of the faults of lane k together. `windows` has the fault tolerant time intervals. What lanes and windows
-/// held of earlier runs is no matter. It takes no memory, and one step for each table and cycle.
+/// held of earlier runs is no matter. It takes no memory, and at most one step for each table and cycle.
 pub fn loaded_outcome<L: Ledger>(
     net: &Netlist,
     order: &Order,
     work: &Workload,
     points: &Points,
     golden: &Golden,
-    lanes: &mut Lanes,
+    lanes: &mut DifferentialLanes,
     windows: &mut Windows,
     steps: &mut Steps<L>,
 ) -> Outcome
-    requires golden { golden.now ≡ record { circuit = net.now; runs = work.now; points = points.now } }
+    requires golden { golden.now ≡ record { circuit = net.now; order = order.now; runs = work.now } }
     requires points { ArePointsFor net.now points.now }
     requires lanes { IsMadeFor net.now order.now lanes.old }
     requires windows { AreMadeFor points.now windows.old }
@@ -201,7 +196,7 @@ pub fn loaded_outcome<L: Ledger>(
     ensures loads { lanes.new.loads ≡ lanes.old.loads }
     ensures windows { AreMadeFor points.now windows.new }
     ensures ftti { windows.new.ftti ≡ windows.old.ftti }
-    ensures cost { steps.new ≡ steps.old + all_cycles work.now * length net.now.tables }
+    ensures cost { steps.new ≤ steps.old + all_cycles work.now * length net.now.tables }
 {
     let mut outcomes = [NOTHING];
     loaded_outcomes(
@@ -220,7 +215,7 @@ pub fn loaded_outcome<L: Ledger>(
 
 /// Simulates all runs in the 256 circuits of `lanes`, as they are loaded, and answers the planes of danger and of notice of each
 /// word: bit k of word w's is that of the faults of lane 64w + k together. `windows` has the fault tolerant time intervals. What
-/// lanes and windows held of earlier runs is no matter. It takes no memory, and one step for each table and cycle, for all four
+/// lanes and windows held of earlier runs is no matter. It takes no memory, and at most one step for each table and cycle, for all four
 /// words together.
 pub fn loaded_quad<L: Ledger>(
     net: &Netlist,
@@ -228,11 +223,11 @@ pub fn loaded_quad<L: Ledger>(
     work: &Workload,
     points: &Points,
     golden: &Golden,
-    lanes: &mut Lanes4,
+    lanes: &mut DifferentialLanes4,
     windows: &mut Windows4,
     steps: &mut Steps<L>,
 ) -> [Outcome; 4]
-    requires golden { golden.now ≡ record { circuit = net.now; runs = work.now; points = points.now } }
+    requires golden { golden.now ≡ record { circuit = net.now; order = order.now; runs = work.now } }
     requires points { ArePointsFor net.now points.now }
     requires lanes { IsMadeFor net.now order.now lanes.old }
     requires windows { AreFourMadeFor points.now windows.old }
@@ -242,7 +237,7 @@ pub fn loaded_quad<L: Ledger>(
     ensures loads { lanes.new.loads ≡ lanes.old.loads }
     ensures windows { AreFourMadeFor points.now windows.new }
     ensures ftti { windows.new.ftti ≡ windows.old.ftti }
-    ensures cost { steps.new ≡ steps.old + all_cycles work.now * length net.now.tables }
+    ensures cost { steps.new ≤ steps.old + all_cycles work.now * length net.now.tables }
 {
     let mut outcomes = [NOTHING; 4];
     loaded_outcomes(

@@ -1,35 +1,91 @@
 // One run in all lanes.
-ghost use Rattle.std.specs.Prelude.{◌≡◌, ◌<◌, ◌+◌, ◌*◌, ℕ, length, take};
+ghost use Rattle.std.specs.Prelude.{◌≡◌, ◌≢◌, ◌<◌, ◌≤◌, ◌+◌, ◌*◌, ◌⊎◌, ℕ, Bool, List, false, length, take};
 ghost use Rattle.circuit.specs.Circuit.{Circuit};
 ghost use Rattle.workload.specs.declared.run.Run.{Run};
 ghost use Rattle.workload.specs.Runs.{cycles_of, run_at};
 ghost use Rattle.alarm_points.specs.PointsKept.{ArePointsFor};
-ghost use Rattle.classifier.specs.Load.{IsLoadFor, Load};
+ghost use Rattle.fm_base.specs.Planes.{bit};
+ghost use Rattle.golden_difference.specs.Beside.{IsGoldenRow};
+ghost use Rattle.classifier.specs.Load.{IsLoadFor, Load, in_lane};
 ghost use Rattle.alarm_points.specs.FourWatches.{AreAllMadeFor};
-ghost use Rattle.classifier.specs.Seen.{HaveAllSeen, KeepSettings};
+ghost use Rattle.classifier.specs.Seen.{AreAllFollowed, HaveAllSeen, KeepSettings};
 
-use crate::noise::{Noise, SILENT};
 use crate::see::see_cycle;
 use crate::words::LaneWords;
 use alarm_points::Points;
 use alarm_points::windows::Windows;
 use circuit::netlist::Netlist;
 use fm_base::Steps;
-use golden_run::values::Golden;
+use golden_run::Golden;
 use netlist_levels::Order;
 use std::sync::ledger::Ledger;
-use workload::run::Workload;
+use workload::run::{Kind, Workload};
 
 // Forgets what was seen of earlier runs.
-fn start_windows(points: &Points, windows: &mut [Windows], noise: &mut [Noise])
-    requires noise { length noise.old ≡ length windows.old }
+fn start_windows(points: &Points, windows: &mut [Windows], noticed: &mut [u64])
+    requires noticed { length noticed.old ≡ length windows.old }
     requires made { AreAllMadeFor points.now windows.old }
-    ensures seen { (c : Circuit) (run : Run) (load : Load) → HaveAllSeen c points.now run load 0 windows.new noise.new }
+    ensures seen { (c : Circuit) (run : Run) (load : Load) → HaveAllSeen c points.now run load 0 windows.new noticed.new }
     ensures ftti { KeepSettings windows.old windows.new }
 {
     for word in 0..windows.len() {
         windows[word].start();
-        noise[word] = SILENT;
+        noticed[word] = 0;
+    }
+}
+
+// Drops the lanes of a word that are noticed, where there are more than before.
+fn drop_noticed<B: LaneWords>(lanes: &mut B, word: u32, before: u64, noticed: u64)
+    requires { word < B.words }
+    ensures load { B.load lanes.new ≡ B.load lanes.old }
+    ensures cycles { B.cycles lanes.new ≡ B.cycles lanes.old }
+    ensures after { (vectors : List (List Bool)) → B.IsAfter lanes.old vectors → B.IsAfter lanes.new vectors }
+    ensures others { (other k : ℕ) → other < B.words → k < 64 → (other ≢ word) ⊎ (bit noticed k ≡ false)
+        → in_lane (B.in_force lanes.new) other k ≡ in_lane (B.in_force lanes.old) other k }
+{
+    if noticed != before {
+        lanes.drop_lanes(word, noticed);
+    }
+}
+
+// Shows the last cycle of a run of this kind to the windows of each word, and drops the lanes that are noticed. `row` has the
+// golden values of the cycle.
+fn see_words<B: LaneWords>(
+    points: &Points,
+    kind: Kind,
+    row: &[u64],
+    lanes: &mut B,
+    windows: &mut [Windows],
+    noticed: &mut [u64],
+)
+    requires points { ArePointsFor (B.load lanes.old).circuit points.now }
+    requires windows { length windows.old ≡ B.words }
+    requires noticed { length noticed.old ≡ B.words }
+    requires made { AreAllMadeFor points.now windows.old }
+    ensures load { B.load lanes.new ≡ B.load lanes.old }
+    ensures cycles { B.cycles lanes.new ≡ B.cycles lanes.old }
+    ensures seen { (run : Run) (t : ℕ) → run.kind ≡ kind → t < cycles_of run → B.IsAfter lanes.old (take (t + 1) run.vectors)
+        → IsGoldenRow (B.load lanes.old).circuit run.vectors t row.now
+        → AreAllFollowed B.words (B.load lanes.old) (B.in_force lanes.old) noticed.old
+        → HaveAllSeen (B.load lanes.old).circuit points.now run (B.load lanes.old) t windows.old noticed.old
+        → B.IsAfter lanes.new (take (t + 1) run.vectors)
+        × AreAllFollowed B.words (B.load lanes.old) (B.in_force lanes.new) noticed.new
+        × HaveAllSeen (B.load lanes.old).circuit points.now run (B.load lanes.old) (t + 1) windows.new noticed.new }
+    ensures ftti { KeepSettings windows.old windows.new }
+{
+    for word in 0..B::count() {
+        let at = word as usize;
+        let before = noticed[at];
+        see_cycle(
+            lanes,
+            word,
+            points,
+            kind,
+            row,
+            &mut windows[at],
+            &mut noticed[at],
+        );
+        drop_noticed(lanes, word, before, noticed[at]);
     }
 }
 
@@ -44,10 +100,10 @@ fn run_cycle<B: LaneWords, L: Ledger>(
     t: u32,
     lanes: &mut B,
     windows: &mut [Windows],
-    noise: &mut [Noise],
+    noticed: &mut [u64],
     steps: &mut Steps<L>,
 )
-    requires golden { golden.now ≡ record { circuit = net.now; runs = work.now; points = points.now } }
+    requires golden { golden.now ≡ record { circuit = net.now; order = order.now; runs = work.now } }
     requires points { ArePointsFor net.now points.now }
     requires run { run < length work.now }
     requires cycle { t < cycles_of (run_at work.now run) }
@@ -56,32 +112,25 @@ fn run_cycle<B: LaneWords, L: Ledger>(
     requires cycles { B.cycles lanes.old ≡ t }
     requires after { B.IsAfter lanes.old (take t (run_at work.now run).vectors) }
     requires windows { length windows.old ≡ B.words }
-    requires noise { length noise.old ≡ B.words }
-    requires seen { HaveAllSeen net.now points.now (run_at work.now run) (B.load lanes.old) t windows.old noise.old }
+    requires noticed { length noticed.old ≡ B.words }
+    requires followed { AreAllFollowed B.words (B.load lanes.old) (B.in_force lanes.old) noticed.old }
+    requires seen { HaveAllSeen net.now points.now (run_at work.now run) (B.load lanes.old) t windows.old noticed.old }
     ensures load { B.load lanes.new ≡ B.load lanes.old }
     ensures cycles { B.cycles lanes.new ≡ t + 1 }
     ensures after { B.IsAfter lanes.new (take (t + 1) (run_at work.now run).vectors) }
-    ensures seen { HaveAllSeen net.now points.now (run_at work.now run) (B.load lanes.old) (t + 1) windows.new noise.new }
+    ensures followed { AreAllFollowed B.words (B.load lanes.old) (B.in_force lanes.new) noticed.new }
+    ensures seen { HaveAllSeen net.now points.now (run_at work.now run) (B.load lanes.old) (t + 1) windows.new noticed.new }
     ensures ftti { KeepSettings windows.old windows.new }
-    ensures cost { steps.new ≡ steps.old + length net.now.tables }
+    ensures cost { steps.new ≤ steps.old + length net.now.tables }
 {
-    lanes.advance(net, order, work.vector(run, t), steps);
-    for word in 0..B::count() {
-        see_cycle(
-            lanes,
-            word,
-            points,
-            golden,
-            run,
-            t,
-            &mut windows[word as usize],
-            &mut noise[word as usize],
-        );
-    }
+    let row = golden.row(run, t);
+    lanes.advance(net, order, golden.fanout(), row, steps);
+    see_words(points, work.kind(run), row, lanes, windows, noticed);
 }
 
-/// Simulates a run from its start in all lanes, and shows each cycle to the windows of each word. It takes one step for each
-/// table and cycle. What lanes, windows and noise held before is no matter.
+/// Simulates a run from its start in all lanes, and shows each cycle to the windows of each word. `noticed` are then the lanes of
+/// each word that the run gives notice of; such a lane is dropped once it is noticed. It takes at most one step for each table and
+/// cycle. What lanes, windows and `noticed` held before is no matter.
 pub fn watch_run<B: LaneWords, L: Ledger>(
     net: &Netlist,
     order: &Order,
@@ -91,26 +140,26 @@ pub fn watch_run<B: LaneWords, L: Ledger>(
     run: u32,
     lanes: &mut B,
     windows: &mut [Windows],
-    noise: &mut [Noise],
+    noticed: &mut [u64],
     steps: &mut Steps<L>,
 )
-    requires golden { golden.now ≡ record { circuit = net.now; runs = work.now; points = points.now } }
+    requires golden { golden.now ≡ record { circuit = net.now; order = order.now; runs = work.now } }
     requires points { ArePointsFor net.now points.now }
     requires run { run < length work.now }
     requires made { IsLoadFor net.now order.now (B.load lanes.old) }
     requires windows { length windows.old ≡ B.words }
-    requires noise { length noise.old ≡ B.words }
+    requires noticed { length noticed.old ≡ B.words }
     requires windows_made { AreAllMadeFor points.now windows.old }
     ensures load { B.load lanes.new ≡ B.load lanes.old }
-    ensures seen { HaveAllSeen net.now points.now (run_at work.now run) (B.load lanes.old) (cycles_of (run_at work.now run)) windows.new noise.new }
+    ensures seen { HaveAllSeen net.now points.now (run_at work.now run) (B.load lanes.old) (cycles_of (run_at work.now run)) windows.new noticed.new }
     ensures ftti { KeepSettings windows.old windows.new }
-    ensures cost { steps.new ≡ steps.old + cycles_of (run_at work.now run) * length net.now.tables }
+    ensures cost { steps.new ≤ steps.old + cycles_of (run_at work.now run) * length net.now.tables }
 {
     lanes.restart();
-    start_windows(points, windows, noise);
+    start_windows(points, windows, noticed);
     for t in 0..work.cycles(run) {
         run_cycle(
-            net, order, work, points, golden, run, t, lanes, windows, noise, steps,
+            net, order, work, points, golden, run, t, lanes, windows, noticed, steps,
         );
     }
 }

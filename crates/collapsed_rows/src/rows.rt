@@ -11,11 +11,11 @@ ghost use Rattle.collapsed_rows.specs.TrueRows.{true_entries};
 use alarm_points::windows4::Windows4;
 use campaign_plan::{Outcome, Plan};
 use collapse_map::Collapse;
+use differential_kernel::DifferentialLanes4;
 use fault_collapse::{OutcomeList, collapsed_quads};
 use fm_base::Steps;
 use fm_list::Seq;
-use golden_run::make::golden;
-use lane_kernel::Lanes4;
+use golden_run::Golden;
 use metric_sums::Sums;
 use netlist_levels::Order;
 use result_file::{Row, RowList};
@@ -38,8 +38,8 @@ fn counted_outcomes<L: Ledger>(
 {
     let (net, points) = (plan.net(), plan.points());
     let collapse = Collapse::new(alloc, net, order, plan.faults(), points)?;
-    let golden = golden(alloc, net, order, plan.work(), points)?;
-    let mut lanes = Lanes4::new(alloc, net, order)?;
+    let golden = Golden::new(alloc, net, order, plan.work())?;
+    let mut lanes = DifferentialLanes4::new(alloc, net, order)?;
     let mut windows = Windows4::new(alloc, points, plan.settings().ftti)?;
     let mut steps: Steps<L> = Steps::fresh(blank);
     collapsed_quads(

@@ -13,9 +13,9 @@ ghost use Rattle.differential_kernel.specs.Kernel.{IsKernel, bank_of, lanes_of};
 ghost use Rattle.differential_kernel.specs.Places.{ArePlaces};
 
 use crate::arm::{is_some_transient, place};
-use crate::drop::{keep_lanes, unload};
 use crate::cycle::run;
 use crate::difference::{same_words, value_word, word_at};
+use crate::drop::{keep_lanes, unload};
 use crate::flip::flip;
 use crate::force::{Force, idle_forces};
 use crate::lane_word::LaneWord;

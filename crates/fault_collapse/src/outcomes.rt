@@ -5,7 +5,7 @@ ghost use Rattle.alarm_points.specs.FourWatches.{AreAllMadeFor, AreFourMadeFor};
 ghost use Rattle.alarm_points.specs.Watch.{AreMadeFor};
 ghost use Rattle.classifier.specs.Load.{IsLoadFor};
 ghost use Rattle.classifier.specs.Seen.{KeepSettings};
-ghost use Rattle.lane_kernel.specs.Bank.{IsMadeFor};
+ghost use Rattle.golden_difference.specs.Lanes.{IsMadeFor};
 ghost use Rattle.fault_collapse.specs.Chosen.{HaveInterval};
 ghost use Rattle.fault_collapse.specs.Outcomes.{all_planes, collapsed_of, most_steps, most_steps_by};
 
@@ -17,10 +17,10 @@ use alarm_points::windows4::Windows4;
 use campaign_plan::{Outcome, Plan};
 use classifier::LaneWords;
 use collapse_map::Collapse;
+use differential_kernel::{DifferentialLanes, DifferentialLanes4};
 use fm_base::Steps;
 use fm_list::Seq;
-use golden_run::values::Golden;
-use lane_kernel::{Lanes, Lanes4};
+use golden_run::Golden;
 use netlist_levels::Order;
 use std::alloc::{AllocError, Global};
 use std::slice::from_mut;
@@ -50,7 +50,7 @@ fn outcomes_by<B: LaneWords, L: Ledger>(
 ) -> Result<OutcomeList, AllocError>
     requires order { IsOrder plan.now.circuit order.now }
     requires collapse { collapse.now ≡ collapsed_of plan.now }
-    requires golden { golden.now ≡ record { circuit = plan.now.circuit; runs = plan.now.runs; points = plan.now.points } }
+    requires golden { golden.now ≡ record { circuit = plan.now.circuit; order = order.now; runs = plan.now.runs } }
     requires lanes { IsLoadFor plan.now.circuit order.now (B.load lanes.old) }
     requires count { length windows.old ≡ B.words }
     requires windows { AreAllMadeFor plan.now.points windows.old }
@@ -92,13 +92,13 @@ pub fn collapsed_outcomes<L: Ledger>(
     order: &Order,
     collapse: &Collapse,
     golden: &Golden,
-    lanes: &mut Lanes,
+    lanes: &mut DifferentialLanes,
     windows: &mut Windows,
     steps: &mut Steps<L>,
 ) -> Result<OutcomeList, AllocError>
     requires order { IsOrder plan.now.circuit order.now }
     requires collapse { collapse.now ≡ collapsed_of plan.now }
-    requires golden { golden.now ≡ record { circuit = plan.now.circuit; runs = plan.now.runs; points = plan.now.points } }
+    requires golden { golden.now ≡ record { circuit = plan.now.circuit; order = order.now; runs = plan.now.runs } }
     requires lanes { IsMadeFor plan.now.circuit order.now lanes.old }
     requires windows { AreMadeFor plan.now.points windows.old }
     requires ftti { windows.old.ftti ≡ plan.now.settings.ftti }
@@ -128,13 +128,13 @@ pub fn collapsed_quads<L: Ledger>(
     order: &Order,
     collapse: &Collapse,
     golden: &Golden,
-    lanes: &mut Lanes4,
+    lanes: &mut DifferentialLanes4,
     windows: &mut Windows4,
     steps: &mut Steps<L>,
 ) -> Result<OutcomeList, AllocError>
     requires order { IsOrder plan.now.circuit order.now }
     requires collapse { collapse.now ≡ collapsed_of plan.now }
-    requires golden { golden.now ≡ record { circuit = plan.now.circuit; runs = plan.now.runs; points = plan.now.points } }
+    requires golden { golden.now ≡ record { circuit = plan.now.circuit; order = order.now; runs = plan.now.runs } }
     requires lanes { IsMadeFor plan.now.circuit order.now lanes.old }
     requires windows { AreFourMadeFor plan.now.points windows.old }
     requires ftti { windows.old.ftti ≡ plan.now.settings.ftti }

@@ -14,7 +14,7 @@ use circuit::parts::Fault;
 use classifier::{LaneWords, loaded_outcomes};
 use fault_list::FaultList;
 use fm_base::Steps;
-use golden_run::values::Golden;
+use golden_run::Golden;
 use netlist_levels::Order;
 use std::sync::ledger::Ledger;
 
@@ -58,7 +58,7 @@ fn load_groups<B: LaneWords>(faults: &FaultList, numbers: &[u32], first: usize, 
 }
 
 /// The planes of each group of 64 of the faults of these numbers, one after the other; in each round as many groups as the lanes
-/// have words. It takes no memory, and one step for each round, table and cycle.
+/// have words. It takes no memory, and at most one step for each round, table and cycle.
 pub(crate) fn simulate<B: LaneWords, L: Ledger>(
     plan: &Plan,
     order: &Order,
@@ -70,7 +70,7 @@ pub(crate) fn simulate<B: LaneWords, L: Ledger>(
     windows: &mut [Windows],
     steps: &mut Steps<L>,
 )
-    requires golden { golden.now ≡ record { circuit = plan.now.circuit; runs = plan.now.runs; points = plan.now.points } }
+    requires golden { golden.now ≡ record { circuit = plan.now.circuit; order = order.now; runs = plan.now.runs } }
     requires numbers { All (λ number. number < length (all_faults plan.now)) numbers.now }
     requires few { length found.old < 2 ^ 32 }
     requires rounds { length found.old ≡ rounds * B.words }
@@ -82,7 +82,7 @@ pub(crate) fn simulate<B: LaneWords, L: Ledger>(
     ensures lanes { IsLoadFor plan.now.circuit order.now (B.load lanes.new) }
     ensures windows { AreAllMadeFor plan.now.points windows.new }
     ensures ftti { KeepSettings windows.old windows.new }
-    ensures cost { steps.new ≡ steps.old + rounds * (all_cycles plan.now.runs * length plan.now.circuit.tables) }
+    ensures cost { steps.new ≤ steps.old + rounds * (all_cycles plan.now.runs * length plan.now.circuit.tables) }
 {
     let words = B::count() as usize;
     for round in 0..rounds {

@@ -3,7 +3,7 @@ ghost use Rattle.std.specs.Prelude.{◌≡◌, ◌<◌, ◌+◌, ◌/◌, [], �
 ghost use Rattle.circuit.specs.Order.{IsOrder};
 ghost use Rattle.circuit.specs.Sound.{IsNetlist};
 ghost use Rattle.circuit.specs.Trace.{vector_at};
-ghost use Rattle.golden_run.specs.Bare.{IsGoldenAfter};
+ghost use Rattle.golden_difference.specs.Bare.{IsGoldenAfter};
 ghost use Rattle.lane_kernel.specs.Bank.{IsMadeFor};
 ghost use Rattle.lane_kernel.specs.Loads.{faults_of};
 ghost use Rattle.workload.specs.Runs.{cycles_of, run_at};

@@ -2,7 +2,7 @@
 ghost use Rattle.std.specs.Prelude.{◌≡◌, ◌<◌, ◌≤◌, ◌+◌, ◌*◌, ◌/◌, ◌%◌, ◌^◌, ℕ, Bool, List, [], OnOk, length, slice_index};
 ghost use Rattle.circuit.specs.Trace.{trace};
 ghost use Rattle.fm_base.specs.Planes.{bit};
-ghost use Rattle.golden_run.specs.Bare.{IsGoldenAfter};
+ghost use Rattle.golden_difference.specs.Bare.{IsGoldenAfter};
 
 use circuit::parts::NetId;
 use lane_kernel::{Lanes, Word};

@@ -1,7 +1,6 @@
-// The values that the points have in the golden run, which is the run without faults.
+// The golden run, which is the run without faults, as simulations beside it read it.
 #![tactic(auto)]
 
-mod bits;
-pub mod make;
-mod points;
-pub mod values;
+mod golden;
+
+pub use golden::Golden;

@@ -11,11 +11,10 @@ use campaign_plan::Outcome;
 use circuit::netlist::Netlist;
 use circuit::parts::Fault;
 use classifier::{batch_outcome, loaded_outcome, quad_outcomes};
+use differential_kernel::{DifferentialLanes, DifferentialLanes4};
 use fault_list::FaultList;
 use fm_base::Steps;
-use golden_run::make::golden;
-use golden_run::values::Golden;
-use lane_kernel::{Lanes, Lanes4};
+use golden_run::Golden;
 use netlist_levels::{Order, levels};
 use std::alloc::Global;
 use std::marker::Model;
@@ -73,7 +72,7 @@ impl Campaign {
         let Ok(points) = read_points(alloc, files.points, &net) else {
             return None;
         };
-        let Ok(golden) = golden(alloc, &net, &order, &work, &points) else {
+        let Ok(golden) = Golden::new(alloc, &net, &order, &work) else {
             return None;
         };
         Some(Campaign {
@@ -105,7 +104,7 @@ impl Campaign {
         let Ok(faults) = FaultList::new(alloc, &self.net, flips, &[]) else {
             return None;
         };
-        let Ok(mut lanes) = Lanes::new(alloc, &self.net, &self.order) else {
+        let Ok(mut lanes) = DifferentialLanes::new(alloc, &self.net, &self.order) else {
             return None;
         };
         let Ok(mut windows) = Windows::new(alloc, &self.points, ftti) else {
@@ -139,7 +138,7 @@ impl Campaign {
         let Ok(faults) = FaultList::new(alloc, &self.net, flips, &[]) else {
             return None;
         };
-        let Ok(mut lanes) = Lanes4::new(alloc, &self.net, &self.order) else {
+        let Ok(mut lanes) = DifferentialLanes4::new(alloc, &self.net, &self.order) else {
             return None;
         };
         let Ok(mut windows) = Windows4::new(alloc, &self.points, ftti) else {
@@ -170,7 +169,7 @@ impl Campaign {
     ) -> Option<Outcome>
         requires { lane < 64 }
     {
-        let Ok(mut lanes) = Lanes::new(alloc, &self.net, &self.order) else {
+        let Ok(mut lanes) = DifferentialLanes::new(alloc, &self.net, &self.order) else {
             return None;
         };
         let Ok(mut windows) = Windows::new(alloc, &self.points, ftti) else {

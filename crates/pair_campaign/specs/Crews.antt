@@ -17,7 +17,7 @@ pub record MadeFor : Type 0 where
 -- all that judging needs is there: the golden run, 1 to 32 workers, and room for the planes
 pub record IsCrewFor (made : MadeFor) (golden : Recording) (workers : List PairWorker) (planes : List ℕ) : Type 0 where
   pub faults : AreFaults made.plan made.pairs
-  pub golden_is : golden ≡ golden_of made.plan
+  pub golden_is : golden ≡ golden_of made.plan made.order
   pub equipped : All (IsEquippedFor made.plan made.order (batches_for (pair_count made.pairs))) workers
   pub some : 0 < length workers
   pub few : length workers ≤ 32

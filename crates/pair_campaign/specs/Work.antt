@@ -3,7 +3,7 @@ use Rattle.std.specs.Prelude.{◌≡◌, ℕ, ◌+◌, ◌*◌, ◌%◌, ◌<◌
 use Rattle.circuit.specs.declared.parts.Fault.{Fault}
 use Rattle.circuit.specs.declared.parts.NetId.{NetId}
 use Rattle.alarm_points.specs.FourWatches.{AreFourMadeFor, FourWatches}
-use Rattle.lane_kernel.specs.Bank.{Bank, IsMadeFor}
+use Rattle.golden_difference.specs.Lanes.{IsMadeFor, Lanes}
 use Rattle.golden_run.specs.Recording.{Recording}
 use Rattle.fault_list.specs.Faults.{batches_for, fault_number, is_used}
 use Rattle.fm_base.specs.Planes.{bit}
@@ -20,9 +20,9 @@ use Rattle.pair_campaign.specs.PairPlanes.{pair_plane}
 abbrev pub faults_in_lane : Analysis → Chosen → ℕ → ℕ → List Fault
 faults_in_lane p c plane lane = if is_used (pair_count c) plane lane then both_faults p (pair_numbered c (fault_number plane lane)) else []
 
--- the golden run of a plan
-abbrev pub golden_of : Analysis → Recording
-golden_of p = record { circuit = p.circuit; runs = p.runs; points = p.points }
+-- the golden run of a plan, by an order of its tables
+abbrev pub golden_of : Analysis → List NetId → Recording
+golden_of p order = record { circuit = p.circuit; order = order; runs = p.runs }
 
 -- the danger of each lane is that of the faults there, as a plane of pairs is loaded
 abbrev pub ShowsPlane : Analysis → Chosen → ℕ → Outcome → Type 0
@@ -34,7 +34,7 @@ abbrev pub ShowPlanes : Analysis → Chosen → (first apart : ℕ) → List Out
 ShowPlanes p c first apart outcomes = (word : ℕ) → word < 4 → ShowsPlane p c (first + word * apart) (outcome_at outcomes word)
 
 -- four words of lanes and of windows for a plan, by an order of its tables
-pub record AreToolsFor (p : Analysis) (order : List NetId) (lanes : Bank (List ℕ)) (windows : FourWatches) : Type 0 where
+pub record AreToolsFor (p : Analysis) (order : List NetId) (lanes : Lanes (List ℕ)) (windows : FourWatches) : Type 0 where
   pub lanes_made : IsMadeFor p.circuit order lanes
   pub windows_made : AreFourMadeFor p.points windows
   pub ftti : windows.ftti ≡ p.settings.ftti

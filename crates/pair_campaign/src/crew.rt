@@ -8,8 +8,7 @@ use crate::load::planes_for;
 use crate::worker::PairWorker;
 use campaign_plan::Plan;
 use fm_list::Seq;
-use golden_run::make::golden;
-use golden_run::values::Golden;
+use golden_run::Golden;
 use netlist_levels::Order;
 use pair_list::Pairs;
 use std::alloc::{AllocError, Global};
@@ -54,7 +53,7 @@ impl PairCrew {
         requires pairs { AreFaults plan.now pairs.now }
         ensures { IfOk result (λ crew. crew ≡ record { plan = plan.now; order = order.now; pairs = pairs.now }) }
     {
-        let golden = golden(alloc, plan.net(), order, plan.work(), plan.points())?;
+        let golden = Golden::new(alloc, plan.net(), order, plan.work())?;
         let planes = planes_for(pairs);
         let workers = hired(alloc, plan, order, planes, workers)?;
         let room = vec![in alloc; 0; planes as usize]?;

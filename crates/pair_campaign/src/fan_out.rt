@@ -10,7 +10,7 @@ use crate::crew::{PairCrew, PairPlanes};
 use crate::worker::{PairWorker, work};
 use campaign_plan::Plan;
 use fm_list::Seq;
-use golden_run::values::Golden;
+use golden_run::Golden;
 use netlist_levels::Order;
 use pair_list::Pairs;
 use std::sync::Wait;
@@ -26,7 +26,7 @@ fn work_all<R: Threads + Sync>(
     pairs: &Pairs,
     workers: &mut [PairWorker],
 )
-    requires golden { golden.now ≡ golden_of plan.now }
+    requires golden { golden.now ≡ golden_of plan.now order.now }
     requires pairs { AreFaults plan.now pairs.now }
     requires few { length workers.old ≤ 32 }
     requires equipped { All (IsEquippedFor plan.now order.now (batches_for (pair_count pairs.now))) workers.old }
@@ -38,7 +38,7 @@ fn work_all<R: Threads + Sync>(
         workers,
         32,
         &|number, worker: &mut PairWorker|
-            requires { IsEquippedFor plan.now order.now (batches_for (pair_count pairs.now)) worker.now × (golden.now ≡ golden_of plan.now) × AreFaults plan.now pairs.now × (number < count) × (count ≤ 32) }
+            requires { IsEquippedFor plan.now order.now (batches_for (pair_count pairs.now)) worker.now × (golden.now ≡ golden_of plan.now order.now) × AreFaults plan.now pairs.now × (number < count) × (count ≤ 32) }
             ensures { HasJudged plan.entry.now pairs.entry.now count number worker.exit.now.planes.items }
         {
             work(
@@ -76,7 +76,7 @@ fn judge_all<R: Threads + Sync>(
     workers: &mut [PairWorker],
     planes: &mut [u64],
 )
-    requires golden { golden.now ≡ golden_of plan.now }
+    requires golden { golden.now ≡ golden_of plan.now order.now }
     requires pairs { AreFaults plan.now pairs.now }
     requires some { 0 < length workers.old }
     requires few { length workers.old ≤ 32 }

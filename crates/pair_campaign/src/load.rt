@@ -3,14 +3,14 @@ ghost use Rattle.std.specs.Prelude.{◌≡◌, ◌+◌, ◌*◌, ◌<◌, ◌≤
 ghost use Rattle.fault_list.specs.Faults.{batches_for, is_used};
 ghost use Rattle.fm_base.specs.Planes.{bit};
 ghost use Rattle.classifier.specs.Load.{lane_faults, load_of};
-ghost use Rattle.lane_kernel.specs.Bank.{IsMadeFor};
+ghost use Rattle.golden_difference.specs.Lanes.{IsMadeFor};
 ghost use Rattle.lane_kernel.specs.Loads.{faults_of, somes};
 ghost use Rattle.pair_list.specs.Chosen.{AreFaults, pair_count};
 ghost use Rattle.pair_campaign.specs.Work.{faults_in_lane};
 
 use campaign_plan::Plan;
 use circuit::parts::Fault;
-use lane_kernel::Lanes4;
+use differential_kernel::DifferentialLanes4;
 use pair_list::Pairs;
 
 /// The number of pairs in a plane.
@@ -53,7 +53,13 @@ fn loads_of(plan: &Plan, pairs: &Pairs, plane: u32) -> [[Option<Fault>; 2]; 64]
 }
 
 /// Loads each word with a plane: with the first, and with each `apart` further.
-pub(crate) fn load_planes(plan: &Plan, pairs: &Pairs, first: u32, apart: u32, lanes: &mut Lanes4)
+pub(crate) fn load_planes(
+    plan: &Plan,
+    pairs: &Pairs,
+    first: u32,
+    apart: u32,
+    lanes: &mut DifferentialLanes4,
+)
     requires pairs { AreFaults plan.now pairs.now }
     requires few { first + 4 * apart < 2 ^ 32 }
     ensures made { IsMadeFor lanes.old.circuit lanes.old.order lanes.new }

@@ -13,9 +13,9 @@ use crate::load::{load_planes, planes_for, used_lanes};
 use alarm_points::windows4::Windows4;
 use campaign_plan::{Outcome, Plan};
 use classifier::loaded_quad;
+use differential_kernel::DifferentialLanes4;
 use fm_base::Steps;
-use golden_run::values::Golden;
-use lane_kernel::Lanes4;
+use golden_run::Golden;
 use netlist_levels::Order;
 use pair_list::Pairs;
 use std::alloc::{AllocError, Global};
@@ -27,7 +27,7 @@ const WORDS: u32 = 4;
 /// What a worker simulates with, and the planes that it judges: each at its own place, with room for those of the others.
 #[derive(Drop)]
 pub struct PairWorker {
-    pub(crate) lanes: Lanes4,
+    pub(crate) lanes: DifferentialLanes4,
     pub(crate) windows: Windows4,
     pub(crate) planes: Vec<u64>,
 }
@@ -44,7 +44,7 @@ impl PairWorker {
         ensures { IfOk result (λ worker. IsEquippedFor plan.now order.now planes worker) }
     {
         Ok(PairWorker {
-            lanes: Lanes4::new(alloc, plan.net(), order)?,
+            lanes: DifferentialLanes4::new(alloc, plan.net(), order)?,
             windows: Windows4::new(alloc, plan.points(), plan.settings().ftti)?,
             planes: vec![in alloc; 0; planes as usize]?,
         })
@@ -56,12 +56,12 @@ fn counted_outcomes<L: Ledger>(
     plan: &Plan,
     order: &Order,
     golden: &Golden,
-    lanes: &mut Lanes4,
+    lanes: &mut DifferentialLanes4,
     windows: &mut Windows4,
     blank: Blank,
 ) -> [Outcome; 4]
     requires blank { (blank.name ≡ L.name) × (blank.parts ≡ L.parts) × (0 < blank.parts) }
-    requires golden { golden.now ≡ golden_of plan.now }
+    requires golden { golden.now ≡ golden_of plan.now order.now }
     requires tools { AreToolsFor plan.now order.now lanes.old windows.old }
     ensures outcomes { (word : ℕ) → word < 4
         → outcome_at result word ≡ planes_of plan.now.circuit plan.now.points plan.now.settings.ftti plan.now.runs (lane_faults (load_of lanes.old) word) }
@@ -88,10 +88,10 @@ fn outcomes_of(
     pairs: &Pairs,
     first: u32,
     apart: u32,
-    lanes: &mut Lanes4,
+    lanes: &mut DifferentialLanes4,
     windows: &mut Windows4,
 ) -> [Outcome; 4]
-    requires golden { golden.now ≡ golden_of plan.now }
+    requires golden { golden.now ≡ golden_of plan.now order.now }
     requires pairs { AreFaults plan.now pairs.now }
     requires few { first + 4 * apart < 2 ^ 32 }
     requires tools { AreToolsFor plan.now order.now lanes.old windows.old }
@@ -146,7 +146,7 @@ pub(crate) fn work(
     workers: u32,
     worker: &mut PairWorker,
 )
-    requires golden { golden.now ≡ golden_of plan.now }
+    requires golden { golden.now ≡ golden_of plan.now order.now }
     requires pairs { AreFaults plan.now pairs.now }
     requires number { number < workers }
     requires few { workers ≤ 32 }

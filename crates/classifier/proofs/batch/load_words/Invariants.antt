@@ -1,5 +1,5 @@
 use Rattle.std.proofs.Common.{◌≡◌, ◌+◌, ◌*◌, ◌<◌, ℕ}
-use Rattle.lane_kernel.specs.Bank.{IsMadeFor}
+use Rattle.golden_difference.specs.Lanes.{IsMadeFor}
 use Rattle.lane_kernel.specs.Loads.{faults_of}
 use Rattle.classifier.specs.Batch.{alone_in, batch_at}
 use Rattle.classifier.proofs.batch.load_words.Given as goal

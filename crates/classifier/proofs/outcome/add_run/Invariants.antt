@@ -13,7 +13,7 @@ use Rattle.classifier.proofs.outcome.add_run.Given as goal
 abbrev pub invariant-loop-word : goal.invariant-loop-word
 invariant-loop-word l = record {
   done : (c : Circuit) (points : Points) (runs : List Run) (run : Run) (load : Load) (word : ℕ) → run.kind ≡ l.kind
-      → HaveAllSeen c points run load (cycles_of run) l.windows l.noise → word < l.word
+      → HaveAllSeen c points run load (cycles_of run) l.windows l.noticed → word < l.word
       → HasPlanes c points (windows_at l.windows word).ftti runs (lane_faults load word) (outcome_at l.initial.outcomes word)
       → HasPlanes c points (windows_at l.windows word).ftti (runs ++ run ∷ []) (lane_faults load word) (outcome_at l.outcomes word);
   left : (word : ℕ) → l.word ≤ word → outcome_at l.outcomes word ≡ outcome_at l.initial.outcomes word;

@@ -1,4 +1,5 @@
-use Rattle.std.proofs.Common.{◌≡◌, ◌+◌, ◌*◌, ◌<◌, ℕ, List, [], ◌∷◌, ◌++◌, length, take, refl, ap, sym, ◌∙◌, subst, arith}
+use Rattle.std.proofs.Common.{◌≡◌, ◌+◌, ◌*◌, ◌<◌, ◌≤◌, ℕ, List, [], ◌∷◌, ◌++◌, length, take, refl, ap, sym, ◌∙◌, subst, arith}
+use Rattle.std.proofs.Math.Nat.{add-mul}
 use Rattle.std.proofs.lemmas.List.{take_more}
 use Rattle.std.proofs.lemmas.List.Sums.{sum_by_push}
 use Rattle.workload.specs.declared.run.Kind.TheVariants.{Mission}
@@ -18,14 +19,16 @@ more_cycles runs n lt =
     ap (λ (rs : List Run). all_cycles rs) (take_more runs n none lt) ∙ sum_by_push cycles_of (take n runs) (run_at runs n)
 
 -- the steps of one run more
-cost_more : (start before now all own tables more : ℕ) → before ≡ start + all * tables → more ≡ all + own → now ≡ before + own * tables → now ≡ start + more * tables
-cost_more start before now all own tables more b m n = rw m (omega arith)
+cost_more : (start before now all own tables more : ℕ) → before ≤ start + all * tables → more ≡ all + own → now ≤ before + own * tables → now ≤ start + more * tables
+cost_more start before now all own tables more b m n =
+    let split : (all + own) * tables ≡ all * tables + own * tables = add-mul all own tables in
+    rw m (omega (arith, split))
 
 pub loop-run-init : goal.loop-run-init
 loop-run-init g c =
     let net = c.args.net.now in
     let points = c.args.points.now in
-    let none : c.args.steps.now ≡ c.args.steps.now + 0 * length net.tables = grind arith in
+    let none : c.args.steps.now ≤ c.args.steps.now + 0 * length net.tables = omega arith in
     record {
       load = refl;
       made = c.requires.windows_made;

@@ -1,4 +1,4 @@
-use Rattle.std.proofs.Common.{◌≡◌, ◌+◌, ◌*◌, ◌<◌, ℕ, length, take}
+use Rattle.std.proofs.Common.{◌≡◌, ◌+◌, ◌*◌, ◌<◌, ◌≤◌, ℕ, length, take}
 use Rattle.workload.specs.Runs.{all_cycles}
 use Rattle.classifier.specs.Load.{lane_faults}
 use Rattle.classifier.specs.Planes.{HasPlanes, outcome_at}
@@ -15,5 +15,5 @@ invariant-loop-run g l = record {
   planes : (word : ℕ) → word < g.B.LaneWords.words
       → HasPlanes l.net l.points (windows_at l.initial.windows word).ftti (take l.run l.work) (lane_faults (g.B.LaneWords.load l.initial.lanes) word)
       (outcome_at l.outcomes word);
-  cost : l.steps ≡ l.initial.steps + all_cycles (take l.run l.work) * length l.net.tables;
+  cost : l.steps ≤ l.initial.steps + all_cycles (take l.run l.work) * length l.net.tables;
 }

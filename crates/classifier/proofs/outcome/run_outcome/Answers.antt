@@ -16,7 +16,7 @@ unalarmed c points ftti x run goal = goes_unalarmed (interval_of ftti goal) (cyc
 
 pub returns-in-Mission-clause-danger : goal.returns-in-Mission-clause-danger
 returns-in-Mission-clause-danger c = λ circuit points run faults k kind seen lane.
-    end_says circuit points run faults c.args.windows.now c.args.noise c.end.result k lane seen c.end.ensures
+    end_says circuit points run faults c.args.windows.now c.args.noticed c.end.result k lane (ap is_mission (kind ∙ c.in-Mission.is)) seen c.end.ensures
     ∙ list_any_where (is_mission run.kind) (unalarmed circuit points c.args.windows.now.ftti (faults k) run) points.goals (ap is_mission (kind ∙ c.in-Mission.is))
 
 pub returns-in-Test-clause-danger : goal.returns-in-Test-clause-danger

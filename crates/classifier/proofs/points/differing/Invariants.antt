@@ -1,18 +1,19 @@
 use Rattle.std.proofs.Common.{◌≡◌, ◌+◌, ◌<◌, ℕ, not, take}
 use Rattle.std.specs.List.{list_any}
 use Rattle.circuit.specs.declared.parts.NetId.{NetId}
-use Rattle.workload.specs.Runs.{run_at}
+use Rattle.workload.specs.declared.run.Run.{Run}
+use Rattle.workload.specs.Runs.{cycles_of}
 use Rattle.campaign_plan.specs.Danger.{golden, with_faults}
 use Rattle.fm_base.specs.Lists.{same_bit}
 use Rattle.fm_base.specs.Planes.{bit}
-use Rattle.classifier.specs.Load.{lane_faults}
+use Rattle.classifier.specs.Load.{in_lane}
 use Rattle.classifier.proofs.points.differing.Given as goal
 
 -- the lanes in which some net so far differs
-abbrev pub invariant-loop-j : goal.invariant-loop-j
-invariant-loop-j g l =
-    (k : ℕ) → k < 64 → g.B.LaneWords.IsAfter l.lanes (take (l.t + 1) (run_at l.golden.runs l.run).vectors)
+abbrev pub invariant-loop-net : goal.invariant-loop-net
+invariant-loop-net g l =
+    (run : Run) (t k : ℕ) → t < cycles_of run → g.B.LaneWords.IsAfter l.lanes (take (t + 1) run.vectors) → k < 64
     → bit l.differ k
     ≡ list_any (λ (net : NetId).
-    not (same_bit (with_faults (g.B.LaneWords.load l.lanes).circuit (lane_faults (g.B.LaneWords.load l.lanes) l.word k) (run_at l.golden.runs l.run) l.t net) (golden (g.B.LaneWords.load l.lanes).circuit (run_at l.golden.runs l.run) l.t net)))
-    (take l.j l.nets)
+    not (same_bit (with_faults (g.B.LaneWords.load l.lanes).circuit (in_lane (g.B.LaneWords.in_force l.lanes) l.word k) run t net) (golden (g.B.LaneWords.load l.lanes).circuit run t net)))
+    (take l.net-index l.nets)

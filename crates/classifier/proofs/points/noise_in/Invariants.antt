@@ -1,21 +1,25 @@
 use Rattle.std.proofs.Common.{◌≡◌, ◌+◌, ◌<◌, ◌&&◌, ℕ, not, take}
 use Rattle.std.specs.List.{list_any}
 use Rattle.circuit.specs.declared.parts.NetId.{NetId}
-use Rattle.workload.specs.Runs.{run_at}
+use Rattle.workload.specs.declared.run.Run.{Run}
+use Rattle.workload.specs.Runs.{cycles_of}
 use Rattle.campaign_plan.specs.Danger.{golden, with_faults}
 use Rattle.fm_base.specs.Planes.{bit}
-use Rattle.classifier.specs.Load.{lane_faults}
+use Rattle.golden_difference.specs.Beside.{IsGoldenRow}
+use Rattle.classifier.specs.Load.{in_lane}
 use Rattle.classifier.proofs.points.noise_in.Given as goal
 
 -- the lanes in which some alarm so far is raised, and those in which some is silenced
-abbrev pub invariant-loop-j : goal.invariant-loop-j
-invariant-loop-j g l = record {
-  raised : (k : ℕ) → k < 64 → g.B.LaneWords.IsAfter l.lanes (take (l.t + 1) (run_at l.golden.runs l.run).vectors)
+abbrev pub invariant-loop-net : goal.invariant-loop-net
+invariant-loop-net g l = record {
+  raised : (run : Run) (t k : ℕ) → t < cycles_of run → g.B.LaneWords.IsAfter l.lanes (take (t + 1) run.vectors)
+      → IsGoldenRow (g.B.LaneWords.load l.lanes).circuit run.vectors t l.row → k < 64
       → bit l.found.raised k
-      ≡ list_any (λ (net : NetId). with_faults (g.B.LaneWords.load l.lanes).circuit (lane_faults (g.B.LaneWords.load l.lanes) l.word k) (run_at l.golden.runs l.run) l.t net && not (golden (g.B.LaneWords.load l.lanes).circuit (run_at l.golden.runs l.run) l.t net))
-      (take l.j l.nets);
-  silenced : (k : ℕ) → k < 64 → g.B.LaneWords.IsAfter l.lanes (take (l.t + 1) (run_at l.golden.runs l.run).vectors)
+      ≡ list_any (λ (net : NetId). with_faults (g.B.LaneWords.load l.lanes).circuit (in_lane (g.B.LaneWords.in_force l.lanes) l.word k) run t net && not (golden (g.B.LaneWords.load l.lanes).circuit run t net))
+      (take l.net-index l.nets);
+  silenced : (run : Run) (t k : ℕ) → t < cycles_of run → g.B.LaneWords.IsAfter l.lanes (take (t + 1) run.vectors)
+      → IsGoldenRow (g.B.LaneWords.load l.lanes).circuit run.vectors t l.row → k < 64
       → bit l.found.silenced k
-      ≡ list_any (λ (net : NetId). not (with_faults (g.B.LaneWords.load l.lanes).circuit (lane_faults (g.B.LaneWords.load l.lanes) l.word k) (run_at l.golden.runs l.run) l.t net) && golden (g.B.LaneWords.load l.lanes).circuit (run_at l.golden.runs l.run) l.t net)
-      (take l.j l.nets);
+      ≡ list_any (λ (net : NetId). not (with_faults (g.B.LaneWords.load l.lanes).circuit (in_lane (g.B.LaneWords.in_force l.lanes) l.word k) run t net) && golden (g.B.LaneWords.load l.lanes).circuit run t net)
+      (take l.net-index l.nets);
 }

@@ -1,48 +1,66 @@
-use Rattle.std.proofs.Common.{◌≡◌, ◌≢◌, ◌+◌, ◌<◌, List, [], length, get_or, refl, ap, ◌∙◌, subst, arith, length-set}
-use Rattle.std.proofs.lemmas.List.{get_or_default}
-use Rattle.workload.specs.declared.run.Run.{Run}
+use Rattle.std.proofs.Common.{◌≡◌, ◌+◌, ◌<◌, ◌++◌, ◌∷◌, List, [], Bool, length, take, ap, ap₂, sym, ◌∙◌, subst, arith}
+use Rattle.std.specs.Prelude.{Option}
+use Rattle.std.proofs.lemmas.List.{length-take-le, take_more}
+use Rattle.circuit.specs.declared.parts.Fault.{Fault}
+use Rattle.circuit.specs.Circuit.{Circuit}
+use Rattle.circuit.specs.Trace.{trace, vector_at}
+use Rattle.circuit.proofs.Cycles.{trace_taken}
 use Rattle.workload.specs.Runs.{run_at}
-use Rattle.alarm_points.specs.Watch.{Watches}
+use Rattle.alarm_points.specs.PointsKept.{ArePointsFor}
+use Rattle.fanout.specs.Readers.{Ordered}
+use Rattle.golden_difference.specs.Beside.{IsGoldenRow}
 use Rattle.golden_run.specs.Recording.{Recording}
-use Rattle.classifier.specs.declared.noise.Noise.{Noise}
-use Rattle.classifier.specs.Load.{Load, lane_faults}
-use Rattle.alarm_points.specs.FourWatches.{windows_at}
-use Rattle.classifier.specs.Seen.{HaveSeen, noise_at}
-use Rattle.classifier.proofs.EachWord.{each_set, each_set_one}
-use Rattle.classifier.proofs.Views.{seen_alike}
+use Rattle.classifier.specs.Load.{Load}
+use Rattle.classifier.specs.Seen.{AreAllFollowed, HaveAllSeen}
 use Rattle.classifier.proofs.run.run_cycle.Goals as goal
 
-pub loop-word-preserved : goal.loop-word-preserved
-loop-word-preserved g c =
-    let i = c.loop-word.word in
-    let ws = c.loop-word.windows in
-    let ns = c.loop-word.noise in
-    let inv = c.loop-word.invariant in
-    let points = c.args.points.now in
+pub advance-requires-clause-fanout : goal.advance-requires-clause-fanout
+advance-requires-clause-fanout g c =
+    c.fanout.ensures ∙ ap (λ (r : Recording). let o : Ordered = record { circuit = r.circuit; order = r.order } in o) c.requires.golden
+
+pub see_words-requires-clause-points : goal.see_words-requires-clause-points
+see_words-requires-clause-points g c =
+    subst (λ (m : Circuit). ArePointsFor m c.args.points.now) (sym (ap (λ (l : Load). l.circuit) c.advance.ensures.keeps ∙ c.requires.made.circuit)) c.requires.points
+
+pub see_words-requires-clause-made : goal.see_words-requires-clause-made
+see_words-requires-clause-made g c = λ word lt. (c.requires.seen word lt).made
+
+pub returns : goal.returns
+returns g c =
     let net = c.args.net.now in
-    let t = c.args.t in
-    let load = g.B.LaneWords.load c.advance.new.self in
+    let points = c.args.points.now in
     let run = run_at c.args.work.now c.args.run in
-    let new = c.see_cycle.new in
-    let none : Watches = windows_at [] 0 in
-    let silent : Noise = noise_at [] 0 in
-    let inside : i < length ws = omega (arith, c.loop-word-test.true, c.loop-word.auto.windows, c.requires.windows) in
-    let also : i < length ns = omega (arith, c.loop-word-test.true, c.loop-word.auto.noise, c.requires.noise) in
-    let old : get_or ws i c.index-windows-word.result ≡ windows_at ws i = get_or_default ws i c.index-windows-word.result none inside in
-    let circuit : load.circuit ≡ net = ap (λ (l : Load). l.circuit) c.advance.ensures.keeps ∙ c.requires.made.circuit in
-    let runs : c.args.golden.now.runs ≡ c.args.work.now = ap (λ (r : Recording). r.runs) c.requires.golden in
+    let t = c.args.t in
+    let load = g.B.LaneWords.load c.args.lanes.now in
+    let row = c.row-row.result.now in
+    let lt = c.requires.cycle in
+    let keeps = c.advance.ensures.keeps in
+    let made = c.requires.made.circuit in
+    let words = g.B.LaneWords.words in
+    let windows = c.args.windows.now in
+    let noticed = c.args.noticed.now in
+    let golden : IsGoldenRow net run.vectors t row =
+    subst (λ (r : Recording). IsGoldenRow r.circuit (run_at r.runs c.args.run).vectors t row) c.requires.golden c.row-row.ensures in
+    let size : length (take t run.vectors) ≡ t = length-take-le t run.vectors (omega (arith, lt)) in
+    let joined : take t run.vectors ++ vector_at run.vectors t ∷ [] ≡ take (t + 1) run.vectors = sym (take_more run.vectors t [] lt) in
+    let here : IsGoldenRow net (take t run.vectors ++ vector_at run.vectors t ∷ []) (length (take t run.vectors)) row =
+    λ n within. golden n within ∙ sym (trace_taken net [] run.vectors t n lt) ∙ ap₂ (λ (vs : List (List Bool)) m. trace net [] vs m n) (sym joined) (sym size) in
+    let after : g.B.LaneWords.IsAfter c.advance.new.self (take (t + 1) run.vectors) =
+    subst (λ (vs : List (List Bool)). g.B.LaneWords.IsAfter c.advance.new.self vs) joined (c.advance.ensures.step (take t run.vectors) (vector_at run.vectors t) c.requires.after here) in
+    let all = c.see_words.ensures.seen run t (sym c.kind.ensures) lt after
+    (subst (λ (l : Load). IsGoldenRow l.circuit run.vectors t row) (sym keeps) (subst (λ (m : Circuit). IsGoldenRow m run.vectors t row) (sym made) golden))
+    (subst (λ (fs : List (List (Option Fault))). AreAllFollowed words (g.B.LaneWords.load c.advance.new.self) fs noticed) (sym c.advance.ensures.in_force)
+    (subst (λ (l : Load). AreAllFollowed words l (g.B.LaneWords.in_force c.args.lanes.now) noticed) (sym keeps) c.requires.followed))
+    (subst (λ (l : Load). HaveAllSeen l.circuit points run l t windows noticed) (sym keeps)
+    (subst (λ (m : Circuit). HaveAllSeen m points run load t windows noticed) (sym made) c.requires.seen)) in
     record {
-      done = λ word lt.
-          each_set (λ j w n. HaveSeen net points run (lane_faults load j) (t + 1) w n) ws ns i new.windows none new.noise silent inside also
-          (seen_alike load.circuit net points (run_at c.args.golden.now.runs c.args.run) run (lane_faults load i) (t + 1) new.windows new.noise circuit
-          (ap (λ (rs : List Run). run_at rs c.args.run) runs) c.see_cycle.ensures.seen) word
-          (λ apart. let before : word < i = omega (arith, apart, lt) in inv.done word before);
-      left = λ word le lt.
-          let apart : word ≢ i = omega (arith, le) in
-          each_set (λ j w n. j ≢ i → HaveSeen net points run (lane_faults load j) t w n) ws ns i new.windows none new.noise silent inside also
-          (λ same. absurd (same refl)) word
-          (λ other away. inv.left word (omega (arith, le)) (subst (λ n. word < n) (length-set ws i new.windows) lt)) apart;
-      ftti = λ word.
-          each_set_one (λ j w. w.ftti ≡ (windows_at c.args.windows.now j).ftti) ws i new.windows none inside
-          (c.see_cycle.ensures.ftti ∙ ap (λ (w : Watches). w.ftti) old ∙ inv.ftti i) word (λ apart. inv.ftti word);
+      load = c.see_words.ensures.load ∙ keeps;
+      cycles = c.see_words.ensures.cycles ∙ c.advance.ensures.cycles ∙ ap (λ n. n + 1) c.requires.cycles;
+      after = all.0;
+      followed = subst (λ (l : Load). AreAllFollowed words l (g.B.LaneWords.in_force c.see_words.new.lanes) c.see_words.new.noticed) keeps all.1;
+      seen =
+          subst (λ (m : Circuit). HaveAllSeen m points run load (t + 1) c.see_words.new.windows c.see_words.new.noticed) made
+          (subst (λ (l : Load). HaveAllSeen l.circuit points run l (t + 1) c.see_words.new.windows c.see_words.new.noticed) keeps all.2);
+      ftti = c.see_words.ensures.ftti;
+      cost = c.advance.ensures.cost;
     }

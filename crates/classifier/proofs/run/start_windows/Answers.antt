@@ -1,11 +1,10 @@
-use Rattle.std.proofs.Common.{◌≡◌, ◌<◌, [], length, map, get_or, ap, sym, ◌∙◌, subst, arith, length-set}
+use Rattle.std.proofs.Common.{◌≡◌, ◌<◌, ℕ, [], length, map, get_or, ap, sym, ◌∙◌, subst, arith, length-set}
 use Rattle.std.proofs.lemmas.List.{get_or_default}
 use Rattle.alarm_points.specs.Interval.{interval_of}
 use Rattle.alarm_points.specs.Watch.{AreMadeFor, Watches}
-use Rattle.classifier.specs.declared.noise.Noise.{Noise}
 use Rattle.classifier.specs.Load.{lane_faults}
 use Rattle.alarm_points.specs.FourWatches.{windows_at}
-use Rattle.classifier.specs.Seen.{HaveSeen, noise_at}
+use Rattle.classifier.specs.Seen.{HaveSeen, noticed_at}
 use Rattle.classifier.proofs.EachWord.{each_set, each_set_one}
 use Rattle.classifier.proofs.Views.{unseen}
 use Rattle.classifier.proofs.run.start_windows.Goals as goal
@@ -14,14 +13,14 @@ pub loop-word-preserved : goal.loop-word-preserved
 loop-word-preserved c =
     let i = c.loop-word.word in
     let ws = c.loop-word.windows in
-    let ns = c.loop-word.noise in
+    let ns = c.loop-word.noticed in
     let inv = c.loop-word.invariant in
     let points = c.args.points.now in
     let new = c.start.new.self in
     let inside : i < length ws = omega (arith, c.loop-word-test.true, c.loop-word.auto.windows) in
-    let also : i < length ns = omega (arith, inside, c.loop-word.auto.windows, c.loop-word.auto.noise, c.requires.noise) in
+    let also : i < length ns = omega (arith, inside, c.loop-word.auto.windows, c.loop-word.auto.noticed, c.requires.noticed) in
     let none : Watches = windows_at [] 0 in
-    let silent : Noise = noise_at [] 0 in
+    let silent : ℕ = 0 in
     let old : get_or ws i c.index-windows-word.result ≡ windows_at ws i = get_or_default ws i c.index-windows-word.result none inside in
     let made : AreMadeFor points new =
     c.start.ensures.keeps.intervals ∙ subst (λ (w : Watches). AreMadeFor points w) (sym old) (inv.made i inside)

@@ -3,7 +3,7 @@ use Rattle.circuit.specs.Circuit.{Circuit}
 use Rattle.workload.specs.declared.run.Run.{Run}
 use Rattle.classifier.specs.Load.{Load, lane_faults}
 use Rattle.alarm_points.specs.FourWatches.{AreAllMadeFor, windows_at}
-use Rattle.classifier.specs.Seen.{HaveSeen, KeepSettings, noise_at}
+use Rattle.classifier.specs.Seen.{HaveSeen, KeepSettings, noticed_at}
 use Rattle.classifier.proofs.run.start_windows.Given as goal
 
 -- the words so far have seen nothing
@@ -11,6 +11,6 @@ abbrev pub invariant-loop-word : goal.invariant-loop-word
 invariant-loop-word l = record {
   made : AreAllMadeFor l.points l.windows;
   seen : (c : Circuit) (run : Run) (load : Load) (word : ℕ) → word < l.word
-      → HaveSeen c l.points run (lane_faults load word) 0 (windows_at l.windows word) (noise_at l.noise word);
+      → HaveSeen c l.points run (lane_faults load word) 0 (windows_at l.windows word) (noticed_at l.noticed word);
   ftti : KeepSettings l.initial.windows l.windows;
 }

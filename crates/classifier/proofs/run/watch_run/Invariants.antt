@@ -1,6 +1,6 @@
-use Rattle.std.proofs.Common.{◌≡◌, ◌+◌, ◌*◌, length, take}
+use Rattle.std.proofs.Common.{◌≡◌, ◌≤◌, ◌+◌, ◌*◌, length, take}
 use Rattle.workload.specs.Runs.{run_at}
-use Rattle.classifier.specs.Seen.{HaveAllSeen, KeepSettings}
+use Rattle.classifier.specs.Seen.{AreAllFollowed, HaveAllSeen, KeepSettings}
 use Rattle.classifier.proofs.run.watch_run.Given as goal
 
 -- the cycles so far are simulated, and the windows have seen them
@@ -9,7 +9,8 @@ invariant-loop-t g l = record {
   load : g.B.LaneWords.load l.lanes ≡ g.B.LaneWords.load l.initial.lanes;
   cycles : g.B.LaneWords.cycles l.lanes ≡ l.t;
   after : g.B.LaneWords.IsAfter l.lanes (take l.t (run_at l.work l.run).vectors);
-  seen : HaveAllSeen l.net l.points (run_at l.work l.run) (g.B.LaneWords.load l.initial.lanes) l.t l.windows l.noise;
+  seen : HaveAllSeen l.net l.points (run_at l.work l.run) (g.B.LaneWords.load l.initial.lanes) l.t l.windows l.noticed;
+  followed : AreAllFollowed g.B.LaneWords.words (g.B.LaneWords.load l.initial.lanes) (g.B.LaneWords.in_force l.lanes) l.noticed;
   ftti : KeepSettings l.initial.windows l.windows;
-  cost : l.steps ≡ l.initial.steps + l.t * length l.net.tables;
+  cost : l.steps ≤ l.initial.steps + l.t * length l.net.tables;
 }

@@ -91,6 +91,6 @@ returns-clause-cost g c =
     let reps : rep_count c.args.collapse.now ≡ rep_count (collapsed_of p) = ap rep_count c.requires.collapse in
     let rounds : c.div_ceil-rounds.result ≡ div_ceil (rep_count (collapsed_of p)) (64 * g.B.LaneWords.words) =
     c.div_ceil-rounds.ensures ∙ ap₂ (λ m w. div_ceil m (64 * w)) (len ∙ counted ∙ reps) c.count-words.ensures.count in
-    let spent : c.simulate.new.steps ≡ c.args.steps.now + div_ceil (rep_count (collapsed_of p)) (64 * g.B.LaneWords.words) * each =
-    c.simulate.ensures.cost ∙ ap (λ r. c.args.steps.now + r * each) rounds in
+    let spent : c.simulate.new.steps ≤ c.args.steps.now + div_ceil (rep_count (collapsed_of p)) (64 * g.B.LaneWords.words) * each =
+    subst (λ r. c.simulate.new.steps ≤ c.args.steps.now + r * each) rounds c.simulate.ensures.cost in
     omega (arith, spent)

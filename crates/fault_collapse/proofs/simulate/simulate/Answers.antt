@@ -15,6 +15,10 @@ use Rattle.fault_collapse.proofs.Choosing.{group_is, times_more}
 use Rattle.fault_collapse.proofs.Rounds.{groups_more}
 use Rattle.fault_collapse.proofs.simulate.simulate.Goals as goal
 
+-- the steps of one round more
+cost_more : (start before now round each own : ℕ) → before ≤ start + round * each → own ≡ each → now ≤ before + own → now ≤ start + (round + 1) * each
+cost_more start before now round each own b same n = let up : (start + round * each) + each ≡ start + (round + 1) * each = times_more start round each in omega (arith, up)
+
 pub loop-round-preserved : goal.loop-round-preserved
 loop-round-preserved g c =
     let p : Analysis = c.args.plan.now in
@@ -56,5 +60,5 @@ loop-round-preserved g c =
       };
       windows = subst (λ (points : Points). AreAllMadeFor points c.loaded_outcomes.new.windows) c.points.ensures.value c.loaded_outcomes.ensures.windows;
       ftti = λ word. c.loaded_outcomes.ensures.ftti word ∙ inv.ftti word;
-      cost = c.loaded_outcomes.ensures.cost ∙ ap₂ (λ m n. m + n) inv.cost spent ∙ times_more c.args.steps.now round each;
+      cost = cost_more c.args.steps.now c.loop-round.steps c.loaded_outcomes.new.steps round each _ inv.cost spent c.loaded_outcomes.ensures.cost;
     }

@@ -1,4 +1,4 @@
-use Rattle.std.proofs.Common.{◌≡◌, ◌<◌, ◌+◌, ◌*◌, ℕ, length}
+use Rattle.std.proofs.Common.{◌≡◌, ◌<◌, ◌≤◌, ◌+◌, ◌*◌, ℕ, length}
 use Rattle.alarm_points.specs.FourWatches.{AreAllMadeFor}
 use Rattle.workload.specs.Runs.{all_cycles}
 use Rattle.classifier.specs.Load.{IsLoadFor}
@@ -14,5 +14,5 @@ invariant-loop-round g l = record {
   lanes : IsLoadFor l.plan.circuit l.order (g.B.LaneWords.load l.lanes);
   windows : AreAllMadeFor l.plan.points l.windows;
   ftti : KeepSettings l.initial.windows l.windows;
-  cost : l.steps ≡ l.initial.steps + l.round * (all_cycles l.plan.runs * length l.plan.circuit.tables);
+  cost : l.steps ≤ l.initial.steps + l.round * (all_cycles l.plan.runs * length l.plan.circuit.tables);
 }

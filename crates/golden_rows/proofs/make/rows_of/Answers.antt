@@ -3,7 +3,7 @@ use Rattle.std.proofs.lemmas.List.{length-take-le}
 use Rattle.circuit.specs.Circuit.{Circuit}
 use Rattle.circuit.specs.Trace.{trace}
 use Rattle.circuit.proofs.Cycles.{trace_taken}
-use Rattle.golden_run.specs.Bare.{IsGoldenAfter}
+use Rattle.golden_difference.specs.Bare.{IsGoldenAfter}
 use Rattle.workload.specs.Runs.{cycles_of, run_at}
 use Rattle.golden_rows.proofs.RowLemmas.{row_more}
 use Rattle.golden_rows.proofs.make.rows_of.Goals as goal

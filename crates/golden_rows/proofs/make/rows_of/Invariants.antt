@@ -1,5 +1,5 @@
 use Rattle.std.proofs.Common.{◌≡◌, take}
-use Rattle.golden_run.specs.Bare.{IsGoldenAfter}
+use Rattle.golden_difference.specs.Bare.{IsGoldenAfter}
 use Rattle.lane_kernel.specs.Bank.{IsMadeFor}
 use Rattle.workload.specs.Runs.{run_at}
 use Rattle.golden_rows.specs.Recorded.{AreRowsOf}

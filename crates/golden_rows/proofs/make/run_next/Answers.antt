@@ -2,7 +2,7 @@ use Rattle.std.proofs.Common.{◌≡◌, ◌+◌, ◌++◌, [], ◌∷◌, List,
 use Rattle.std.proofs.lemmas.List.{take_more}
 use Rattle.circuit.specs.declared.parts.Fault.{Fault}
 use Rattle.lane_kernel.specs.Loads.{faults_of}
-use Rattle.golden_run.specs.Bare.{IsGoldenAfter}
+use Rattle.golden_difference.specs.Bare.{IsGoldenAfter}
 use Rattle.golden_rows.proofs.make.run_next.Goals as goal
 
 pub returns-clause-step : goal.returns-clause-step

@@ -1,7 +1,7 @@
 use Rattle.std.proofs.Common.{◌≡◌, ◌<◌, ◌+◌, ℕ, Bool, List, [], length}
 use Rattle.circuit.specs.Trace.{trace}
 use Rattle.fm_base.specs.Planes.{bit}
-use Rattle.golden_run.specs.Bare.{IsGoldenAfter}
+use Rattle.golden_difference.specs.Bare.{IsGoldenAfter}
 use Rattle.golden_rows.proofs.pack.packed.Given as goal
 
 abbrev pub invariant-loop-k : goal.invariant-loop-k

@@ -1,7 +1,7 @@
 use Rattle.std.proofs.Common.{◌≡◌, ◌<◌, ◌+◌, ◌/◌, ◌%◌, ℕ, Bool, List, [], length, get_or}
 use Rattle.circuit.specs.Trace.{trace}
 use Rattle.fm_base.specs.Planes.{bit}
-use Rattle.golden_run.specs.Bare.{IsGoldenAfter}
+use Rattle.golden_difference.specs.Bare.{IsGoldenAfter}
 use Rattle.golden_rows.proofs.pack.push_row.Given as goal
 
 abbrev pub invariant-loop-w : goal.invariant-loop-w

@@ -1,6 +1,6 @@
 use Rattle.std.proofs.Common.{◌≡◌, ◌+◌, ◌*◌, ◌<◌, ℕ}
 use Rattle.classifier.specs.Load.{lane_faults, load_of}
-use Rattle.lane_kernel.specs.Bank.{IsMadeFor}
+use Rattle.golden_difference.specs.Lanes.{IsMadeFor}
 use Rattle.pair_campaign.specs.Work.{faults_in_lane}
 use Rattle.pair_campaign.proofs.load.load_planes.Given as goal
 

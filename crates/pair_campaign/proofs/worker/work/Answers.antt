@@ -6,7 +6,7 @@ use Rattle.std.proofs.lemmas.Bool.{cases_lt}
 use Rattle.alarm_points.specs.FourWatches.{FourWatches}
 use Rattle.campaign_plan.specs.Analysis.{Analysis}
 use Rattle.fault_list.specs.Faults.{batches_for}
-use Rattle.lane_kernel.specs.Bank.{Bank}
+use Rattle.golden_difference.specs.Lanes.{Lanes}
 use Rattle.pair_list.specs.Chosen.{Chosen, pair_count}
 use Rattle.pair_campaign.specs.PairPlanes.{pair_plane}
 use Rattle.pair_campaign.specs.Work.{AreToolsFor}
@@ -52,7 +52,7 @@ loop-round-preserved c =
     record {
       equipped = record {
         tools =
-            subst (λ (lanes : Bank (List ℕ)). AreToolsFor p c.args.order.now lanes c.keep_planes.new.worker.windows) (sym kept.lanes)
+            subst (λ (lanes : Lanes (List ℕ)). AreToolsFor p c.args.order.now lanes c.keep_planes.new.worker.windows) (sym kept.lanes)
             (subst (λ (windows : FourWatches). AreToolsFor p c.args.order.now c.outcomes_of-found.new.lanes windows) (sym kept.windows) c.outcomes_of-found.ensures.tools);
         room = kept.room;
       };

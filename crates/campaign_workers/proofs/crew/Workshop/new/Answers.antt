@@ -10,7 +10,7 @@ invariant_of-result g c =
     rw (c.of.ensures, c.of-2.ensures) (
       record {
         order_is = c.requires.order;
-        golden_is = c.in_ok-golden.ensures ∙ (λ i. record { circuit = c.net.ensures.value i; runs = c.work.ensures.value i; points = c.points.ensures.value i });
+        golden_is = c.in_ok-golden.ensures ∙ (λ i. record { circuit = c.net.ensures.value i; order = c.args.order.now; runs = c.work.ensures.value i });
         tools = hired.tools;
         crew = hired.crew;
         held = (hired.view.1 ∙ ap (λ (v : View). v.holds) seat, hired.view.2 ∙ ap (λ (v : View). v.fails) seat);
