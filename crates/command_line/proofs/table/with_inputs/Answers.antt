@@ -1,0 +1,23 @@
+use Rattle.std.proofs.Common.{refl, codes}
+use Rattle.clap.specs.Words.{app_of, with_rule}
+use Rattle.command_line.specs.Table.{named}
+use Rattle.command_line.proofs.Rows.{argued, kept_local, last_argued, last_local}
+use Rattle.command_line.proofs.table.with_inputs.Goals as goal
+
+pub returns-clause-app : goal.returns-clause-app
+returns-clause-app c =
+    let before = app_of c.args.command in
+    let one = with_rule before (named (codes "netlist")) in
+    let two = with_rule one (named (codes "workload")) in
+    let three = with_rule two (named (codes "rates")) in
+    let netlist = argued before (named (codes "netlist")) _ _ _ c.in_ok-arg.ensures c.named_arg-netlist.ensures.rule c.named_arg-netlist.ensures.local refl in
+    let workload = argued one (named (codes "workload")) _ _ _ c.in_ok-arg-2.ensures c.named_arg-workload.ensures.rule c.named_arg-workload.ensures.local netlist in
+    let rates = argued two (named (codes "rates")) _ _ _ c.in_ok-arg-3.ensures c.named_arg-rates.ensures.rule c.named_arg-rates.ensures.local workload in
+    last_argued three (named (codes "points")) _ _ c.arg-4.result c.arg-4.ensures c.named_arg-points.ensures.rule c.named_arg-points.ensures.local rates
+
+pub returns-clause-local : goal.returns-clause-local
+returns-clause-local c =
+    let netlist = kept_local _ _ _ c.in_ok-arg.ensures c.named_arg-netlist.ensures.local c.requires in
+    let workload = kept_local _ _ _ c.in_ok-arg-2.ensures c.named_arg-workload.ensures.local netlist in
+    let rates = kept_local _ _ _ c.in_ok-arg-3.ensures c.named_arg-rates.ensures.local workload in
+    last_local _ _ c.arg-4.result c.arg-4.ensures c.named_arg-points.ensures.local rates
