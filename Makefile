@@ -42,6 +42,7 @@ test:
 cases: build/fmeda
 	tests/cli/run build/fmeda
 	tests/cli/prefixes build/fmeda
+	tests/cli/kept build/fmeda
 	tests/cli/shards build/fmeda
 	tests/cli/hostile build/fmeda
 	tests/cli/memory build/fmeda

@@ -6,14 +6,17 @@ import sys
 
 sys.path.insert(0, str(pathlib.Path(__file__).resolve().parent))
 import campaign as c
+import kept
 import tables
 from campaign import Refused
 
 USAGE = Refused(2, b"usage")
 OPTIONS = {"classes": "", "check": "flips pulses", "run": "ftti flips pulses workers asil", "resume": "ftti flips pulses workers asil",
            "audit": "ftti flips pulses", "gen": "workers", "report": "ftti flips pulses asil", "shard": "part of ftti flips pulses",
-           "merge": "ftti flips pulses", "pairs": "ftti flips pulses workers"}
-PLACES = {"classes": 2, "check": 4, "run": 5, "resume": 5, "audit": 5, "gen": 2, "report": 4, "shard": 5, "merge": 7, "pairs": 5}
+           "merge": "ftti flips pulses", "pairs": "ftti flips pulses workers", "parts": "", "faults": "ftti flips pulses",
+           "progress": "ftti flips pulses asil"}
+PLACES = {"classes": 2, "check": 4, "run": 5, "resume": 5, "audit": 5, "gen": 2, "report": 4, "shard": 5, "merge": 7, "pairs": 5, "parts": 2,
+          "faults": 5, "progress": 5}
 MOST_PARTS, MOST_PAIRS = 1024, 2**20
 
 
@@ -83,6 +86,14 @@ def classes(netlist, workload):
     return b"\n".join(shown + [f"end {len(faults)}".encode(), b""])
 
 
+def parts(netlist, rates):
+    net = c.read_netlist(c.held(netlist), netlist)
+    try:
+        return kept.parts(net, *tables.read_rates(c.held(rates)))
+    except tables.RowFault as fault:
+        raise c.row_fault(fault)
+
+
 def check(plan):
     net, (goals, alarms) = plan.net, (plan.goals, plan.alarms)
     return (f"netlist nets {len(net.names)} inputs {len(net.inputs)} tables {len(net.tables)} latches {len(net.latches)}\n"
@@ -144,6 +155,8 @@ def done(command, names, said):
     """The text of Done."""
     if command == "classes":
         return classes(*names)
+    if command == "parts":
+        return parts(*names)
     if command == "gen":
         texts = generated(names[0])
         net = c.read_netlist(texts[0], "")
@@ -169,17 +182,21 @@ def done(command, names, said):
         write(names[4], c.result_text(plan, planes, sorted(planes)))
         return c.report(plan, planes)
     text = c.held(names[4])
-    kept, whole = c.read_result(plan, text)
+    held, whole = c.read_result(plan, text)
     if command == "pairs":
-        return pairs(plan, kept)
+        return pairs(plan, held)
+    if command == "faults":
+        return kept.fault_table(plan, held)
+    if command == "progress":
+        return kept.progress(plan, held)
     planes = c.true_planes(plan)
     if command == "audit":
-        for batch, found in kept.items():
+        for batch, found in held.items():
             if found != planes[batch]:
                 raise Refused(13, f"batch {batch} kept {found[0]:016x} {found[1]:016x} computed {planes[batch][0]:016x} {planes[batch][1]:016x}".encode())
-        return f"audit {len(kept)} of {plan.batches} rows agree\n".encode()
-    planes.update(kept)
-    write(names[4], c.result_text(plan, planes, list(kept) + [b for b in range(plan.batches) if b not in kept]))
+        return f"audit {len(held)} of {plan.batches} rows agree\n".encode()
+    planes.update(held)
+    write(names[4], c.result_text(plan, planes, list(held) + [b for b in range(plan.batches) if b not in held]))
     return c.report(plan, planes)
 
 

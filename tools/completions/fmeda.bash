@@ -3,7 +3,7 @@ _fmeda() {
     local current=${COMP_WORDS[COMP_CWORD]} previous=${COMP_WORDS[COMP_CWORD - 1]} command=${COMP_WORDS[1]} options=
     COMPREPLY=()
     if [ "$COMP_CWORD" -eq 1 ]; then
-        COMPREPLY=($(compgen -W "classes check run resume audit report shard merge pairs gen" -- "$current"))
+        COMPREPLY=($(compgen -W "classes check run resume audit report shard merge pairs parts faults progress gen" -- "$current"))
         return
     fi
     case $previous in
@@ -14,8 +14,8 @@ _fmeda() {
     case $command in
         check) options="--flips --pulses" ;;
         run | resume) options="--ftti --flips --pulses --asil --workers" ;;
-        audit | merge) options="--ftti --flips --pulses" ;;
-        report) options="--ftti --flips --pulses --asil" ;;
+        audit | merge | faults) options="--ftti --flips --pulses" ;;
+        report | progress) options="--ftti --flips --pulses --asil" ;;
         shard) options="--part --of --ftti --flips --pulses" ;;
         pairs) options="--ftti --flips --pulses --workers" ;;
         gen) options="--workers" ;;

@@ -9,8 +9,8 @@ use Rattle.campaign_plan.specs.declared.Settings.{Settings}
 use Rattle.metric_sums.specs.declared.Asil.{Asil}
 use Rattle.metric_sums.specs.declared.Asil.TheVariants.{B, C, D}
 use Rattle.fmeda_report.specs.Words.{asil_word}
-use Rattle.command_line.specs.Commands.{Command, Classes, Check, Run, Resume, Audit, Gen, Report, Inputs, Shard, Merge, Pairs}
-use Rattle.command_line.specs.Words.{entry, HasAsil, HasCampaign, HasInputs, HasPlanWords, HasSettings, HasWorkers, IsCommand, IsMet, IsNumber, SaidBy, word_of}
+use Rattle.command_line.specs.Commands.{Command, Classes, Check, Run, Resume, Audit, Gen, Report, Inputs, Shard, Merge, Pairs, Parts, Faults, Progress}
+use Rattle.command_line.specs.Words.{entry, HasAsil, HasCampaign, HasInputs, HasPlan, HasSettings, HasWorkers, IsCommand, IsMet, IsNumber, SaidBy, word_of}
 use Rattle.command_line.specs.Table.{fmeda_app}
 use Rattle.command_line.proofs.CycleLists.{same_cycles}
 use Rattle.std.proofs.lemmas.Option.{same_Some}
@@ -70,12 +70,21 @@ pub record SamePlan (i j : Inputs) (r s : Text) (a b : Settings) : Type 0 where
   pub name : r ≡ s
   pub set : a ≡ b
 
-same_plan : (rows : List Row) (i j : Inputs) (r s : Text) (a b : Settings) → HasPlanWords rows i r a → HasPlanWords rows j s b → SamePlan i j r s a b
-same_plan rows i j r s a b p q = record {
-  inputs = same_inputs rows i j p.0 q.0;
-  name = p.1.name ∙ sym q.1.name;
-  set = same_settings rows (λ asil. asil ≡ D) (λ x y left right. left ∙ sym right) a b p.2 q.2;
-}
+module _ (rows : List Row) (Fits : Asil → Type 0) (asil : (a b : Asil) → Fits a → Fits b → a ≡ b) where
+  same_parts : (i j : Inputs) (r s : Text) (a b : Settings) → HasPlan rows Fits i r a → HasPlan rows Fits j s b → SamePlan i j r s a b
+  same_parts i j r s a b p q = record {
+    inputs = same_inputs rows i j p.0 q.0;
+    name = p.1.name ∙ sym q.1.name;
+    set = same_settings rows Fits asil a b p.2 q.2;
+  }
+
+-- where no word tells the ASIL
+same_plan : (rows : List Row) (i j : Inputs) (r s : Text) (a b : Settings) → HasPlan rows (λ asil. asil ≡ D) i r a → HasPlan rows (λ asil. asil ≡ D) j s b → SamePlan i j r s a b
+same_plan rows = same_parts rows (λ asil. asil ≡ D) (λ x y left right. left ∙ sym right)
+
+-- where one does
+same_leveled : (rows : List Row) (i j : Inputs) (r s : Text) (a b : Settings) → HasPlan rows (HasAsil rows) i r a → HasPlan rows (HasAsil rows) j s b → SamePlan i j r s a b
+same_leveled rows = same_parts rows (HasAsil rows) (λ x y told said. same_asil x y (sym told ∙ said))
 
 -- one command of a word is said
 same_said : (rows : List Row) (a b : Command) → word_of a ≡ word_of b → SaidBy rows a → SaidBy rows b → a ≡ b
@@ -113,6 +122,13 @@ same_said rows (Report i a) (Report j b) e p q =
     let inputs : i ≡ j = same_inputs rows i j p.0 q.0 in
     let set : a ≡ b = same_settings rows (HasAsil rows) (λ x y told said. same_asil x y (sym told ∙ said)) a b p.1 q.1 in
     λ t. Report (inputs t) (set t)
+same_said rows (Parts netlist rates) (Parts other work) e p q = λ t. Parts ((p.0 ∙ sym q.0) t) ((p.1 ∙ sym q.1) t)
+same_said rows (Faults i r a) (Faults j s b) e p q =
+    let same = same_plan rows i j r s a b p q in
+    λ t. Faults (same.inputs t) (same.name t) (same.set t)
+same_said rows (Progress i r a) (Progress j s b) e p q =
+    let same = same_leveled rows i j r s a b p q in
+    λ t. Progress (same.inputs t) (same.name t) (same.set t)
 same_said rows a b e p q = absurd (apart (word_of a) (word_of b) refl e)
 
 -- what was met is one command at most

@@ -8,9 +8,10 @@ use Rattle.command_line.specs.declared.read.InputNames.{InputNames}
 use Rattle.command_line.specs.declared.read.PlanWords.{PlanWords}
 use Rattle.command_line.specs.declared.read.WordsRefusal.{WordsRefusal}
 use Rattle.command_line.specs.declared.read.WordsRefusal.TheVariants.{Usage, Memory}
-use Rattle.command_line.specs.Commands.{Command, Classes, Check, Run, Resume, Audit, Gen, Report, Inputs, Shard, Merge, Pairs}
-use Rattle.command_line.specs.Words.{HasCampaign, HasPlanWords, IsMet, IsNoCommand, SaidBy, word_of}
+use Rattle.command_line.specs.Commands.{Command, Classes, Check, Run, Resume, Audit, Gen, Report, Inputs, Shard, Merge, Pairs, Parts, Faults, Progress}
+use Rattle.command_line.specs.Words.{HasCampaign, HasPlan, IsMet, IsNoCommand, SaidBy, word_of}
 use Rattle.campaign_plan.specs.declared.Settings.{Settings}
+use Rattle.metric_sums.specs.declared.Asil.{Asil}
 
 -- the names of the input files
 abbrev pub names_of : InputNames → Inputs
@@ -28,6 +29,9 @@ told_by (asked.Report inputs set) = Report (names_of inputs) set
 told_by (asked.Shard inputs result set part parts) = Shard (names_of inputs) result.now set part parts
 told_by (asked.Merge inputs result first second set) = Merge (names_of inputs) result.now first.now second.now set
 told_by (asked.Pairs inputs result set workers) = Pairs (names_of inputs) result.now set workers
+told_by (asked.Parts netlist rates) = Parts netlist.now rates.now
+told_by (asked.Faults inputs result set) = Faults (names_of inputs) result.now set
+told_by (asked.Progress inputs result set) = Progress (names_of inputs) result.now set
 
 -- Usage is the answer where the words are no command; want of memory is free
 abbrev pub IsRefusal : List Text → WordsRefusal → Type 0
@@ -48,11 +52,11 @@ AreCampaign rows (Ok said) = HasCampaign rows (names_of said.inputs) said.result
 AreCampaign rows (Err Usage) = (inputs : Inputs) (name : Text) (set : Settings) (workers : ℕ) → ¬ (HasCampaign rows inputs name set workers)
 AreCampaign rows (Err Memory) = Unit {0}
 
--- what was read is the words of a plan and its result file, or they are none of any
-abbrev pub ArePlanWords : List Row → Result PlanWords WordsRefusal → Type 0
-ArePlanWords rows (Ok said) = HasPlanWords rows (names_of said.inputs) said.result.now said.settings
-ArePlanWords rows (Err Usage) = (inputs : Inputs) (name : Text) (set : Settings) → ¬ (HasPlanWords rows inputs name set)
-ArePlanWords rows (Err Memory) = Unit {0}
+-- what was read is the words of a plan and its result file, with an ASIL of which this holds, or they are none of any
+abbrev pub ArePlanWords : List Row → (Asil → Type 0) → Result PlanWords WordsRefusal → Type 0
+ArePlanWords rows Fits (Ok said) = HasPlan rows Fits (names_of said.inputs) said.result.now said.settings
+ArePlanWords rows Fits (Err Usage) = (inputs : Inputs) (name : Text) (set : Settings) → ¬ (HasPlan rows Fits inputs name set)
+ArePlanWords rows Fits (Err Memory) = Unit {0}
 
 -- the entries say this command of this word, or no command of it
 abbrev pub IsSaid : Text → List Row → Result Asked WordsRefusal → Type 0

@@ -25,6 +25,9 @@ pub data Command : Type 0 where
   Shard : Inputs → (result : Bytes) → Settings → (part parts : ℕ) → Command
   Merge : Inputs → (result first second : Bytes) → Settings → Command
   Pairs : Inputs → (result : Bytes) → Settings → (workers : ℕ) → Command
+  Parts : (netlist rates : Bytes) → Command
+  Faults : Inputs → (result : Bytes) → Settings → Command
+  Progress : Inputs → (result : Bytes) → Settings → Command
 
 -- the settings of a command that has none but flips and pulses
 abbrev pub settings_of : (flips pulses : List ℕ) → Settings

@@ -107,6 +107,18 @@ merge_app = with_rules (with_plan (new_app (codes "merge"))) source_rules
 abbrev pub pairs_app : App
 pairs_app = with_rules (with_plan (new_app (codes "pairs"))) (workers_rule ∷ [])
 
+-- `parts NETLIST RATES`
+abbrev pub parts_app : App
+parts_app = with_rules (new_app (codes "parts")) (named (codes "netlist") ∷ named (codes "rates") ∷ [])
+
+-- `faults NETLIST WORKLOAD RATES POINTS RESULT [--ftti F] [--flips LIST] [--pulses LIST]`
+abbrev pub faults_app : App
+faults_app = with_plan (new_app (codes "faults"))
+
+-- `progress`, with the same words and `[--asil LEVEL]`
+abbrev pub progress_app : App
+progress_app = with_rules (with_plan (new_app (codes "progress"))) (asil_rule ∷ [])
+
 -- ---- the table
 
 -- one level of subcommands, of which one must be named
@@ -115,7 +127,9 @@ with_required a = record a { top = record a.top { subcommand_required = true } }
 
 -- the commands, a row each
 abbrev pub commands : List App
-commands = classes_app ∷ check_app ∷ run_app ∷ resume_app ∷ audit_app ∷ gen_app ∷ report_app ∷ shard_app ∷ merge_app ∷ pairs_app ∷ []
+commands =
+    classes_app ∷ check_app ∷ run_app ∷ resume_app ∷ audit_app ∷ gen_app ∷ report_app ∷ shard_app ∷ merge_app ∷ pairs_app ∷ parts_app ∷ faults_app
+    ∷ progress_app ∷ []
 
 -- the program with some commands
 abbrev pub program_with : List App → App
@@ -124,6 +138,10 @@ program_with rows = fold (λ a command. with_subcommand a command.top) (with_req
 -- those of a whole campaign on one machine
 abbrev pub campaign_rows : List App
 campaign_rows = classes_app ∷ check_app ∷ run_app ∷ resume_app ∷ audit_app ∷ gen_app ∷ []
+
+-- these, those of a campaign in parts, `pairs` and `report`
+abbrev pub shared_rows : List App
+shared_rows = classes_app ∷ check_app ∷ run_app ∷ resume_app ∷ audit_app ∷ gen_app ∷ report_app ∷ shard_app ∷ merge_app ∷ pairs_app ∷ []
 
 -- the program with all its commands
 abbrev pub fmeda_app : App

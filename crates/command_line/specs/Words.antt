@@ -8,7 +8,7 @@ use Rattle.campaign_plan.specs.declared.Settings.{Settings}
 use Rattle.metric_sums.specs.declared.Asil.{Asil}
 use Rattle.metric_sums.specs.declared.Asil.TheVariants.{D}
 use Rattle.fmeda_report.specs.Words.{asil_word}
-use Rattle.command_line.specs.Commands.{Command, Classes, Check, Run, Resume, Audit, Gen, Report, Inputs, IsCycleList, IsOther, Shard, Merge, Pairs, IsNoSource}
+use Rattle.command_line.specs.Commands.{Command, Classes, Check, Run, Resume, Audit, Gen, Report, Inputs, IsCycleList, IsOther, Shard, Merge, Pairs, Parts, Faults, Progress, IsNoSource}
 use Rattle.command_line.specs.Table.{fmeda_app}
 
 -- the command's own word
@@ -23,6 +23,9 @@ word_of (Report inputs set) = codes "report"
 word_of (Shard inputs name set part parts) = codes "shard"
 word_of (Merge inputs name first second set) = codes "merge"
 word_of (Pairs inputs name set workers) = codes "pairs"
+word_of (Parts netlist rates) = codes "parts"
+word_of (Faults inputs name set) = codes "faults"
+word_of (Progress inputs name set) = codes "progress"
 
 -- ---- what stands behind it
 
@@ -85,9 +88,13 @@ pub record HasResult (rows : List Row) (inputs : Inputs) (result : Text) : Type 
 abbrev pub HasCampaign : List Row → Inputs → Text → Settings → ℕ → Type 0
 HasCampaign rows inputs result set workers = HasInputs rows inputs × HasResult rows inputs result × HasSettings rows (HasAsil rows) set × HasWorkers rows workers
 
--- what `audit`, `shard`, `merge` and `pairs` say alike; they are told no ASIL, and their settings have D
+-- a plan and its result file, with an ASIL of which this holds
+abbrev pub HasPlan : List Row → (Asil → Type 0) → Inputs → Text → Settings → Type 0
+HasPlan rows Fits inputs result set = HasInputs rows inputs × HasResult rows inputs result × HasSettings rows Fits set
+
+-- what `audit`, `shard`, `merge`, `pairs` and `faults` say alike; they are told no ASIL, and their settings have D
 abbrev pub HasPlanWords : List Row → Inputs → Text → Settings → Type 0
-HasPlanWords rows inputs result set = HasInputs rows inputs × HasResult rows inputs result × HasSettings rows (λ asil. asil ≡ D) set
+HasPlanWords rows = HasPlan rows (λ asil. asil ≡ D)
 
 -- which part of how many
 pub record HasPart (rows : List Row) (part parts : ℕ) : Type 0 where
@@ -113,6 +120,9 @@ SaidBy rows (Report inputs set) = HasInputs rows inputs × HasSettings rows (Has
 SaidBy rows (Shard inputs result set part parts) = HasPlanWords rows inputs result set × HasPart rows part parts
 SaidBy rows (Merge inputs result first second set) = HasPlanWords rows inputs result set × HasSources rows result first second
 SaidBy rows (Pairs inputs result set workers) = HasPlanWords rows inputs result set × HasWorkers rows workers
+SaidBy rows (Parts netlist rates) = (netlist ≡ entry rows (codes "netlist")) × (rates ≡ entry rows (codes "rates"))
+SaidBy rows (Faults inputs result set) = HasPlanWords rows inputs result set
+SaidBy rows (Progress inputs result set) = HasPlan rows (HasAsil rows) inputs result set
 
 -- ---- commands
 

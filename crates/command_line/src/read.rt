@@ -1,7 +1,7 @@
 // What the words ask for.
 ghost use Rattle.std.specs.Prelude.{◌≡◌, ◌≢◌, IfOk, MatchResult, codes, map, string_bytes};
 ghost use Rattle.clap.specs.Words.{found_of, rows_of, subcommand_rows_of};
-ghost use Rattle.command_line.specs.Words.{IsAlone, IsCommand};
+ghost use Rattle.command_line.specs.Words.{HasAsil, IsAlone, IsCommand};
 ghost use Rattle.command_line.specs.Asks.{told_by, AreCampaign, ArePlanWords, AsksMet, IsRefusal, IsSaid};
 ghost use Rattle.command_line.specs.declared.read.WordsRefusal.TheVariants.{Memory};
 
@@ -96,9 +96,26 @@ pub enum Asked<'a> {
         settings: Settings,
         workers: u32,
     },
+    /// Print which nets and latches each row of the rates takes.
+    Parts {
+        netlist: &'a str,
+        rates: &'a str,
+    },
+    /// Print the table of the faults that the rows of `result` have judged.
+    Faults {
+        inputs: InputNames<'a>,
+        result: &'a str,
+        settings: Settings,
+    },
+    /// Print the bounds of the metrics by the rows of `result`. The settings have the ASIL of the words.
+    Progress {
+        inputs: InputNames<'a>,
+        result: &'a str,
+        settings: Settings,
+    },
 }
 
-// What `audit`, `shard`, `merge` and `pairs` are told alike.
+// What commands over a plan and a result file are told alike.
 #[derive(Drop)]
 struct PlanWords<'a> {
     inputs: InputNames<'a>,
@@ -153,18 +170,52 @@ fn check_of<'a>(alloc: Global, matches: &ArgMatches<'a>) -> Result<Asked<'a>, Wo
     })
 }
 
+// The words of a plan and its result file, with this ASIL.
+fn plan_with<'a>(
+    alloc: Global,
+    matches: &ArgMatches<'a>,
+    asil: Asil,
+) -> Result<PlanWords<'a>, WordsRefusal>
+    ensures { ArePlanWords (rows_of (found_of matches.now)) (λ level. level ≡ asil) result }
+{
+    let inputs = inputs_of(matches);
+    let Some(result) = result_of(matches, &inputs) else {
+        return Err(WordsRefusal::Usage);
+    };
+    let settings = settings_of(alloc, matches, asil)?;
+    Ok(PlanWords {
+        inputs,
+        result,
+        settings,
+    })
+}
+
+// The same with the ASIL that the words tell.
+fn leveled_of<'a>(alloc: Global, matches: &ArgMatches<'a>) -> Result<PlanWords<'a>, WordsRefusal>
+    ensures { ArePlanWords (rows_of (found_of matches.now)) (HasAsil (rows_of (found_of matches.now))) result }
+{
+    let asil = asil_of(matches)?;
+    plan_with(alloc, matches, asil)
+}
+
+// The same of words that tell none.
+fn plan_words_of<'a>(alloc: Global, matches: &ArgMatches<'a>) -> Result<PlanWords<'a>, WordsRefusal>
+    ensures { ArePlanWords (rows_of (found_of matches.now)) (λ asil. asil ≡ Asil.D) result }
+{
+    plan_with(alloc, matches, Asil::D)
+}
+
 fn campaign_of<'a>(
     alloc: Global,
     matches: &ArgMatches<'a>,
 ) -> Result<CampaignWords<'a>, WordsRefusal>
     ensures { AreCampaign (rows_of (found_of matches.now)) result }
 {
-    let inputs = inputs_of(matches);
-    let Some(result) = result_of(matches, &inputs) else {
-        return Err(WordsRefusal::Usage);
-    };
-    let asil = asil_of(matches)?;
-    let settings = settings_of(alloc, matches, asil)?;
+    let PlanWords {
+        inputs,
+        result,
+        settings,
+    } = leveled_of(alloc, matches)?;
     let workers = workers_of(matches)?;
     Ok(CampaignWords {
         inputs,
@@ -205,21 +256,6 @@ fn resume_of<'a>(alloc: Global, matches: &ArgMatches<'a>) -> Result<Asked<'a>, W
         result,
         settings,
         workers,
-    })
-}
-
-fn plan_words_of<'a>(alloc: Global, matches: &ArgMatches<'a>) -> Result<PlanWords<'a>, WordsRefusal>
-    ensures { ArePlanWords (rows_of (found_of matches.now)) result }
-{
-    let inputs = inputs_of(matches);
-    let Some(result) = result_of(matches, &inputs) else {
-        return Err(WordsRefusal::Usage);
-    };
-    let settings = settings_of(alloc, matches, Asil::D)?;
-    Ok(PlanWords {
-        inputs,
-        result,
-        settings,
     })
 }
 
@@ -294,6 +330,45 @@ fn pairs_of<'a>(alloc: Global, matches: &ArgMatches<'a>) -> Result<Asked<'a>, Wo
     })
 }
 
+fn parts_of<'a>(matches: &ArgMatches<'a>) -> Result<Asked<'a>, WordsRefusal>
+    ensures { IsSaid (codes "parts") (rows_of (found_of matches.now)) result }
+{
+    Ok(Asked::Parts {
+        netlist: entry_of(matches, "netlist"),
+        rates: entry_of(matches, "rates"),
+    })
+}
+
+fn faults_of<'a>(alloc: Global, matches: &ArgMatches<'a>) -> Result<Asked<'a>, WordsRefusal>
+    ensures { IsSaid (codes "faults") (rows_of (found_of matches.now)) result }
+{
+    let PlanWords {
+        inputs,
+        result,
+        settings,
+    } = plan_words_of(alloc, matches)?;
+    Ok(Asked::Faults {
+        inputs,
+        result,
+        settings,
+    })
+}
+
+fn progress_of<'a>(alloc: Global, matches: &ArgMatches<'a>) -> Result<Asked<'a>, WordsRefusal>
+    ensures { IsSaid (codes "progress") (rows_of (found_of matches.now)) result }
+{
+    let PlanWords {
+        inputs,
+        result,
+        settings,
+    } = leveled_of(alloc, matches)?;
+    Ok(Asked::Progress {
+        inputs,
+        result,
+        settings,
+    })
+}
+
 fn gen_of<'a>(matches: &ArgMatches<'a>) -> Result<Asked<'a>, WordsRefusal>
     ensures { IsSaid (codes "gen") (rows_of (found_of matches.now)) result }
 {
@@ -333,6 +408,9 @@ fn asked_of<'a>(alloc: Global, matches: &ArgMatches<'a>) -> Result<Asked<'a>, Wo
         "shard" => shard_of(alloc, inner),
         "merge" => merge_of(alloc, inner),
         "pairs" => pairs_of(alloc, inner),
+        "parts" => parts_of(inner),
+        "faults" => faults_of(alloc, inner),
+        "progress" => progress_of(alloc, inner),
         _ => Err(WordsRefusal::Usage),
     }
 }

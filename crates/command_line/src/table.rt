@@ -2,7 +2,7 @@
 ghost use Rattle.std.specs.Prelude.{◌≡◌, ◌∷◌, [], IfOk, codes, false};
 ghost use Rattle.clap.specs.Words.{app_of, new_app, rule_of};
 ghost use Rattle.clap.specs.declared.builder.command.Command.TheViews.{out-Command};
-ghost use Rattle.command_line.specs.Table.{asil_rule, bounded, campaign_rows, check_app, classes_app, fmeda_app, ftti_rule, gen_app, input_rules, list_rules, merge_app, named, option, pairs_app, program_with, report_app, required_option, result_rules, shard_app, with_campaign, with_plan, with_rules, workers_rule};
+ghost use Rattle.command_line.specs.Table.{asil_rule, bounded, campaign_rows, check_app, classes_app, fmeda_app, ftti_rule, faults_app, gen_app, input_rules, list_rules, merge_app, named, option, pairs_app, parts_app, progress_app, program_with, report_app, required_option, result_rules, shard_app, shared_rows, with_campaign, with_plan, with_rules, workers_rule};
 
 use clap::{Arg, Command, value_parser};
 use std::alloc::{AllocError, Global};
@@ -186,6 +186,23 @@ fn pairs_command<'a>(alloc: Global) -> Result<Command<'a>, AllocError>
     command.arg(workers_arg(alloc))
 }
 
+fn parts_command<'a>(alloc: Global) -> Result<Command<'a>, AllocError>
+    ensures app { IfOk result (λ c. app_of c ≡ parts_app) }
+    ensures local { IfOk result (λ c. (out-Command c).has_globals ≡ false) }
+{
+    let netlist = named_arg(alloc, "netlist");
+    let rates = named_arg(alloc, "rates");
+    Command::new(alloc, "parts").arg(netlist)?.arg(rates)
+}
+
+fn progress_command<'a>(alloc: Global) -> Result<Command<'a>, AllocError>
+    ensures app { IfOk result (λ c. app_of c ≡ progress_app) }
+    ensures local { IfOk result (λ c. (out-Command c).has_globals ≡ false) }
+{
+    let command = plan_command(alloc, "progress")?;
+    command.arg(asil_arg(alloc))
+}
+
 // The program with the commands of a whole campaign on one machine.
 fn campaign_program<'a>(alloc: Global) -> Result<Command<'a>, AllocError>
     ensures { IfOk result (λ c. app_of c ≡ program_with campaign_rows) }
@@ -206,9 +223,9 @@ fn campaign_program<'a>(alloc: Global) -> Result<Command<'a>, AllocError>
         .subcommand(generated)
 }
 
-/// The program with all its commands.
-pub(crate) fn fmeda_command<'a>(alloc: Global) -> Result<Command<'a>, AllocError>
-    ensures { IfOk result (λ c. app_of c ≡ fmeda_app) }
+// The same with those of a campaign in parts, of pairs, and of the report alone.
+fn shared_program<'a>(alloc: Global) -> Result<Command<'a>, AllocError>
+    ensures { IfOk result (λ c. app_of c ≡ program_with shared_rows) }
 {
     let program = campaign_program(alloc)?;
     let report = report_command(alloc)?;
@@ -220,4 +237,18 @@ pub(crate) fn fmeda_command<'a>(alloc: Global) -> Result<Command<'a>, AllocError
         .subcommand(shard)?
         .subcommand(merge)?
         .subcommand(pairs)
+}
+
+/// The program with all its commands.
+pub(crate) fn fmeda_command<'a>(alloc: Global) -> Result<Command<'a>, AllocError>
+    ensures { IfOk result (λ c. app_of c ≡ fmeda_app) }
+{
+    let program = shared_program(alloc)?;
+    let parts = parts_command(alloc)?;
+    let faults = plan_command(alloc, "faults")?;
+    let progress = progress_command(alloc)?;
+    program
+        .subcommand(parts)?
+        .subcommand(faults)?
+        .subcommand(progress)
 }

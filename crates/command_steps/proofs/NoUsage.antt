@@ -28,14 +28,14 @@ use Rattle.result_merge.specs.Merged.{merged}
 use Rattle.pair_list.specs.declared.pairs.PairRefusal.{PairRefusal}
 use Rattle.pair_list.specs.declared.pairs.PairRefusal.TheVariants.{Incomplete, TooMany}
 use Rattle.pair_list.specs.Chosen.{pair_refusal}
-use Rattle.command_line.specs.Commands.{Command, Classes, Check, Run as RunCommand, Resume, Audit, Gen, Report, Shard, Merge, Pairs, settings_of}
+use Rattle.command_line.specs.Commands.{Command, Classes, Check, Run as RunCommand, Resume, Audit, Gen, Report, Shard, Merge, Pairs, Parts, Faults, Progress, settings_of}
 use Rattle.refusal_text.specs.declared.status.Status.{Status}
 use Rattle.refusal_text.specs.declared.status.Status.TheVariants as status
 use Rattle.refusal_text.specs.declared.status.Which.{Which}
 use Rattle.refusal_text.specs.declared.status.Which.TheVariants as which
 use Rattle.refusal_text.specs.declared.status.What.TheVariants as what
 use Rattle.command_steps.specs.Files.{Reads, all_read, files_of}
-use Rattle.command_steps.specs.FirstRefusal.{at_most, no_name, unless, netlist_step, outputs_step, workload_step, rates_step, points_step, plan_for, plan_of, classes_plan_of, loop_refusal, refusal_of_plan, status_of_back, result_step, own_header, is_wrong, disagreement, audit_step, kept_of, audited_of, refusal_in, generated, generated_settings, first_refusal, ◌>>=◌, back_step, status_of_merge, merge_step, merged_of, refusal_of_pairs, paired_of}
+use Rattle.command_steps.specs.FirstRefusal.{at_most, no_name, unless, netlist_step, outputs_step, workload_step, rates_step, points_step, plan_for, plan_of, classes_plan_of, rated_of, loop_refusal, refusal_of_plan, status_of_back, result_step, own_header, is_wrong, disagreement, audit_step, kept_of, audited_of, refusal_in, generated, generated_settings, first_refusal, ◌>>=◌, back_step, status_of_merge, merge_step, merged_of, refusal_of_pairs, paired_of}
 
 -- ---- no check answers Usage
 
@@ -126,6 +126,12 @@ classes_spares name walk reads =
     (λ c. then_spares (outputs_step c) _ (few_spares c (nat_lt 1024 (length c.outputs)))
     (λ counted. then_spares (workload_step counted reads.workload) _ (workload_spares counted reads.workload) (λ runs. tt)))
 
+parts_spares : (name : Bytes) (walk : Option (List NetId)) (reads : Reads) → Spares (rated_of name walk reads)
+unfolding rated_of
+parts_spares name walk reads =
+    then_spares (netlist_step name walk reads.netlist) _ (netlist_spares name walk reads.netlist)
+    (λ c. then_spares (rates_step reads.rates) _ (rates_spares reads.rates) (λ table. tt))
+
 back_other : (why : ResultRefusal) → status_of_back why ≢ status.Usage
 back_other (back.Foreign found own) e = let bad : status.Foreign found own ≡ status.Usage = e in cc bad
 back_other (back.BadRow number why) e = let bad : status.BadRow number why ≡ status.Usage = e in cc bad
@@ -200,3 +206,6 @@ no_usage walk (Report inputs set) reads = in_other (plan_of inputs.netlist walk 
 no_usage walk (Shard inputs name set part parts) reads = in_other (plan_of inputs.netlist walk set reads) (plan_spares inputs.netlist walk set reads)
 no_usage walk (Merge inputs name first second set) reads = in_other (merged_of inputs.netlist walk set reads) (merged_spares inputs.netlist walk set reads)
 no_usage walk (Pairs inputs name set workers) reads = in_other (paired_of inputs.netlist walk set reads) (paired_spares inputs.netlist walk set reads)
+no_usage walk (Parts netlist rates) reads = in_other (rated_of netlist walk reads) (parts_spares netlist walk reads)
+no_usage walk (Faults inputs name set) reads = in_other (kept_of inputs.netlist walk set reads) (kept_spares inputs.netlist walk set reads)
+no_usage walk (Progress inputs name set) reads = in_other (kept_of inputs.netlist walk set reads) (kept_spares inputs.netlist walk set reads)

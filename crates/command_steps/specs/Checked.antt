@@ -6,7 +6,7 @@ use Rattle.refusal_text.specs.declared.status.Status.{Status}
 use Rattle.refusal_text.specs.declared.status.Status.TheVariants as status
 use Rattle.refusal_text.specs.declared.status.Which.{Which}
 use Rattle.refusal_text.specs.declared.status.Which.TheVariants as which
-use Rattle.command_line.specs.Commands.{Command, Classes, Check, Run, Resume, Audit, Gen, Report, Shard, Merge, Pairs}
+use Rattle.command_line.specs.Commands.{Command, Classes, Check, Run, Resume, Audit, Gen, Report, Shard, Merge, Pairs, Parts, Faults, Progress}
 use Rattle.command_steps.specs.Files.{Reads, all_read}
 use Rattle.command_steps.specs.FirstRefusal.{IsLoopAnswer, first_refusal, generated}
 use Rattle.command_steps.specs.Held.{name_of}
@@ -50,6 +50,12 @@ ReadsFit shelf before after (Merge inputs name first second set) reads =
     × NameFits shelf before after first reads.first × NameFits shelf before after second reads.second
 ReadsFit shelf before after (Pairs inputs name set workers) reads =
     InputsFit shelf before after (name_of (Pairs inputs name set workers)) reads × NameFits shelf before after name reads.result
+ReadsFit shelf before after (Parts netlist rates) reads =
+    NameFits shelf before after netlist reads.netlist × NameFits shelf before after rates reads.rates
+ReadsFit shelf before after (Faults inputs name set) reads =
+    InputsFit shelf before after (name_of (Faults inputs name set)) reads × NameFits shelf before after name reads.result
+ReadsFit shelf before after (Progress inputs name set) reads =
+    InputsFit shelf before after (name_of (Progress inputs name set)) reads × NameFits shelf before after name reads.result
 
 -- THE ORDER OF THE CHECKS: over what the call has read, this is the first refusal, or there is none
 pub record Checked (command : Command) (shelf : Shelves) (before after : Bytes → ℕ) (refusal : Option Status) : Type 0 where

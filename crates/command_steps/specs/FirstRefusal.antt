@@ -35,7 +35,7 @@ use Rattle.refusal_text.specs.declared.status.Which.{Which}
 use Rattle.refusal_text.specs.declared.status.Which.TheVariants as which
 use Rattle.refusal_text.specs.declared.status.What.TheVariants as what
 use Rattle.refusal_text.specs.NetlistFile.{netlist_in, or_refuse}
-use Rattle.command_line.specs.Commands.{Command, Classes, Check, Run as RunCommand, Resume, Audit, Gen, Report, Shard, Merge, Pairs, settings_of}
+use Rattle.command_line.specs.Commands.{Command, Classes, Check, Run as RunCommand, Resume, Audit, Gen, Report, Shard, Merge, Pairs, Parts, Faults, Progress, settings_of}
 use Rattle.command_steps.specs.Files.{Files, Reads, all_read, files_of}
 use Rattle.fm_base.specs.Names.{Bytes}
 use Rattle.metric_sums.specs.declared.Role.TheVariants.{Mission}
@@ -139,6 +139,13 @@ classes_plan_of netlist walk reads = do
   runs ← workload_step counted reads.workload
   Ok (classes_plan counted runs)
 
+-- the netlist and the rates of `parts`, or the first refusal; a net that no pattern matches is none
+unfoldable pub rated_of : Bytes → Option (List NetId) → Reads → Result (Circuit × RateTable) Status
+rated_of netlist walk reads = do
+  c ← netlist_step netlist walk reads.netlist
+  table ← rates_step reads.rates
+  Ok (c, table)
+
 -- the plan's own header over these files
 abbrev pub own_header : Settings → Files → Analysis → Bytes
 own_header set files p = header_text (own_digest set files.netlist files.workload files.rates files.points) (batch_count p)
@@ -177,7 +184,7 @@ abbrev pub refusal_in : {A : Type 0} → Result A Status → Option Status
 refusal_in (Ok x) = None
 refusal_in (Err refusal) = Some refusal
 
--- the rows that `resume` and `audit` keep
+-- the rows that are kept of the result file, of which `resume` goes on and `faults` and `progress` tell
 unfoldable pub kept_of : Bytes → Option (List NetId) → Settings → Reads → Result KeptRows Status
 kept_of netlist walk set reads = do
   p ← plan_of netlist walk set reads
@@ -251,6 +258,9 @@ first_refusal walk (Report inputs set) reads = refusal_in (plan_of inputs.netlis
 first_refusal walk (Shard inputs name set part parts) reads = refusal_in (plan_of inputs.netlist walk set reads)
 first_refusal walk (Merge inputs name first second set) reads = refusal_in (merged_of inputs.netlist walk set reads)
 first_refusal walk (Pairs inputs name set workers) reads = refusal_in (paired_of inputs.netlist walk set reads)
+first_refusal walk (Parts netlist rates) reads = refusal_in (rated_of netlist walk reads)
+first_refusal walk (Faults inputs name set) reads = refusal_in (kept_of inputs.netlist walk set reads)
+first_refusal walk (Progress inputs name set) reads = refusal_in (kept_of inputs.netlist walk set reads)
 
 -- `walk` is what is answered of loops, where the file of this name was read and is a netlist
 abbrev pub IsLoopAnswer : Bytes → Option Bytes → Option (List NetId) → Type 0

@@ -3,7 +3,7 @@ use Rattle.std.specs.Prelude.{◌≡◌, [], Some}
 use Rattle.fm_shelf.specs.Shelf.{Shelves}
 use Rattle.refusal_text.specs.declared.status.Which.{Which}
 use Rattle.refusal_text.specs.declared.status.Which.TheVariants as which
-use Rattle.command_line.specs.Commands.{Command, Classes, Check, Run, Resume, Audit, Gen, Report, Inputs, Shard, Merge, Pairs}
+use Rattle.command_line.specs.Commands.{Command, Classes, Check, Run, Resume, Audit, Gen, Report, Inputs, Shard, Merge, Pairs, Parts, Faults, Progress}
 use Rattle.command_steps.specs.Files.{Files}
 use Rattle.fm_base.specs.Names.{Bytes}
 
@@ -48,3 +48,6 @@ name_of (Report inputs set) = name_in inputs []
 name_of (Shard inputs name set part parts) = name_in inputs name
 name_of (Merge inputs name first second set) = name_with inputs name first second
 name_of (Pairs inputs name set workers) = name_in inputs name
+name_of (Parts netlist rates) = name_in (record { netlist = netlist; workload = []; rates = rates; points = [] }) []
+name_of (Faults inputs name set) = name_in inputs name
+name_of (Progress inputs name set) = name_in inputs name

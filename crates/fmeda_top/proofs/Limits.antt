@@ -1,8 +1,8 @@
 -- The limits of what words say.
 use Rattle.std.proofs.Common.{◌≡◌, ℕ, ◌<◌, ◌≤◌, List, arith}
 use Rattle.fm_base.specs.Names.{Bytes}
-use Rattle.command_line.specs.Commands.{Command, Inputs, Classes, Check, Run, Resume, Audit, Gen, Report, Shard, Merge, Pairs}
-use Rattle.command_line.specs.Words.{IsCommand, SaidBy, HasSettings, HasCampaign, HasPlanWords, HasAsil}
+use Rattle.command_line.specs.Commands.{Command, Inputs, Classes, Check, Run, Resume, Audit, Gen, Report, Shard, Merge, Pairs, Parts, Faults, Progress}
+use Rattle.command_line.specs.Words.{IsCommand, SaidBy, HasSettings, HasCampaign, HasPlan, HasPlanWords, HasAsil}
 use Rattle.clap.specs.Words.{Row}
 use Rattle.metric_sums.specs.declared.Asil.{Asil}
 use Rattle.metric_sums.specs.declared.Asil.TheVariants.{D}
@@ -21,8 +21,11 @@ campaign_fit : (rows : List Row) (inputs : Inputs) (name : Bytes) (set : Setting
 campaign_fit rows inputs name set workers (names, other, settings, crew) =
     let some : 0 < workers = omega (arith, crew.least) in (settings_fit rows (HasAsil rows) set settings, some, crew.most)
 
+fits_plan : (rows : List Row) (Fits : Asil → Type 0) (inputs : Inputs) (name : Bytes) (set : Settings) → HasPlan rows Fits inputs name set → AreSettings set
+fits_plan rows Fits inputs name set (names, other, settings) = settings_fit rows Fits set settings
+
 plan_fit : (rows : List Row) (inputs : Inputs) (name : Bytes) (set : Settings) → HasPlanWords rows inputs name set → AreSettings set
-plan_fit rows inputs name set (names, other, settings) = settings_fit rows (λ asil. asil ≡ D) set settings
+plan_fit rows = fits_plan rows (λ asil. asil ≡ D)
 
 shard_fit : (rows : List Row) (inputs : Inputs) (name : Bytes) (set : Settings) (part parts : ℕ) → SaidBy rows (Shard inputs name set part parts) → IsFit (Shard inputs name set part parts)
 shard_fit rows inputs name set part parts (plan, own) = (plan_fit rows inputs name set plan, own.one, own.many.most)
@@ -32,9 +35,6 @@ merge_fit rows inputs name first second set (plan, sources) = plan_fit rows inpu
 
 pairs_fit : (rows : List Row) (inputs : Inputs) (name : Bytes) (set : Settings) (workers : ℕ) → SaidBy rows (Pairs inputs name set workers) → IsFit (Pairs inputs name set workers)
 pairs_fit rows inputs name set workers (plan, crew) = let some : 0 < workers = omega (arith, crew.least) in (plan_fit rows inputs name set plan, some, crew.most)
-
-audit_fit : (rows : List Row) (inputs : Inputs) (name : Bytes) (set : Settings) → SaidBy rows (Audit inputs name set) → IsFit (Audit inputs name set)
-audit_fit rows inputs name set (names, other, settings) = settings_fit rows (λ asil. asil ≡ D) set settings
 
 report_fit : (rows : List Row) (inputs : Inputs) (set : Settings) → SaidBy rows (Report inputs set) → IsFit (Report inputs set)
 report_fit rows inputs set (names, settings) = settings_fit rows (HasAsil rows) set settings
@@ -48,9 +48,12 @@ is_fit words (Classes netlist workload) is = tt
 is_fit words (Check inputs flips pulses) (clean, (rows, met, said)) = check_fit rows inputs flips pulses said
 is_fit words (Run inputs name set workers) (clean, (rows, met, said)) = campaign_fit rows inputs name set workers said
 is_fit words (Resume inputs name set workers) (clean, (rows, met, said)) = campaign_fit rows inputs name set workers said
-is_fit words (Audit inputs name set) (clean, (rows, met, said)) = audit_fit rows inputs name set said
+is_fit words (Audit inputs name set) (clean, (rows, met, said)) = plan_fit rows inputs name set said
 is_fit words (Gen stages name workers) (clean, (rows, met, said)) = gen_fit rows stages name workers said
 is_fit words (Report inputs set) (clean, (rows, met, said)) = report_fit rows inputs set said
 is_fit words (Shard inputs name set part parts) (clean, (rows, met, said)) = shard_fit rows inputs name set part parts said
 is_fit words (Merge inputs name first second set) (clean, (rows, met, said)) = merge_fit rows inputs name first second set said
 is_fit words (Pairs inputs name set workers) (clean, (rows, met, said)) = pairs_fit rows inputs name set workers said
+is_fit words (Parts netlist rates) is = tt
+is_fit words (Faults inputs name set) (clean, (rows, met, said)) = plan_fit rows inputs name set said
+is_fit words (Progress inputs name set) (clean, (rows, met, said)) = fits_plan rows (HasAsil rows) inputs name set said

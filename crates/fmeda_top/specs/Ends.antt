@@ -7,6 +7,7 @@ use Rattle.campaign_plan.specs.declared.Settings.{Settings}
 use Rattle.campaign_plan.specs.Analysis.{Analysis}
 use Rattle.campaign_plan.specs.Batches.{Entry, AreTrue, true_planes}
 use Rattle.result_file.specs.declared.KeptRows.{KeptRows}
+use Rattle.rate_table.specs.Table.{RateTable}
 use Rattle.result_file.specs.ResultText.{result_rows, result_text}
 use Rattle.result_file.specs.KeptRows.{kept, kept_entries}
 use Rattle.result_merge.specs.Merged.{merged_entries}
@@ -14,17 +15,20 @@ use Rattle.result_merge.specs.Parts.{HasPart}
 use Rattle.fmeda_report.specs.Rows.{planes_in}
 use Rattle.pair_campaign.specs.PairText.{pairs_text}
 use Rattle.fmeda_report.specs.Report.{report, true_report, summary}
+use Rattle.fault_table.specs.FaultTable.{fault_table}
+use Rattle.part_table.specs.PartTable.{part_table}
+use Rattle.metric_bounds.specs.Progress.{progress}
 use Rattle.refusal_text.specs.declared.status.Status.{Status}
 use Rattle.refusal_text.specs.declared.status.Status.TheVariants as status
 use Rattle.refusal_text.specs.declared.status.WriteTo.TheVariants as to
 use Rattle.refusal_text.specs.declared.status.Which.{Which}
 use Rattle.refusal_text.specs.declared.status.Which.TheVariants as which
 use Rattle.refusal_text.specs.RefusalLines.{refused, refusal_line}
-use Rattle.command_line.specs.Commands.{Command, Classes, Check, Run, Resume, Audit, Gen, Report, settings_of, Shard, Merge, Pairs}
+use Rattle.command_line.specs.Commands.{Command, Classes, Check, Run, Resume, Audit, Gen, Report, settings_of, Shard, Merge, Pairs, Parts, Faults, Progress}
 use Rattle.command_line.specs.Words.{IsCommand}
 use Rattle.command_steps.specs.Files.{Files, all_read, both_read}
 use Rattle.command_text.specs.Texts.{classes_text, check_text, audit_text, shard_line, merge_text}
-use Rattle.command_steps.specs.FirstRefusal.{IsPlanOf, classes_plan_of, audited_of, own_header, generated, generated_settings, no_name, merged_of, paired_of}
+use Rattle.command_steps.specs.FirstRefusal.{IsPlanOf, classes_plan_of, audited_of, own_header, generated, generated_settings, no_name, merged_of, paired_of, rated_of}
 use Rattle.fm_base.specs.Names.{Bytes}
 use Rattle.campaign_run.specs.Outside.{KeepsOthers, Wrote}
 use Rattle.campaign_run.specs.Found.{IsPart, kept_or_true}
@@ -105,6 +109,14 @@ pub record PairedFaults (netlist : Bytes) (files : Files) (set : Settings) (byte
   pub wrote : Wrote out_before out_after (pairs_text p (planes_in k.rows))
   pub truly : AreTrue p (kept_entries k) → pairs_text p (planes_in k.rows) ≡ pairs_text p (true_planes p)
 
+-- TELLING OF KEPT ROWS: the text is this one of the plan and of the batches that are kept of the file
+pub record ToldOfKept (netlist : Bytes) (files : Files) (set : Settings) (bytes : Bytes) (text : Analysis → List Entry → Bytes) (out_before out_after : Option Bytes) : Type 0 where
+  pub p : Analysis
+  pub plan : IsPlanOf netlist set files p
+  pub k : KeptRows
+  pub kept_rows : kept (own_header set files p) p bytes ≡ Ok k
+  pub wrote : Wrote out_before out_after (text p (kept_entries k))
+
 -- what a command has done where its words and the shelf at entry are these, and it ended Done
 abbrev pub DoneAs : Command → Shelves → Shelves → Option Bytes → Option Bytes → Type 0
 DoneAs (Classes netlist workload) before after out_before out_after =
@@ -144,6 +156,19 @@ DoneAs (Merge inputs name first second set) before after out_before out_after =
 DoneAs (Pairs inputs name set workers) before after out_before out_after =
     KeepsAll before after
     × ((files : Files) (bytes : Bytes) → HoldsInputs before inputs files → Holds before name bytes → PairedFaults inputs.netlist files set bytes out_before out_after)
+DoneAs (Parts netlist rates) before after out_before out_after =
+    KeepsAll before after
+    × ((files : Files) → Holds before netlist files.netlist → Holds before rates files.rates
+    → (c : Circuit) × (table : RateTable) × (rated_of netlist None (all_read files []) ≡ Ok (c, table)) × HasNoLoop c
+    × Wrote out_before out_after (part_table c table))
+DoneAs (Faults inputs name set) before after out_before out_after =
+    KeepsAll before after
+    × ((files : Files) (bytes : Bytes) → HoldsInputs before inputs files → Holds before name bytes
+    → ToldOfKept inputs.netlist files set bytes fault_table out_before out_after)
+DoneAs (Progress inputs name set) before after out_before out_after =
+    KeepsAll before after
+    × ((files : Files) (bytes : Bytes) → HoldsInputs before inputs files → Holds before name bytes
+    → ToldOfKept inputs.netlist files set bytes progress out_before out_after)
 
 -- at Done the words are a command, and it has done what it is for
 abbrev pub AtDone : Status → List Bytes → Shelves → Shelves → Option Bytes → Option Bytes → Type 0
@@ -194,6 +219,9 @@ FaultAs (Merge inputs name first second set) before after =
     × ((files : Files) (one two : Bytes) → HoldsInputs before inputs files → Holds before first one → Holds before second two
     → (after name ≡ before name) ⊎ StoppedMerging inputs.netlist files set one two (after name))
 FaultAs (Pairs inputs name set workers) before after = ⊥
+FaultAs (Parts netlist rates) before after = ⊥
+FaultAs (Faults inputs name set) before after = ⊥
+FaultAs (Progress inputs name set) before after = ⊥
 
 -- the line of a fault of RESULT was written, or a prefix of it where `out` failed
 abbrev pub FaultSaid : (Which → Bytes) → (out_before out_after : Option Bytes) → (faults_before faults_after : ℕ) → Type 0

@@ -1,9 +1,11 @@
 -- What a command has written when it was tried, or its refusal.
-use Rattle.std.specs.Prelude.{◌≡◌, ◌⊎◌, ℕ, Option, None, Result, Ok, Err, length}
+use Rattle.std.specs.Prelude.{◌≡◌, ◌⊎◌, ℕ, List, Option, None, Result, Ok, Err, length}
+use Rattle.circuit.specs.Circuit.{Circuit}
 use Rattle.circuit.specs.Loop.{HasNoLoop}
 use Rattle.fm_shelf.specs.Shelf.{Shelves, Rose, told_more, HasPrefix}
-use Rattle.command_line.specs.Commands.{Classes, Inputs, Audit, Pairs}
+use Rattle.command_line.specs.Commands.{Classes, Inputs, Audit, Pairs, Parts}
 use Rattle.campaign_plan.specs.Analysis.{Analysis}
+use Rattle.campaign_plan.specs.Batches.{Entry}
 use Rattle.refusal_text.specs.declared.status.Status.{Status}
 use Rattle.refusal_text.specs.declared.status.Status.TheVariants as status
 use Rattle.refusal_text.specs.declared.refused.Refused.{Refused}
@@ -15,14 +17,18 @@ use Rattle.command_text.specs.Texts.{classes_text, audit_text}
 use Rattle.refusal_text.specs.declared.status.WriteTo.TheVariants as to
 use Rattle.fm_base.specs.Names.{Bytes}
 use Rattle.campaign_plan.specs.declared.Settings.{Settings}
-use Rattle.command_steps.specs.FirstRefusal.{IsPlanOf, audited_of, audit_step, paired_of, pairs_step}
+use Rattle.command_steps.specs.FirstRefusal.{IsPlanOf, audited_of, audit_step, own_header, paired_of, pairs_step}
 use Rattle.refusal_text.specs.RefusalLines.{refused}
 use Rattle.refusal_text.specs.Refusals.{status_of, HasItsNets}
 use Rattle.result_file.specs.declared.KeptRows.{KeptRows}
+use Rattle.result_file.specs.KeptRows.{kept, kept_entries}
+use Rattle.rate_table.specs.Table.{RateTable}
+use Rattle.part_table.specs.PartTable.{part_table}
 use Rattle.fmeda_report.specs.Rows.{HoldEachOnce, planes_in}
 use Rattle.pair_list.specs.Chosen.{Chosen, chosen}
 use Rattle.pair_campaign.specs.PairText.{pairs_text}
-use Rattle.command_steps.specs.Steps.{RefusedInOrder, IsClassesPlan}
+use Rattle.command_steps.specs.Steps.{RefusedInOrder, AreRated, IsClassesPlan}
+use Rattle.command_steps.specs.BegunSteps.{KeptChecked, KeptRefused}
 use Rattle.command_steps.specs.PlanSteps.{AreHeld, PlanChecked, PlanRefused}
 
 -- the text of Done went out, or a prefix of it where `out` failed; or nothing was written, for want of memory
@@ -94,4 +100,30 @@ PairsAs shelf before after inputs name set workers out_before out_after faults_b
     × TextAs out_before out_after faults_before faults_after (pairs_text p (planes_in k.rows)) (Ok ended)
 PairsAs shelf before after inputs name set workers out_before out_after faults_before faults_after (Err refused) =
     ((status_of refused ≡ status.Memory) ⊎ RefusedInOrder (Pairs inputs name set workers) shelf before after (status_of refused))
+    × HasItsNets inputs.netlist (shelf inputs.netlist) refused × (out_after ≡ out_before) × (faults_after ≡ faults_before)
+
+-- `parts` was tried: it has written its text, or it was refused and has written nothing
+abbrev pub PartsAs : Shelves → (before after : Bytes → ℕ) → (netlist rates : Bytes) → (written_before written_after : Option Bytes) → (faults_before faults_after : ℕ)
+    → Result Status Refused → Type 0
+PartsAs shelf before after netlist rates out_before out_after faults_before faults_after (Ok ended) =
+    (c : Circuit) × (table : RateTable) × AreRated shelf netlist rates c table × HasNoLoop c × Checked (Parts netlist rates) shelf before after None
+    × TextAs out_before out_after faults_before faults_after (part_table c table) (Ok ended)
+PartsAs shelf before after netlist rates out_before out_after faults_before faults_after (Err refused) =
+    ((status_of refused ≡ status.Memory) ⊎ RefusedInOrder (Parts netlist rates) shelf before after (status_of refused))
+    × HasItsNets netlist (shelf netlist) refused × (out_after ≡ out_before) × (faults_after ≡ faults_before)
+
+-- the files of a command stand for this plan, and these rows are kept of its result file
+abbrev pub AreKeptOf : Shelves → Inputs → Bytes → Settings → Analysis → KeptRows → Type 0
+AreKeptOf shelf inputs name set p k =
+    (files : Files) (bytes : Bytes) → HoldsInputs shelf inputs files → Holds shelf name bytes
+    → IsPlanOf inputs.netlist set files p × (kept (own_header set files p) p bytes ≡ Ok k)
+
+-- a command over the rows that are kept was tried: it has written this text of them, or it was refused and has written nothing
+abbrev pub KeptTextAs : Shelves → (before after : Bytes → ℕ) → Inputs → Bytes → Settings → (Analysis → List Entry → Bytes) → (written_before written_after : Option Bytes)
+    → (faults_before faults_after : ℕ) → Result Status Refused → Type 0
+KeptTextAs shelf before after inputs name set text out_before out_after faults_before faults_after (Ok ended) =
+    (p : Analysis) × (k : KeptRows) × AreKeptOf shelf inputs name set p k × KeptChecked inputs name set shelf before after
+    × TextAs out_before out_after faults_before faults_after (text p (kept_entries k)) (Ok ended)
+KeptTextAs shelf before after inputs name set text out_before out_after faults_before faults_after (Err refused) =
+    ((status_of refused ≡ status.Memory) ⊎ KeptRefused inputs name set shelf before after (status_of refused))
     × HasItsNets inputs.netlist (shelf inputs.netlist) refused × (out_after ≡ out_before) × (faults_after ≡ faults_before)

@@ -1,5 +1,5 @@
 -- What the words of a call ask for, and refusals of the words themselves.
-use Rattle.command_line.specs.Commands.{Command, Check, Run, Resume, Audit, Gen, Report, Shard, Merge, Pairs}
+use Rattle.command_line.specs.Commands.{Command, Check, Run, Resume, Audit, Gen, Report, Shard, Merge, Pairs, Faults, Progress}
 use Rattle.refusal_text.specs.declared.status.Status.{Status}
 use Rattle.refusal_text.specs.declared.status.Status.TheVariants as status
 use Rattle.std.specs.Prelude.{◌<◌, ◌≤◌}
@@ -17,6 +17,8 @@ IsFit (Report inputs set) = AreSettings set
 IsFit (Shard inputs result set part parts) = AreSettings set × (part < parts) × (parts ≤ 1024)
 IsFit (Merge inputs result first second set) = AreSettings set
 IsFit (Pairs inputs result set workers) = AreSettings set × (0 < workers) × (workers ≤ 32)
+IsFit (Faults inputs result set) = AreSettings set
+IsFit (Progress inputs result set) = AreSettings set
 IsFit _ = Unit {0}
 
 -- a refusal of the words themselves

@@ -13,8 +13,10 @@ use crate::check::check;
 use crate::classes::classes;
 use crate::ended::Ended;
 use crate::generate::generate;
+use crate::kept::{KeptText, kept};
 use crate::merge::merge;
 use crate::pairs::pairs;
+use crate::parts::parts;
 use crate::report::report;
 use crate::resume::resume;
 use crate::run::run;
@@ -135,6 +137,31 @@ fn run_asked<R: Threads + Wait + Sync, F: Shelf + Send + Drop, O: Sink, G: Gate 
             let status = pairs(
                 rt, alloc, &mut shelf, out, &inputs, result, settings, workers,
             );
+            Ended { status, shelf }
+        }
+        Asked::Parts { netlist, rates } => {
+            let mut shelf = shelf;
+            let status = parts(alloc, &mut shelf, out, netlist, rates);
+            Ended { status, shelf }
+        }
+        Asked::Faults {
+            inputs,
+            result,
+            settings,
+        } => {
+            let mut shelf = shelf;
+            let text = KeptText::FaultTable;
+            let status = kept(alloc, text, &mut shelf, out, &inputs, result, settings);
+            Ended { status, shelf }
+        }
+        Asked::Progress {
+            inputs,
+            result,
+            settings,
+        } => {
+            let mut shelf = shelf;
+            let text = KeptText::Bounds;
+            let status = kept(alloc, text, &mut shelf, out, &inputs, result, settings);
             Ended { status, shelf }
         }
     }

@@ -221,6 +221,13 @@ const AUDIT_STEPS: [Step; 10] = [
     Step::Read("RES"),
 ];
 
+const PARTS_STEPS: [Step; 4] = [
+    Step::Read("net"),
+    Step::Read("net"),
+    Step::Read("rates"),
+    Step::Read("rates"),
+];
+
 const GEN_STEPS: [Step; 3] = [Step::Cut(0), Step::Append(89), Step::Append(130)];
 
 // Whether all is as worked out where one step fails, and the refusal's line can be written or can't.
@@ -283,8 +290,27 @@ fn ends_silent<R: Threads + Wait + Sync>(
     Ok(part && seen.is(21, written, course.after) && seen.has_failed(0, 1))
 }
 
-// The commands that stand on a result file, over the chain.
-fn courses<'a>(report: &'a [u8]) -> [Course<'a>; 5] {
+/// What `progress` says of the chain's first row. No part is a mechanism, so no planes have a latent fault, and all faults of the
+/// row are dangerous: LFM is 1 where it has a value.
+const CHAIN_PROGRESS: &str = "rows 1 of 2
+judged permanent 64000000 of 66000000
+judged transient 0 of 0
+spfm permanent from 0/66000000 to 2000000/66000000
+spfm transient from - to -
+lfm from 2000000/2000000 to 2000000/2000000
+term from 64000000 to 66000000
+target spfm permanent missed
+target spfm transient -
+target lfm met
+target term met
+";
+
+const CHAIN_PARTS: &str = "pattern * part all role mission covered no nets 33 latches 0 first n0
+unmatched 0 first -
+";
+
+// The commands over the chain, each of whose calls fails in turn.
+fn courses<'a>(report: &'a [u8]) -> [Course<'a>; 7] {
     let whole = CHAIN_RESULT.as_bytes();
     [
         Course {
@@ -314,6 +340,20 @@ fn courses<'a>(report: &'a [u8]) -> [Course<'a>; 5] {
             steps: &AUDIT_STEPS,
             after: whole,
             text: b"audit 2 of 2 rows agree\n",
+        },
+        Course {
+            line: "fmeda progress net work rates points RES --asil B",
+            before: &whole[..226],
+            steps: &AUDIT_STEPS,
+            after: &whole[..226],
+            text: CHAIN_PROGRESS.as_bytes(),
+        },
+        Course {
+            line: "fmeda parts net rates",
+            before: b"what was there before",
+            steps: &PARTS_STEPS,
+            after: b"what was there before",
+            text: CHAIN_PARTS.as_bytes(),
         },
         Course {
             line: "fmeda gen 1 RES",

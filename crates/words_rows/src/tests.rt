@@ -15,6 +15,9 @@ enum Answer {
     Shard,
     Merge,
     Pairs,
+    Parts,
+    Faults,
+    Progress,
     Usage,
     Memory,
 }
@@ -40,6 +43,9 @@ fn asked(alloc: Global, line: &str) -> Result<Answer, AllocError> {
         Ok(Asked::Shard { .. }) => Answer::Shard,
         Ok(Asked::Merge { .. }) => Answer::Merge,
         Ok(Asked::Pairs { .. }) => Answer::Pairs,
+        Ok(Asked::Parts { .. }) => Answer::Parts,
+        Ok(Asked::Faults { .. }) => Answer::Faults,
+        Ok(Asked::Progress { .. }) => Answer::Progress,
         Err(WordsRefusal::Usage) => Answer::Usage,
         Err(WordsRefusal::Memory) => Answer::Memory,
     })
@@ -108,6 +114,18 @@ fn words_that_are_a_command(rt: HostRuntime) -> Result<(), AllocError> {
             "fmeda pairs n w r p res --workers 32 --ftti 1 --flips 3",
             Answer::Pairs,
         ),
+        ("fmeda parts n r", Answer::Parts),
+        ("fmeda parts n n", Answer::Parts),
+        ("fmeda faults n w r p res", Answer::Faults),
+        (
+            "fmeda faults n --ftti 1 w r p res --flips 3 --pulses 4",
+            Answer::Faults,
+        ),
+        ("fmeda progress n w r p res", Answer::Progress),
+        (
+            "fmeda progress n w r p --asil=B res --ftti 4096 --flips none",
+            Answer::Progress,
+        ),
     ] {
         assert_eq!(rt; asked(rt.alloc(), line)?, command);
     }
@@ -164,6 +182,17 @@ fn words_that_are_none(rt: HostRuntime) -> Result<(), AllocError> {
         "fmeda pairs n w r p p",
         "fmeda pairs n w r p res --workers 0",
         "fmeda pairs n w r p res --asil D",
+        "fmeda parts n",
+        "fmeda parts n w r",
+        "fmeda parts n r --flips none",
+        "fmeda faults n w r p",
+        "fmeda faults n w r p r",
+        "fmeda faults n w r p res --asil D",
+        "fmeda faults n w r p res --workers 1",
+        "fmeda progress n w r p",
+        "fmeda progress n w r p w",
+        "fmeda progress n w r p res --asil A",
+        "fmeda progress n w r p res --workers 1",
     ] {
         assert_eq!(rt; asked(rt.alloc(), line)?, Answer::Usage);
     }
@@ -245,6 +274,25 @@ fn an_audit_has_the_strictest_asil(rt: HostRuntime) -> Result<(), AllocError> {
             assert_eq!(rt; (settings.ftti, settings.asil), (3, Asil::D));
         }
         _ => panic!(&rt; "no audit"),
+    }
+    Ok(())
+}
+
+#[test]
+fn a_progress_has_the_asil_of_its_words(rt: HostRuntime) -> Result<(), AllocError> {
+    let progress = words_of(rt.alloc(), "fmeda progress n w r p res --ftti 3 --asil B")?;
+    match read_words(rt.alloc(), progress.as_slice()) {
+        Ok(
+            Asked::Progress {
+                result,
+                settings,
+                ..
+            },
+        ) => {
+            assert_eq!(rt; result, "res");
+            assert_eq!(rt; (settings.ftti, settings.asil), (3, Asil::B));
+        }
+        _ => panic!(&rt; "no progress"),
     }
     Ok(())
 }

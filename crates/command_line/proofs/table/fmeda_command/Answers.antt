@@ -1,15 +1,13 @@
 use Rattle.clap.specs.Words.{with_subcommand}
-use Rattle.command_line.specs.Table.{campaign_rows, merge_app, pairs_app, program_with, report_app, shard_app}
+use Rattle.command_line.specs.Table.{faults_app, parts_app, program_with, progress_app, shared_rows}
 use Rattle.command_line.proofs.Rows.{added, last_added}
 use Rattle.command_line.proofs.table.fmeda_command.Goals as goal
 
 pub returns : goal.returns
 returns c =
-    let six = program_with campaign_rows in
-    let seven = with_subcommand six report_app.top in
-    let eight = with_subcommand seven shard_app.top in
-    let nine = with_subcommand eight merge_app.top in
-    let report = added report_app six _ _ _ c.in_ok-subcommand.ensures c.in_ok-report.ensures.app c.in_ok-report.ensures.local c.in_ok-program.ensures in
-    let shard = added shard_app seven _ _ _ c.in_ok-subcommand-2.ensures c.in_ok-shard.ensures.app c.in_ok-shard.ensures.local report in
-    let merge = added merge_app eight _ _ _ c.in_ok-subcommand-3.ensures c.in_ok-merge.ensures.app c.in_ok-merge.ensures.local shard in
-    last_added pairs_app nine _ _ c.subcommand-4.result c.subcommand-4.ensures c.in_ok-pairs.ensures.app c.in_ok-pairs.ensures.local merge
+    let ten = program_with shared_rows in
+    let eleven = with_subcommand ten parts_app.top in
+    let twelve = with_subcommand eleven faults_app.top in
+    let parts = added parts_app ten _ _ _ c.in_ok-subcommand.ensures c.in_ok-parts.ensures.app c.in_ok-parts.ensures.local c.in_ok-program.ensures in
+    let faults = added faults_app eleven _ _ _ c.in_ok-subcommand-2.ensures c.in_ok-faults.ensures.app c.in_ok-faults.ensures.local parts in
+    last_added progress_app twelve _ _ c.subcommand-3.result c.subcommand-3.ensures c.in_ok-progress.ensures.app c.in_ok-progress.ensures.local faults

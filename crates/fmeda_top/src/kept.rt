@@ -1,0 +1,130 @@
+// The commands `faults` and `progress`, which write a text of what is kept of a result file.
+ghost use Rattle.std.specs.Prelude.{◌≡◌, ℕ, List, map};
+ghost use Rattle.fm_shelf.specs.Shelf.{held_in};
+ghost use Rattle.campaign_plan.specs.Analysis.{batch_count};
+ghost use Rattle.campaign_plan.specs.Batches.{AreDistinct};
+ghost use Rattle.campaign_plan.specs.Kept.{AreSettings};
+ghost use Rattle.result_file.specs.KeptRows.{entry_of, kept_entries};
+ghost use Rattle.result_merge.specs.Tables.{table_of};
+ghost use Rattle.fmeda_report.specs.Sends.{Sends};
+ghost use Rattle.command_steps.specs.PlanSteps.{names_of};
+ghost use Rattle.fmeda_top.specs.Causes.{CommandEnds};
+ghost use Rattle.fmeda_top.specs.Kept.{command_of, text_of};
+ghost use Rattle.fmeda_top.specs.Tried.{KeptTextAs, TextAs};
+
+use campaign_plan::{Plan, Settings};
+use command_line::InputNames;
+use command_steps::begun::{Begun, read_begun};
+use fault_table::write_fault_table;
+use fm_shelf::shelf::{Failed, Shelf, Sink};
+use metric_bounds::write_progress;
+use refusal_text::names::FileNames;
+use refusal_text::refuse::say_refused;
+use refusal_text::refused::Refused;
+use refusal_text::status::{Status, after_text};
+use result_file::Row;
+use result_merge::PlanesTable;
+use std::alloc::Global;
+
+/// A text of what is kept of a result file.
+#[derive(Clone, Copy, Debug, PartialEq, Eq)]
+pub enum KeptText {
+    /// The table of the faults of the kept batches.
+    FaultTable,
+    /// The bounds between which each metric will end.
+    Bounds,
+}
+
+// Writes a text of kept rows; `table` has their planes.
+fn write_kept<O: Sink>(
+    text: KeptText,
+    plan: &Plan,
+    rows: &[Row],
+    table: &PlanesTable,
+    out: &mut O,
+) -> Result<(), Failed>
+    requires distinct { AreDistinct plan.now (map entry_of rows.now) }
+    requires table { table.now ≡ table_of (batch_count plan.now) (map entry_of rows.now) }
+    ensures { Sends (O.written out.old) (O.written out.new) (O.faults out.old) (O.faults out.new)
+        (text_of text plan.now (map entry_of rows.now)) result }
+{
+    match text {
+        KeptText::FaultTable => write_fault_table(plan, table, out),
+        KeptText::Bounds => write_progress(plan, rows, table, out),
+    }
+}
+
+// Writes a text of what is kept of a campaign that was begun.
+fn tell_kept<O: Sink>(
+    alloc: Global,
+    text: KeptText,
+    begun: &Begun,
+    out: &mut O,
+) -> Result<Status, Refused>
+    requires { AreDistinct begun.now.planned.plan (kept_entries begun.now.kept) }
+    ensures { TextAs (O.written out.old) (O.written out.new) (O.faults out.old) (O.faults out.new)
+        (text_of text begun.now.planned.plan (kept_entries begun.now.kept)) result }
+{
+    let (plan, rows) = (&begun.planned.plan, begun.kept.rows.as_slice());
+    let table = PlanesTable::new(alloc, plan, rows)?;
+    Ok(after_text(write_kept(text, plan, rows, &table, out)))
+}
+
+// Reads the files and writes a text of what is kept, or says why not.
+fn try_kept<F: Shelf, O: Sink>(
+    alloc: Global,
+    text: KeptText,
+    shelf: &mut F,
+    out: &mut O,
+    inputs: &InputNames<'_>,
+    rows: &str,
+    settings: Settings,
+) -> Result<Status, Refused>
+    requires settings { AreSettings settings }
+    ensures tried { KeptTextAs (held_in (F.files shelf.old) (F.rest_absent shelf.old)) (F.read_faults shelf.old) (F.read_faults shelf.new)
+        (names_of inputs.now) rows.now settings (text_of text) (O.written out.old) (O.written out.new) (O.faults out.old) (O.faults out.new) result }
+    ensures files { F.files shelf.new ≡ F.files shelf.old }
+    ensures rest { F.rest_absent shelf.new ≡ F.rest_absent shelf.old }
+    ensures write_counts { (other : List ℕ) → F.write_faults shelf.new other ≡ F.write_faults shelf.old other }
+{
+    let begun = read_begun(alloc, shelf, inputs, rows, settings)?;
+    tell_kept(alloc, text, &begun, out)
+}
+
+/// Writes a text of the whole rows of a result file, or the line of the refusal. No file is changed, also where another process
+/// appends to it: what follows the last whole row isn't looked at. Nothing is simulated.
+pub fn kept<F: Shelf, O: Sink>(
+    alloc: Global,
+    text: KeptText,
+    shelf: &mut F,
+    out: &mut O,
+    inputs: &InputNames<'_>,
+    rows: &str,
+    settings: Settings,
+) -> Status
+    requires settings { AreSettings settings }
+    ensures { CommandEnds (command_of text (names_of inputs.now) rows.now settings) result
+        (held_in (F.files shelf.old) (F.rest_absent shelf.old)) (held_in (F.files shelf.new) (F.rest_absent shelf.new))
+        (record {
+          reads_before = F.read_faults shelf.old;
+          reads_after = F.read_faults shelf.new;
+          writes_before = F.write_faults shelf.old;
+          writes_after = F.write_faults shelf.new;
+          out_before = O.faults out.old;
+          out_after = O.faults out.new;
+        }) (O.written out.old) (O.written out.new) }
+{
+    let names = FileNames {
+        netlist: inputs.netlist,
+        workload: inputs.workload,
+        rates: inputs.rates,
+        points: inputs.points,
+        result: rows,
+        first: "",
+        second: "",
+    };
+    match try_kept(alloc, text, shelf, out, inputs, rows, settings) {
+        Ok(status) => status,
+        Err(refused) => say_refused(out, &names, refused),
+    }
+}

@@ -1,0 +1,78 @@
+// The command `parts`.
+ghost use Rattle.std.specs.Prelude.{◌≡◌, ℕ, List};
+ghost use Rattle.fm_shelf.specs.Shelf.{held_in};
+ghost use Rattle.part_table.specs.PartTable.{part_table};
+ghost use Rattle.command_line.specs.Commands.{Parts};
+ghost use Rattle.fmeda_top.specs.Causes.{CommandEnds};
+ghost use Rattle.fmeda_top.specs.Tried.{PartsAs, TextAs};
+
+use command_steps::rated::{Rated, read_rated};
+use fm_shelf::shelf::{Shelf, Sink};
+use part_table::PartTable;
+use refusal_text::names::FileNames;
+use refusal_text::refuse::say_refused;
+use refusal_text::refused::Refused;
+use refusal_text::status::{Status, after_text};
+use std::alloc::Global;
+
+// Looks up each net and latch, and writes what each row of the rates takes.
+fn tell_parts<O: Sink>(alloc: Global, rated: &Rated, out: &mut O) -> Result<Status, Refused>
+    ensures { TextAs (O.written out.old) (O.written out.new) (O.faults out.old) (O.faults out.new)
+        (part_table rated.now.ordered.net rated.now.rates) result }
+{
+    let table = PartTable::new(alloc, &rated.ordered.net, &rated.rates)?;
+    Ok(after_text(table.write(out)))
+}
+
+// Reads the files and writes what each row of the rates takes, or says why not.
+fn try_parts<F: Shelf, O: Sink>(
+    alloc: Global,
+    shelf: &mut F,
+    out: &mut O,
+    netlist: &str,
+    rates: &str,
+) -> Result<Status, Refused>
+    ensures tried { PartsAs (held_in (F.files shelf.old) (F.rest_absent shelf.old)) (F.read_faults shelf.old) (F.read_faults shelf.new)
+        netlist.now rates.now (O.written out.old) (O.written out.new) (O.faults out.old) (O.faults out.new) result }
+    ensures files { F.files shelf.new ≡ F.files shelf.old }
+    ensures rest { F.rest_absent shelf.new ≡ F.rest_absent shelf.old }
+    ensures write_counts { (other : List ℕ) → F.write_faults shelf.new other ≡ F.write_faults shelf.old other }
+{
+    let rated = read_rated(alloc, shelf, netlist, rates)?;
+    tell_parts(alloc, &rated, out)
+}
+
+/// Writes for each row of a rates file which nets and latches of a netlist it takes, and how many nets no row takes; or the line
+/// of the refusal. It reads no other file, and nothing is simulated.
+pub fn parts<F: Shelf, O: Sink>(
+    alloc: Global,
+    shelf: &mut F,
+    out: &mut O,
+    netlist: &str,
+    rates: &str,
+) -> Status
+    ensures { CommandEnds (Parts netlist.now rates.now) result
+        (held_in (F.files shelf.old) (F.rest_absent shelf.old)) (held_in (F.files shelf.new) (F.rest_absent shelf.new))
+        (record {
+          reads_before = F.read_faults shelf.old;
+          reads_after = F.read_faults shelf.new;
+          writes_before = F.write_faults shelf.old;
+          writes_after = F.write_faults shelf.new;
+          out_before = O.faults out.old;
+          out_after = O.faults out.new;
+        }) (O.written out.old) (O.written out.new) }
+{
+    let names = FileNames {
+        netlist,
+        workload: "",
+        rates,
+        points: "",
+        result: "",
+        first: "",
+        second: "",
+    };
+    match try_parts(alloc, shelf, out, netlist, rates) {
+        Ok(status) => status,
+        Err(refused) => say_refused(out, &names, refused),
+    }
+}

@@ -1,0 +1,1 @@
+open("res", "a").truncate(2**26 + 1)

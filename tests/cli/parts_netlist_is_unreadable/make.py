@@ -1,0 +1,2 @@
+import os
+os.chmod("dup.blif", 0)

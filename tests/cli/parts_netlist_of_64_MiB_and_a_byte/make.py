@@ -1,0 +1,1 @@
+open("dup.blif", "a").truncate(2**26 + 1)

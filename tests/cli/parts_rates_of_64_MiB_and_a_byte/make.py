@@ -1,0 +1,1 @@
+open("rates.csv", "a").truncate(2**26 + 1)
