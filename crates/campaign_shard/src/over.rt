@@ -7,6 +7,7 @@ ghost use Rattle.campaign_plan.specs.Analysis.{batch_count};
 ghost use Rattle.result_file.specs.KeptRows.{header_len};
 ghost use Rattle.campaign_board.specs.Boards.{batches_of, sums_over};
 ghost use Rattle.campaign_board.specs.Kept.{IsBoard, IsStart};
+ghost use Rattle.campaign_board.specs.Missing.{missing};
 ghost use Rattle.campaign_workers.specs.Truth.{HasTrueEntries};
 ghost use Rattle.campaign_run.specs.Steps.{IsFresh, Tells};
 ghost use Rattle.command_text.specs.Texts.{shard_line};
@@ -15,7 +16,7 @@ ghost use Rattle.campaign_shard.specs.PartSteps.{part_origin, simulated, HasPart
 
 use crate::run::Shard;
 use crate::seat::work_part;
-use campaign_board::{Board, NoBoard, Origin, Seat, Shared, missing_batches};
+use campaign_board::{BatchList, Board, NoBoard, Origin, Seat, Shared, missing_batches};
 use campaign_plan::Plan;
 use campaign_run::{End, Ran};
 use command_text::share_text::write_shard;
@@ -42,6 +43,19 @@ struct Prepared<'a, F: Shelf + Drop, N: Origin> {
     place: Workplace<'a, F, N>,
 }
 
+// The batches that the rows of a board lack.
+fn batches_to_do<F: Shelf + Drop, N: Origin>(
+    alloc: Global,
+    plan: &Plan,
+    board: &Board<F, N>,
+) -> Result<BatchList, AllocError>
+    requires entries { length N.start.entries ≡ batch_count plan.now }
+    requires rows { board.now.rows ≡ N.start.rows }
+    ensures { IfOk result (λ todo. todo ≡ missing N.start) }
+{
+    missing_batches(alloc, plan.batches(), board.rows())
+}
+
 // Takes the memory of all but the board.
 fn make_workplace<'a, F: Shelf + Drop, N: Origin>(
     alloc: Global,
@@ -58,7 +72,7 @@ fn make_workplace<'a, F: Shelf + Drop, N: Origin>(
     let (net, work, points) = (plan.net(), plan.work(), plan.points());
     let ftti = plan.settings().ftti;
     let simulator = Simulator::new(alloc, net, order, plan.faults(), work, points, ftti)?;
-    let todo = missing_batches(alloc, plan.batches(), board.rows())?;
+    let todo = batches_to_do(alloc, plan, board)?;
     let (shared, seat) = Shared::table(alloc, board, todo)?;
     Ok(Workplace {
         simulator,

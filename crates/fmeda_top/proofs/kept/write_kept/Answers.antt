@@ -5,8 +5,8 @@ use Rattle.result_merge.proofs.Tabling.{length-table}
 use Rattle.fmeda_top.proofs.kept.write_kept.Goals as goal
 
 pub write_fault_table-requires : goal.write_fault_table-requires
-write_fault_table-requires g c κs within =
+write_fault_table-requires g c =
     ap length c.requires.table ∙ length-table (batch_count c.args.plan.now) (map entry_of c.args.rows.now)
 
 pub returns-in-FaultTable : goal.returns-in-FaultTable
-returns-in-FaultTable g c = c.write_fault_table.ensures (map entry_of c.args.rows.now) c.requires.table
+returns-in-FaultTable g c = rw c.in-FaultTable.is (c.write_fault_table.ensures (map entry_of c.args.rows.now) c.requires.table)
