@@ -1,19 +1,21 @@
--- How the targets of percentages stand.
-use Rattle.std.proofs.Common.{◌≡◌, ◌∙◌, sym, subst, refl, ℕ, ◌*◌, ◌<◌, ◌≤◌, Bool, true, false, List, arith}
-use Rattle.std.specs.Prelude.{Option, Some, None}
+-- How the targets stand.
+use Rattle.std.proofs.Common.{◌≡◌, ◌∙◌, ap, sym, subst, refl, ℕ, ◌*◌, ◌<◌, ◌≤◌, Bool, true, false, List, arith}
+use Rattle.std.specs.Prelude.{Option, Some, None, nat_lt}
+use Rattle.std.proofs.lemmas.Bool.{lt-ltb, ltb-false, ltb-true}
 use Rattle.std.proofs.Math.Nat.{le_of_mul-le-mul_right, mul-le-mul_left, mul-le-mul_right, mul_assoc, mul_right_comm}
-use Rattle.fm_base.proofs.Tests.{clash}
+use Rattle.fm_base.proofs.Tests.{clash, false_of}
+use Rattle.metric_sums.specs.declared.Asil.{Asil}
 use Rattle.metric_sums.specs.declared.Fraction.{Fraction}
 use Rattle.metric_sums.specs.declared.Sums.{Sums}
-use Rattle.metric_sums.specs.Metrics.{fraction, lfm, meets, spfm_permanent, spfm_transient}
+use Rattle.metric_sums.specs.Metrics.{fraction, lfm, meets, pmhf_target, spfm_permanent, spfm_transient, term}
 use Rattle.campaign_plan.specs.Analysis.{Analysis}
 use Rattle.campaign_plan.specs.Batches.{Entry}
 use Rattle.fmeda_report.specs.Report.{Planes, all_sums}
 use Rattle.metric_bounds.specs.declared.Ends.{Ends}
 use Rattle.metric_bounds.specs.declared.Standing.TheVariants.{Met, Missed, Open}
 use Rattle.metric_bounds.specs.Missing.{AgreeWith}
-use Rattle.metric_bounds.specs.Bounds.{ratio_standing, standing}
-use Rattle.metric_bounds.specs.Laws.{AreEnds, AtMost, IsBetween, StandsSo, TargetsStand}
+use Rattle.metric_bounds.specs.Bounds.{end_sums, greatest_term, least_term, ratio_standing, standing}
+use Rattle.metric_bounds.specs.Laws.{AreEnds, AtMost, IsBetween, LimitStands, StandsSo, TargetsStand}
 use Rattle.metric_bounds.proofs.Bounding.{bounds}
 use Rattle.metric_bounds.proofs.Ratios.{fraction_is}
 
@@ -116,4 +118,33 @@ targets p entries percent =
       spfm_permanent = stands p entries spfm_permanent percent _ are.spfm_permanent (λ s q e. some_den _ _ q e);
       spfm_transient = stands p entries spfm_transient percent _ are.spfm_transient (λ s q e. some_den _ _ q e);
       lfm = stands p entries lfm percent _ are.lfm (λ s q e. some_den _ _ q e);
+    }
+
+-- ---- the limit of the term
+
+less_is_below : (limit low high : ℕ) → low ≤ high → nat_lt high limit ≡ true → nat_lt low limit ≡ true
+less_is_below limit low high le e = (let lt = ltb-true high limit e in lt-ltb low limit (omega (arith, le, lt)))
+
+more_is_above : (limit low high : ℕ) → low ≤ high → nat_lt low limit ≡ false → nat_lt high limit ≡ false
+more_is_above limit low high le e =
+    false_of (nat_lt high limit) (λ below. let from = ltb-false low limit e in let lt = ltb-true high limit below in absurd (omega (arith, le, from, lt)))
+
+pub limits : LimitStands
+limits p entries asil =
+    let are = (bounds p entries).term in
+    let limit : ℕ = pmhf_target asil in
+    let low : ℕ = least_term (end_sums p entries) in
+    let high : ℕ = greatest_term (end_sums p entries) in
+    record {
+      met = λ is planes agree.
+          less_is_below limit (term (all_sums p planes)) high (are.below planes agree)
+          (when_met (nat_lt high limit) (nat_lt low limit) (ap (λ s. Some s) is));
+      missed = λ is planes agree.
+          more_is_above limit low (term (all_sums p planes)) (are.above planes agree)
+          (when_missed (nat_lt high limit) (nat_lt low limit) (ap (λ s. Some s) is));
+      left_open = λ is. (
+          let answers = when_open (nat_lt high limit) (nat_lt low limit) (ap (λ s. Some s) is) in (
+            (are.least.0, are.least.1, ap (λ t. nat_lt t limit) are.least.2 ∙ answers.1),
+            (are.greatest.0, are.greatest.1, ap (λ t. nat_lt t limit) are.greatest.2 ∙ answers.0),
+          ));
     }

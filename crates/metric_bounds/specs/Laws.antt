@@ -1,9 +1,10 @@
 -- THE BOUNDS HOLD: whatever planes the missing batches have, each metric of the whole plan lies within its bounds, and some planes reach
 -- each end.
 use Rattle.std.specs.Prelude.{◌≡◌, ℕ, ◌*◌, ◌<◌, ◌≤◌, Bool, true, false, List, Option, Some, None}
+use Rattle.metric_sums.specs.declared.Asil.{Asil}
 use Rattle.metric_sums.specs.declared.Fraction.{Fraction}
 use Rattle.metric_sums.specs.declared.Sums.{Sums}
-use Rattle.metric_sums.specs.Metrics.{lfm, meets, spfm_permanent, spfm_transient, term}
+use Rattle.metric_sums.specs.Metrics.{lfm, meets, spfm_permanent, spfm_transient, targets_of, term}
 use Rattle.campaign_plan.specs.declared.Outcome.{Outcome}
 use Rattle.campaign_plan.specs.Analysis.{Analysis, batch_count}
 use Rattle.campaign_plan.specs.Batches.{Entry}
@@ -13,7 +14,7 @@ use Rattle.metric_bounds.specs.declared.Ends.{Ends}
 use Rattle.metric_bounds.specs.declared.Standing.{Standing}
 use Rattle.metric_bounds.specs.declared.Standing.TheVariants.{Met, Missed, Open}
 use Rattle.metric_bounds.specs.Missing.{AgreeWith}
-use Rattle.metric_bounds.specs.Bounds.{end_sums, greatest_term, least_term, lfm_ends, spfm_permanent_ends, spfm_transient_ends, standing_of}
+use Rattle.metric_bounds.specs.Bounds.{end_sums, greatest_term, least_term, lfm_ends, spfm_permanent_ends, spfm_transient_ends, standing_of, term_standing}
 
 -- one fraction is at most another; the denominators are above 0
 abbrev pub AtMost : Fraction → Fraction → Type 0
@@ -125,3 +126,17 @@ pub record TargetsStandSo (p : Analysis) (entries : List Entry) (percent : ℕ) 
 -- A TARGET THAT IS MET OR MISSED STAYS SO, whatever the missing batches give, and one that is open may end either way
 abbrev pub TargetsStand : Type 0
 TargetsStand = (p : Analysis) (entries : List Entry) (percent : ℕ) → TargetsStandSo p entries percent
+
+-- whether the term is below the limit of a level, as a report tells it
+abbrev pub is_below_limit : Asil → Sums → Bool
+is_below_limit asil s = (targets_of asil s).term
+
+-- the same of the limit of the term, which always has a value
+pub record LimitStandsSo (p : Analysis) (entries : List Entry) (asil : Asil) (stands : Standing) : Type 0 where
+  pub met : stands ≡ Met → (planes : Planes) → AgreeWith entries planes → is_below_limit asil (all_sums p planes) ≡ true
+  pub missed : stands ≡ Missed → (planes : Planes) → AgreeWith entries planes → is_below_limit asil (all_sums p planes) ≡ false
+  pub left_open : stands ≡ Open → IsReached p entries (is_below_limit asil) true × IsReached p entries (is_below_limit asil) false
+
+-- A LIMIT OF THE TERM THAT IS MET OR MISSED STAYS SO, and one that is open may end either way
+abbrev pub LimitStands : Type 0
+LimitStands = (p : Analysis) (entries : List Entry) (asil : Asil) → LimitStandsSo p entries asil (term_standing asil (end_sums p entries))

@@ -1,5 +1,5 @@
 // Laws of the bounds, for contracts. They compute nothing.
-ghost use Rattle.metric_bounds.specs.Laws.{BoundsEndExact, BoundsHold, BoundsNarrow, TargetsStand};
+ghost use Rattle.metric_bounds.specs.Laws.{BoundsEndExact, BoundsHold, BoundsNarrow, LimitStands, TargetsStand};
 
 /// Whatever planes the missing batches have, each metric of the whole plan lies within its bounds, and some planes reach each
 /// end.
@@ -13,8 +13,9 @@ pub fn bounds_narrow()
     ensures exact { BoundsEndExact }
 {}
 
-/// A target of a percentage that is met or missed stays so, whatever the missing batches give, and one that is open may end
-/// either way.
+/// A target that is met or missed stays so, whatever the missing batches give, and one that is open may end either way: those of
+/// percentages, and the limit of the term.
 pub fn targets_stand()
-    ensures { TargetsStand }
+    ensures percentages { TargetsStand }
+    ensures limit { LimitStands }
 {}
