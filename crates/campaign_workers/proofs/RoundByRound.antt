@@ -1,5 +1,5 @@
 -- A round, draw by draw and post by post.
-use Rattle.std.proofs.Common.{◌≡◌, ◌≢◌, ℕ, zero, suc, ◌+◌, ◌<◌, ◌≤◌, List, [], ◌∷◌, ◌++◌, length, get_or, set, drop, map, refl, sym, ap, subst, ◌∙◌, arith, append_assoc, get_or-set_other}
+use Rattle.std.proofs.Common.{◌≡◌, ◌≢◌, ℕ, zero, suc, ◌+◌, ◌<◌, ◌≤◌, List, [], ◌∷◌, ◌++◌, length, get_or, set, drop, map, refl, sym, ap, subst, ◌∙◌, arith, append_assoc, get_or-set_other, length-append}
 use Rattle.std.specs.Prelude.{Option, None, Some}
 use Rattle.std.proofs.lemmas.List.{append-nil, map-append}
 use Rattle.metric_sums.specs.declared.Sums.{Sums}
@@ -40,6 +40,7 @@ pub record HasDrawn (c : Counter) (o : Start) (old now : Seated) (batches : List
   pub nones : now.view.nones ≡ 0
   pub share : now.view.share ≡ old.view.share
   pub blank : IsBlankFrom i batches
+  pub full : length (drawn_in batches) ≡ i
 
 blank_four : IsBlankFrom 0 (None ∷ None ∷ None ∷ None ∷ [])
 blank_four zero le = refl
@@ -50,7 +51,7 @@ blank_four (suc (suc (suc (suc k)))) le = refl
 
 -- nothing was drawn yet
 pub begins_round : (c : Counter) (o : Start) (p : Seated) → IsReady c p → HasDrawn c o p p (None ∷ None ∷ None ∷ None ∷ []) 0
-begins_round c o p ready = record { owes = owes_nothing c o p ready; claims = sym (append-nil p.view.claims); nones = ready.first; share = refl; blank = blank_four }
+begins_round c o p ready = record { owes = owes_nothing c o p ready; claims = sym (append-nil p.view.claims); nones = ready.first; share = refl; blank = blank_four; full = refl }
 
 -- one more batch was drawn
 pub draws_one : (c : Counter) (o : Start) (old now next : Seated) (batches : List (Option ℕ)) (i batch : ℕ) → HasDrawn c o old now batches i → i < length batches → next.table ≡ now.table
@@ -66,6 +67,7 @@ draws_one c o old now next batches i batch h less same drawn =
       nones = ap (λ (v : View). v.nones) drawn.view ∙ h.nones;
       share = ap (λ (v : View). v.share) drawn.view ∙ h.share;
       blank = λ k le. let apart : k ≢ i = omega arith in get_or-set_other batches i k (Some batch) None apart ∙ h.blank k (omega arith);
+      full = omega (arith, ap (λ (drawn : List ℕ). length drawn) more, length-append (drawn_in batches) (batch ∷ []), h.full);
     }
 
 -- a seat in the course of a round's posts: these batches are left

@@ -1,5 +1,5 @@
 // What a worker draws before it simulates.
-ghost use Rattle.std.specs.Prelude.{◌≡◌, ◌<◌, ◌++◌, [], true, false};
+ghost use Rattle.std.specs.Prelude.{◌≡◌, ◌<◌, ◌++◌, [], true, false, length};
 ghost use Rattle.claim_counter.specs.Crews.{IsReady};
 ghost use Rattle.campaign_workers.specs.Rounds.{drawn_in, numbers_in, Owes};
 
@@ -35,6 +35,8 @@ pub(crate) fn draw_round<F: Shelf + Drop, N: Origin, G: Gate>(
     ensures claims { seat.new.view.claims ≡ seat.old.view.claims ++ numbers_in N.start result.batches }
     ensures last { result.last ≡ true → 0 < seat.new.view.nones }
     ensures more { result.last ≡ false → seat.new.view.nones ≡ 0 }
+    // All four words get a batch as long as there are so many.
+    ensures full { result.last ≡ false → length (drawn_in result.batches) ≡ 4 }
     ensures share { seat.new.view.share ≡ seat.old.view.share }
 {
     let mut batches = [None; 4];
