@@ -47,6 +47,7 @@ cases: build/fmeda
 	tests/cli/hostile build/fmeda
 	tests/cli/memory build/fmeda
 	tests/cli/signals build/fmeda
+	tests/cli/threads build/fmeda
 	tests/tools/run build/fmeda
 	tests/docs/run build/fmeda
 
