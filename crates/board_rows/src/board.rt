@@ -75,7 +75,7 @@ fn play_over<F: Shelf + Drop, N: Origin, R: Wait>(
     own: &Line,
     entries: &[Entry],
 ) -> Option<Played<F>>
-    requires start { IsStart N.start (string_bytes name.now) [] (length entries.now) (F.files shelf) (F.rest_absent shelf) (F.write_faults shelf (string_bytes name.now)) }
+    requires start { IsStart N.start (string_bytes name.now) [] (length entries.now) (F.seen shelf) }
     requires own { own.now ≡ N.start.header }
     requires entries { entries.now ≡ N.start.entries }
 {

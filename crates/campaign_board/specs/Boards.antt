@@ -1,20 +1,19 @@
 -- What a board began with, and the rows that are due.
-use Rattle.std.specs.Prelude.{◌≡◌, ℕ, ◌+◌, ◌<◌, ◌≤◌, Bool, List, [], ◌∷◌, ◌++◌, map, flat_map, length, take, slice_index_or}
+use Rattle.std.specs.Prelude.{◌≡◌, ℕ, ◌+◌, ◌<◌, ◌≤◌, List, [], ◌∷◌, ◌++◌, map, flat_map, length, take, slice_index_or}
+use Rattle.fm_shelf.specs.Shelf.{ShelfState}
 use Rattle.metric_sums.specs.declared.Sums.{Sums}
 use Rattle.metric_sums.specs.Totals.{AreSmall, no_sums, sums_by}
 use Rattle.result_file.specs.declared.Row.{Row}
 use Rattle.result_file.specs.ResultText.{row_text}
 use Rattle.campaign_board.specs.declared.entry.Entry.{Entry}
 
--- the entries, one for each batch; the header line; the file's name; the rows, the files and the file's write faults at the start
+-- the entries, one for each batch; the header line; the file's name; the rows at the start, and what was seen of the shelf then
 pub record Start : Type 0 where
   pub entries : List Entry
   pub header : List ℕ
   pub name : List ℕ
   pub rows : List Row
-  pub files : List (List ℕ × List ℕ)
-  pub rest_absent : Bool
-  pub faults : ℕ
+  pub shelf : ShelfState
 
 abbrev pub entry_of : List Entry → ℕ → Entry
 entry_of entries batch = slice_index_or entries batch (record { batch = 0; danger = 0; noticed = 0; own = no_sums })

@@ -3,7 +3,8 @@ use Rattle.std.specs.Prelude.{◌≡◌, ◌≢◌, ℕ, ◌+◌, ◌*◌, ◌<�
 use Rattle.metric_sums.specs.declared.Sums.{Sums}
 use Rattle.result_file.specs.declared.Row.{Row}
 use Rattle.result_file.specs.ResultText.{row_text}
-use Rattle.fm_shelf.specs.Shelf.{Told, held_in, NowHas, NowIs, Rose, bytes_of}
+use Rattle.fm_shelf.specs.Content.{Content, IsIfKnown, HasIfKnown, bytes_of}
+use Rattle.fm_shelf.specs.Shelf.{ShelfState, CountRose}
 use Rattle.fm_base.specs.Once.{Lacks, IsOnce}
 use Rattle.campaign_board.specs.Boards.{Start, AreEntries, batches_of, sums_over, row_due, next_row, row_at_place, text_of}
 
@@ -21,23 +22,21 @@ pub record IsTorn (o : Start) (rows : List Row) (bytes : List ℕ) : Type 0 wher
   pub taken : ℕ
   pub is : bytes ≡ text_of o.header rows ++ take taken (row_text (next_row o.entries rows batch))
 
-pub record IsBoard (o : Start) (rows : List Row) (sums : Sums) (failed written : Bool) (held : List ℕ → Told) (faults : ℕ) : Type 0 where
+pub record IsBoard (o : Start) (rows : List Row) (sums : Sums) (failed written : Bool) (now : ShelfState) : Type 0 where
   pub entries : AreEntries o.entries
   pub rows_are : AreRows o rows
   pub added : sums ≡ sums_over o.entries (batches_of rows)
-  pub file : written ≡ true → failed ≡ false → NowHas (held o.name) (text_of o.header rows)
-  pub torn : written ≡ true → failed ≡ true → NowIs (held o.name) (IsTorn o rows)
-  pub others : (other : List ℕ) → other ≢ o.name → held other ≡ held_in o.files o.rest_absent other
-  pub grows : o.faults ≤ faults
-  pub rose : failed ≡ true → Rose o.faults faults
+  pub file : written ≡ true → failed ≡ false → HasIfKnown (now.content o.name) (text_of o.header rows)
+  pub torn : written ≡ true → failed ≡ true → IsIfKnown (now.content o.name) (IsTorn o rows)
+  pub others : (other : List ℕ) → other ≢ o.name → now.content other ≡ o.shelf.content other
+  pub grows : o.shelf.write_faults o.name ≤ now.write_faults o.name
+  pub rose : failed ≡ true → CountRose (o.shelf.write_faults o.name) (now.write_faults o.name)
 
 -- what a caller of Board::new has to show
-pub record IsStart (o : Start) (name : List ℕ) (own : List Row) (batches : ℕ) (files : List (List ℕ × List ℕ)) (rest_absent : Bool) (faults : ℕ) : Type 0 where
+pub record IsStart (o : Start) (name : List ℕ) (own : List Row) (batches : ℕ) (shelf : ShelfState) : Type 0 where
   pub named : o.name ≡ name
   pub rows_same : o.rows ≡ own
-  pub files_same : o.files ≡ files
-  pub rest_same : o.rest_absent ≡ rest_absent
-  pub faults_same : o.faults ≡ faults
+  pub shelf_same : o.shelf ≡ shelf
   pub many : batches ≡ length o.entries
   pub entries : AreEntries o.entries
   pub rows_are : AreRows o own
@@ -50,12 +49,12 @@ pub record Seen (F : Type 0) : Type 0 where
   pub shelf : F
 
 -- the bytes to keep: none for a board without rows, or else the header and these rows, as they stand in the file
-abbrev pub IsWhole : Start → List Row → ℕ → Told → Type 0
-IsWhole o rows whole told =
+abbrev pub IsWhole : (o : Start) (rows : List Row) (whole : ℕ) (held : Content) → Type 0
+IsWhole o rows whole held =
     ((whole ≡ 0) × (rows ≡ []))
-    ⊎ ((whole ≡ 89 + 130 * length rows) × NowIs told (λ bytes. take whole bytes ≡ text_of o.header rows))
+    ⊎ ((whole ≡ 89 + 130 * length rows) × IsIfKnown held (λ bytes. take whole bytes ≡ text_of o.header rows))
 
 -- the file is as before the call, or it is its first bytes, followed by a part of the header where none were kept
-abbrev pub IsHeaderTorn : List ℕ → ℕ → Told → Told → Type 0
+abbrev pub IsHeaderTorn : (header : List ℕ) (whole : ℕ) (before now : Content) → Type 0
 IsHeaderTorn header whole before now =
-    (now ≡ before) ⊎ NowIs now (λ bytes. (n : ℕ) × (bytes ≡ take whole (bytes_of before) ++ take n header) × (whole ≢ 0 → n ≡ 0))
+    (now ≡ before) ⊎ IsIfKnown now (λ bytes. (n : ℕ) × (bytes ≡ take whole (bytes_of before) ++ take n header) × (whole ≢ 0 → n ≡ 0))

@@ -1,5 +1,5 @@
 ghost use Rattle.std.specs.Prelude.{◌≡◌, ◌<◌, ◌≤◌, vec_capacity, ◌++◌, ◌∷◌, [], true, false, length, IfOk, IfErr, OnOk, OnErr};
-ghost use Rattle.fm_shelf.specs.Shelf.{held_in, Rose};
+ghost use Rattle.fm_shelf.specs.Shelf.{CountRose};
 ghost use Rattle.fm_base.specs.Once.{Lacks};
 ghost use Rattle.campaign_board.specs.Boards.{AreEntries, entry_of, batches_of, sums_over, next_row};
 ghost use Rattle.campaign_board.specs.Kept.{AreRows, IsBoard, IsStart, IsWhole, IsHeaderTorn};
@@ -22,9 +22,10 @@ pub trait Origin {
 }
 
 impl Origin for Brand {
-    ghost use Rattle.std.specs.Prelude.{[], true};
+    ghost use Rattle.std.specs.Prelude.{[]};
+    ghost use Rattle.fm_shelf.specs.Content.{Unknown};
 
-    ghost start = { record { entries = []; header = []; name = []; rows = []; files = []; rest_absent = true; faults = 0 } };
+    ghost start = { record { entries = []; header = []; name = []; rows = []; shelf = record { content = λ _. Unknown; read_faults = λ _. 0; write_faults = λ _. 0 } } };
 }
 
 /// Rows with their sums, over the entries of the origin, and the file that they are appended to. There is room for all rows.
@@ -42,14 +43,13 @@ pub struct Board<F: Shelf + Drop, N: Origin> {
 impl<F: Shelf + Drop, N: Origin> Model for Board<F, N> {
     ghost use Rattle.std.specs.Prelude.{◌≡◌, ◌≤◌, length, vec_capacity};
     ghost use Rattle.std.specs.String.{string_bytes};
-    ghost use Rattle.fm_shelf.specs.Shelf.{held_in};
     ghost use Rattle.campaign_board.specs.Kept.{AreRows, IsBoard, Seen};
 
     ghost Value = { Seen F };
 
     ghost view = { λ b. record { rows = b.rows.items; failed = b.failed; written = b.written; shelf = b.shelf } };
 
-    ghost invariant = { λ b. IsBoard N.start b.rows.items b.sums b.failed b.written (held_in (F.files b.shelf) (F.rest_absent b.shelf)) (F.write_faults b.shelf N.start.name)
+    ghost invariant = { λ b. IsBoard N.start b.rows.items b.sums b.failed b.written (F.seen b.shelf)
         × (string_bytes b.name ≡ N.start.name) × (length N.start.entries ≤ vec_capacity b.rows) };
 }
 
@@ -68,7 +68,7 @@ impl<F: Shelf + Drop, N: Origin> Board<F, N> {
         batches: u32,
         rows: RowList,
     ) -> Result<Self, NoBoard<F>>
-        requires { IsStart N.start name.now rows batches (F.files shelf) (F.rest_absent shelf) (F.write_faults shelf name.now) }
+        requires { IsStart N.start name.now rows batches (F.seen shelf) }
         ensures ok { IfOk result (λ b. (b.rows ≡ rows) × (b.failed ≡ false) × (b.written ≡ false) × (b.shelf ≡ shelf)) }
         ensures err { IfErr result (λ e. e.shelf ≡ shelf) }
     {
@@ -94,12 +94,12 @@ impl<F: Shelf + Drop, N: Origin> Board<F, N> {
     pub fn append_header(&mut self, whole: u64, own: &Line) -> Result<(), Failed>
         requires fresh { (self.old.written ≡ false) × (self.old.failed ≡ false) }
         requires own { own.now ≡ N.start.header }
-        requires whole { IsWhole N.start self.old.rows whole (held_in (F.files self.old.shelf) (F.rest_absent self.old.shelf) N.start.name) }
+        requires whole { IsWhole N.start self.old.rows whole ((F.seen self.old.shelf).content N.start.name) }
         ensures rows { self.new.rows ≡ self.old.rows }
         ensures ok { OnOk result ((self.new.written ≡ true) × (self.new.failed ≡ false)) }
-        ensures failed { OnErr result ((self.new.failed ≡ true) × Rose (F.write_faults self.old.shelf N.start.name) (F.write_faults self.new.shelf N.start.name)) }
-        ensures torn { OnErr result (IsHeaderTorn N.start.header whole (held_in (F.files self.old.shelf) (F.rest_absent self.old.shelf) N.start.name)
-            (held_in (F.files self.new.shelf) (F.rest_absent self.new.shelf) N.start.name)) }
+        ensures failed { OnErr result ((self.new.failed ≡ true) × CountRose ((F.seen self.old.shelf).write_faults N.start.name) ((F.seen self.new.shelf).write_faults N.start.name)) }
+        ensures torn { OnErr result (IsHeaderTorn N.start.header whole ((F.seen self.old.shelf).content N.start.name)
+            ((F.seen self.new.shelf).content N.start.name)) }
     {
         if self.shelf.cut(self.name.as_str(), whole).is_err() {
             self.failed = true;
@@ -151,8 +151,7 @@ impl<F: Shelf + Drop, N: Origin> Board<F, N> {
 
     pub fn sums(&self) -> Sums
         ensures sums { result ≡ sums_over N.start.entries (batches_of self.now.rows) }
-        ensures kept { IsBoard N.start self.now.rows result self.now.failed self.now.written
-            (held_in (F.files self.now.shelf) (F.rest_absent self.now.shelf)) (F.write_faults self.now.shelf N.start.name) }
+        ensures kept { IsBoard N.start self.now.rows result self.now.failed self.now.written (F.seen self.now.shelf) }
     {
         self.sums
     }
@@ -166,8 +165,7 @@ impl<F: Shelf + Drop, N: Origin> Board<F, N> {
     /// The shelf, which has what the board keeps of it.
     pub fn into_shelf(self) -> F
         ensures shelf { result ≡ self.shelf }
-        ensures kept { IsBoard N.start self.rows (sums_over N.start.entries (batches_of self.rows)) self.failed self.written
-            (held_in (F.files result) (F.rest_absent result)) (F.write_faults result N.start.name) }
+        ensures kept { IsBoard N.start self.rows (sums_over N.start.entries (batches_of self.rows)) self.failed self.written (F.seen result) }
     {
         let Board { shelf, .. } = self;
         shelf

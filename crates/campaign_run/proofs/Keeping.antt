@@ -1,12 +1,12 @@
 -- The rows that a campaign goes on from are rows of its board.
 use Rattle.std.proofs.Common.{◌≡◌, ◌≢◌, ℕ, zero, suc, ◌+◌, ◌<◌, ◌⊎◌, inl, inr, true, false, List, [], ◌∷◌, map, length, take, get_or, refl, ap, sym, subst, ◌∙◌, arith}
-use Rattle.std.specs.Prelude.{All, Some, None, find, ◌==◌, sum_by, unwrap_or, option_map}
+use Rattle.std.specs.Prelude.{All, Some, find, ◌==◌, sum_by, unwrap_or, option_map}
 use Rattle.std.proofs.lemmas.List.{length-map, get_or-map, take-map}
 use Rattle.std.proofs.lemmas.List.Elements.{All-nil, All-cons, All-head, All-tail}
 use Rattle.std.proofs.lemmas.List.Sums.{sum_by-cons}
 use Rattle.metric_sums.specs.declared.Sums.{Sums}
 use Rattle.metric_sums.specs.Totals.{sums_by}
-use Rattle.fm_shelf.specs.Shelf.{Told, NowHas, NowIs, bytes_of}
+use Rattle.fm_shelf.specs.Content.{Content, Unknown, Absent, Held, IsIfKnown, HasIfKnown, bytes_of}
 use Rattle.fm_base.specs.Once.{Lacks, IsOnce}
 use Rattle.campaign_plan.specs.declared.Outcome.{Outcome}
 use Rattle.campaign_plan.specs.Analysis.{Analysis, batch_count}
@@ -121,44 +121,44 @@ kept_rows_due p k o e h =
 
 -- ---- what a campaign starts from
 
-now_is : (told : Told) (bytes : List ℕ) (P : List ℕ → Type 0) → NowHas told bytes → P bytes → NowIs told P
-now_is None bytes P has h = tt
-now_is (Some None) bytes P has h = absurd has
-now_is (Some (Some now)) bytes P has h = subst P (sym has) h
+is_where_has : (held : Content) (bytes : List ℕ) (P : List ℕ → Type 0) → HasIfKnown held bytes → P bytes → IsIfKnown held P
+is_where_has Unknown bytes P has h = tt
+is_where_has Absent bytes P has h = absurd has
+is_where_has (Held now) bytes P has h = subst P (sym has) h
 
-bytes_told : (told : Told) (bytes : List ℕ) → NowHas told bytes → (bytes_of told ≡ []) ⊎ (bytes_of told ≡ bytes)
-bytes_told None bytes has = inl refl
-bytes_told (Some None) bytes has = absurd has
-bytes_told (Some (Some now)) bytes has = inr has
+bytes_held : (held : Content) (bytes : List ℕ) → HasIfKnown held bytes → (bytes_of held ≡ []) ⊎ (bytes_of held ≡ bytes)
+bytes_held Unknown bytes has = inl refl
+bytes_held Absent bytes has = absurd has
+bytes_held (Held now) bytes has = inr has
 
-pub starts_kept : (own : List ℕ) (p : Analysis) (told : Told) (k : KeptRows) → length own ≡ 89 → StartsFrom own p told k → AreKept p k.rows
-starts_kept own p told k many start = elim start as (λ _. AreKept p k.rows) [
+pub starts_kept : (own : List ℕ) (p : Analysis) (held : Content) (k : KeptRows) → length own ≡ 89 → StartsFrom own p held k → AreKept p k.rows
+starts_kept own p held k many start = elim start as (λ _. AreKept p k.rows) [
   | inl none ↦ subst (λ (j : KeptRows). AreKept p j.rows) (sym none) (nothing_kept p)
-  | inr held ↦ (kept_is own p held.0 k many held.2).rows
+  | inr from ↦ (kept_is own p from.0 k many from.2).rows
 ]
 
-pub starts_whole : (own : List ℕ) (p : Analysis) (told : Told) (k : KeptRows) (o : Start) → length own ≡ 89 → StartsFrom own p told k → o.header ≡ own
-    → IsWhole o k.rows k.whole told
-starts_whole own p told k o many start e = elim start as (λ _. IsWhole o k.rows k.whole told) [
+pub starts_whole : (own : List ℕ) (p : Analysis) (held : Content) (k : KeptRows) (o : Start) → length own ≡ 89 → StartsFrom own p held k → o.header ≡ own
+    → IsWhole o k.rows k.whole held
+starts_whole own p held k o many start e = elim start as (λ _. IsWhole o k.rows k.whole held) [
   | inl none ↦ inl (ap (λ (j : KeptRows). j.whole) none, ap (λ (j : KeptRows). j.rows) none)
-  | inr held ↦
-      elim ((kept_is own p held.0 k many held.2).whole) as (λ _. IsWhole o k.rows k.whole told) [
+  | inr from ↦
+      elim ((kept_is own p from.0 k many from.2).whole) as (λ _. IsWhole o k.rows k.whole held) [
         | inl none ↦ inl (ap (λ (j : KeptRows). j.whole) none, ap (λ (j : KeptRows). j.rows) none)
-        | inr some ↦ inr (some.0, now_is told held.0 (λ bytes. take k.whole bytes ≡ text_of o.header k.rows) held.1 (some.1 ∙ ap (λ h. text_of h k.rows) (sym e)))
+        | inr some ↦ inr (some.0, is_where_has held from.0 (λ bytes. take k.whole bytes ≡ text_of o.header k.rows) from.1 (some.1 ∙ ap (λ h. text_of h k.rows) (sym e)))
       ]
 ]
 
 -- the bytes that are kept of the file are none, or the header and the rows that are kept
-pub starts_text : (own : List ℕ) (p : Analysis) (told : Told) (k : KeptRows) → length own ≡ 89 → StartsFrom own p told k
-    → (take k.whole (bytes_of told) ≡ []) ⊎ (take k.whole (bytes_of told) ≡ text_of own k.rows)
-starts_text own p told k many start = elim start as (λ _. (take k.whole (bytes_of told) ≡ []) ⊎ (take k.whole (bytes_of told) ≡ text_of own k.rows)) [
-  | inl none ↦ inl (ap (λ (j : KeptRows). take j.whole (bytes_of told)) none)
-  | inr held ↦
-      elim (bytes_told told held.0 held.1) as (λ _. (take k.whole (bytes_of told) ≡ []) ⊎ (take k.whole (bytes_of told) ≡ text_of own k.rows)) [
+pub starts_text : (own : List ℕ) (p : Analysis) (held : Content) (k : KeptRows) → length own ≡ 89 → StartsFrom own p held k
+    → (take k.whole (bytes_of held) ≡ []) ⊎ (take k.whole (bytes_of held) ≡ text_of own k.rows)
+starts_text own p held k many start = elim start as (λ _. (take k.whole (bytes_of held) ≡ []) ⊎ (take k.whole (bytes_of held) ≡ text_of own k.rows)) [
+  | inl none ↦ inl (ap (λ (j : KeptRows). take j.whole (bytes_of held)) none)
+  | inr from ↦
+      elim (bytes_held held from.0 from.1) as (λ _. (take k.whole (bytes_of held) ≡ []) ⊎ (take k.whole (bytes_of held) ≡ text_of own k.rows)) [
         | inl e ↦ inl (ap (take k.whole) e ∙ take-nil k.whole)
         | inr e ↦
-            elim ((kept_is own p held.0 k many held.2).whole) as (λ _. (take k.whole (bytes_of told) ≡ []) ⊎ (take k.whole (bytes_of told) ≡ text_of own k.rows)) [
-              | inl none ↦ inl (ap (λ (j : KeptRows). take j.whole (bytes_of told)) none)
+            elim ((kept_is own p from.0 k many from.2).whole) as (λ _. (take k.whole (bytes_of held) ≡ []) ⊎ (take k.whole (bytes_of held) ≡ text_of own k.rows)) [
+              | inl none ↦ inl (ap (λ (j : KeptRows). take j.whole (bytes_of held)) none)
               | inr some ↦ inr (ap (take k.whole) e ∙ some.1)
             ]
       ]

@@ -1,11 +1,11 @@
 -- What a campaign leaves of its file when a write has failed.
 use Rattle.std.proofs.Common.{◌≡◌, ◌≢◌, ℕ, zero, suc, ◌+◌, ◌⊎◌, inl, inr, List, [], ◌∷◌, ◌++◌, map, length, take, refl, ap, sym, subst, ◌∙◌, append_assoc, append-nil}
-use Rattle.std.specs.Prelude.{Some, None, flat_map}
+use Rattle.std.specs.Prelude.{flat_map}
 use Rattle.std.proofs.lemmas.Bool.{cases_eq}
 use Rattle.std.proofs.lemmas.List.Concat.{flat_map-append}
 use Rattle.std.proofs.Math.Seq.{take-append_seam, take-append-add, take-length}
 use mathlib.Core.List.{IsPrefix}
-use Rattle.fm_shelf.specs.Shelf.{Told, NowIs, bytes_of}
+use Rattle.fm_shelf.specs.Content.{Content, Unknown, Absent, Held, IsIfKnown, bytes_of}
 use Rattle.campaign_plan.specs.declared.Outcome.{Outcome}
 use Rattle.campaign_plan.specs.Analysis.{Analysis}
 use Rattle.result_file.specs.declared.Row.{Row}
@@ -43,7 +43,7 @@ text_more own k rows pre =
 
 -- a part of one more row is a part of the result file with it
 torn_prefix : (p : Analysis) (planes : ℕ → Outcome) (o : Start) (rows : List Row) (bytes : List ℕ) → o.entries ≡ entries_for p planes → AreEntries o.entries → AreRows o rows
-    → IsTorn o rows bytes → LeftPrefix o.header p planes (Some (Some bytes))
+    → IsTorn o rows bytes → LeftPrefix o.header p planes (Held bytes)
 torn_prefix p planes o rows bytes e are h torn =
     let row : Row = next_row o.entries rows torn.batch in
     let more : AreRows o (rows ++ row ∷ []) = rows_push o rows torn.batch are h torn.within torn.lacks in
@@ -58,17 +58,17 @@ torn_prefix p planes o rows bytes e are h torn =
       );
     }
 
-pub left_torn : (p : Analysis) (planes : ℕ → Outcome) (o : Start) (rows : List Row) (now : Told) → o.entries ≡ entries_for p planes → AreEntries o.entries → AreRows o rows
-    → NowIs now (IsTorn o rows) → LeftPrefix o.header p planes now
-left_torn p planes o rows None e are h torn = record { entries = map planed rows; part = are_part p planes o rows e h; prefix = tt }
-left_torn p planes o rows (Some None) e are h torn = absurd torn
-left_torn p planes o rows (Some (Some bytes)) e are h torn = torn_prefix p planes o rows bytes e are h torn
+pub left_torn : (p : Analysis) (planes : ℕ → Outcome) (o : Start) (rows : List Row) (now : Content) → o.entries ≡ entries_for p planes → AreEntries o.entries → AreRows o rows
+    → IsIfKnown now (IsTorn o rows) → LeftPrefix o.header p planes now
+left_torn p planes o rows Unknown e are h torn = record { entries = map planed rows; part = are_part p planes o rows e h; prefix = tt }
+left_torn p planes o rows Absent e are h torn = absurd torn
+left_torn p planes o rows (Held bytes) e are h torn = torn_prefix p planes o rows bytes e are h torn
 
-pub begins_torn : (o : Start) (k rows : List Row) (now : Told) (start : List ℕ) → (start ≡ []) ⊎ (start ≡ text_of o.header k) → IsPrefix k rows
-    → NowIs now (IsTorn o rows) → BeginsAs now start
-begins_torn o k rows None start from pre torn = tt
-begins_torn o k rows (Some None) start from pre torn = absurd torn
-begins_torn o k rows (Some (Some bytes)) start from pre torn =
+pub begins_torn : (o : Start) (k rows : List Row) (now : Content) (start : List ℕ) → (start ≡ []) ⊎ (start ≡ text_of o.header k) → IsPrefix k rows
+    → IsIfKnown now (IsTorn o rows) → BeginsAs now start
+begins_torn o k rows Unknown start from pre torn = tt
+begins_torn o k rows Absent start from pre torn = absurd torn
+begins_torn o k rows (Held bytes) start from pre torn =
     let part : List ℕ = take torn.taken (row_text (next_row o.entries rows torn.batch)) in
     begins_with start (text_of o.header k) bytes (flat_map row_text pre.0 ++ part) from
     (torn.is ∙ ap (λ t. t ++ part) (text_more o.header k rows pre) ∙ append_assoc (text_of o.header k) (flat_map row_text pre.0) part)
@@ -88,7 +88,7 @@ header_prefix header start more bytes n whole from none is cut = elim (cases_eq 
       ])
 ]
 
-pub left_header : (p : Analysis) (planes : ℕ → Outcome) (o : Start) (rows : List Row) (whole : ℕ) (before now : Told) → o.entries ≡ entries_for p planes → AreEntries o.entries
+pub left_header : (p : Analysis) (planes : ℕ → Outcome) (o : Start) (rows : List Row) (whole : ℕ) (before now : Content) → o.entries ≡ entries_for p planes → AreEntries o.entries
     → AreRows o rows → (take whole (bytes_of before) ≡ []) ⊎ (take whole (bytes_of before) ≡ text_of o.header rows) → IsHeaderTorn o.header whole before now
     → (now ≡ before) ⊎ (LeftPrefix o.header p planes now × BeginsAs now (take whole (bytes_of before)))
 left_header p planes o rows whole before now e are h from torn = elim torn as (λ _. (now ≡ before) ⊎ (LeftPrefix o.header p planes now × BeginsAs now (take whole (bytes_of before)))) [
@@ -96,11 +96,11 @@ left_header p planes o rows whole before now e are h from torn = elim torn as (�
   | inr is ↦ inr (go now is)
 ]
   where
-    go : (told : Told) → NowIs told (λ bytes. (n : ℕ) × (bytes ≡ take whole (bytes_of before) ++ take n o.header) × (whole ≢ 0 → n ≡ 0))
-        → LeftPrefix o.header p planes told × BeginsAs told (take whole (bytes_of before))
-    go None is = (record { entries = map planed rows; part = are_part p planes o rows e h; prefix = tt }, tt)
-    go (Some None) is = absurd is
-    go (Some (Some bytes)) is =
+    go : (held : Content) → IsIfKnown held (λ bytes. (n : ℕ) × (bytes ≡ take whole (bytes_of before) ++ take n o.header) × (whole ≢ 0 → n ≡ 0))
+        → LeftPrefix o.header p planes held × BeginsAs held (take whole (bytes_of before))
+    go Unknown is = (record { entries = map planed rows; part = are_part p planes o rows e h; prefix = tt }, tt)
+    go Absent is = absurd is
+    go (Held bytes) is =
         let start : List ℕ = take whole (bytes_of before) in
         let part = header_prefix o.header start (flat_map row_text rows) bytes is.0 whole from (λ none. ap (λ n. take n (bytes_of before)) none) is.1 is.2 in (
           record {

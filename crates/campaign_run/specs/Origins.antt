@@ -1,5 +1,6 @@
 -- What a campaign's board begins with.
-use Rattle.std.specs.Prelude.{ℕ, Bool, List, map}
+use Rattle.std.specs.Prelude.{ℕ, List, map}
+use Rattle.fm_shelf.specs.Shelf.{ShelfState}
 use Rattle.campaign_plan.specs.declared.Outcome.{Outcome}
 use Rattle.campaign_plan.specs.Analysis.{Analysis, batch_count}
 use Rattle.campaign_plan.specs.Batches.{own_sums}
@@ -21,14 +22,12 @@ entry_with p planes batch = record {
 abbrev pub entries_for : Analysis → (ℕ → Outcome) → List Entry
 entries_for p planes = map (entry_with p planes) (below (batch_count p))
 
--- what the board of a campaign begins with, on a shelf with these files and so many faults of writing the campaign's own
-abbrev pub origin_of : Campaign → List (List ℕ × List ℕ) → Bool → ℕ → Start
-origin_of c files rest_absent faults = record {
+-- what the board of a campaign begins with, on a shelf of which this is seen
+abbrev pub origin_of : Campaign → ShelfState → Start
+origin_of c shelf = record {
   entries = entries_for c.p (planes_of c);
   header = c.own;
   name = c.name;
   rows = c.k.rows;
-  files = files;
-  rest_absent = rest_absent;
-  faults = faults;
+  shelf = shelf;
 }

@@ -1,12 +1,14 @@
--- What is seen of the files and of the output.
-use Rattle.std.specs.Prelude.{◌≡◌, ◌≢◌, Option}
-use Rattle.fm_shelf.specs.Shelf.{Shelves, told_more}
+-- What a campaign leaves alone, and what would be seen had it written all.
+use Rattle.std.specs.Prelude.{◌≡◌, ◌≢◌}
+use Rattle.fm_shelf.specs.Shelf.{ShelfState}
+use Rattle.fm_shelf.specs.Sink.{with_more}
+use Rattle.fm_shelf.specs.Outside.{Outside}
 use Rattle.fm_base.specs.Names.{Bytes}
 
 -- files of other names are as at entry
-abbrev pub KeepsOthers : Shelves → Shelves → Bytes → Type 0
-KeepsOthers before after result = (name : Bytes) → name ≢ result → after name ≡ before name
+abbrev pub KeepsOthers : (before after : ShelfState) → (name : Bytes) → Type 0
+KeepsOthers before after name = (other : Bytes) → other ≢ name → after.content other ≡ before.content other
 
--- `out` grew by exactly this text, where it is told
-abbrev pub Wrote : Option Bytes → Option Bytes → Bytes → Type 0
-Wrote out_before out_after text = out_after ≡ told_more out_before text
+-- what would be seen had this text gone out since then
+abbrev pub had_written : (before after : Outside) → (text : Bytes) → Outside
+had_written before after text = record { shelf = after.shelf; out = record { written = with_more before.out.written text; faults = after.out.faults } }

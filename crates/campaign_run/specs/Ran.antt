@@ -1,6 +1,9 @@
 -- How a campaign has ended.
-use Rattle.std.specs.Prelude.{◌≡◌, ◌⊎◌, ◌≤◌, ℕ, take, Option}
-use Rattle.fm_shelf.specs.Shelf.{Shelves, Told, bytes_of, told_more, HasPrefix, Rose}
+use Rattle.std.specs.Prelude.{◌≡◌, ◌⊎◌, ◌≤◌, ℕ, take}
+use Rattle.fm_shelf.specs.Content.{bytes_of}
+use Rattle.fm_shelf.specs.Shelf.{ShelfState, CountRose}
+use Rattle.fm_shelf.specs.Sink.{WrotePrefix}
+use Rattle.fm_shelf.specs.Outside.{Outside}
 use Rattle.campaign_plan.specs.declared.Outcome.{Outcome}
 use Rattle.campaign_plan.specs.Analysis.{Analysis}
 use Rattle.result_file.specs.declared.KeptRows.{KeptRows}
@@ -11,7 +14,7 @@ use Rattle.campaign_run.specs.declared.run.Text.{Text}
 use Rattle.campaign_run.specs.declared.run.Text.TheVariants.{Report, Summary}
 use Rattle.campaign_run.specs.declared.run.End.{End}
 use Rattle.campaign_run.specs.declared.run.End.TheVariants.{Done, NoMemory, ResultFault, OutFault}
-use Rattle.campaign_run.specs.Outside.{KeepsOthers}
+use Rattle.campaign_run.specs.Outside.{KeepsOthers, had_written}
 use Rattle.campaign_run.specs.Found.{kept_or_true}
 use Rattle.campaign_run.specs.Reported.{HasReported, BeginsWith}
 use Rattle.campaign_run.specs.Left.{LeftPrefix, BeginsAs}
@@ -37,38 +40,29 @@ planes_of c = kept_or_true c.p c.k
 abbrev pub text_of : Campaign → Bytes
 text_of c = text_for c.text c.p (planes_of c)
 
--- what is seen of the outside: what is told of each file, the faults of writing each, what went out, and the faults of that
-pub record Seen : Type 0 where
-  pub files : Shelves
-  pub faults : Bytes → ℕ
-  pub out : Option Bytes
-  pub out_faults : ℕ
-
--- the campaign is reported, where this went out, and the rows of its file begin with those that were kept
-pub record IsReported (c : Campaign) (after : Told) (out_before out_after : Option Bytes) : Type 0 where
-  pub reported : HasReported c.own (text_of c) c.p (planes_of c) after out_before out_after
+-- the campaign is reported, and the rows of its file begin with those that were kept
+pub record IsReported (c : Campaign) (before after : Outside) : Type 0 where
+  pub reported : HasReported c.own (text_of c) c.p (planes_of c) c.name before after
   pub first : BeginsWith reported.entries (kept_entries c.k)
 
 -- the file is as before, or a byte prefix of a result file that still begins with the bytes that were kept
-abbrev pub IsLeft : Campaign → Told → Told → Type 0
+abbrev pub IsLeft : Campaign → (before after : ShelfState) → Type 0
 IsLeft c before after =
-    (after ≡ before) ⊎ (LeftPrefix c.own c.p (planes_of c) after × BeginsAs after (take c.k.whole (bytes_of before)))
+    (after.content c.name ≡ before.content c.name)
+    ⊎ (LeftPrefix c.own c.p (planes_of c) (after.content c.name) × BeginsAs (after.content c.name) (take c.k.whole (bytes_of (before.content c.name))))
 
 -- Done: it is reported. NoMemory: nothing has changed. ResultFault: the result file couldn't be written, and nothing went out.
 -- OutFault: the file is as after Done, and a prefix of the text went out.
-abbrev pub EndsAs : End → Campaign → Seen → Seen → Type 0
-EndsAs Done c before after = IsReported c (after.files c.name) before.out after.out
+abbrev pub EndsAs : End → Campaign → (before after : Outside) → Type 0
+EndsAs Done c before after = IsReported c before after
 EndsAs NoMemory c before after = after ≡ before
 EndsAs ResultFault c before after =
-    Rose (before.faults c.name) (after.faults c.name) × IsLeft c (before.files c.name) (after.files c.name)
-    × (after.out ≡ before.out) × (after.out_faults ≡ before.out_faults)
-EndsAs OutFault c before after =
-    Rose before.out_faults after.out_faults × IsReported c (after.files c.name) before.out (told_more before.out (text_of c))
-    × HasPrefix before.out after.out (text_of c)
+    CountRose (before.shelf.write_faults c.name) (after.shelf.write_faults c.name) × IsLeft c before.shelf after.shelf × (after.out ≡ before.out)
+EndsAs OutFault c before after = IsReported c before (had_written before after (text_of c)) × WrotePrefix before.out after.out (text_of c)
 
 -- A CAMPAIGN THAT RAN: it ended so; other files are as before; and neither the faults of writing its file nor those of `out` have fallen
-pub record HasRun (end : End) (c : Campaign) (before after : Seen) : Type 0 where
+pub record HasRun (end : End) (c : Campaign) (before after : Outside) : Type 0 where
   pub ends : EndsAs end c before after
-  pub others : KeepsOthers before.files after.files c.name
-  pub faults : before.faults c.name ≤ after.faults c.name
-  pub out_faults : before.out_faults ≤ after.out_faults
+  pub others : KeepsOthers before.shelf after.shelf c.name
+  pub faults : before.shelf.write_faults c.name ≤ after.shelf.write_faults c.name
+  pub out_faults : before.out.faults ≤ after.out.faults

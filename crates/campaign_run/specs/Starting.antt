@@ -1,6 +1,6 @@
 -- What a campaign goes on from.
 use Rattle.std.specs.Prelude.{◌≡◌, ◌⊎◌, [], Ok}
-use Rattle.fm_shelf.specs.Shelf.{Told, NowHas}
+use Rattle.fm_shelf.specs.Content.{Content, HasIfKnown}
 use Rattle.campaign_plan.specs.Analysis.{Analysis}
 use Rattle.result_file.specs.declared.KeptRows.{KeptRows}
 use Rattle.result_file.specs.KeptRows.{kept}
@@ -11,5 +11,5 @@ abbrev pub nothing : KeptRows
 nothing = record { rows = []; whole = 0 }
 
 -- nothing is kept, or the rows and the bytes that are kept of what the file holds
-abbrev pub StartsFrom : Bytes → Analysis → Told → KeptRows → Type 0
-StartsFrom own p told k = (k ≡ nothing) ⊎ ((bytes : Bytes) × NowHas told bytes × (kept own p bytes ≡ Ok k))
+abbrev pub StartsFrom : (own : Bytes) → Analysis → (held : Content) → KeptRows → Type 0
+StartsFrom own p held k = (k ≡ nothing) ⊎ ((bytes : Bytes) × HasIfKnown held bytes × (kept own p bytes ≡ Ok k))

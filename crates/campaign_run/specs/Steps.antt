@@ -1,6 +1,7 @@
 -- What the steps of a campaign leave to the next one.
-use Rattle.std.specs.Prelude.{◌≡◌, ◌⊎◌, ℕ, ◌<◌, Bool, true, false, List, length, Contains, Option}
-use Rattle.fm_shelf.specs.Shelf.{Told, told_more, HasPrefix, Rose}
+use Rattle.std.specs.Prelude.{◌≡◌, ◌⊎◌, ℕ, ◌<◌, Bool, true, false, List, length, Contains}
+use Rattle.fm_shelf.specs.Shelf.{ShelfState}
+use Rattle.fm_shelf.specs.Sink.{SinkState, Wrote, WrotePrefix}
 use Rattle.fm_base.specs.Names.{Bytes}
 use Rattle.result_file.specs.declared.Row.{Row}
 use Rattle.campaign_board.specs.Boards.{Start, batches_of}
@@ -17,20 +18,18 @@ pub record IsFresh {F : Type 0} (o : Start) (shelf : F) (board : Seen F) : Type 
   pub shelf_is : board.shelf ≡ shelf
 
 -- the board of a campaign whose workers have ended; or its header couldn't be written, and it has failed
-abbrev pub HasWorked : {F : Type 0} → Start → ℕ → (before after : Told) → Seen F → Type 0
+abbrev pub HasWorked : {F : Type 0} → Start → (whole : ℕ) → (before after : ShelfState) → Seen F → Type 0
 HasWorked o whole before after board =
     ((board.written ≡ true) × IsFinished o board.rows board.failed)
-    ⊎ ((board.failed ≡ true) × IsHeaderTorn o.header whole before after)
+    ⊎ ((board.failed ≡ true) × IsHeaderTorn o.header whole (before.content o.name) (after.content o.name))
 
 -- each batch has a row
 abbrev pub HaveAll : Start → List Row → Type 0
 HaveAll o rows = (batch : ℕ) → batch < length o.entries → Contains (batches_of rows) batch
 
 -- what went out, by the end of a campaign: nothing where the board has failed, and else the text, or a prefix of it
-abbrev pub Tells : End → Bool → Bytes → (out_before out_after : Option Bytes) → (faults_before faults_after : ℕ) → Type 0
-Tells Done failed text out_before out_after faults_before faults_after = (failed ≡ false) × (out_after ≡ told_more out_before text)
-Tells NoMemory failed text out_before out_after faults_before faults_after = ⊥
-Tells ResultFault failed text out_before out_after faults_before faults_after =
-    (failed ≡ true) × (out_after ≡ out_before) × (faults_after ≡ faults_before)
-Tells OutFault failed text out_before out_after faults_before faults_after =
-    (failed ≡ false) × Rose faults_before faults_after × HasPrefix out_before out_after text
+abbrev pub Tells : End → (failed : Bool) → (text : Bytes) → (before after : SinkState) → Type 0
+Tells Done failed text before after = (failed ≡ false) × Wrote before after text
+Tells NoMemory failed text before after = ⊥
+Tells ResultFault failed text before after = (failed ≡ true) × (after ≡ before)
+Tells OutFault failed text before after = (failed ≡ false) × WrotePrefix before after text

@@ -1,7 +1,6 @@
 ghost use Rattle.std.specs.Prelude.{◌≡◌, ◌<◌, ◌≤◌, IfOk, IfErr, length};
 ghost use Rattle.std.specs.String.{string_bytes};
 ghost use Rattle.circuit.specs.Order.{IsOrder};
-ghost use Rattle.fm_shelf.specs.Shelf.{held_in};
 ghost use Rattle.campaign_plan.specs.Analysis.{batch_count};
 ghost use Rattle.result_file.specs.KeptRows.{header_len};
 ghost use Rattle.campaign_board.specs.Kept.{IsStart, IsWhole};
@@ -48,7 +47,7 @@ fn prepare<F: Shelf + Drop, N: Origin>(
     requires workers { (0 < workers) × (workers ≤ 32) }
     requires order { IsOrder plan.now.circuit order.now }
     requires batches { batches ≡ batch_count plan.now }
-    requires start { IsStart N.start name.now rows batches (F.files shelf) (F.rest_absent shelf) (F.write_faults shelf name.now) }
+    requires start { IsStart N.start name.now rows batches (F.seen shelf) }
     ensures space { IfOk result (λ r. r.space ≡ room_for plan.now) }
     ensures crew { IfOk result (λ r. r.crew.workshop ≡ record { plan = plan.now; order = order.now }) }
     ensures board { IfOk result (λ r. IsFresh N.start shelf r.crew.board) }
@@ -84,10 +83,9 @@ fn worked<
     requires made { crew.workshop ≡ record { plan = plan.now; order = order.now } }
     requires fresh { IsFresh N.start crew.board.shelf crew.board }
     requires own { own.now ≡ N.start.header }
-    requires whole { IsWhole N.start crew.board.rows whole (held_in (F.files crew.board.shelf) (F.rest_absent crew.board.shelf) N.start.name) }
+    requires whole { IsWhole N.start crew.board.rows whole ((F.seen crew.board.shelf).content N.start.name) }
     requires entries { HasTrueEntries plan.now N.start }
-    ensures { HasWorked N.start whole (held_in (F.files crew.board.shelf) (F.rest_absent crew.board.shelf) N.start.name)
-        (held_in (F.files result.shelf) (F.rest_absent result.shelf) N.start.name) result }
+    ensures { HasWorked N.start whole (F.seen crew.board.shelf) (F.seen result.shelf) result }
 {
     if crew.board().append_header(whole, own).is_err() {
         return crew.into_board();
@@ -119,12 +117,10 @@ pub(crate) fn run_over<
     requires workers { (0 < workers) × (workers ≤ 32) }
     requires order { IsOrder plan.now.circuit order.now }
     requires own { length own.now ≡ header_len }
-    requires kept { StartsFrom own.now plan.now (held_in (F.files shelf) (F.rest_absent shelf) (string_bytes name.now)) kept }
-    requires origin { N.start ≡ origin_of (record { name = string_bytes name.now; own = own.now; p = plan.now; k = kept; text = text })
-        (F.files shelf) (F.rest_absent shelf) (F.write_faults shelf (string_bytes name.now)) }
+    requires kept { StartsFrom own.now plan.now ((F.seen shelf).content (string_bytes name.now)) kept }
+    requires origin { N.start ≡ origin_of (record { name = string_bytes name.now; own = own.now; p = plan.now; k = kept; text = text }) (F.seen shelf) }
     ensures run { HasRun result.end (record { name = string_bytes name.now; own = own.now; p = plan.now; k = kept; text = text })
-        (record { files = held_in (F.files shelf) (F.rest_absent shelf); faults = F.write_faults shelf; out = O.written out.old; out_faults = O.faults out.old })
-        (record { files = held_in (F.files result.shelf) (F.rest_absent result.shelf); faults = F.write_faults result.shelf; out = O.written out.new; out_faults = O.faults out.new }) }
+        (record { shelf = F.seen shelf; out = O.seen out.old }) (record { shelf = F.seen result.shelf; out = O.seen out.new }) }
     ensures untouched { result.end ≡ End.NoMemory → (result.shelf ≡ shelf) × (out.new ≡ out.old) }
 {
     let KeptRows { rows, whole } = kept;

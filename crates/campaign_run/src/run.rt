@@ -1,6 +1,5 @@
 ghost use Rattle.std.specs.Prelude.{◌≡◌, ◌<◌, ◌≤◌, length};
 ghost use Rattle.circuit.specs.Order.{IsOrder};
-ghost use Rattle.fm_shelf.specs.Shelf.{held_in};
 ghost use Rattle.result_file.specs.KeptRows.{header_len};
 ghost use Rattle.campaign_run.specs.Starting.{StartsFrom};
 ghost use Rattle.campaign_run.specs.Ran.{HasRun};
@@ -66,10 +65,9 @@ pub fn run_campaign<R: Threads + Wait + Sync, F: Shelf + Send + Drop, O: Sink, G
     requires workers { (0 < workers) × (workers ≤ 32) }
     requires order { IsOrder plan.now.circuit order.now }
     requires own { length own.now ≡ header_len }
-    requires kept { StartsFrom own.now plan.now (held_in (F.files shelf) (F.rest_absent shelf) name.now) kept }
+    requires kept { StartsFrom own.now plan.now ((F.seen shelf).content name.now) kept }
     ensures run { HasRun result.end (record { name = name.now; own = own.now; p = plan.now; k = kept; text = text })
-        (record { files = held_in (F.files shelf) (F.rest_absent shelf); faults = F.write_faults shelf; out = O.written out.old; out_faults = O.faults out.old })
-        (record { files = held_in (F.files result.shelf) (F.rest_absent result.shelf); faults = F.write_faults result.shelf; out = O.written out.new; out_faults = O.faults out.new }) }
+        (record { shelf = F.seen shelf; out = O.seen out.old }) (record { shelf = F.seen result.shelf; out = O.seen out.new }) }
     ensures untouched { result.end ≡ End.NoMemory → (result.shelf ≡ shelf) × (out.new ≡ out.old) }
 {
     let Ok(name) = String::from_str(alloc, name) else {

@@ -1,11 +1,10 @@
 ghost use Rattle.std.specs.Prelude.{◌≡◌, ◌≤◌, false, length};
-ghost use Rattle.fm_shelf.specs.Shelf.{held_in};
+ghost use Rattle.fm_shelf.specs.Sink.{Sends};
 ghost use Rattle.campaign_plan.specs.Analysis.{batch_count};
 ghost use Rattle.campaign_board.specs.Boards.{batches_of, sums_over};
 ghost use Rattle.campaign_board.specs.Kept.{IsBoard};
 ghost use Rattle.fmeda_report.specs.Rooms.{room_for};
 ghost use Rattle.fmeda_report.specs.Rows.{HoldEachOnce, planes_in};
-ghost use Rattle.fmeda_report.specs.Sends.{Sends};
 ghost use Rattle.campaign_run.specs.Ran.{text_for};
 ghost use Rattle.campaign_run.specs.Steps.{HaveAll, Tells};
 
@@ -26,8 +25,7 @@ fn write_text<O: Sink>(
 ) -> Result<(), Failed>
     requires space { space.old ≡ room_for plan.now }
     requires rows { HoldEachOnce plan.now rows.now }
-    ensures { Sends (O.written out.old) (O.written out.new) (O.faults out.old) (O.faults out.new)
-        (text_for text plan.now (planes_in rows.now)) result }
+    ensures { Sends (O.seen out.old) (O.seen out.new) (text_for text plan.now (planes_in rows.now)) result }
 {
     match text {
         Text::Report => write_report(plan, rows, space, out),
@@ -46,12 +44,10 @@ pub(crate) fn tell<F: Shelf + Drop, N: Origin, O: Sink>(
     requires space { space.old ≡ room_for plan.now }
     requires entries { length N.start.entries ≡ batch_count plan.now }
     requires rows { board.failed ≡ false → HaveAll N.start board.rows }
-    ensures told { Tells result.end board.failed (text_for text plan.now (planes_in board.rows))
-        (O.written out.old) (O.written out.new) (O.faults out.old) (O.faults out.new) }
-    ensures grows { O.faults out.old ≤ O.faults out.new }
+    ensures told { Tells result.end board.failed (text_for text plan.now (planes_in board.rows)) (O.seen out.old) (O.seen out.new) }
+    ensures grows { (O.seen out.old).faults ≤ (O.seen out.new).faults }
     ensures shelf { result.shelf ≡ board.shelf }
-    ensures kept { IsBoard N.start board.rows (sums_over N.start.entries (batches_of board.rows)) board.failed board.written
-        (held_in (F.files result.shelf) (F.rest_absent result.shelf)) (F.write_faults result.shelf N.start.name) }
+    ensures kept { IsBoard N.start board.rows (sums_over N.start.entries (batches_of board.rows)) board.failed board.written (F.seen result.shelf) }
 {
     if board.failed() {
         return Ran {

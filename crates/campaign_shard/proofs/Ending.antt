@@ -1,11 +1,14 @@
 -- How a part has ended.
-use Rattle.std.proofs.Common.{◌≡◌, ◌≢◌, ℕ, zero, suc, ◌<◌, ◌≤◌, ◌==◌, ◌⊎◌, inl, inr, Bool, true, false, cond, List, [], ◌∷◌, map, length, get_or, refl, ap, sym, subst, ◌∙◌, arith}
-use Rattle.std.specs.Prelude.{All, Contains, Option}
-use Rattle.std.proofs.lemmas.Bool.{false≢true, cases_eq, ne_eqb, eq-eqb}
+use Rattle.std.proofs.Common.{◌≡◌, ℕ, zero, suc, ◌<◌, ◌≤◌, ◌==◌, ◌⊎◌, inl, inr, Bool, true, false, cond, List, [], ◌∷◌, map, length, get_or, refl, ap, sym, subst, ◌∙◌, arith}
+use Rattle.std.specs.Prelude.{All, Contains}
+use Rattle.std.proofs.lemmas.Bool.{false≢true, eq-eqb}
 use Rattle.std.proofs.lemmas.List.{length-map}
 use Rattle.std.proofs.lemmas.List.Sums.{sum_by-cons}
 use Rattle.metric_sums.specs.declared.Sums.{Sums}
-use Rattle.fm_shelf.specs.Shelf.{Told, held_in, told_more, NowHas}
+use Rattle.fm_shelf.specs.Content.{HasIfKnown}
+use Rattle.fm_shelf.specs.Shelf.{ShelfState}
+use Rattle.fm_shelf.specs.Sink.{SinkState, with_more, Wrote}
+use Rattle.fm_shelf.specs.Outside.{Outside}
 use Rattle.fm_base.specs.Names.{Bytes}
 use Rattle.campaign_core.specs.Machines.{times}
 use Rattle.campaign_plan.specs.Analysis.{Analysis, batch_count}
@@ -13,13 +16,13 @@ use Rattle.campaign_plan.specs.Batches.{batches, true_planes}
 use Rattle.campaign_plan.specs.Kept.{IsPlan}
 use Rattle.result_file.specs.declared.Row.{Row}
 use Rattle.result_file.specs.KeptRows.{entry_of as planed}
-use Rattle.campaign_board.specs.Boards.{Start, AreEntries, batches_of}
+use Rattle.campaign_board.specs.Boards.{Start, batches_of}
 use Rattle.campaign_board.specs.Kept.{Seen as Board, AreRows, IsBoard, IsStart, IsHeaderTorn}
 use Rattle.campaign_board.specs.Missing.{IsMissing}
-use Rattle.fm_base.proofs.SumsBelow.{once_few}
 use Rattle.campaign_workers.specs.Truth.{HasTrueEntries}
 use Rattle.campaign_run.specs.declared.run.End.{End}
 use Rattle.campaign_run.specs.declared.run.End.TheVariants.{Done, NoMemory, ResultFault, OutFault}
+use Rattle.campaign_run.specs.Outside.{had_written}
 use Rattle.campaign_run.specs.Starting.{nothing}
 use Rattle.campaign_run.specs.Left.{LeftPrefix}
 use Rattle.campaign_run.specs.Steps.{Tells}
@@ -51,27 +54,25 @@ each_counted (y ∷ ys) (suc i) d lt = counted_later y ys (get_or ys i d) (each_
 
 -- ---- what a part begins with
 
-pub starts : (name own : Bytes) (p : Analysis) (files : List (List ℕ × List ℕ)) (rest_absent : Bool) (faults batches : ℕ) → IsPlan p → length own ≡ 89
-    → batches ≡ batch_count p → IsStart (part_origin name own p files rest_absent faults) name [] batches files rest_absent faults
-starts name own p files rest_absent faults batches plan many count =
-    campaign_starts (whole_campaign name own p) files rest_absent faults batches plan many (inl refl) count
+pub starts : (name own : Bytes) (p : Analysis) (shelf : ShelfState) (batches : ℕ) → IsPlan p → length own ≡ 89 → batches ≡ batch_count p
+    → IsStart (part_origin name own p shelf) name [] batches shelf
+starts name own p shelf batches plan many count = campaign_starts (whole_campaign name own p) shelf batches plan many (inl refl) count
 
-pub all_true : (name own : Bytes) (p : Analysis) (files : List (List ℕ × List ℕ)) (rest_absent : Bool) (faults : ℕ) → HasTrueEntries p (part_origin name own p files rest_absent faults)
-all_true name own p files rest_absent faults = have_true p nothing (part_origin name own p files rest_absent faults) refl refl
+pub all_true : (name own : Bytes) (p : Analysis) (shelf : ShelfState) → HasTrueEntries p (part_origin name own p shelf)
+all_true name own p shelf = have_true p nothing (part_origin name own p shelf) refl refl
 
-pub many_entries : (name own : Bytes) (p : Analysis) (files : List (List ℕ × List ℕ)) (rest_absent : Bool) (faults : ℕ)
-    → length (part_origin name own p files rest_absent faults).entries ≡ batch_count p
-many_entries name own p files rest_absent faults = length_entries p (true_planes p)
+pub many_entries : (name own : Bytes) (p : Analysis) (shelf : ShelfState) → length (part_origin name own p shelf).entries ≡ batch_count p
+many_entries name own p shelf = length_entries p (true_planes p)
 
 -- ---- the rows of a part
 
-module _ (c : PartCampaign) (files : List (List ℕ × List ℕ)) (rest_absent : Bool) (faults : ℕ) where
+module _ (c : PartCampaign) (before : ShelfState) where
   abbrev start : Start
-  start = part_origin c.name c.own c.p files rest_absent faults
+  start = part_origin c.name c.own c.p before
 
   -- each batch of the plan is to do
   due_below : (batch : ℕ) → batch < batch_count c.p → IsMissing start batch
-  due_below batch lt = let many = many_entries c.name c.own c.p files rest_absent faults in (omega (arith, lt, many), tt)
+  due_below batch lt = let many = many_entries c.name c.own c.p before in (omega (arith, lt, many), tt)
 
   own_batches : (rows : List Row) → IsPartDone start c.part c.parts rows false → All (λ batch. is_of_part c.part c.parts batch ≡ true) (batches_of rows)
   own_batches rows done i d lt = by_test (get_or (batches_of rows) i d) (each_counted (batches_of rows) i d lt) (done.due i d lt) (is_of_part c.part c.parts (get_or (batches_of rows) i d)) refl
@@ -100,69 +101,60 @@ module _ (c : PartCampaign) (files : List (List ℕ × List ℕ)) (rest_absent :
 
   -- ---- by how it ended
 
-  module _ {F : Type 0} (board : Board F) (sums : Sums) (now : List ℕ → Told) (faults_now : ℕ) where
+  module _ {F : Type 0} (board : Board F) (sums : Sums) (now : ShelfState) where
     -- the work of a board that hasn't failed is done
-    has_done : HasPartWorked start c.part c.parts (held_in files rest_absent c.name) (now c.name) board → board.failed ≡ false
-        → (board.written ≡ true) × IsPartDone start c.part c.parts board.rows false
+    has_done : HasPartWorked start c.part c.parts before now board → board.failed ≡ false → (board.written ≡ true) × IsPartDone start c.part c.parts board.rows false
     has_done worked fine = elim worked as (λ _. (board.written ≡ true) × IsPartDone start c.part c.parts board.rows false) [
       | inl done ↦ (done.0, subst (IsPartDone start c.part c.parts board.rows) fine done.1)
       | inr torn ↦ absurd (false≢true (sym fine ∙ torn.0))
     ]
 
-    tells : (out_before : Option Bytes) → HasPartWorked start c.part c.parts (held_in files rest_absent c.name) (now c.name) board
-        → IsBoard start board.rows sums board.failed board.written now faults_now → board.failed ≡ false
-        → (out_after : Option Bytes) → out_after ≡ told_more out_before (shard_line c.part c.parts (length board.rows)) → IsPartTold c (now c.name) out_before out_after
-    tells out_before worked kept fine out_after out =
+    tells : HasPartWorked start c.part c.parts before now board → IsBoard start board.rows sums board.failed board.written now → board.failed ≡ false
+        → (old new : SinkState) → Wrote old new (shard_line c.part c.parts (length board.rows))
+        → IsPartTold c (record { shelf = before; out = old }) (record { shelf = now; out = new })
+    tells worked kept fine old new out =
         let done = has_done worked fine in
         record {
           entries = map planed board.rows;
           has = has_part board.rows kept.rows_are done.1;
-          result = subst (NowHas (now c.name)) (text_result c.p (true_planes c.p) start board.rows refl kept.entries kept.rows_are) (kept.file done.0 fine);
-          wrote = out ∙ ap (λ n. told_more out_before (shard_line c.part c.parts n)) (sym (length-map board.rows planed));
+          result = subst (HasIfKnown (now.content c.name)) (text_result c.p (true_planes c.p) start board.rows refl kept.entries kept.rows_are) (kept.file done.0 fine);
+          wrote = out ∙ ap (λ n. with_more old.written (shard_line c.part c.parts n)) (sym (length-map board.rows planed));
         }
 
-    leaves : HasPartWorked start c.part c.parts (held_in files rest_absent c.name) (now c.name) board
-        → IsBoard start board.rows sums board.failed board.written now faults_now → board.failed ≡ true
-        → (now c.name ≡ held_in files rest_absent c.name) ⊎ LeftPrefix c.own c.p (true_planes c.p) (now c.name)
-    leaves worked kept bad = elim worked as (λ _. (now c.name ≡ held_in files rest_absent c.name) ⊎ LeftPrefix c.own c.p (true_planes c.p) (now c.name)) [
-      | inl done ↦ inr (left_torn c.p (true_planes c.p) start board.rows (now c.name) refl kept.entries kept.rows_are (kept.torn done.0 bad))
+    leaves : HasPartWorked start c.part c.parts before now board → IsBoard start board.rows sums board.failed board.written now → board.failed ≡ true
+        → (now.content c.name ≡ before.content c.name) ⊎ LeftPrefix c.own c.p (true_planes c.p) (now.content c.name)
+    leaves worked kept bad = elim worked as (λ _. (now.content c.name ≡ before.content c.name) ⊎ LeftPrefix c.own c.p (true_planes c.p) (now.content c.name)) [
+      | inl done ↦ inr (left_torn c.p (true_planes c.p) start board.rows (now.content c.name) refl kept.entries kept.rows_are (kept.torn done.0 bad))
       | inr torn ↦ header torn.1
     ]
       where
         none : AreRows start []
         none = record { due = λ k lt. absurd (omega (arith, lt)); once = tt; within = λ i d lt. absurd (omega (arith, lt)) }
 
-        header : IsHeaderTorn start.header 0 (held_in files rest_absent c.name) (now c.name)
-            → (now c.name ≡ held_in files rest_absent c.name) ⊎ LeftPrefix c.own c.p (true_planes c.p) (now c.name)
+        header : IsHeaderTorn start.header 0 (before.content c.name) (now.content c.name)
+            → (now.content c.name ≡ before.content c.name) ⊎ LeftPrefix c.own c.p (true_planes c.p) (now.content c.name)
         header torn =
-            elim (left_header c.p (true_planes c.p) start [] 0 (held_in files rest_absent c.name) (now c.name) refl kept.entries none (inl refl) torn)
-            as (λ _. (now c.name ≡ held_in files rest_absent c.name) ⊎ LeftPrefix c.own c.p (true_planes c.p) (now c.name)) [ inl same ↦ inl same | inr left ↦ inr left.0 ]
+            elim (left_header c.p (true_planes c.p) start [] 0 (before.content c.name) (now.content c.name) refl kept.entries none (inl refl) torn)
+            as (λ _. (now.content c.name ≡ before.content c.name) ⊎ LeftPrefix c.own c.p (true_planes c.p) (now.content c.name)) [ inl same ↦ inl same | inr left ↦ inr left.0 ]
 
-ends : {F : Type 0} (end : End) (c : PartCampaign) (files : List (List ℕ × List ℕ)) (rest_absent : Bool) (faults faults_now : List ℕ → ℕ) (now : List ℕ → Told) (sums : Sums)
-    (board : Board F) (out_before out_after : Option Bytes) (told_before told_after : ℕ)
-    → HasPartWorked (part_origin c.name c.own c.p files rest_absent (faults c.name)) c.part c.parts (held_in files rest_absent c.name) (now c.name) board
-    → IsBoard (part_origin c.name c.own c.p files rest_absent (faults c.name)) board.rows sums board.failed board.written now (faults_now c.name)
-    → Tells end board.failed (shard_line c.part c.parts (length board.rows)) out_before out_after told_before told_after
-    → EndsPartAs end c (record { files = held_in files rest_absent; faults = faults; out = out_before; out_faults = told_before })
-    (record { files = now; faults = faults_now; out = out_after; out_faults = told_after })
-ends Done c files rest_absent faults faults_now now sums board out_before out_after told_before told_after worked kept told =
-    tells c files rest_absent (faults c.name) board sums now (faults_now c.name) out_before worked kept told.0 out_after told.1
-ends NoMemory c files rest_absent faults faults_now now sums board out_before out_after told_before told_after worked kept told = absurd told
-ends ResultFault c files rest_absent faults faults_now now sums board out_before out_after told_before told_after worked kept told =
-    (kept.rose told.0, leaves c files rest_absent (faults c.name) board sums now (faults_now c.name) worked kept told.0, told.1, told.2)
-ends OutFault c files rest_absent faults faults_now now sums board out_before out_after told_before told_after worked kept told =
-    let text : Bytes = shard_line c.part c.parts (length board.rows) in
-    (told.1, (text, tells c files rest_absent (faults c.name) board sums now (faults_now c.name) out_before worked kept told.0 (told_more out_before text) refl, told.2))
+ends : {F : Type 0} (end : End) (c : PartCampaign) (before after : Outside) (sums : Sums) (board : Board F)
+    → HasPartWorked (part_origin c.name c.own c.p before.shelf) c.part c.parts before.shelf after.shelf board
+    → IsBoard (part_origin c.name c.own c.p before.shelf) board.rows sums board.failed board.written after.shelf
+    → Tells end board.failed (shard_line c.part c.parts (length board.rows)) before.out after.out → EndsPartAs end c before after
+ends Done c before after sums board worked kept told = tells c before.shelf board sums after.shelf worked kept told.0 before.out after.out told.1
+ends NoMemory c before after sums board worked kept told = absurd told
+ends ResultFault c before after sums board worked kept told = (kept.rose told.0, leaves c before.shelf board sums after.shelf worked kept told.0, told.1)
+ends OutFault c before after sums board worked kept told =
+    let line : Bytes = shard_line c.part c.parts (length board.rows) in
+    (line, tells c before.shelf board sums after.shelf worked kept told.0 before.out (had_written before after line).out refl, told.1)
 
-pub has_run : {F : Type 0} (end : End) (c : PartCampaign) (files : List (List ℕ × List ℕ)) (rest_absent : Bool) (faults faults_now : List ℕ → ℕ) (now : List ℕ → Told) (sums : Sums)
-    (board : Board F) (out_before out_after : Option Bytes) (told_before told_after : ℕ)
-    → HasPartWorked (part_origin c.name c.own c.p files rest_absent (faults c.name)) c.part c.parts (held_in files rest_absent c.name) (now c.name) board
-    → IsBoard (part_origin c.name c.own c.p files rest_absent (faults c.name)) board.rows sums board.failed board.written now (faults_now c.name)
-    → Tells end board.failed (shard_line c.part c.parts (length board.rows)) out_before out_after told_before told_after → told_before ≤ told_after
-    → HasRunPart end c (record { files = held_in files rest_absent; faults = faults; out = out_before; out_faults = told_before })
-    (record { files = now; faults = faults_now; out = out_after; out_faults = told_after })
-has_run end c files rest_absent faults faults_now now sums board out_before out_after told_before told_after worked kept told grows = record {
-  ends = ends end c files rest_absent faults faults_now now sums board out_before out_after told_before told_after worked kept told;
+pub has_run : {F : Type 0} (end : End) (c : PartCampaign) (before after : Outside) (sums : Sums) (board : Board F)
+    → HasPartWorked (part_origin c.name c.own c.p before.shelf) c.part c.parts before.shelf after.shelf board
+    → IsBoard (part_origin c.name c.own c.p before.shelf) board.rows sums board.failed board.written after.shelf
+    → Tells end board.failed (shard_line c.part c.parts (length board.rows)) before.out after.out → before.out.faults ≤ after.out.faults
+    → HasRunPart end c before after
+has_run end c before after sums board worked kept told grows = record {
+  ends = ends end c before after sums board worked kept told;
   others = λ name ne. kept.others name ne;
   faults = kept.grows;
   out_faults = grows;

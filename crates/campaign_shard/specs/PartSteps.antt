@@ -1,6 +1,6 @@
 -- What the steps of a part leave to the next one.
-use Rattle.std.specs.Prelude.{◌≡◌, ◌⊎◌, ℕ, Bool, true, List}
-use Rattle.fm_shelf.specs.Shelf.{Told}
+use Rattle.std.specs.Prelude.{◌≡◌, ◌⊎◌, ℕ, true}
+use Rattle.fm_shelf.specs.Shelf.{ShelfState}
 use Rattle.fm_base.specs.Names.{Bytes}
 use Rattle.campaign_plan.specs.Analysis.{Analysis, all_faults}
 use Rattle.claim_counter.specs.Views.{starting_view}
@@ -19,8 +19,8 @@ abbrev pub whole_campaign : (name own : Bytes) → Analysis → Campaign
 whole_campaign name own p = record { name = name; own = own; p = p; k = nothing; text = Report }
 
 -- what the board of a part begins with: the same as that of the whole campaign
-abbrev pub part_origin : (name own : Bytes) → Analysis → List (List ℕ × List ℕ) → Bool → ℕ → Start
-part_origin name own p files rest_absent faults = origin_of (whole_campaign name own p) files rest_absent faults
+abbrev pub part_origin : (name own : Bytes) → Analysis → ShelfState → Start
+part_origin name own p shelf = origin_of (whole_campaign name own p) shelf
 
 -- what a plan's batches are simulated with
 abbrev pub simulated : Analysis → Simulated
@@ -32,7 +32,7 @@ pub record IsOpening (c : Counter) (p : Seated) : Type 0 where
   pub view : p.view ≡ starting_view c.todo
 
 -- a board after the part's work; or its header couldn't be written, and it has failed
-abbrev pub HasPartWorked : {F : Type 0} → Start → (part parts : ℕ) → (before after : Told) → Seen F → Type 0
+abbrev pub HasPartWorked : {F : Type 0} → Start → (part parts : ℕ) → (before after : ShelfState) → Seen F → Type 0
 HasPartWorked o part parts before after board =
     ((board.written ≡ true) × IsPartDone o part parts board.rows board.failed)
-    ⊎ ((board.failed ≡ true) × IsHeaderTorn o.header 0 before after)
+    ⊎ ((board.failed ≡ true) × IsHeaderTorn o.header 0 (before.content o.name) (after.content o.name))

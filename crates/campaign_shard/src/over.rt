@@ -2,7 +2,6 @@
 ghost use Rattle.std.specs.Prelude.{◌≡◌, ◌<◌, ◌≤◌, [], IfOk, IfErr, length};
 ghost use Rattle.std.specs.String.{string_bytes};
 ghost use Rattle.circuit.specs.Order.{IsOrder};
-ghost use Rattle.fm_shelf.specs.Shelf.{held_in};
 ghost use Rattle.campaign_plan.specs.Analysis.{batch_count};
 ghost use Rattle.result_file.specs.KeptRows.{header_len};
 ghost use Rattle.campaign_board.specs.Boards.{batches_of, sums_over};
@@ -92,7 +91,7 @@ fn prepare<'a, F: Shelf + Drop, N: Origin>(
 ) -> Result<Prepared<'a, F, N>, NoBoard<F>>
     requires order { IsOrder plan.now.circuit order.now }
     requires batches { batches ≡ batch_count plan.now }
-    requires start { IsStart N.start name.now [] batches (F.files shelf) (F.rest_absent shelf) (F.write_faults shelf name.now) }
+    requires start { IsStart N.start name.now [] batches (F.seen shelf) }
     ensures board { IfOk result (λ r. IsFresh N.start shelf r.board) }
     ensures simulator { IfOk result (λ r. r.place.simulator ≡ simulated plan.now) }
     ensures seat { IfOk result (λ r. IsOpening r.place.shared r.place.seat) }
@@ -121,8 +120,7 @@ fn worked<R: Wait, F: Shelf + Drop, N: Origin>(
     requires simulator { prepared.place.simulator ≡ simulated plan.now }
     requires seat { IsOpening prepared.place.shared prepared.place.seat }
     requires entries { HasTrueEntries plan.now N.start × (length N.start.entries ≡ batch_count plan.now) }
-    ensures { HasPartWorked N.start shard.part shard.parts (held_in (F.files prepared.entry.board.shelf) (F.rest_absent prepared.entry.board.shelf) N.start.name)
-        (held_in (F.files result.shelf) (F.rest_absent result.shelf) N.start.name) result }
+    ensures { HasPartWorked N.start shard.part shard.parts (F.seen prepared.entry.board.shelf) (F.seen result.shelf) result }
 {
     let Prepared { mut board, place } = prepared;
     let Workplace {
@@ -145,12 +143,10 @@ fn tell<F: Shelf + Drop, N: Origin, O: Sink>(
     board: Board<F, N>,
     out: &mut O,
 ) -> Ran<F>
-    ensures told { Tells result.end board.failed (shard_line shard.part shard.parts (length board.rows))
-        (O.written out.old) (O.written out.new) (O.faults out.old) (O.faults out.new) }
-    ensures grows { O.faults out.old ≤ O.faults out.new }
+    ensures told { Tells result.end board.failed (shard_line shard.part shard.parts (length board.rows)) (O.seen out.old) (O.seen out.new) }
+    ensures grows { (O.seen out.old).faults ≤ (O.seen out.new).faults }
     ensures shelf { result.shelf ≡ board.shelf }
-    ensures kept { IsBoard N.start board.rows (sums_over N.start.entries (batches_of board.rows)) board.failed board.written
-        (held_in (F.files result.shelf) (F.rest_absent result.shelf)) (F.write_faults result.shelf N.start.name) }
+    ensures kept { IsBoard N.start board.rows (sums_over N.start.entries (batches_of board.rows)) board.failed board.written (F.seen result.shelf) }
 {
     if board.failed() {
         return Ran {
@@ -184,10 +180,9 @@ pub(crate) fn run_over<R: Wait, F: Shelf + Drop, N: Origin, O: Sink>(
     requires parts { 0 < shard.parts }
     requires order { IsOrder plan.now.circuit order.now }
     requires own { length own.now ≡ header_len }
-    requires origin { N.start ≡ part_origin (string_bytes name.now) own.now plan.now (F.files shelf) (F.rest_absent shelf) (F.write_faults shelf (string_bytes name.now)) }
+    requires origin { N.start ≡ part_origin (string_bytes name.now) own.now plan.now (F.seen shelf) }
     ensures run { HasRunPart result.end (record { name = string_bytes name.now; own = own.now; p = plan.now; part = shard.part; parts = shard.parts })
-        (record { files = held_in (F.files shelf) (F.rest_absent shelf); faults = F.write_faults shelf; out = O.written out.old; out_faults = O.faults out.old })
-        (record { files = held_in (F.files result.shelf) (F.rest_absent result.shelf); faults = F.write_faults result.shelf; out = O.written out.new; out_faults = O.faults out.new }) }
+        (record { shelf = F.seen shelf; out = O.seen out.old }) (record { shelf = F.seen result.shelf; out = O.seen out.new }) }
     ensures untouched { result.end ≡ End.NoMemory → (result.shelf ≡ shelf) × (out.new ≡ out.old) }
 {
     let batches = plan.batches();

@@ -4,7 +4,6 @@ use Rattle.std.proofs.lemmas.Bool.{cases_eq, ne_eqb}
 use Rattle.std.proofs.lemmas.Bool.Decides.{nat_tests}
 use Rattle.std.proofs.lemmas.List.{map-append}
 use Rattle.std.proofs.lemmas.List.Elements.{All-push}
-use Rattle.std.proofs.lemmas.List.Sums.{sum_by-cons}
 use Rattle.campaign_core.specs.Machines.{times}
 use Rattle.metric_sums.specs.declared.Sums.{Sums}
 use Rattle.claim_counter.specs.declared.view.View.{View}

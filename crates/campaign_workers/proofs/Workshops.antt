@@ -1,7 +1,7 @@
 -- From what a workshop keeps to what its workers are asked.
-use Rattle.std.proofs.Common.{◌≡◌, ℕ, Bool, false, List, ◌++◌, length, take, drop, refl, sym, ap, subst, ◌∙◌, arith}
+use Rattle.std.proofs.Common.{◌≡◌, ℕ, Bool, false, List, refl, sym, subst, arith}
 use Rattle.std.specs.List.{All}
-use Rattle.std.proofs.lemmas.List.{append-nil, take_all, drop_all, get_or-map, length-map}
+use Rattle.std.proofs.lemmas.List.{get_or-map, length-map}
 use Rattle.circuit.specs.declared.parts.NetId.{NetId}
 use Rattle.golden_run.specs.Recording.{Recording}
 use Rattle.campaign_plan.specs.Analysis.{Analysis}

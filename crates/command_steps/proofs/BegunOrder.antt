@@ -1,8 +1,8 @@
 -- The order of the checks of a campaign that was begun: those of its plan, and then those of its result file.
-use Rattle.std.proofs.Common.{◌≡◌, ◌∙◌, ap, sym, refl, subst, ℕ, List, [], Ok, Err, inl, inr}
+use Rattle.std.proofs.Common.{◌≡◌, ◌∙◌, ap, sym, refl, subst, List, [], Ok, Err, inl, inr}
 use Rattle.std.specs.Prelude.{Option, Some, None, Result, ◌⊎◌}
 use Rattle.fm_base.specs.Names.{Bytes}
-use Rattle.fm_shelf.specs.Shelf.{Shelves, Told, Rose}
+use Rattle.fm_shelf.specs.Shelf.{ShelfState, CountRose}
 use Rattle.circuit.specs.declared.parts.NetId.{NetId}
 use Rattle.campaign_plan.specs.declared.Settings.{Settings}
 use Rattle.campaign_plan.specs.Analysis.{Analysis}
@@ -49,9 +49,9 @@ pub rows_more : (own : Bytes) (p : Analysis) → SaysMore (rows_next own p)
 rows_more own p bytes other e = no_read_fault status_of_back (kept own p bytes) other (back_never other) e
 
 -- a refusal of the result file is a plain one
-pub rows_plain : (file : Which) (own : Bytes) (p : Analysis) (told : Told) (before after : ℕ) (ended : Status) → StepAs file (back_step file own p) told before after (Err ended) → IsPlain ended
-rows_plain file own p told before after ended refused =
-    step_plain file (back_step file own p) (rows_next own p) told before after ended (rows_begin file own p)
+pub rows_plain : (file : Which) (own : Bytes) (p : Analysis) (name : Bytes) (before after : ShelfState) (ended : Status) → StepAs file (back_step file own p) name before after (Err ended) → IsPlain ended
+rows_plain file own p name before after ended refused =
+    step_plain file (back_step file own p) (rows_next own p) name before after ended (rows_begin file own p)
     (λ bytes e is. told_plain status_of_back (kept own p bytes) e back_plain is) refused
 
 -- the rows of a file that was read are those that are kept of its bytes
@@ -143,16 +143,16 @@ paired_made file set files p own got k plan own_is is =
     paired_is file None set reads ∙ ap (λ r. r >>= paired_by set reads) (plan_only file None set (all_read files []) got ∙ plan.plan)
     ∙ ap (λ o. result_step o p got >>= (λ k. pairs_step p k)) (sym own_is) ∙ ap (λ r. r >>= (λ k. pairs_step p k)) is
 
-module _ (inputs : Inputs) (name : Bytes) (set : Settings) (shelf : Shelves) (before after : Bytes → ℕ) where
+module _ (inputs : Inputs) (name : Bytes) (set : Settings) (before after : ShelfState) where
   abbrev Answer : Status → Type 0
-  Answer ended = (ended ≡ status.Memory) ⊎ KeptRefused inputs name set shelf before after ended
+  Answer ended = (ended ≡ status.Memory) ⊎ KeptRefused inputs name set before after ended
 
   -- the plan was refused
-  pub begun_planned : (ended : Status) → (ended ≡ status.Memory) ⊎ PlanRefused inputs set shelf before after ended → Answer ended
+  pub begun_planned : (ended : Status) → (ended ≡ status.Memory) ⊎ PlanRefused inputs set before after ended → Answer ended
   begun_planned ended (inl memory) = inl memory
   begun_planned ended (inr refused) =
       let checked = refused.checked in
-      let rows = some_fit (shelf name) (before name) (after name) in
+      let rows = some_fit before after name in
       let reads : Reads = record checked.reads { result = rows.0 } in
       inr (record {
         reads = reads;
@@ -165,12 +165,12 @@ module _ (inputs : Inputs) (name : Bytes) (set : Settings) (shelf : Shelves) (be
         fault = refused.fault name [] [];
       })
 
-  module _ (made : Planned) (planned : PlannedAs shelf before after inputs set (Ok made)) (own : Bytes) (own_is : own ≡ own_header set (bytes_of made.files) made.plan) where
+  module _ (made : Planned) (planned : PlannedAs before after inputs set (Ok made)) (own : Bytes) (own_is : own ≡ own_header set (bytes_of made.files) made.plan) where
     abbrev files : Files
     files = bytes_of made.files
 
     -- the result file was refused
-    pub begun_rows : (ended : Status) → StepAs which.Result (result_step own made.plan) (shelf name) (before name) (after name) (Err ended) → Answer ended
+    pub begun_rows : (ended : Status) → StepAs which.Result (result_step own made.plan) name before after (Err ended) → Answer ended
     begun_rows ended (inl memory) = inl memory
     begun_rows ended (inr (got, fits, is, fault)) = inr (record {
       reads = record (all_read files []) { result = got };
@@ -180,5 +180,6 @@ module _ (inputs : Inputs) (name : Bytes) (set : Settings) (shelf : Shelves) (be
       loops = planned.3;
       refused = kept_made inputs.netlist set files made.plan own got planned.1 own_is ∙ is;
       fault = λ other e.
-          let f = fault other e in subst (λ w. Rose (before (name_in inputs name w)) (after (name_in inputs name w))) (sym f.0) f.1;
+          let f = fault other e in
+          subst (λ w. CountRose (before.read_faults (name_in inputs name w)) (after.read_faults (name_in inputs name w))) (sym f.0) f.1;
     })

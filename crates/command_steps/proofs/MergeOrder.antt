@@ -1,8 +1,9 @@
 -- The order of the checks of `merge`: those of its plan, then those of FIRST and of SECOND, and then the batches that stand in both.
-use Rattle.std.proofs.Common.{◌≡◌, ◌∙◌, ap, sym, refl, subst, ℕ, List, [], Ok, Err, inl, inr}
+use Rattle.std.proofs.Common.{◌≡◌, ◌∙◌, ap, sym, refl, subst, List, [], Ok, Err, inl, inr}
 use Rattle.std.specs.Prelude.{Option, Some, None, Result, ◌⊎◌}
 use Rattle.fm_base.specs.Names.{Bytes}
-use Rattle.fm_shelf.specs.Shelf.{Shelves, NowHas, Rose}
+use Rattle.fm_shelf.specs.Content.{HasIfKnown}
+use Rattle.fm_shelf.specs.Shelf.{ShelfState, CountRose}
 use Rattle.circuit.specs.declared.parts.NetId.{NetId}
 use Rattle.campaign_plan.specs.declared.Settings.{Settings}
 use Rattle.campaign_plan.specs.Analysis.{Analysis}
@@ -16,7 +17,6 @@ use Rattle.refusal_text.specs.declared.status.Status.{Status}
 use Rattle.refusal_text.specs.declared.status.Status.TheVariants as status
 use Rattle.refusal_text.specs.declared.status.Which.{Which}
 use Rattle.refusal_text.specs.declared.status.Which.TheVariants as which
-use Rattle.refusal_text.specs.NetlistFile.{or_refuse}
 use Rattle.refusal_text.specs.Refusals.{IsPlain}
 use Rattle.command_steps.specs.declared.planned.Planned.{Planned}
 use Rattle.command_steps.specs.Files.{Files, Reads, all_read, files_of}
@@ -75,25 +75,26 @@ merged_made file set files p own first second plan own_is =
     merged_is file None set reads ∙ ap (λ r. r >>= both_of set reads) (plan_only file None set (all_read files []) first second ∙ plan.plan)
     ∙ ap (λ o. from_first o p first second) (sym own_is)
 
-module _ (inputs : Inputs) (first second : Bytes) (set : Settings) (shelf : Shelves) (before after : Bytes → ℕ) where
+module _ (inputs : Inputs) (first second : Bytes) (set : Settings) (before after : ShelfState) where
   abbrev Answer : Status → Type 0
-  Answer ended = (ended ≡ status.Memory) ⊎ MergeRefused inputs first second set shelf before after ended
+  Answer ended = (ended ≡ status.Memory) ⊎ MergeRefused inputs first second set before after ended
 
   abbrev name : Bytes → Which → Bytes
   name result = name_with inputs result first second
 
-  rose_of : (result : Bytes) (own : Which) (ended : Status) → FaultRose own (before (name result own)) (after (name result own)) ended
-      → (other : Which) → ended ≡ status.ReadFault other → Rose (before (name result other)) (after (name result other))
+  rose_of : (result : Bytes) (own : Which) (ended : Status) → FaultRose own (before.read_faults (name result own)) (after.read_faults (name result own)) ended
+      → (other : Which) → ended ≡ status.ReadFault other → CountRose (before.read_faults (name result other)) (after.read_faults (name result other))
   rose_of result own ended fault = λ other e.
-      let f = fault other e in subst (λ w. Rose (before (name result w)) (after (name result w))) (sym f.0) f.1
+      let f = fault other e in
+      subst (λ w. CountRose (before.read_faults (name result w)) (after.read_faults (name result w))) (sym f.0) f.1
 
   -- the plan was refused
-  pub merge_planned : (ended : Status) → (ended ≡ status.Memory) ⊎ PlanRefused inputs set shelf before after ended → Answer ended
+  pub merge_planned : (ended : Status) → (ended ≡ status.Memory) ⊎ PlanRefused inputs set before after ended → Answer ended
   merge_planned ended (inl memory) = inl memory
   merge_planned ended (inr refused) =
       let checked = refused.checked in
-      let one = some_fit (shelf first) (before first) (after first) in
-      let two = some_fit (shelf second) (before second) (after second) in
+      let one = some_fit before after first in
+      let two = some_fit before after second in
       let reads : Reads = reads_with checked.reads one.0 two.0 in
       inr (record {
         reads = reads;
@@ -107,15 +108,15 @@ module _ (inputs : Inputs) (first second : Bytes) (set : Settings) (shelf : Shel
         fault = λ result. refused.fault result first second;
       })
 
-  module _ (made : Planned) (planned : PlannedAs shelf before after inputs set (Ok made)) (own : Bytes) (own_is : own ≡ own_header set (bytes_of made.files) made.plan) where
+  module _ (made : Planned) (planned : PlannedAs before after inputs set (Ok made)) (own : Bytes) (own_is : own ≡ own_header set (bytes_of made.files) made.plan) where
     abbrev files : Files
     files = bytes_of made.files
 
     -- FIRST was refused
-    pub merge_first : (ended : Status) → StepAs which.First (back_step which.First own made.plan) (shelf first) (before first) (after first) (Err ended) → Answer ended
+    pub merge_first : (ended : Status) → StepAs which.First (back_step which.First own made.plan) first before after (Err ended) → Answer ended
     merge_first ended (inl memory) = inl memory
     merge_first ended (inr (got, fits, is, fault)) =
-        let two = some_fit (shelf second) (before second) (after second) in
+        let two = some_fit before after second in
         inr (record {
           reads = reads_with (all_read files []) got two.0;
           fit = record { netlist = planned.0.netlist; workload = planned.0.workload; rates = planned.0.rates; points = planned.0.points };
@@ -128,13 +129,13 @@ module _ (inputs : Inputs) (first second : Bytes) (set : Settings) (shelf : Shel
           fault = λ result. rose_of result which.First ended fault;
         })
 
-    module _ (one : Bytes) (one_held : NowHas (shelf first) one) (k : KeptRows) (one_kept : back_step which.First own made.plan (Some one) ≡ Ok k) where
+    module _ (one : Bytes) (one_held : HasIfKnown (before.content first) one) (k : KeptRows) (one_kept : back_step which.First own made.plan (Some one) ≡ Ok k) where
       -- what is behind FIRST
       after_first : (two : Option Bytes) → from_first own made.plan (Some one) two ≡ (back_step which.Second own made.plan two >>= (λ l. merge_step made.plan k l))
       after_first two = ap (λ r. r >>= (λ k. back_step which.Second own made.plan two >>= (λ l. merge_step made.plan k l))) one_kept
 
       -- SECOND was refused
-      pub merge_second : (ended : Status) → StepAs which.Second (back_step which.Second own made.plan) (shelf second) (before second) (after second) (Err ended) → Answer ended
+      pub merge_second : (ended : Status) → StepAs which.Second (back_step which.Second own made.plan) second before after (Err ended) → Answer ended
       merge_second ended (inl memory) = inl memory
       merge_second ended (inr (got, fits, is, fault)) =
           inr (record {
@@ -149,7 +150,7 @@ module _ (inputs : Inputs) (first second : Bytes) (set : Settings) (shelf : Shel
             fault = λ result. rose_of result which.Second ended fault;
           })
 
-      module _ (two : Bytes) (two_held : NowHas (shelf second) two) (l : KeptRows) (two_kept : back_step which.Second own made.plan (Some two) ≡ Ok l) where
+      module _ (two : Bytes) (two_held : HasIfKnown (before.content second) two) (l : KeptRows) (two_kept : back_step which.Second own made.plan (Some two) ≡ Ok l) where
         -- what is behind both
         pub merged_both : merged_of inputs.netlist None set (reads_with (all_read files []) (Some one) (Some two)) ≡ merge_step made.plan k l
         merged_both =

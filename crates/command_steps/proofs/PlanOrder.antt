@@ -1,8 +1,9 @@
 -- The order of the checks of a plan, step by step.
-use Rattle.std.proofs.Common.{◌≡◌, ◌∙◌, ap, sym, refl, subst, ℕ, ◌≤◌, List, [], Ok, Err, inl, inr}
+use Rattle.std.proofs.Common.{◌≡◌, ◌∙◌, ap, sym, refl, subst, List, [], Ok, Err, inl, inr}
 use Rattle.std.specs.Prelude.{Option, Some, None, Result, ◌⊎◌}
 use Rattle.fm_base.specs.Names.{Bytes}
-use Rattle.fm_shelf.specs.Shelf.{Shelves, Told, NowHas, Rose}
+use Rattle.fm_shelf.specs.Content.{HasIfKnown}
+use Rattle.fm_shelf.specs.Shelf.{ShelfState, CountRose}
 use Rattle.circuit.specs.declared.parts.NetId.{NetId}
 use Rattle.circuit.specs.Circuit.{Circuit}
 use Rattle.circuit.specs.Loop.{HasNoLoop}
@@ -29,25 +30,7 @@ use Rattle.command_steps.specs.Checked.{FaultRose}
 use Rattle.command_steps.specs.Steps.{StepAs, NetlistAs}
 use Rattle.refusal_text.specs.Refusals.{IsPlain}
 use Rattle.command_steps.specs.PlanSteps.{PlanChecked, PlanRefused, AreRead, AreHeld}
-use Rattle.command_steps.proofs.InOrder.{rose_from, fits_from, some_fit, loops_none, held_is}
-
--- a refusal in a call is one in a longer call
-pub step_since : {A : Type 0} (own : Which) (step : Option Bytes → Result A Status) (told : Told) (b0 b a a1 : ℕ) (ended : Status) → b0 ≤ b → a ≤ a1
-    → StepAs own step told b a (Err ended) → StepAs own step told b0 a1 (Err ended)
-step_since own step told b0 b a a1 ended le le1 (inl memory) = inl memory
-step_since own step told b0 b a a1 ended le le1 (inr (got, fits, is, fault)) =
-    inr (got, fits_from told b0 b a a1 got le le1 fits, is, λ other e. let f = fault other e in (f.0, rose_from b0 b a a1 le le1 f.1))
-
-pub netlist_since : (file : Bytes) (told : Told) (b0 b a a1 : ℕ) (ended : Status) → b0 ≤ b → a ≤ a1 → NetlistAs file told b a (Err ended) → NetlistAs file told b0 a1 (Err ended)
-netlist_since file told b0 b a a1 ended le le1 (inl memory) = inl memory
-netlist_since file told b0 b a a1 ended le le1 (inr (got, walk, fits, loops, is, fault)) =
-    inr (got, walk, fits_from told b0 b a a1 got le le1 fits, loops, is, λ other e. let f = fault other e in (f.0, rose_from b0 b a a1 le le1 f.1))
-
--- the same on a shelf that tells the same
-pub step_on : {A : Type 0} (own : Which) (step : Option Bytes → Result A Status) (told now : Told) (b0 b a a1 : ℕ) (ended : Status) → now ≡ told → b0 ≤ b → a ≤ a1
-    → StepAs own step now b a (Err ended) → StepAs own step told b0 a1 (Err ended)
-step_on own step told now b0 b a a1 ended same le le1 refused =
-    step_since own step told b0 b a a1 ended le le1 (subst (λ t. StepAs own step t b a (Err ended)) same refused)
+use Rattle.command_steps.proofs.InOrder.{some_fit, loops_none, held_is}
 
 -- why a plan isn't made
 by_plan : (r : Option PlanRefusal) (p : Analysis) (ended : Status) → unless (refusal_of_plan r) p ≡ Err ended → IsPlain ended × ((own : Which) → ended ≡ status.ReadFault own → ⊥)
@@ -77,8 +60,8 @@ plan_same p made e = by_refusal (plan_refusal p) e
     by_refusal (Some refusal) is = let bad : Err (status_of_plan refusal) ≡ Ok made = is in cc bad
 
 -- a step of a file that was taken
-abbrev pub IsTaken : {A : Type 0} → Told → (Option Bytes → Result A Status) → Bytes → A → Type 0
-IsTaken told step bytes x = NowHas told bytes × (step (Some bytes) ≡ Ok x)
+abbrev pub IsTaken : {A : Type 0} → ShelfState → (name : Bytes) → (Option Bytes → Result A Status) → Bytes → A → Type 0
+IsTaken shelf name step bytes x = HasIfKnown (shelf.content name) bytes × (step (Some bytes) ≡ Ok x)
 
 -- the steps behind each
 abbrev to_plan : Circuit → Settings → List Run → RateTable → Points → Result Analysis Status
@@ -105,34 +88,35 @@ pub plan_is : (file : Bytes) (walk : Option (List NetId)) (set : Settings) (read
 plan_is file walk set reads = of_is file walk set reads ∙ (λ j. netlist_step file walk reads.netlist >>= (λ c. for_is c set reads j))
 
 -- the four names
-module _ (inputs : Inputs) (set : Settings) (shelf : Shelves) (before after : Bytes → ℕ) where
+module _ (inputs : Inputs) (set : Settings) (before after : ShelfState) where
   abbrev name : Which → Bytes
   name = name_in inputs []
 
   abbrev Taken : {A : Type 0} → Which → (Option Bytes → Result A Status) → Bytes → A → Type 0
-  Taken own step bytes x = IsTaken (shelf (name own)) step bytes x
+  Taken own step bytes x = IsTaken before (name own) step bytes x
 
   abbrev Step : {A : Type 0} → Which → (Option Bytes → Result A Status) → Status → Type 0
-  Step own step ended = StepAs own step (shelf (name own)) (before (name own)) (after (name own)) (Err ended)
+  Step own step ended = StepAs own step (name own) before after (Err ended)
 
   abbrev Answer : Status → Type 0
-  Answer ended = (ended ≡ status.Memory) ⊎ PlanRefused inputs set shelf before after ended
+  Answer ended = (ended ≡ status.Memory) ⊎ PlanRefused inputs set before after ended
 
   rose_of : (result first second : Bytes) (own : Which) (ended : Status)
-      → FaultRose own (before (name_with inputs result first second own)) (after (name_with inputs result first second own)) ended
+      → FaultRose own (before.read_faults (name_with inputs result first second own)) (after.read_faults (name_with inputs result first second own)) ended
       → (other : Which) → ended ≡ status.ReadFault other
-      → Rose (before (name_with inputs result first second other)) (after (name_with inputs result first second other))
+      → CountRose (before.read_faults (name_with inputs result first second other)) (after.read_faults (name_with inputs result first second other))
   rose_of result first second own ended fault = λ other e.
       let f = fault other e in
-      subst (λ w. Rose (before (name_with inputs result first second w)) (after (name_with inputs result first second w))) (sym f.0) f.1
+      subst (λ w. CountRose (before.read_faults (name_with inputs result first second w)) (after.read_faults (name_with inputs result first second w)))
+      (sym f.0) f.1
 
   -- the netlist was refused
-  pub plan_netlist : (ended : Status) → NetlistAs inputs.netlist (shelf (name which.Netlist)) (before (name which.Netlist)) (after (name which.Netlist)) (Err ended) → Answer ended
+  pub plan_netlist : (ended : Status) → NetlistAs inputs.netlist before after (Err ended) → Answer ended
   plan_netlist ended (inl memory) = inl memory
   plan_netlist ended (inr (got, walk, fits, loops, is, fault)) =
-      let work = some_fit (shelf (name which.Workload)) (before (name which.Workload)) (after (name which.Workload)) in
-      let rates = some_fit (shelf (name which.Rates)) (before (name which.Rates)) (after (name which.Rates)) in
-      let points = some_fit (shelf (name which.Points)) (before (name which.Points)) (after (name which.Points)) in
+      let work = some_fit before after (name which.Workload) in
+      let rates = some_fit before after (name which.Rates) in
+      let points = some_fit before after (name which.Points) in
       let reads : Reads = record { netlist = got; workload = work.0; rates = rates.0; points = points.0; result = None; first = None; second = None } in
       inr (record {
         checked = record {
@@ -153,8 +137,8 @@ module _ (inputs : Inputs) (set : Settings) (shelf : Shelves) (before after : By
     pub plan_runs : (ended : Status) → Step which.Workload (workload_step c) ended → Answer ended
     plan_runs ended (inl memory) = inl memory
     plan_runs ended (inr (got, fits, is, fault)) =
-        let rates = some_fit (shelf (name which.Rates)) (before (name which.Rates)) (after (name which.Rates)) in
-        let points = some_fit (shelf (name which.Points)) (before (name which.Points)) (after (name which.Points)) in
+        let rates = some_fit before after (name which.Rates) in
+        let points = some_fit before after (name which.Points) in
         let reads : Reads = record { netlist = Some net_bytes; workload = got; rates = rates.0; points = points.0; result = None; first = None; second = None } in
         inr (record {
           checked = record {
@@ -172,7 +156,7 @@ module _ (inputs : Inputs) (set : Settings) (shelf : Shelves) (before after : By
       pub plan_rates : (ended : Status) → Step which.Rates rates_step ended → Answer ended
       plan_rates ended (inl memory) = inl memory
       plan_rates ended (inr (got, fits, is, fault)) =
-          let points = some_fit (shelf (name which.Points)) (before (name which.Points)) (after (name which.Points)) in
+          let points = some_fit before after (name which.Points) in
           let reads : Reads = record { netlist = Some net_bytes; workload = Some work_bytes; rates = got; points = points.0; result = None; first = None; second = None } in
           inr (record {
             checked = record {
@@ -238,19 +222,19 @@ module _ (inputs : Inputs) (set : Settings) (shelf : Shelves) (before after : By
           pub plan_made : (p : Analysis) → to_plan c set runs table goals ≡ Ok p → HasNoLoop p.circuit → IsPlanOf inputs.netlist set files p
           plan_made p is free = record { plan = made (all_read files []) refl refl refl refl ∙ is; no_loop = free }
 
--- files that were read are those that are told to be held
-pub are_held : (shelf : Shelves) (inputs : Inputs) (files : Files) → AreRead shelf inputs files → AreHeld shelf inputs files
-are_held shelf inputs files read = λ held told. λ j. record {
-  netlist = held_is (shelf inputs.netlist) held.netlist files.netlist read.netlist told.netlist j;
-  workload = held_is (shelf inputs.workload) held.workload files.workload read.workload told.workload j;
-  rates = held_is (shelf inputs.rates) held.rates files.rates read.rates told.rates j;
-  points = held_is (shelf inputs.points) held.points files.points read.points told.points j;
+-- files that were read are those that are known to be held
+pub are_held : (shelf : ShelfState) (inputs : Inputs) (files : Files) → AreRead shelf inputs files → AreHeld shelf inputs files
+are_held shelf inputs files read = λ held holds. λ j. record {
+  netlist = held_is (shelf.content inputs.netlist) held.netlist files.netlist read.netlist holds.netlist j;
+  workload = held_is (shelf.content inputs.workload) held.workload files.workload read.workload holds.workload j;
+  rates = held_is (shelf.content inputs.rates) held.rates files.rates read.rates holds.rates j;
+  points = held_is (shelf.content inputs.points) held.points files.points read.points holds.points j;
 }
 
 -- over them nothing refuses a plan that was made
-pub plan_checked : (inputs : Inputs) (set : Settings) (shelf : Shelves) (before after : Bytes → ℕ) (files : Files) (p : Analysis)
-    → AreRead shelf inputs files → IsPlanOf inputs.netlist set files p → IsLoopAnswer inputs.netlist (Some files.netlist) None → PlanChecked inputs set shelf before after None
-plan_checked inputs set shelf before after files p read plan loops = record {
+pub plan_checked : (inputs : Inputs) (set : Settings) (before after : ShelfState) (files : Files) (p : Analysis)
+    → AreRead before inputs files → IsPlanOf inputs.netlist set files p → IsLoopAnswer inputs.netlist (Some files.netlist) None → PlanChecked inputs set before after None
+plan_checked inputs set before after files p read plan loops = record {
   reads = all_read files [];
   fit = record { netlist = read.netlist; workload = read.workload; rates = read.rates; points = read.points };
   walk = None;

@@ -1,8 +1,8 @@
 -- The order of the checks of `parts`.
-use Rattle.std.proofs.Common.{◌≡◌, ◌∙◌, ap, sym, refl, subst, ℕ, ◌≤◌, List, [], arith, inl, inr}
+use Rattle.std.proofs.Common.{◌≡◌, ◌∙◌, ap, sym, refl, subst, List, [], inl, inr}
 use Rattle.std.specs.Prelude.{Option, Some, None, Result, Ok, Err, ◌⊎◌}
 use Rattle.fm_base.specs.Names.{Bytes}
-use Rattle.fm_shelf.specs.Shelf.{Shelves, Rose}
+use Rattle.fm_shelf.specs.Shelf.{ShelfState, CountRose}
 use Rattle.circuit.specs.declared.parts.NetId.{NetId}
 use Rattle.circuit.specs.Circuit.{Circuit}
 use Rattle.rate_table.specs.Table.{RateTable}
@@ -10,12 +10,12 @@ use Rattle.command_line.specs.Commands.{Parts}
 use Rattle.refusal_text.specs.declared.status.Status.{Status}
 use Rattle.refusal_text.specs.declared.status.Status.TheVariants as status
 use Rattle.refusal_text.specs.declared.status.Which.TheVariants as which
-use Rattle.command_steps.specs.Files.{Reads, all_read}
+use Rattle.command_steps.specs.Files.{Files, Reads, all_read}
 use Rattle.command_steps.specs.FirstRefusal.{netlist_step, rates_step, rated_of, refusal_in, first_refusal, ◌>>=◌}
 use Rattle.command_steps.specs.Held.{name_of}
 use Rattle.command_steps.specs.Checked.{Checked}
 use Rattle.command_steps.specs.Steps.{StepAs, NetlistAs, RefusedInOrder, AreRated}
-use Rattle.command_steps.proofs.InOrder.{rose_from, fits_from, some_fit, loops_none, held_is}
+use Rattle.command_steps.proofs.InOrder.{some_fit, loops_none, held_is}
 
 -- what was read of its two files
 abbrev reads_of : (netlist rates : Option Bytes) → Reads
@@ -38,65 +38,64 @@ rated_made : (n : Bytes) (walk : Option (List NetId)) (reads : Reads) (c : Circu
 rated_made n walk reads c table netlist rates =
     rated_is n walk reads ∙ ap (λ r. r >>= after_netlist reads.rates) netlist ∙ ap (λ r. r >>= (λ t. Ok (c, t))) rates
 
-module _ (n r : Bytes) (shelf : Shelves) (before mid after : Bytes → ℕ) where
+module _ (n r : Bytes) (before after : ShelfState) where
   abbrev Answer : Status → Type 0
-  Answer ended = (ended ≡ status.Memory) ⊎ RefusedInOrder (Parts n r) shelf before after ended
+  Answer ended = (ended ≡ status.Memory) ⊎ RefusedInOrder (Parts n r) before after ended
 
   -- the netlist was refused
-  pub rated_netlist : (ended : Status) → ((x : Bytes) → mid x ≤ after x) → NetlistAs n (shelf n) (before n) (mid n) (Err ended) → Answer ended
-  rated_netlist ended le (inl memory) = inl memory
-  rated_netlist ended le (inr (got, walk, fits, loops, is, fault)) =
-      let other = some_fit (shelf r) (before r) (after r) in
+  pub rated_netlist : (ended : Status) → NetlistAs n before after (Err ended) → Answer ended
+  rated_netlist ended (inl memory) = inl memory
+  rated_netlist ended (inr (got, walk, fits, loops, is, fault)) =
+      let other = some_fit before after r in
       let reads : Reads = reads_of got other.0 in
       inr (record {
         checked = record {
           reads = reads;
-          fit = (fits_from (shelf n) (before n) (before n) (mid n) (after n) got (omega arith) (le n) fits, other.1);
+          fit = (fits, other.1);
           walk = walk;
           loops = loops;
           first = first_is walk n r reads ∙ ap refusal_in (rated_is n walk reads ∙ ap (λ s. s >>= after_netlist other.0) is);
         };
         fault = λ which e.
             let f = fault which e in
-            subst (λ own. Rose (before (name_of (Parts n r) own)) (after (name_of (Parts n r) own))) (sym f.0) (rose_from (before n) (before n) (mid n) (after n) (omega arith) (le n) f.1);
+            subst (λ own. CountRose (before.read_faults (name_of (Parts n r) own)) (after.read_faults (name_of (Parts n r) own))) (sym f.0) f.1;
       })
 
-  -- the rates were refused
-  pub rated_rates : (c : Circuit) (ended : Status) → ((x : Bytes) → before x ≤ mid x) → NetlistAs n (shelf n) (before n) (mid n) (Ok c)
-      → StepAs which.Rates rates_step (shelf r) (mid r) (after r) (Err ended) → Answer ended
-  rated_rates c ended le netlist (inl memory) = inl memory
-  rated_rates c ended le (bytes, now, is, no_loop) (inr (got, fits, refused, fault)) =
-      let reads : Reads = reads_of (Some bytes) got in
-      inr (record {
-        checked = record {
-          reads = reads;
-          fit = (now, fits_from (shelf r) (before r) (mid r) (after r) (after r) got (le r) (omega arith) fits);
-          walk = None;
-          loops = loops_none n bytes c is no_loop;
-          first = first_is None n r reads ∙ ap refusal_in (rated_is n None reads ∙ ap (λ s. s >>= after_netlist got) is
-              ∙ ap (λ s. s >>= (λ t. Ok (c, t))) refused);
-        };
-        fault = λ which e.
-            let f = fault which e in
-            subst (λ own. Rose (before (name_of (Parts n r) own)) (after (name_of (Parts n r) own))) (sym f.0) (rose_from (before r) (mid r) (after r) (after r) (le r) (omega arith) f.1);
-      })
+  module _ (c : Circuit) (netlist : NetlistAs n before after (Ok c)) where
+    -- the rates were refused
+    pub rated_rates : (ended : Status) → StepAs which.Rates rates_step r before after (Err ended) → Answer ended
+    rated_rates ended (inl memory) = inl memory
+    rated_rates ended (inr (got, fits, refused, fault)) =
+        let reads : Reads = reads_of (Some netlist.0) got in
+        inr (record {
+          checked = record {
+            reads = reads;
+            fit = (netlist.1, fits);
+            walk = None;
+            loops = loops_none n netlist.0 c netlist.2 netlist.3;
+            first = first_is None n r reads ∙ ap refusal_in (rated_is n None reads ∙ ap (λ s. s >>= after_netlist got) netlist.2
+                ∙ ap (λ s. s >>= (λ t. Ok (c, t))) refused);
+          };
+          fault = λ which e.
+              let f = fault which e in
+              subst (λ own. CountRose (before.read_faults (name_of (Parts n r) own)) (after.read_faults (name_of (Parts n r) own))) (sym f.0) f.1;
+        })
 
-  module _ (c : Circuit) (table : RateTable) (netlist : NetlistAs n (shelf n) (before n) (mid n) (Ok c)) (rates : StepAs which.Rates rates_step (shelf r) (mid r) (after r) (Ok table)) where
-    -- nothing was refused
-    pub rated_checked : Checked (Parts n r) shelf before after None
-    rated_checked =
-        let reads : Reads = reads_of (Some netlist.0) (Some rates.0) in
-        record {
-          reads = reads;
-          fit = (netlist.1, rates.1);
-          walk = None;
-          loops = loops_none n netlist.0 c netlist.2 netlist.3;
-          first = first_is None n r reads ∙ ap refusal_in (rated_made n None reads c table netlist.2 rates.2);
-        }
+    module _ (table : RateTable) (rates : StepAs which.Rates rates_step r before after (Ok table)) where
+      -- nothing was refused
+      pub rated_checked : Checked (Parts n r) before after None
+      rated_checked =
+          let reads : Reads = reads_of (Some netlist.0) (Some rates.0) in
+          record {
+            reads = reads;
+            fit = (netlist.1, rates.1);
+            walk = None;
+            loops = loops_none n netlist.0 c netlist.2 netlist.3;
+            first = first_is None n r reads ∙ ap refusal_in (rated_made n None reads c table netlist.2 rates.2);
+          }
 
-    -- the files stand for the netlist and its rates
-    pub are_rated : AreRated shelf n r c table
-    are_rated = λ files held_netlist held_rates.
-        rated_made n None (all_read files []) c table
-        (ap (λ b. netlist_step n None (Some b)) (held_is (shelf n) files.netlist netlist.0 netlist.1 held_netlist) ∙ netlist.2)
-        (ap (λ b. rates_step (Some b)) (held_is (shelf r) files.rates rates.0 rates.1 held_rates) ∙ rates.2)
+      -- the files stand for the netlist and its rates
+      pub are_rated : AreRated before n r c table
+      are_rated =
+          let files : Files = record { netlist = netlist.0; workload = []; rates = rates.0; points = [] } in
+          (files, netlist.1, rates.1, rated_made n None (all_read files []) c table netlist.2 rates.2)

@@ -1,26 +1,27 @@
--- The files of a command: their names, and what a shelf tells of them.
-use Rattle.std.specs.Prelude.{◌≡◌, [], Some}
-use Rattle.fm_shelf.specs.Shelf.{Shelves}
+-- The files of a command: their names, and what is known of them.
+use Rattle.std.specs.Prelude.{◌≡◌, []}
+use Rattle.fm_shelf.specs.Content.{Held}
+use Rattle.fm_shelf.specs.Shelf.{ShelfState}
 use Rattle.refusal_text.specs.declared.status.Which.{Which}
 use Rattle.refusal_text.specs.declared.status.Which.TheVariants as which
 use Rattle.command_line.specs.Commands.{Command, Classes, Check, Run, Resume, Audit, Gen, Report, Inputs, Shard, Merge, Pairs, Parts, Faults, Progress}
 use Rattle.command_steps.specs.Files.{Files}
 use Rattle.fm_base.specs.Names.{Bytes}
 
--- the shelf tells that a file holds these bytes
-abbrev pub Holds : Shelves → Bytes → Bytes → Type 0
-Holds shelf name bytes = shelf name ≡ Some (Some bytes)
+-- a file is known to hold these bytes
+abbrev pub Holds : ShelfState → (name bytes : Bytes) → Type 0
+Holds shelf name bytes = shelf.content name ≡ Held bytes
 
--- the shelf tells the bytes of the four inputs
-pub record HoldsInputs (shelf : Shelves) (inputs : Inputs) (files : Files) : Type 0 where
+-- the four inputs are known to hold these
+pub record HoldsInputs (shelf : ShelfState) (inputs : Inputs) (files : Files) : Type 0 where
   pub netlist : Holds shelf inputs.netlist files.netlist
   pub workload : Holds shelf inputs.workload files.workload
   pub rates : Holds shelf inputs.rates files.rates
   pub points : Holds shelf inputs.points files.points
 
 -- no file has changed
-abbrev pub KeepsAll : Shelves → Shelves → Type 0
-KeepsAll before after = (name : Bytes) → after name ≡ before name
+abbrev pub KeepsAll : (before after : ShelfState) → Type 0
+KeepsAll before after = after.content ≡ before.content
 
 -- the name of each file by the words of `merge`
 abbrev pub name_with : Inputs → (result first second : Bytes) → Which → Bytes

@@ -1,6 +1,6 @@
 // Two result files of one plan, merged.
 ghost use Rattle.std.specs.Prelude.{◌≡◌, ◌≤◌, ℕ, List, map};
-ghost use Rattle.fm_shelf.specs.Shelf.{held_in};
+ghost use Rattle.fm_shelf.specs.Shelf.{OnlyReadsAny};
 ghost use Rattle.campaign_plan.specs.Batches.{AreDistinct};
 ghost use Rattle.campaign_plan.specs.Kept.{AreSettings};
 ghost use Rattle.result_file.specs.KeptRows.{entry_of};
@@ -71,11 +71,8 @@ pub fn read_merged<F: Shelf>(
     set: Settings,
 ) -> Result<Merged, Refused>
     requires settings { AreSettings set }
-    ensures read { MergedAs (held_in (F.files shelf.old) (F.rest_absent shelf.old)) (F.read_faults shelf.old) (F.read_faults shelf.new)
-        (names_of inputs.now) first.now second.now set result }
-    ensures files { F.files shelf.new ≡ F.files shelf.old }
-    ensures rest { F.rest_absent shelf.new ≡ F.rest_absent shelf.old }
-    ensures write_counts { (other : List ℕ) → F.write_faults shelf.new other ≡ F.write_faults shelf.old other }
+    ensures read { MergedAs (F.seen shelf.old) (F.seen shelf.new) (names_of inputs.now) first.now second.now set result }
+    ensures rest { OnlyReadsAny (F.seen shelf.old) (F.seen shelf.new) }
 {
     let planned = read_plan(alloc, shelf, inputs, set)?;
     let own = own_line(&planned);

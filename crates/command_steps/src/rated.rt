@@ -1,6 +1,6 @@
 // What `parts` reads.
 ghost use Rattle.std.specs.Prelude.{◌≡◌, ◌≤◌, ℕ, List};
-ghost use Rattle.fm_shelf.specs.Shelf.{held_in};
+ghost use Rattle.fm_shelf.specs.Shelf.{OnlyReadsAny};
 ghost use Rattle.command_steps.specs.Steps.{RatedAs};
 
 use crate::netlist::{Ordered, read_netlist};
@@ -24,12 +24,8 @@ pub fn read_rated<F: Shelf>(
     netlist: &str,
     rates: &str,
 ) -> Result<Rated, Refused>
-    ensures read { RatedAs (held_in (F.files shelf.old) (F.rest_absent shelf.old))
-        (F.read_faults shelf.old) (F.read_faults shelf.new) netlist.now rates.now result }
-    ensures files { F.files shelf.new ≡ F.files shelf.old }
-    ensures rest { F.rest_absent shelf.new ≡ F.rest_absent shelf.old }
-    ensures counts { (other : List ℕ) → F.read_faults shelf.old other ≤ F.read_faults shelf.new other }
-    ensures write_counts { (other : List ℕ) → F.write_faults shelf.new other ≡ F.write_faults shelf.old other }
+    ensures read { RatedAs (F.seen shelf.old) (F.seen shelf.new) netlist.now rates.now result }
+    ensures rest { OnlyReadsAny (F.seen shelf.old) (F.seen shelf.new) }
 {
     let ordered = read_netlist(alloc, shelf, netlist)?;
     let parts = read_parts(alloc, shelf, rates)?;

@@ -7,7 +7,7 @@ ghost use Rattle.fault_list.specs.Answers.{AnswersFaults};
 ghost use Rattle.fault_list.specs.Faults.{AreCycles, batches_for, fault_at, fault_name, faults_for, faults_of, used_plane};
 ghost use Rattle.fault_list.specs.Kept.{IsShort, count_for, most_faults};
 ghost use Rattle.fm_base.specs.Planes.{lanes};
-ghost use Rattle.fm_shelf.specs.Shelf.{HasPrefix, Rose, told_more};
+ghost use Rattle.fm_shelf.specs.Sink.{Sends};
 
 mod name;
 
@@ -169,10 +169,7 @@ impl FaultList {
     /// cycle for a flip, `~` and the cycle for a pulse.
     pub fn write_name<O: Sink>(&self, net: &Netlist, i: u32, out: &mut O) -> Result<(), Failed>
         requires { i < length self.now }
-        ensures ok { OnOk result (O.written out.new ≡ told_more (O.written out.old) (fault_name net.now (fault_at self.now i))) }
-        ensures torn { OnErr result (HasPrefix (O.written out.old) (O.written out.new) (fault_name net.now (fault_at self.now i))) }
-        ensures failed { OnErr result (Rose (O.faults out.old) (O.faults out.new)) }
-        ensures grows { O.faults out.old ≤ O.faults out.new }
+        ensures { Sends (O.seen out.old) (O.seen out.new) (fault_name net.now (fault_at self.now i)) result }
     {
         name::write_fault(net, self.fault(i), out)
     }

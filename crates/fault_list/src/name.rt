@@ -1,7 +1,7 @@
 // The names of faults.
 ghost use Rattle.std.specs.Prelude.{◌≡◌, ◌≤◌, ◌++◌, OnOk, OnErr, decimal};
 ghost use Rattle.fault_list.specs.Faults.{fault_name, net_of_fault};
-ghost use Rattle.fm_shelf.specs.Shelf.{HasPrefix, Rose, told_more};
+ghost use Rattle.fm_shelf.specs.Sink.{Sends};
 
 use circuit::netlist::Netlist;
 use circuit::parts::{Fault, NetId};
@@ -25,10 +25,7 @@ pub fn net_of(net: &Netlist, fault: Fault) -> NetId
 
 // Writes a name, a sign, and a cycle.
 fn write_cycle<O: Sink>(name: &[u8], sign: &[u8], cycle: u32, out: &mut O) -> Result<(), Failed>
-    ensures ok { OnOk result (O.written out.new ≡ told_more (O.written out.old) (name.now ++ (sign.now ++ decimal cycle))) }
-    ensures torn { OnErr result (HasPrefix (O.written out.old) (O.written out.new) (name.now ++ (sign.now ++ decimal cycle))) }
-    ensures failed { OnErr result (Rose (O.faults out.old) (O.faults out.new)) }
-    ensures grows { O.faults out.old ≤ O.faults out.new }
+    ensures { Sends (O.seen out.old) (O.seen out.new) (name.now ++ (sign.now ++ decimal cycle)) result }
 {
     let mut buffer = Buffer::new();
     write_pieces(out, &[name, sign, buffer.format(cycle).as_bytes()])
@@ -36,10 +33,7 @@ fn write_cycle<O: Sink>(name: &[u8], sign: &[u8], cycle: u32, out: &mut O) -> Re
 
 /// Writes the name of a fault of a netlist.
 pub(crate) fn write_fault<O: Sink>(net: &Netlist, fault: Fault, out: &mut O) -> Result<(), Failed>
-    ensures ok { OnOk result (O.written out.new ≡ told_more (O.written out.old) (fault_name net.now fault)) }
-    ensures torn { OnErr result (HasPrefix (O.written out.old) (O.written out.new) (fault_name net.now fault)) }
-    ensures failed { OnErr result (Rose (O.faults out.old) (O.faults out.new)) }
-    ensures grows { O.faults out.old ≤ O.faults out.new }
+    ensures { Sends (O.seen out.old) (O.seen out.new) (fault_name net.now fault) result }
 {
     let name = net.name(net_of(net, fault));
     match fault {

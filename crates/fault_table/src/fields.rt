@@ -2,7 +2,7 @@
 ghost use Rattle.std.specs.Prelude.{◌≡◌, ◌∷◌, ◌++◌, [], flat_map};
 ghost use Rattle.std.specs.List.{list_any};
 ghost use Rattle.std.specs.Str.{byte};
-ghost use Rattle.fmeda_report.specs.Sends.{Sends};
+ghost use Rattle.fm_shelf.specs.Sink.{Sends};
 ghost use Rattle.fault_table.specs.Csv.{between_quotes, calls_for_quotes as calls, csv_field};
 
 use fm_shelf::shelf::{Failed, Sink};
@@ -31,7 +31,7 @@ fn is_quoted(pieces: &[&[u8]]) -> bool
 
 // Writes a byte between quotes.
 fn write_byte<O: Sink>(byte: u8, out: &mut O) -> Result<(), Failed>
-    ensures { Sends (O.written out.old) (O.written out.new) (O.faults out.old) (O.faults out.new) (between_quotes byte) result }
+    ensures { Sends (O.seen out.old) (O.seen out.new) (between_quotes byte) result }
 {
     if byte == b'"' {
         write_all(out, b"\"\"")
@@ -42,7 +42,7 @@ fn write_byte<O: Sink>(byte: u8, out: &mut O) -> Result<(), Failed>
 
 // Writes a piece between quotes.
 fn write_bytes<O: Sink>(piece: &[u8], out: &mut O) -> Result<(), Failed>
-    ensures { Sends (O.written out.old) (O.written out.new) (O.faults out.old) (O.faults out.new)
+    ensures { Sends (O.seen out.old) (O.seen out.new)
         (flat_map between_quotes piece.now) result }
 {
     for byte in piece {
@@ -53,7 +53,7 @@ fn write_bytes<O: Sink>(piece: &[u8], out: &mut O) -> Result<(), Failed>
 
 // Writes pieces between quotes, one after the other.
 fn write_within<O: Sink>(pieces: &[&[u8]], out: &mut O) -> Result<(), Failed>
-    ensures { Sends (O.written out.old) (O.written out.new) (O.faults out.old) (O.faults out.new)
+    ensures { Sends (O.seen out.old) (O.seen out.new)
         (flat_map (λ piece. flat_map between_quotes piece.now) pieces.now) result }
 {
     for piece in pieces {
@@ -64,7 +64,7 @@ fn write_within<O: Sink>(pieces: &[&[u8]], out: &mut O) -> Result<(), Failed>
 
 // Writes pieces as one field in quotes.
 fn write_quoted<O: Sink>(pieces: &[&[u8]], out: &mut O) -> Result<(), Failed>
-    ensures { Sends (O.written out.old) (O.written out.new) (O.faults out.old) (O.faults out.new)
+    ensures { Sends (O.seen out.old) (O.seen out.new)
         (byte "\"" ∷ flat_map (λ piece. flat_map between_quotes piece.now) pieces.now ++ byte "\"" ∷ []) result }
 {
     write_all(out, b"\"")?;
@@ -74,7 +74,7 @@ fn write_quoted<O: Sink>(pieces: &[&[u8]], out: &mut O) -> Result<(), Failed>
 
 /// Writes pieces as one field, in quotes where one of its bytes calls for them.
 pub(crate) fn write_field<O: Sink>(pieces: &[&[u8]], out: &mut O) -> Result<(), Failed>
-    ensures { Sends (O.written out.old) (O.written out.new) (O.faults out.old) (O.faults out.new)
+    ensures { Sends (O.seen out.old) (O.seen out.new)
         (csv_field (flat_map (λ piece. piece.now) pieces.now)) result }
 {
     if is_quoted(pieces) {
@@ -86,7 +86,7 @@ pub(crate) fn write_field<O: Sink>(pieces: &[&[u8]], out: &mut O) -> Result<(), 
 
 // Writes a comma and a field.
 fn write_next<O: Sink>(field: &[u8], out: &mut O) -> Result<(), Failed>
-    ensures { Sends (O.written out.old) (O.written out.new) (O.faults out.old) (O.faults out.new)
+    ensures { Sends (O.seen out.old) (O.seen out.new)
         (byte "," ∷ csv_field field.now) result }
 {
     write_all(out, b",")?;
@@ -95,7 +95,7 @@ fn write_next<O: Sink>(field: &[u8], out: &mut O) -> Result<(), Failed>
 
 /// Writes fields with a comma before each.
 pub(crate) fn write_fields<O: Sink>(fields: &[&[u8]], out: &mut O) -> Result<(), Failed>
-    ensures { Sends (O.written out.old) (O.written out.new) (O.faults out.old) (O.faults out.new)
+    ensures { Sends (O.seen out.old) (O.seen out.new)
         (flat_map (λ field. byte "," ∷ csv_field field.now) fields.now) result }
 {
     for field in fields {

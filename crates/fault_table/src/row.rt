@@ -3,7 +3,7 @@ ghost use Rattle.std.specs.Prelude.{◌≡◌, ◌<◌, ◌∷◌, ◌++◌, dec
 ghost use Rattle.std.specs.Str.{byte};
 ghost use Rattle.fault_list.specs.Faults.{fault_name};
 ghost use Rattle.campaign_plan.specs.Analysis.{fault_count, fault_numbered, part_numbered, part_of};
-ghost use Rattle.fmeda_report.specs.Sends.{Sends};
+ghost use Rattle.fm_shelf.specs.Sink.{Sends};
 ghost use Rattle.fmeda_report.specs.Words.{class_word as word_of_class, role_word as word_of_role};
 ghost use Rattle.fault_table.specs.Csv.{csv_field};
 ghost use Rattle.fault_table.specs.FaultTable.{fault_row, further_fields};
@@ -24,7 +24,7 @@ const LANES: u32 = 64;
 
 // Writes the name of a net with a sign and a cycle behind it, as a field.
 fn write_cycle<O: Sink>(name: &[u8], sign: &[u8], cycle: u32, out: &mut O) -> Result<(), Failed>
-    ensures { Sends (O.written out.old) (O.written out.new) (O.faults out.old) (O.faults out.new)
+    ensures { Sends (O.seen out.old) (O.seen out.new)
         (csv_field (name.now ++ (sign.now ++ decimal cycle))) result }
 {
     write_field(&[name, sign, number_word(u64::from(cycle)).bytes()], out)
@@ -32,7 +32,7 @@ fn write_cycle<O: Sink>(name: &[u8], sign: &[u8], cycle: u32, out: &mut O) -> Re
 
 // Writes the name of a fault, as a field.
 fn write_name<O: Sink>(net: &Netlist, fault: Fault, out: &mut O) -> Result<(), Failed>
-    ensures { Sends (O.written out.old) (O.written out.new) (O.faults out.old) (O.faults out.new)
+    ensures { Sends (O.seen out.old) (O.seen out.new)
         (csv_field (fault_name net.now fault)) result }
 {
     let name = net.name(net_of(net, fault));
@@ -69,7 +69,7 @@ fn class_of(class: &Class) -> &[u8]
 // Writes the fields of fault `i` behind its name.
 fn write_rest<O: Sink>(plan: &Plan, i: u32, planes: Outcome, out: &mut O) -> Result<(), Failed>
     requires { i < fault_count plan.now }
-    ensures { Sends (O.written out.old) (O.written out.new) (O.faults out.old) (O.faults out.new)
+    ensures { Sends (O.seen out.old) (O.seen out.new)
         (flat_map (λ field. byte "," ∷ csv_field field) (further_fields plan.now planes i)) result }
 {
     let fault = plan.faults().fault(i);
@@ -101,7 +101,7 @@ pub(crate) fn write_row<O: Sink>(
     out: &mut O,
 ) -> Result<(), Failed>
     requires { i < fault_count plan.now }
-    ensures { Sends (O.written out.old) (O.written out.new) (O.faults out.old) (O.faults out.new)
+    ensures { Sends (O.seen out.old) (O.seen out.new)
         (fault_row plan.now planes i) result }
 {
     write_name(plan.net(), plan.faults().fault(i), out)?;

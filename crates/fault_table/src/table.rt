@@ -4,7 +4,7 @@ ghost use Rattle.fm_base.specs.Lists.{below};
 ghost use Rattle.campaign_plan.specs.Analysis.{batch_count, fault_count};
 ghost use Rattle.campaign_plan.specs.Batches.{Entry};
 ghost use Rattle.result_merge.specs.Tables.{at_batch, table_of};
-ghost use Rattle.fmeda_report.specs.Sends.{Sends};
+ghost use Rattle.fm_shelf.specs.Sink.{Sends};
 ghost use Rattle.fault_table.specs.Csv.{csv_row};
 ghost use Rattle.fault_table.specs.FaultTable.{columns, fault_table, row_if_kept};
 
@@ -18,7 +18,7 @@ const LANES: u32 = 64;
 
 // Writes the names of the columns.
 fn write_columns<O: Sink>(out: &mut O) -> Result<(), Failed>
-    ensures { Sends (O.written out.old) (O.written out.new) (O.faults out.old) (O.faults out.new) (csv_row columns) result }
+    ensures { Sends (O.seen out.old) (O.seen out.new) (csv_row columns) result }
 {
     write_all(
         out,
@@ -35,7 +35,7 @@ fn write_if_kept<O: Sink>(
 ) -> Result<(), Failed>
     requires fault { i < fault_count plan.now }
     requires table { length table.now ≡ batch_count plan.now }
-    ensures { Sends (O.written out.old) (O.written out.new) (O.faults out.old) (O.faults out.new)
+    ensures { Sends (O.seen out.old) (O.seen out.new)
         (row_if_kept plan.now (at_batch table.now (i / 64)) i) result }
 {
     match table.get(i / LANES) {
@@ -47,7 +47,7 @@ fn write_if_kept<O: Sink>(
 // Writes the rows of the faults of the kept batches.
 fn write_rows<O: Sink>(plan: &Plan, table: &PlanesTable, out: &mut O) -> Result<(), Failed>
     requires { length table.now ≡ batch_count plan.now }
-    ensures { Sends (O.written out.old) (O.written out.new) (O.faults out.old) (O.faults out.new)
+    ensures { Sends (O.seen out.old) (O.seen out.new)
         (flat_map (λ i. row_if_kept plan.now (at_batch table.now (i / 64)) i) (below (fault_count plan.now))) result }
 {
     for i in 0..plan.faults().len() {
@@ -65,7 +65,7 @@ pub fn write_fault_table<O: Sink>(
 ) -> Result<(), Failed>
     requires { length table.now ≡ batch_count plan.now }
     ensures { (entries : List Entry) → table.now ≡ table_of (batch_count plan.now) entries
-        → Sends (O.written out.old) (O.written out.new) (O.faults out.old) (O.faults out.new) (fault_table plan.now entries) result }
+        → Sends (O.seen out.old) (O.seen out.new) (fault_table plan.now entries) result }
 {
     write_columns(out)?;
     write_rows(plan, table, out)

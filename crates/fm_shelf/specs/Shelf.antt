@@ -1,41 +1,22 @@
--- What a shelf of files and a sink tell, and when they may fail. This project's own rules: the shelf stands for a file
--- system of which nothing is known but what it was seen to hold, and which may fail at any call.
-use Rattle.std.specs.Prelude.{◌≡◌, ◌≢◌, ℕ, ◌-◌, ◌<◌, ◌≤◌, ◌^◌, Bool, List, [], ◌∷◌, ◌++◌, length, take, drop, Option, Some, None, if◌then◌else◌}
-use Rattle.std.specs.Str.{bytes_eq}
+-- What contracts see of a shelf of files, and how a call changes it. This project's own rules: any call may fail, and each
+-- failure is counted for the name that it was about.
+use Rattle.std.specs.Prelude.{◌≡◌, ◌≢◌, ◌⊎◌, ℕ, ◌-◌, ◌<◌, ◌≤◌, ◌^◌, List, ◌++◌, length, take, drop}
+use Rattle.fm_shelf.specs.Content.{Content, Unknown, Absent, Held, IsThere, HasIfKnown, bytes_of}
 
--- what is told of a file: nothing, that it is absent, or its bytes
-abbrev pub Told : Type 0
-Told = Option (Option (List ℕ))
-
--- what is told of each file, by its name
-abbrev pub Shelves : Type 0
-Shelves = List ℕ → Told
-
--- what the listed files and the word on all others tell of a name
-abbrev pub held_in : List (List ℕ × List ℕ) → Bool → List ℕ → Told
-held_in [] rest_absent name = if rest_absent then Some None else None
-held_in (file ∷ files) rest_absent name = if bytes_eq file.0 name then Some (Some file.1) else held_in files rest_absent name
-
--- the fact holds of the file's bytes, where they are told
-abbrev pub IfHeld : Told → (List ℕ → Type 0) → Type 0
-IfHeld None P = Unit {0}
-IfHeld (Some None) P = Unit {0}
-IfHeld (Some (Some bytes)) P = P bytes
-
--- the file is told to be there
-abbrev pub IsThere : Told → Type 0
-IsThere None = ⊥
-IsThere (Some None) = ⊥
-IsThere (Some (Some bytes)) = Unit {0}
+-- what is known of each file, by its name; how often reads of it have failed; and how often cuts of it and appends to it have
+pub record ShelfState : Type 0 where
+  pub content : List ℕ → Content
+  pub read_faults : List ℕ → ℕ
+  pub write_faults : List ℕ → ℕ
 
 -- the count rose, or stands at the last value of a counter
-abbrev pub Rose : ℕ → ℕ → Type 0
-Rose before now = now < 2 ^ 64 - 1 → before < now
+abbrev pub CountRose : ℕ → ℕ → Type 0
+CountRose before now = now < 2 ^ 64 - 1 → before < now
 
--- No count falls, and none rises of a file of another name that is told to be there.
-pub record Counts (held : List ℕ → Told) (name : List ℕ) (before now : List ℕ → ℕ) : Type 0 where
+-- no count falls, and none rises of a file of another name that is known to be there
+pub record Counts (content : List ℕ → Content) (name : List ℕ) (before now : List ℕ → ℕ) : Type 0 where
   pub grows : (other : List ℕ) → before other ≤ now other
-  pub others : (other : List ℕ) → other ≢ name → IsThere (held other) → now other ≡ before other
+  pub others : (other : List ℕ) → other ≢ name → IsThere (content other) → now other ≡ before other
 
 -- n bytes were read from a place of these bytes
 pub record Reads (bytes : List ℕ) (at n : ℕ) (piece : List ℕ) : Type 0 where
@@ -43,42 +24,46 @@ pub record Reads (bytes : List ℕ) (at n : ℕ) (piece : List ℕ) : Type 0 whe
   pub read : take n piece ≡ take n (drop at bytes)
   pub some : 0 < length piece → at < length bytes → 0 < n
 
--- the bytes that an append goes on from: an absent file counts as empty
-abbrev pub bytes_of : Told → List ℕ
-bytes_of None = []
-bytes_of (Some None) = []
-bytes_of (Some (Some bytes)) = bytes
+-- nothing was done but that this file was read, or a read of it failed
+pub record OnlyReads (before after : ShelfState) (name : List ℕ) : Type 0 where
+  pub content : after.content ≡ before.content
+  pub counts : Counts before.content name before.read_faults after.read_faults
+  pub writes : (other : List ℕ) → after.write_faults other ≡ before.write_faults other
 
--- the file is there, where it is told, and the fact holds of its bytes
-abbrev pub NowIs : Told → (List ℕ → Type 0) → Type 0
-NowIs None P = Unit {0}
-NowIs (Some None) P = ⊥
-NowIs (Some (Some bytes)) P = P bytes
+-- nothing was done but that files were read, or reads of them failed
+pub record OnlyReadsAny (before after : ShelfState) : Type 0 where
+  pub content : after.content ≡ before.content
+  pub counts : (name : List ℕ) → before.read_faults name ≤ after.read_faults name
+  pub writes : (name : List ℕ) → after.write_faults name ≡ before.write_faults name
 
--- the file is there, where it is told, and has these bytes
-abbrev pub NowHas : Told → List ℕ → Type 0
-NowHas told bytes = NowIs told (λ now. now ≡ bytes)
+-- nothing was done but that this file was changed, or a change of it failed; a file of which nothing is known stays so
+pub record OnlyWrites (before after : ShelfState) (name : List ℕ) : Type 0 where
+  pub others : (other : List ℕ) → other ≢ name → after.content other ≡ before.content other
+  pub unknown : before.content name ≡ Unknown → after.content name ≡ Unknown
+  pub counts : Counts before.content name before.write_faults after.write_faults
+  pub reads : (other : List ℕ) → after.read_faults other ≡ before.read_faults other
 
--- the file has a prefix of the piece more, where it is told; an absent one may have stayed absent
-abbrev pub MayHaveMore : Told → Told → List ℕ → Type 0
-MayHaveMore before None piece = Unit {0}
-MayHaveMore before (Some None) piece = before ≡ Some None
-MayHaveMore before (Some (Some now)) piece = (n : ℕ) × (n ≤ length piece) × (now ≡ bytes_of before ++ take n piece)
+-- where it is known, the file has its bytes with this change; an absent one counts as empty
+abbrev pub Becomes : (before after : ShelfState) → (name : List ℕ) → (change : List ℕ → List ℕ) → Type 0
+Becomes before after name change = HasIfKnown (after.content name) (change (bytes_of (before.content name)))
 
--- Other files stay, and what isn't told is never told later.
-pub record Stays (before now : List ℕ → Told) (name : List ℕ) : Type 0 where
-  pub others : (other : List ℕ) → other ≢ name → now other ≡ before other
-  pub untold : before name ≡ None → now name ≡ None
+-- a change of the file failed: it is as before, or has the change
+abbrev pub MayBecome : (before after : ShelfState) → (name : List ℕ) → (change : List ℕ → List ℕ) → Type 0
+MayBecome before after name change =
+    CountRose (before.write_faults name) (after.write_faults name)
+    × ((after.content name ≡ before.content name) ⊎ Becomes before after name change)
 
--- what is told of a sink after these bytes went out
-abbrev pub told_more : Option (List ℕ) → List ℕ → Option (List ℕ)
-told_more None piece = None
-told_more (Some written) piece = Some (written ++ piece)
+-- where it is known, the file has a prefix of the piece more; an absent one may have stayed absent
+abbrev pub MayHaveMore : (before after : Content) → List ℕ → Type 0
+MayHaveMore before Unknown piece = Unit {0}
+MayHaveMore before Absent piece = before ≡ Absent
+MayHaveMore before (Held now) piece = (n : ℕ) × (n ≤ length piece) × (now ≡ bytes_of before ++ take n piece)
 
--- the greatest length of a file that is read: 2^26 bytes
-abbrev pub greatest : ℕ
-greatest = 67108864
+-- where it is known, the file has the piece more
+abbrev pub Appends : (before after : ShelfState) → (name piece : List ℕ) → Type 0
+Appends before after name piece = Becomes before after name (λ bytes. bytes ++ piece)
 
--- A part of the piece went out, where it is told.
-abbrev pub HasPrefix : Option (List ℕ) → Option (List ℕ) → List ℕ → Type 0
-HasPrefix before now piece = (n : ℕ) × (n ≤ length piece) × (now ≡ told_more before (take n piece))
+-- an append to the file failed: it may have a prefix of the piece more
+abbrev pub MayAppend : (before after : ShelfState) → (name piece : List ℕ) → Type 0
+MayAppend before after name piece =
+    CountRose (before.write_faults name) (after.write_faults name) × MayHaveMore (before.content name) (after.content name) piece

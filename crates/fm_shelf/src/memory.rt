@@ -1,10 +1,11 @@
 // A shelf and a sink in memory, whose calls of given numbers fail.
-ghost use Rattle.std.specs.Prelude.{[], false, if◌then◌else◌, ◌++◌, ◌∷◌, MatchBool, OnOk, ◌≡◌, ◌<◌, ◌≤◌, ◌-◌, ℕ, List, Some, None, true, length, take, drop, IfOk, IfSome, ◌≢◌, MatchOption};
+ghost use Rattle.std.specs.Prelude.{[], false, if◌then◌else◌, ◌++◌, ◌∷◌, MatchBool, OnOk, ◌≡◌, ◌<◌, ◌≤◌, ◌-◌, ℕ, List, Some, None, length, take, drop, IfOk, IfSome, ◌≢◌, MatchOption};
 ghost use Rattle.std.specs.Str.{bytes_eq};
-ghost use Rattle.fm_shelf.specs.Shelf.{IfHeld, Reads, Rose, Counts, held_in, bytes_of};
-ghost use Rattle.fm_shelf.specs.Edits.{held_of, Edited, IsUncounted};
+ghost use Rattle.fm_shelf.specs.Content.{Absent, Held, IfPresent, bytes_of};
+ghost use Rattle.fm_shelf.specs.Shelf.{Reads, CountRose, Counts};
+ghost use Rattle.fm_shelf.specs.Edits.{content_of, Edited, IsUncounted};
 ghost use Rattle.fm_shelf.specs.Given.{given_files};
-ghost use Rattle.fm_shelf.specs.Entries.{AllApart, HasName, files_of, count_of};
+ghost use Rattle.fm_shelf.specs.Entries.{AllApart, HasName, content_in, files_of, count_of};
 
 use crate::files::{Calls, File, Files};
 use crate::shelf::{Failed, Shelf, Sink};
@@ -64,9 +65,7 @@ impl MemorySink {
 }
 
 impl Sink for MemorySink {
-    ghost written = { λ s. Some s.bytes.items };
-
-    ghost faults = { λ s. s.failures };
+    ghost seen = { λ s. record { written = Some s.bytes.items; faults = s.failures } };
 
     fn write(&mut self, piece: &[u8]) -> Result<usize, Failed> {
         self.calls = self.calls.saturating_add(1);
@@ -131,9 +130,9 @@ fn copy_from(bytes: &[u8], at: u64, piece: &mut [u8]) -> usize
 // Reads from the file of a name, where there is one.
 pub(crate) fn read_entry(entries: &[Entry], name: &str, at: u64, piece: &mut [u8]) -> Option<usize>
     ensures fits { IfSome result (λ n. n ≤ length piece.new) }
-    ensures read { IfSome result (λ n. IfHeld (held_in (files_of entries.now) true name.now) (λ bytes. Reads bytes at n piece.new)) }
-    ensures there { IfSome result (λ _. held_in (files_of entries.now) true name.now ≢ Some None) }
-    ensures absent { result ≡ None → held_in (files_of entries.now) true name.now ≡ Some None }
+    ensures read { IfSome result (λ n. IfPresent (content_in (files_of entries.now) Absent name.now) (λ bytes. Reads bytes at n piece.new)) }
+    ensures there { IfSome result (λ _. content_in (files_of entries.now) Absent name.now ≢ Absent) }
+    ensures absent { result ≡ None → content_in (files_of entries.now) Absent name.now ≡ Absent }
 {
     let i = place_of(entries, name)?;
     Some(copy_from(&entries[i].bytes, at, piece))
@@ -142,7 +141,7 @@ pub(crate) fn read_entry(entries: &[Entry], name: &str, at: u64, piece: &mut [u8
 // A count stands still at its type's end.
 fn one_more(count: u64) -> u64
     ensures grows { count ≤ result }
-    ensures rose { Rose count result }
+    ensures rose { CountRose count result }
 {
     count.saturating_add(1)
 }
@@ -150,9 +149,9 @@ fn one_more(count: u64) -> u64
 // Notes that a read of this name failed.
 fn note_read(entries: &mut [Entry], others: &mut u64, name: &str)
     ensures files { files_of entries.new ≡ files_of entries.old }
-    ensures rose { Rose (count_of (λ entry. entry.reads) others.old entries.old name.now)
+    ensures rose { CountRose (count_of (λ entry. entry.reads) others.old entries.old name.now)
         (count_of (λ entry. entry.reads) others.new entries.new name.now) }
-    ensures counts { Counts (held_in (files_of entries.old) true) name.now
+    ensures counts { Counts (content_in (files_of entries.old) Absent) name.now
         (count_of (λ entry. entry.reads) others.old entries.old) (count_of (λ entry. entry.reads) others.new entries.new) }
     ensures writes { (rest : ℕ) (other : List ℕ)
         → count_of (λ entry. entry.writes) rest entries.new other ≡ count_of (λ entry. entry.writes) rest entries.old other }
@@ -169,9 +168,9 @@ fn note_read(entries: &mut [Entry], others: &mut u64, name: &str)
 // Notes that a cut of this name or an append to it failed.
 fn note_write(entries: &mut [Entry], others: &mut u64, name: &str)
     ensures files { files_of entries.new ≡ files_of entries.old }
-    ensures rose { Rose (count_of (λ entry. entry.writes) others.old entries.old name.now)
+    ensures rose { CountRose (count_of (λ entry. entry.writes) others.old entries.old name.now)
         (count_of (λ entry. entry.writes) others.new entries.new name.now) }
-    ensures counts { Counts (held_in (files_of entries.old) true) name.now
+    ensures counts { Counts (content_in (files_of entries.old) Absent) name.now
         (count_of (λ entry. entry.writes) others.old entries.old) (count_of (λ entry. entry.writes) others.new entries.new) }
     ensures reads { (rest : ℕ) (other : List ℕ)
         → count_of (λ entry. entry.reads) rest entries.new other ≡ count_of (λ entry. entry.reads) rest entries.old other }
@@ -206,7 +205,7 @@ fn make(
     piece: &[u8],
 ) -> bool
     requires { AllApart entries.old.items name.now }
-    ensures { MatchBool result (Edited limits.reads limits.writes entries.old.items entries.new.items name.now (Some (Some piece.now)))
+    ensures { MatchBool result (Edited limits.reads limits.writes entries.old.items entries.new.items name.now (Held piece.now))
         (entries.new.items ≡ entries.old.items) }
 {
     if name.len() > LONGEST_NAME || entries.reserve(1).is_err() {
@@ -246,7 +245,7 @@ fn add(
     whole: usize,
 ) -> bool
     ensures { Edited limits.reads limits.writes entries.old.items entries.new.items name.now
-        (if result then Some (Some (bytes_of (held_of entries.old.items name.now) ++ piece.now)) else held_of entries.old.items name.now) }
+        (if result then Held (bytes_of (content_of entries.old.items name.now) ++ piece.now) else content_of entries.old.items name.now) }
 {
     if limits.shut {
         return false;
@@ -279,7 +278,7 @@ fn shorten(
     len: u64,
 ) -> bool
     ensures { Edited limits.reads limits.writes entries.old.items entries.new.items name.now
-        (if result then Some (Some (take len (bytes_of (held_of entries.old.items name.now)))) else held_of entries.old.items name.now) }
+        (if result then Held (take len (bytes_of (content_of entries.old.items name.now))) else content_of entries.old.items name.now) }
 {
     if limits.shut {
         return false;
@@ -427,15 +426,9 @@ fn taken_of(fails: bool, whole: usize, taken: u64) -> usize
 }
 
 impl Shelf for MemoryShelf {
-    ghost use Rattle.fm_shelf.specs.Entries.{files_of, count_of};
+    ghost use Rattle.fm_shelf.specs.Entries.{state_of};
 
-    ghost files = { λ m. files_of m.entries.items };
-
-    ghost rest_absent = { λ _. true };
-
-    ghost read_faults = { λ m. count_of (λ entry. entry.reads) m.other_reads m.entries.items };
-
-    ghost write_faults = { λ m. count_of (λ entry. entry.writes) m.other_writes m.entries.items };
+    ghost seen = { λ m. state_of m.other_reads m.other_writes m.entries.items };
 
     fn read(&mut self, name: &str, at: u64, piece: &mut [u8]) -> Result<usize, Failed> {
         self.calls = self.calls.saturating_add(1);

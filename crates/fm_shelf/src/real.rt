@@ -60,13 +60,9 @@ impl<'a, R: Files + Sync> FileShelf<'a, R> {
 }
 
 impl<'a, R: Files + Sync> Shelf for FileShelf<'a, R> {
-    ghost files = { λ _. [] };
+    ghost use Rattle.fm_shelf.specs.Content.{Unknown};
 
-    ghost rest_absent = { λ _. false };
-
-    ghost read_faults = { λ s _. s.failed_reads };
-
-    ghost write_faults = { λ s _. s.failed_writes };
+    ghost seen = { λ s. record { content = λ _. Unknown; read_faults = λ _. s.failed_reads; write_faults = λ _. s.failed_writes } };
 
     fn read(&mut self, name: &str, at: u64, piece: &mut [u8]) -> Result<usize, Failed> {
         match read_some(self.rt, name, at, piece) {
@@ -117,9 +113,7 @@ impl<'a, R: Print> OutSink<'a, R> {
 }
 
 impl<'a, R: Print> Sink for OutSink<'a, R> {
-    ghost written = { λ _. None };
-
-    ghost faults = { λ s. s.failures };
+    ghost seen = { λ s. record { written = None; faults = s.failures } };
 
     fn write(&mut self, piece: &[u8]) -> Result<usize, Failed> {
         match self.rt.write_all(piece) {

@@ -1,7 +1,7 @@
 // A shelf and a sink that never fail.
-ghost use Rattle.std.specs.Prelude.{◌≡◌, ◌≤◌, ℕ, List, [], false, None, filter, not, length, IfOk};
+ghost use Rattle.std.specs.Prelude.{◌≡◌, ◌≤◌, ℕ, List, [], None, filter, not, length, IfOk};
 ghost use Rattle.std.specs.Str.{bytes_eq};
-ghost use Rattle.fm_shelf.specs.Entries.{files_of};
+ghost use Rattle.fm_shelf.specs.Entries.{known_files};
 ghost use Rattle.fm_shelf.specs.Given.{given_files};
 
 use crate::files::Files;
@@ -32,7 +32,7 @@ fn forget(told: &mut Vec<Entry>, name: &str)
 impl SureShelf {
     /// A shelf that tells these files. No later call takes memory.
     pub fn new(alloc: Global, files: Files) -> Result<Self, AllocError>
-        ensures { IfOk result (λ s. files_of s.told.items ≡ given_files files) }
+        ensures { IfOk result (λ s. ⟦<SureShelf as Shelf>⟧.seen s ≡ known_files (given_files files)) }
     {
         Ok(SureShelf {
             told: entries_of(alloc, files.as_slice(), 0)?,
@@ -41,15 +41,9 @@ impl SureShelf {
 }
 
 impl Shelf for SureShelf {
-    ghost use Rattle.fm_shelf.specs.Entries.{files_of};
+    ghost use Rattle.fm_shelf.specs.Entries.{known_files, files_of};
 
-    ghost files = { λ s. files_of s.told.items };
-
-    ghost rest_absent = { λ _. false };
-
-    ghost read_faults = { λ _ _. 0 };
-
-    ghost write_faults = { λ _ _. 0 };
+    ghost seen = { λ s. known_files (files_of s.told.items) };
 
     fn read(&mut self, name: &str, at: u64, piece: &mut [u8]) -> Result<usize, Failed> {
         match read_entry(&self.told, name, at, piece) {
@@ -81,9 +75,7 @@ impl SureSink {
 }
 
 impl Sink for SureSink {
-    ghost written = { λ _. None };
-
-    ghost faults = { λ _. 0 };
+    ghost seen = { λ _. record { written = None; faults = 0 } };
 
     fn write(&mut self, piece: &[u8]) -> Result<usize, Failed> {
         Ok(piece.len())

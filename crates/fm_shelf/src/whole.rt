@@ -1,7 +1,9 @@
 // Whole files and whole pieces.
-ghost use Rattle.std.specs.Prelude.{◌++◌, ◌≡◌, ◌<◌, ◌≤◌, ◌^◌, ℕ, List, Some, None, length, OnOk, OnErr, IfOk, IsErr, IsErrOf};
+ghost use Rattle.std.specs.Prelude.{◌≡◌, ◌<◌, ◌≤◌, ◌^◌, length, OnOk, OnErr, IfOk, IsErr, IsErrOf};
 ghost use Rattle.std.specs.List.{flat_map};
-ghost use Rattle.fm_shelf.specs.Shelf.{bytes_of, NowHas, NowIs, MayHaveMore, Stays, held_in, IfHeld, Rose, Counts, told_more, HasPrefix, greatest};
+ghost use Rattle.fm_shelf.specs.Content.{Absent, IfPresent, IsIfKnown, greatest};
+ghost use Rattle.fm_shelf.specs.Shelf.{CountRose, OnlyReads, OnlyWrites, Appends, MayAppend};
+ghost use Rattle.fm_shelf.specs.Sink.{Sends};
 ghost use Rattle.fm_shelf.specs.declared.whole.ReadRefusal.TheVariants.{Memory, Failed as ReadFailed};
 
 use crate::shelf::{Failed, Shelf, Sink};
@@ -43,10 +45,7 @@ impl From<Failed> for ReadRefusal {
 
 /// Writes a whole piece, in as many calls as it takes; none for an empty one. After `Failed` a prefix of it went out.
 pub fn write_all<O: Sink>(out: &mut O, piece: &[u8]) -> Result<(), Failed>
-    ensures ok { OnOk result (O.written out.new ≡ told_more (O.written out.old) piece.now) }
-    ensures torn { OnErr result (HasPrefix (O.written out.old) (O.written out.new) piece.now) }
-    ensures failed { OnErr result (Rose (O.faults out.old) (O.faults out.new)) }
-    ensures grows { O.faults out.old ≤ O.faults out.new }
+    ensures { Sends (O.seen out.old) (O.seen out.new) piece.now result }
 {
     let mut done = 0;
     while done < piece.len() {
@@ -57,10 +56,7 @@ pub fn write_all<O: Sink>(out: &mut O, piece: &[u8]) -> Result<(), Failed>
 
 /// Writes whole pieces, one after the other. After `Failed` a prefix of them all went out.
 pub fn write_pieces<O: Sink>(out: &mut O, pieces: &[&[u8]]) -> Result<(), Failed>
-    ensures ok { OnOk result (O.written out.new ≡ told_more (O.written out.old) (flat_map (λ piece. piece.now) pieces.now)) }
-    ensures torn { OnErr result (HasPrefix (O.written out.old) (O.written out.new) (flat_map (λ piece. piece.now) pieces.now)) }
-    ensures failed { OnErr result (Rose (O.faults out.old) (O.faults out.new)) }
-    ensures grows { O.faults out.old ≤ O.faults out.new }
+    ensures { Sends (O.seen out.old) (O.seen out.new) (flat_map (λ piece. piece.now) pieces.now) result }
 {
     for piece in pieces {
         write_all(out, piece)?;
@@ -71,15 +67,9 @@ pub fn write_pieces<O: Sink>(out: &mut O, pieces: &[&[u8]]) -> Result<(), Failed
 /// Adds a whole piece to the end of a file, in one call at least, so an absent file is made for an empty piece too. After
 /// `Failed` the file may have a prefix of the piece more.
 pub fn append_all<F: Shelf>(shelf: &mut F, name: &str, piece: &[u8]) -> Result<(), Failed>
-    ensures ok { OnOk result (NowHas (held_in (F.files shelf.new) (F.rest_absent shelf.new) name.now)
-        (bytes_of (held_in (F.files shelf.old) (F.rest_absent shelf.old) name.now) ++ piece.now)) }
-    ensures torn { OnErr result (MayHaveMore (held_in (F.files shelf.old) (F.rest_absent shelf.old) name.now)
-        (held_in (F.files shelf.new) (F.rest_absent shelf.new) name.now) piece.now) }
-    ensures failed { OnErr result (Rose (F.write_faults shelf.old name.now) (F.write_faults shelf.new name.now)) }
-
-    ensures files { Stays (held_in (F.files shelf.old) (F.rest_absent shelf.old)) (held_in (F.files shelf.new) (F.rest_absent shelf.new)) name.now }
-    ensures counts { Counts (held_in (F.files shelf.old) (F.rest_absent shelf.old)) name.now (F.write_faults shelf.old) (F.write_faults shelf.new) }
-    ensures read_counts { (other : List ℕ) → F.read_faults shelf.new other ≡ F.read_faults shelf.old other }
+    ensures ok { OnOk result (Appends (F.seen shelf.old) (F.seen shelf.new) name.now piece.now) }
+    ensures failed { OnErr result (MayAppend (F.seen shelf.old) (F.seen shelf.new) name.now piece.now) }
+    ensures rest { OnlyWrites (F.seen shelf.old) (F.seen shelf.new) name.now }
 {
     let mut done = shelf.append(name, piece)?;
     while done < piece.len() {
@@ -98,17 +88,12 @@ fn room_of_a_piece(alloc: Global) -> Result<Vec<u8>, AllocError>
 /// Reads a whole file of at most 2^26 bytes, in at most 2^26 + 2 reads. A longer file is `TooLong`, as soon as one byte more
 /// was taken.
 pub fn read_all<F: Shelf>(alloc: Global, shelf: &mut F, name: &str) -> Result<Seq<u8>, ReadRefusal>
-    ensures ok { IfOk result (λ bytes. IfHeld (held_in (F.files shelf.old) (F.rest_absent shelf.old) name.now) (λ held. bytes ≡ held)) }
+    ensures ok { IfOk result (λ bytes. IfPresent ((F.seen shelf.old).content name.now) (λ held. bytes ≡ held)) }
     ensures short { IfOk result (λ bytes. length bytes ≤ greatest) }
-    ensures absent { held_in (F.files shelf.old) (F.rest_absent shelf.old) name.now ≡ Some None → IsErr result }
-    ensures failed { IsErrOf result ReadFailed → Rose (F.read_faults shelf.old name.now) (F.read_faults shelf.new name.now) }
-    ensures too_long { IsErrOf result ReadRefusal.TooLong
-        → NowIs (held_in (F.files shelf.old) (F.rest_absent shelf.old) name.now) (λ held. greatest < length held) }
-
-    ensures files { F.files shelf.new ≡ F.files shelf.old }
-    ensures rest { F.rest_absent shelf.new ≡ F.rest_absent shelf.old }
-    ensures counts { Counts (held_in (F.files shelf.old) (F.rest_absent shelf.old)) name.now (F.read_faults shelf.old) (F.read_faults shelf.new) }
-    ensures write_counts { (other : List ℕ) → F.write_faults shelf.new other ≡ F.write_faults shelf.old other }
+    ensures absent { (F.seen shelf.old).content name.now ≡ Absent → IsErr result }
+    ensures failed { IsErrOf result ReadFailed → CountRose ((F.seen shelf.old).read_faults name.now) ((F.seen shelf.new).read_faults name.now) }
+    ensures too_long { IsErrOf result ReadRefusal.TooLong → IsIfKnown ((F.seen shelf.old).content name.now) (λ held. greatest < length held) }
+    ensures rest { OnlyReads (F.seen shelf.old) (F.seen shelf.new) name.now }
 {
     let mut room = room_of_a_piece(alloc)?;
     let piece = room.as_mut_slice();

@@ -2,7 +2,7 @@
 #![tactic(auto)]
 
 ghost use Rattle.std.specs.Prelude.{◌≡◌, ◌≢◌, drop};
-ghost use Rattle.fm_shelf.specs.Shelf.{told_more};
+ghost use Rattle.fm_shelf.specs.Sink.{Wrote};
 ghost use Rattle.refusal_text.specs.RefusalLines.{code_of};
 
 use fm_shelf::real::{FileShelf, OutSink};
@@ -32,7 +32,7 @@ fn words(rt: &HostRuntime) -> io::Result<Vec<String>> {
 // Sends on what waits, and gives the exit status: that of the call, or where the call was done and the rest couldn't be written, that
 // of an output that failed. Behind a write that failed nothing is sent on.
 fn code_after<O: Sink + Drop>(status: &Status, out: &mut Paged<O>) -> u8
-    ensures done { result ≡ 0 → O.written out.new.out ≡ told_more (O.written out.old.out) (drop out.old.sent out.old.page.items) }
+    ensures done { result ≡ 0 → Wrote (O.seen out.old.out) (O.seen out.new.out) (drop out.old.sent out.old.page.items) }
     ensures code { result ≢ 21 → result ≡ code_of status.now }
 {
     let code = status.code();

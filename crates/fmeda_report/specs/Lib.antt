@@ -1,6 +1,5 @@
 pub mod Words
 pub mod Report
-pub mod Sends
 pub mod Spaces
 pub mod Rows
 pub mod Rooms

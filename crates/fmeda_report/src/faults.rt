@@ -7,7 +7,7 @@ ghost use Rattle.campaign_plan.specs.Analysis.{batch_count, fault_count, fault_n
 ghost use Rattle.campaign_plan.specs.Weights.{weight};
 ghost use Rattle.fmeda_report.specs.Report.{fault_line, is_named as is_named_class};
 ghost use Rattle.fmeda_report.specs.Words.{class_word as word_of_class};
-ghost use Rattle.fmeda_report.specs.Sends.{Sends};
+ghost use Rattle.fm_shelf.specs.Sink.{Sends};
 ghost use Rattle.fmeda_report.specs.Tallies.{planes_at};
 
 use crate::planes::class_of_fault;
@@ -27,7 +27,7 @@ fn is_named(class: Class) -> bool
 // Writes the class, the name and the weight of a fault.
 fn write_named<O: Sink>(plan: &Plan, class: Class, i: u32, out: &mut O) -> Result<(), Failed>
     requires { i < fault_count plan.now }
-    ensures { Sends (O.written out.old) (O.written out.new) (O.faults out.old) (O.faults out.new)
+    ensures { Sends (O.seen out.old) (O.seen out.new)
         (line (word_of_class class ∷ fault_name plan.now.circuit (fault_numbered plan.now i) ∷ decimal (weight plan.now i) ∷ [])) result }
 {
     write_pieces(out, &[class_word(class), b" "])?;
@@ -39,7 +39,7 @@ fn write_named<O: Sink>(plan: &Plan, class: Class, i: u32, out: &mut O) -> Resul
 fn write_fault<O: Sink>(plan: &Plan, planes: &[Outcome], i: u32, out: &mut O) -> Result<(), Failed>
     requires fault { i < fault_count plan.now }
     requires planes { length planes.now ≡ batch_count plan.now }
-    ensures { Sends (O.written out.old) (O.written out.new) (O.faults out.old) (O.faults out.new)
+    ensures { Sends (O.seen out.old) (O.seen out.new)
         (fault_line plan.now (planes_at planes.now) i) result }
 {
     let class = class_of_fault(plan, planes, i);
@@ -57,7 +57,7 @@ pub(crate) fn write_faults<O: Sink>(
     out: &mut O,
 ) -> Result<(), Failed>
     requires { length planes.now ≡ batch_count plan.now }
-    ensures { Sends (O.written out.old) (O.written out.new) (O.faults out.old) (O.faults out.new)
+    ensures { Sends (O.seen out.old) (O.seen out.new)
         (flat_map (fault_line plan.now (planes_at planes.now)) (below (fault_count plan.now))) result }
 {
     for i in 0..plan.faults().len() {

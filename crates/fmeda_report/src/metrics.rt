@@ -2,7 +2,7 @@
 ghost use Rattle.std.specs.Prelude.{◌≡◌};
 ghost use Rattle.metric_sums.specs.Totals.{AreConsistent};
 ghost use Rattle.fmeda_report.specs.Report.{metric_lines, ratio_lines, sum_lines, target_lines};
-ghost use Rattle.fmeda_report.specs.Sends.{Sends};
+ghost use Rattle.fm_shelf.specs.Sink.{Sends};
 
 use crate::lines::write_line;
 use crate::words::{fraction_word, number_word, target_word};
@@ -11,7 +11,7 @@ use metric_sums::{Asil, Sums, Targets};
 
 // Writes the five sums.
 fn write_sums<O: Sink>(sums: &Sums, out: &mut O) -> Result<(), Failed>
-    ensures { Sends (O.written out.old) (O.written out.new) (O.faults out.old) (O.faults out.new) (sum_lines sums.now) result }
+    ensures { Sends (O.seen out.old) (O.seen out.new) (sum_lines sums.now) result }
 {
     write_line(
         out,
@@ -40,7 +40,7 @@ fn write_sums<O: Sink>(sums: &Sums, out: &mut O) -> Result<(), Failed>
 // Writes the metrics.
 fn write_ratios<O: Sink>(sums: &Sums, out: &mut O) -> Result<(), Failed>
     requires { AreConsistent sums.now }
-    ensures { Sends (O.written out.old) (O.written out.new) (O.faults out.old) (O.faults out.new) (ratio_lines sums.now) result }
+    ensures { Sends (O.seen out.old) (O.seen out.new) (ratio_lines sums.now) result }
 {
     let permanent = fraction_word(sums.spfm_permanent());
     write_line(out, &[b"spfm", b"permanent", permanent.bytes()])?;
@@ -52,7 +52,7 @@ fn write_ratios<O: Sink>(sums: &Sums, out: &mut O) -> Result<(), Failed>
 
 // Writes whether the targets are met.
 fn write_targets<O: Sink>(targets: &Targets, out: &mut O) -> Result<(), Failed>
-    ensures { Sends (O.written out.old) (O.written out.new) (O.faults out.old) (O.faults out.new) (target_lines targets.now) result }
+    ensures { Sends (O.seen out.old) (O.seen out.new) (target_lines targets.now) result }
 {
     let permanent = target_word(targets.spfm_permanent);
     write_line(out, &[b"target", b"spfm", b"permanent", permanent])?;
@@ -65,7 +65,7 @@ fn write_targets<O: Sink>(targets: &Targets, out: &mut O) -> Result<(), Failed>
 // Writes the sums, the metrics and whether the targets of a level are met.
 pub(crate) fn write_metrics<O: Sink>(asil: Asil, sums: &Sums, out: &mut O) -> Result<(), Failed>
     requires { AreConsistent sums.now }
-    ensures { Sends (O.written out.old) (O.written out.new) (O.faults out.old) (O.faults out.new) (metric_lines asil sums.now) result }
+    ensures { Sends (O.seen out.old) (O.seen out.new) (metric_lines asil sums.now) result }
 {
     write_sums(sums, out)?;
     write_ratios(sums, out)?;

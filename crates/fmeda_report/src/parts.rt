@@ -4,7 +4,7 @@ ghost use Rattle.fm_base.specs.Lists.{below};
 ghost use Rattle.campaign_plan.specs.Analysis.{part_count};
 ghost use Rattle.fmeda_report.specs.Report.{Planes, faults_of_part, part_line};
 ghost use Rattle.fmeda_report.specs.Words.{role_word as word_of_role, covering_word as word_of_covering};
-ghost use Rattle.fmeda_report.specs.Sends.{Sends};
+ghost use Rattle.fm_shelf.specs.Sink.{Sends};
 ghost use Rattle.fmeda_report.specs.Tallies.{tally_at, tally_of, AreSmall, AreTallied};
 
 use crate::lines::write_line;
@@ -33,7 +33,7 @@ fn write_part<O: Sink>(plan: &Plan, number: u32, tally: &Tally, out: &mut O) -> 
     requires part { number < part_count plan.now }
     requires small { AreSmall tally.now }
     ensures { (planes : Planes) → tally.now ≡ tally_of plan.now planes (faults_of_part plan.now number)
-        → Sends (O.written out.old) (O.written out.new) (O.faults out.old) (O.faults out.new) (part_line plan.now planes number) result }
+        → Sends (O.seen out.old) (O.seen out.new) (part_line plan.now planes number) result }
 {
     let part = plan.part(number);
     write_line(
@@ -76,7 +76,7 @@ pub(crate) fn write_parts<O: Sink>(
     requires parts { length tallies.now ≡ part_count plan.now }
     requires small { (k : ℕ) → k < part_count plan.now → AreSmall (tally_at tallies.now k) }
     ensures { (planes : Planes) → AreTallied plan.now planes tallies.now
-        → Sends (O.written out.old) (O.written out.new) (O.faults out.old) (O.faults out.new)
+        → Sends (O.seen out.old) (O.seen out.new)
         (flat_map (part_line plan.now planes) (below (part_count plan.now))) result }
 {
     for number in 0..plan.parts() {

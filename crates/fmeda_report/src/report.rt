@@ -4,7 +4,7 @@ ghost use Rattle.campaign_plan.specs.Analysis.{batch_count, part_count};
 ghost use Rattle.fmeda_report.specs.Report.{report, summary};
 ghost use Rattle.fmeda_report.specs.Rooms.{room_for};
 ghost use Rattle.fmeda_report.specs.Rows.{HoldEachOnce, planes_in};
-ghost use Rattle.fmeda_report.specs.Sends.{Sends};
+ghost use Rattle.fm_shelf.specs.Sink.{Sends};
 ghost use Rattle.fmeda_report.specs.Tallies.{planes_at, tally_at, AreSmall, AreTallied};
 
 use crate::faults::write_faults;
@@ -30,7 +30,7 @@ pub fn write_report<O: Sink>(
 ) -> Result<(), Failed>
     requires space { space.old ≡ room_for plan.now }
     requires rows { HoldEachOnce plan.now rows.now }
-    ensures report { Sends (O.written out.old) (O.written out.new) (O.faults out.old) (O.faults out.new)
+    ensures report { Sends (O.seen out.old) (O.seen out.new)
         (report plan.now (planes_in rows.now)) result }
     ensures space { space.new ≡ space.old }
 {
@@ -50,7 +50,7 @@ fn report_for<O: Sink>(
     requires parts { length tallies.now ≡ part_count plan.now }
     requires tallied { AreTallied plan.now (planes_at planes.now) tallies.now }
     requires small { (k : ℕ) → k < part_count plan.now → AreSmall (tally_at tallies.now k) }
-    ensures { Sends (O.written out.old) (O.written out.new) (O.faults out.old) (O.faults out.new)
+    ensures { Sends (O.seen out.old) (O.seen out.new)
         (report plan.now (planes_at planes.now)) result }
 {
     write_line(out, &[b"fmeda-report", b"1"])?;
@@ -71,7 +71,7 @@ pub fn write_summary<O: Sink>(
 ) -> Result<(), Failed>
     requires space { space.old ≡ room_for plan.now }
     requires rows { HoldEachOnce plan.now rows.now }
-    ensures summary { Sends (O.written out.old) (O.written out.new) (O.faults out.old) (O.faults out.new)
+    ensures summary { Sends (O.seen out.old) (O.seen out.new)
         (summary n plan.now (planes_in rows.now)) result }
     ensures space { space.new ≡ space.old }
 {
@@ -87,7 +87,7 @@ fn summarize_for<O: Sink>(
     out: &mut O,
 ) -> Result<(), Failed>
     requires { length planes.now ≡ batch_count plan.now }
-    ensures { Sends (O.written out.old) (O.written out.new) (O.faults out.old) (O.faults out.new)
+    ensures { Sends (O.seen out.old) (O.seen out.new)
         (summary n plan.now (planes_at planes.now)) result }
 {
     write_line(out, &[b"gen", number_word(u64::from(n)).bytes()])?;

@@ -2,7 +2,7 @@
 ghost use Rattle.std.specs.Prelude.{◌≡◌};
 ghost use Rattle.workload.specs.Runs.{all_cycles};
 ghost use Rattle.fmeda_report.specs.Report.{sizes_line};
-ghost use Rattle.fmeda_report.specs.Sends.{Sends};
+ghost use Rattle.fm_shelf.specs.Sink.{Sends};
 
 use crate::lines::write_line;
 use crate::words::{asil_word, number_word};
@@ -23,7 +23,7 @@ pub fn cycles(work: &Workload) -> u32
 
 // Writes the sizes of the netlist, the fault list and the workload, and the settings.
 pub(crate) fn write_sizes<O: Sink>(plan: &Plan, out: &mut O) -> Result<(), Failed>
-    ensures { Sends (O.written out.old) (O.written out.new) (O.faults out.old) (O.faults out.new) (sizes_line plan.now) result }
+    ensures { Sends (O.seen out.old) (O.seen out.new) (sizes_line plan.now) result }
 {
     let net = plan.net();
     let settings = plan.settings();

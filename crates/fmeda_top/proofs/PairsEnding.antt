@@ -9,7 +9,9 @@ use Rattle.std.proofs.lemmas.List.FromFn.{length-range_with_len, get_or-range_wi
 use Rattle.fm_base.specs.Names.{Bytes}
 use Rattle.fm_base.specs.Lists.{below}
 use Rattle.fm_base.specs.Firsts.{given, first_answer}
-use Rattle.fm_shelf.specs.Shelf.{Shelves}
+use Rattle.fm_shelf.specs.Shelf.{ShelfState}
+use Rattle.fm_shelf.specs.Sink.{SinkState}
+use Rattle.fm_shelf.specs.Outside.{Outside, outside}
 use Rattle.metric_sums.specs.declared.Class.{Class}
 use Rattle.metric_sums.specs.Classes.{is_class}
 use Rattle.campaign_plan.specs.declared.Settings.{Settings}
@@ -47,7 +49,7 @@ use Rattle.command_steps.proofs.InOrder.{held_is}
 use Rattle.command_steps.proofs.PlanOrder.{are_held}
 use Rattle.command_steps.proofs.BegunOrder.{paired_made, paired_refused, rows_kept}
 use Rattle.command_steps.proofs.Distinct.{kept_distinct}
-use Rattle.fmeda_top.specs.Causes.{Counts, CommandEnds}
+use Rattle.fmeda_top.specs.Promises.{CommandEnds}
 use Rattle.fmeda_top.specs.Tried.{TextAs, ChoosesAs, ArePaired, PairsAs}
 use Rattle.fmeda_top.proofs.Ending.{text_ends}
 use Rattle.pair_list.proofs.Placing.{under}
@@ -142,10 +144,10 @@ module _ (inputs : Inputs) (name : Bytes) (set : Settings) (workers : ℕ) where
   command = Pairs inputs name set workers
 
   -- refused before the pairs were chosen
-  pub pairs_refused : (shelf : Shelves) (before after : Bytes → ℕ) (ended : Status)
-      → (ended ≡ status.Memory) ⊎ KeptRefused inputs name set shelf before after ended → (ended ≡ status.Memory) ⊎ RefusedInOrder command shelf before after ended
-  pairs_refused shelf before after ended (inl memory) = inl memory
-  pairs_refused shelf before after ended (inr r) = inr (record {
+  pub pairs_refused : (before after : ShelfState) (ended : Status)
+      → (ended ≡ status.Memory) ⊎ KeptRefused inputs name set before after ended → (ended ≡ status.Memory) ⊎ RefusedInOrder command before after ended
+  pairs_refused before after ended (inl memory) = inl memory
+  pairs_refused before after ended (inr r) = inr (record {
     checked = record {
       reads = r.reads;
       fit = (r.fit, r.result);
@@ -156,7 +158,7 @@ module _ (inputs : Inputs) (name : Bytes) (set : Settings) (workers : ℕ) where
     fault = r.fault;
   })
 
-  module _ (shelf : Shelves) (before after : Bytes → ℕ) (made : Begun) (begun : BegunAs shelf before after inputs name set (Ok made)) where
+  module _ (before after : ShelfState) (made : Begun) (begun : BegunAs before after inputs name set (Ok made)) where
     abbrev p : Analysis
     p = made.planned.plan
 
@@ -168,7 +170,7 @@ module _ (inputs : Inputs) (name : Bytes) (set : Settings) (workers : ℕ) where
     rows_distinct = kept_distinct made.own p begun.1.bytes made.kept (rows_kept which.Result made.own p begun.1.bytes made.kept begun.1.rows)
 
     -- the first refusal is that of the pairs
-    by_pairs : (refusal : Option Status) → refusal_in (pairs_step p made.kept) ≡ refusal → Checked command shelf before after refusal
+    by_pairs : (refusal : Option Status) → refusal_in (pairs_step p made.kept) ≡ refusal → Checked command before after refusal
     by_pairs refusal is =
         let read = begun.0.0 in
         record {
@@ -182,41 +184,34 @@ module _ (inputs : Inputs) (name : Bytes) (set : Settings) (workers : ℕ) where
 
     -- there are no pairs
     pub pairs_none : (ended : Status) → ChoosesAs p made.kept (Err ended)
-        → ((ended ≡ status.Memory) ⊎ RefusedInOrder command shelf before after ended) × IsPlain ended
+        → ((ended ≡ status.Memory) ⊎ RefusedInOrder command before after ended) × IsPlain ended
     pairs_none ended (inl memory) = (inl memory, subst IsPlain (sym memory) tt)
     pairs_none ended (inr is) =
         let own = step_refusal made.kept (pair_refusal p made.kept.rows) ended is in
         (inr (record { checked = by_pairs (Some ended) (ap refusal_in is); fault = λ which e. absurd (own.1 which e) }), own.0)
 
-    paired : pairs_step p made.kept ≡ Ok made.kept → ArePaired shelf inputs name set p made.kept
-    paired chose = λ files bytes told held.
-        let files_are : files ≡ found = are_held shelf inputs found begun.0.0 files told in
-        let bytes_are : bytes ≡ begun.1.bytes = held_is (shelf name) bytes begun.1.bytes begun.1.held held in (
-          subst (λ f. IsPlanOf inputs.netlist set f p) (sym files_are) begun.0.1,
-          ap₂ (λ f b. paired_of inputs.netlist None set (all_read f b)) files_are bytes_are
-              ∙ paired_made inputs.netlist set found p made.own (Some begun.1.bytes) made.kept begun.0.1 begun.1.own begun.1.rows ∙ chose,
-        )
+    paired : pairs_step p made.kept ≡ Ok made.kept → ArePaired before inputs name set p made.kept
+    paired chose = (
+      found,
+      begun.0.0,
+      (
+        begun.1.bytes,
+        begun.1.held,
+        (begun.0.1, paired_made inputs.netlist set found p made.own (Some begun.1.bytes) made.kept begun.0.1 begun.1.own begun.1.rows ∙ chose),
+      ),
+    )
 
-    pub pairs_told : (w0 w1 : Option Bytes) (f0 f1 : ℕ) (ended : Status) → pairs_step p made.kept ≡ Ok made.kept → TextAs w0 w1 f0 f1 (pairs_text p (planes_in made.kept.rows)) (Ok ended)
-        → PairsAs shelf before after inputs name set workers w0 w1 f0 f1 (Ok ended)
-    pairs_told w0 w1 f0 f1 ended chose told =
-        (p, made.kept, paired chose, pairs_hold p made.kept rows_distinct chose, by_pairs None (ap refusal_in chose), told)
+    pub pairs_told : (out now : SinkState) (ended : Status) → pairs_step p made.kept ≡ Ok made.kept → TextAs out now (pairs_text p (planes_in made.kept.rows)) (Ok ended)
+        → PairsAs (outside before out) (outside after now) inputs name set workers (Ok ended)
+    pairs_told out now ended chose told = (p, made.kept, paired chose, pairs_hold p made.kept rows_distinct chose, by_pairs None (ap refusal_in chose), told)
 
   -- `pairs` has ended
-  pub pairs_end : AllPairsAreTold → (before after : Shelves) (n : Counts) (w0 w1 : Option Bytes) (ended : Status) → KeepsAll before after
-      → PairsAs before n.reads_before n.reads_after inputs name set workers w0 w1 n.out_before n.out_after (Ok ended) → CommandEnds command ended before after n w0 w1
-  pairs_end law before after n w0 w1 ended keeps (p, k, paired, hold, checked, text) =
-      text_ends command ended before after n w0 w1 (pairs_text p (planes_in k.rows)) checked text
-      (λ w is. (
+  pub pairs_end : AllPairsAreTold → (before after : Outside) (ended : Status) → KeepsAll before.shelf after.shelf → PairsAs before after inputs name set workers (Ok ended)
+      → CommandEnds command ended before after
+  pairs_end law before after ended keeps (p, k, (files, read, (bytes, held, (plan, paired))), hold, checked, text) =
+      text_ends command ended before after (pairs_text p (planes_in k.rows)) checked text (λ out is. (
         keeps,
-        λ files bytes told held. (let all = paired files bytes told held in record {
-          p = p;
-          plan = all.0;
-          k = k;
-          paired = all.1;
-          wrote = is;
-          truly = (law p).truly k.rows hold;
-        }),
+        (files, read, (bytes, held, record { p = p; plan = plan; k = k; paired = paired; wrote = is; truly = (law p).truly k.rows hold })),
       ))
 
 -- the text of the pairs that were judged

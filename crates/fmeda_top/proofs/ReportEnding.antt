@@ -2,7 +2,9 @@
 use Rattle.std.proofs.Common.{◌≡◌, ◌∙◌, ap, sym, refl, subst, ℕ, [], Ok, Err, inl, inr}
 use Rattle.std.specs.Prelude.{◌⊎◌, Option, Some, None, Result}
 use Rattle.fm_base.specs.Names.{Bytes}
-use Rattle.fm_shelf.specs.Shelf.{Shelves}
+use Rattle.fm_shelf.specs.Shelf.{ShelfState}
+use Rattle.fm_shelf.specs.Sink.{SinkState}
+use Rattle.fm_shelf.specs.Outside.{Outside, outside}
 use Rattle.campaign_plan.specs.declared.Settings.{Settings}
 use Rattle.fmeda_report.specs.Report.{true_report}
 use Rattle.command_line.specs.Commands.{Report, Inputs}
@@ -16,7 +18,7 @@ use Rattle.command_steps.specs.Held.{KeepsAll}
 use Rattle.command_steps.specs.Checked.{Checked}
 use Rattle.command_steps.specs.Steps.{RefusedInOrder}
 use Rattle.command_steps.specs.PlanSteps.{PlanChecked, PlanRefused, PlannedAs}
-use Rattle.fmeda_top.specs.Causes.{Counts, CommandEnds}
+use Rattle.fmeda_top.specs.Promises.{CommandEnds}
 use Rattle.fmeda_top.specs.Tried.{TextAs, PlanTextAs}
 use Rattle.fmeda_top.proofs.Ending.{text_ends}
 use Rattle.fmeda_top.proofs.PlanEnding.{plan_told}
@@ -26,16 +28,15 @@ unfolding first_refusal
 first_of_report walk inputs set reads = refl
 
 -- a plan's report, after its files were read
-pub report_told : (shelf : Shelves) (before after : Bytes → ℕ) (inputs : Inputs) (set : Settings) (w0 w1 : Option Bytes) (f0 f1 : ℕ) (made : Planned)
-    → PlannedAs shelf before after inputs set (Ok made) → (r : Result Status Refused) → TextAs w0 w1 f0 f1 (true_report made.plan) r
-    → PlanTextAs shelf before after inputs set true_report w0 w1 f0 f1 r
-report_told shelf before after inputs set w0 w1 f0 f1 made planned (Ok ended) told = plan_told shelf before after inputs set true_report w0 w1 f0 f1 made planned ended told
-report_told shelf before after inputs set w0 w1 f0 f1 made planned (Err refused) (memory, written, faults) =
-    (inl (ap status_of memory), subst (HasItsNets inputs.netlist (shelf inputs.netlist)) (sym memory) tt, written, faults)
+pub report_told : (before after : ShelfState) (out now : SinkState) (inputs : Inputs) (set : Settings) (made : Planned) → PlannedAs before after inputs set (Ok made)
+    → (r : Result Status Refused) → TextAs out now (true_report made.plan) r → PlanTextAs (outside before out) (outside after now) inputs set true_report r
+report_told before after out now inputs set made planned (Ok ended) told = plan_told before after out now inputs set true_report made planned ended told
+report_told before after out now inputs set made planned (Err refused) (memory, written) =
+    (inl (ap status_of memory), subst (HasItsNets inputs.netlist (before.content inputs.netlist)) (sym memory) tt, written)
 
-report_checked : (inputs : Inputs) (set : Settings) (shelf : Shelves) (before after : Bytes → ℕ) (refusal : Option Status)
-    → PlanChecked inputs set shelf before after refusal → Checked (Report inputs set) shelf before after refusal
-report_checked inputs set shelf before after refusal checked = record {
+report_checked : (inputs : Inputs) (set : Settings) (before after : ShelfState) (refusal : Option Status)
+    → PlanChecked inputs set before after refusal → Checked (Report inputs set) before after refusal
+report_checked inputs set before after refusal checked = record {
   reads = checked.reads;
   fit = checked.fit;
   walk = checked.walk;
@@ -43,17 +44,13 @@ report_checked inputs set shelf before after refusal checked = record {
   first = first_of_report checked.walk inputs set checked.reads ∙ checked.first;
 }
 
-pub report_refused : (inputs : Inputs) (set : Settings) (shelf : Shelves) (before after : Bytes → ℕ) (ended : Status)
-    → (ended ≡ status.Memory) ⊎ PlanRefused inputs set shelf before after ended
-    → (ended ≡ status.Memory) ⊎ RefusedInOrder (Report inputs set) shelf before after ended
-report_refused inputs set shelf before after ended (inl memory) = inl memory
-report_refused inputs set shelf before after ended (inr refused) =
-    inr (record { checked = report_checked inputs set shelf before after (Some ended) refused.checked; fault = refused.fault [] [] [] })
+pub report_refused : (inputs : Inputs) (set : Settings) (before after : ShelfState) (ended : Status) → PlanRefused inputs set before after ended
+    → RefusedInOrder (Report inputs set) before after ended
+report_refused inputs set before after ended refused =
+    record { checked = report_checked inputs set before after (Some ended) refused.checked; fault = refused.fault [] [] [] }
 
-pub report_end : (before after : Shelves) (n : Counts) (inputs : Inputs) (set : Settings) (w0 w1 : Option Bytes) (ended : Status) → KeepsAll before after
-    → PlanTextAs before n.reads_before n.reads_after inputs set true_report w0 w1 n.out_before n.out_after (Ok ended)
-    → CommandEnds (Report inputs set) ended before after n w0 w1
-report_end before after n inputs set w0 w1 ended keeps (p, files, held, plan, checked, text) =
-    text_ends (Report inputs set) ended before after n w0 w1 (true_report p)
-    (report_checked inputs set before n.reads_before n.reads_after None checked) text
-    (λ w is. (keeps, λ own told. (p, subst (λ f. IsPlanOf inputs.netlist set f p) (sym (held own told)) plan, is)))
+pub report_end : (before after : Outside) (inputs : Inputs) (set : Settings) (ended : Status) → KeepsAll before.shelf after.shelf
+    → PlanTextAs before after inputs set true_report (Ok ended) → CommandEnds (Report inputs set) ended before after
+report_end before after inputs set ended keeps (p, (files, read, plan), checked, text) =
+    text_ends (Report inputs set) ended before after (true_report p) (report_checked inputs set before.shelf after.shelf None checked) text
+    (λ out is. (keeps, (files, read, (p, plan, is))))

@@ -6,7 +6,8 @@ use Rattle.std.proofs.lemmas.List.{take_more}
 use Rattle.std.proofs.lemmas.List.Concat.{flat_map-append}
 use Rattle.fm_base.specs.Names.{Bytes}
 use Rattle.fm_shelf.specs.declared.shelf.Failed.{Failed}
-use Rattle.fm_shelf.specs.Shelf.{Told, NowHas}
+use Rattle.fm_shelf.specs.Content.{HasIfKnown}
+use Rattle.fm_shelf.specs.Shelf.{ShelfState}
 use Rattle.campaign_plan.specs.Analysis.{Analysis, batch_count}
 use Rattle.command_text.specs.Texts.{merge_line, merge_text}
 use Rattle.result_file.specs.declared.Row.{Row}
@@ -21,9 +22,10 @@ next_row own rows i d lt =
     ∙ sym (flat_map-append row_text (take i rows) (get_or rows i d ∷ [])) ∙ ap (flat_map row_text) (sym (take_more rows i d lt)))
 
 -- a file that was written anew
-pub written : (text : Bytes) (before after : Told) (f0 f1 : ℕ) (r : Result (Unit {0}) Failed) → WritesAs text before after f0 f1 r → is_err r ≡ false → NowHas after text
-written text before after f0 f1 (Ok v) writes e = writes
-written text before after f0 f1 (Err x) writes e = absurd (cc)
+pub written : (name text : Bytes) (before after : ShelfState) (r : Result (Unit {0}) Failed) → WritesAs name text before after r → is_err r ≡ false
+    → HasIfKnown (after.content name) text
+written name text before after (Ok v) writes e = writes
+written name text before after (Err x) writes e = absurd (cc)
 
 pub merge_is : (rows : ℕ) (p : Analysis) → merge_line rows (batch_count p) ≡ merge_text rows p
 unfolding merge_text

@@ -1,8 +1,10 @@
 -- What a command has written when it was tried, or its refusal.
-use Rattle.std.specs.Prelude.{◌≡◌, ◌⊎◌, ℕ, List, Option, None, Result, Ok, Err, length}
+use Rattle.std.specs.Prelude.{◌≡◌, ◌⊎◌, ℕ, List, None, Result, Ok, Err, length}
 use Rattle.circuit.specs.Circuit.{Circuit}
 use Rattle.circuit.specs.Loop.{HasNoLoop}
-use Rattle.fm_shelf.specs.Shelf.{Shelves, Rose, told_more, HasPrefix}
+use Rattle.fm_shelf.specs.Shelf.{ShelfState}
+use Rattle.fm_shelf.specs.Sink.{SinkState, Wrote, WrotePrefix}
+use Rattle.fm_shelf.specs.Outside.{Outside}
 use Rattle.command_line.specs.Commands.{Classes, Inputs, Audit, Pairs, Parts}
 use Rattle.campaign_plan.specs.Analysis.{Analysis}
 use Rattle.campaign_plan.specs.Batches.{Entry}
@@ -10,15 +12,13 @@ use Rattle.refusal_text.specs.declared.status.Status.{Status}
 use Rattle.refusal_text.specs.declared.status.Status.TheVariants as status
 use Rattle.refusal_text.specs.declared.refused.Refused.{Refused}
 use Rattle.refusal_text.specs.declared.refused.Refused.TheVariants.{By, Looped}
-use Rattle.command_steps.specs.Files.{Files, all_read}
-use Rattle.command_steps.specs.Held.{Holds, HoldsInputs}
+use Rattle.command_steps.specs.Files.{all_read}
 use Rattle.command_steps.specs.Checked.{Checked}
 use Rattle.command_text.specs.Texts.{classes_text, audit_text}
 use Rattle.refusal_text.specs.declared.status.WriteTo.TheVariants as to
 use Rattle.fm_base.specs.Names.{Bytes}
 use Rattle.campaign_plan.specs.declared.Settings.{Settings}
 use Rattle.command_steps.specs.FirstRefusal.{IsPlanOf, audited_of, audit_step, own_header, paired_of, pairs_step}
-use Rattle.refusal_text.specs.RefusalLines.{refused}
 use Rattle.refusal_text.specs.Refusals.{status_of, HasItsNets}
 use Rattle.result_file.specs.declared.KeptRows.{KeptRows}
 use Rattle.result_file.specs.KeptRows.{kept, kept_entries}
@@ -29,35 +29,36 @@ use Rattle.pair_list.specs.Chosen.{Chosen, chosen}
 use Rattle.pair_campaign.specs.PairText.{pairs_text}
 use Rattle.command_steps.specs.Steps.{RefusedInOrder, AreRated, IsClassesPlan}
 use Rattle.command_steps.specs.BegunSteps.{KeptChecked, KeptRefused}
-use Rattle.command_steps.specs.PlanSteps.{AreHeld, PlanChecked, PlanRefused}
+use Rattle.command_steps.specs.PlanSteps.{PlanChecked, PlanRefused}
+use Rattle.fmeda_top.specs.Ends.{OfInputs, OfCampaign}
 
 -- the text of Done went out, or a prefix of it where `out` failed; or nothing was written, for want of memory
-abbrev pub TextAs : (written_before written_after : Option Bytes) → (faults_before faults_after : ℕ) → Bytes → Result Status Refused → Type 0
-TextAs before after faults_before faults_after text (Ok ended) =
-    ((ended ≡ status.Done) × (after ≡ told_more before text))
-    ⊎ ((ended ≡ status.WriteFault to.Out) × HasPrefix before after text × Rose faults_before faults_after)
-TextAs before after faults_before faults_after text (Err refused) =
-    (refused ≡ By status.Memory) × (after ≡ before) × (faults_after ≡ faults_before)
+abbrev pub TextAs : (before after : SinkState) → Bytes → Result Status Refused → Type 0
+TextAs before after text (Ok ended) =
+    ((ended ≡ status.Done) × Wrote before after text) ⊎ ((ended ≡ status.WriteFault to.Out) × WrotePrefix before after text)
+TextAs before after text (Err refused) = (refused ≡ By status.Memory) × (after ≡ before)
+
+-- memory ran out, or this is so of the status that it is told as; its line names nets of this netlist; and nothing was written
+abbrev pub RefusedBy : (netlist : Bytes) → (before after : Outside) → Refused → (Status → Type 0) → Type 0
+RefusedBy netlist before after refused IsSo =
+    ((status_of refused ≡ status.Memory) ⊎ IsSo (status_of refused))
+    × HasItsNets netlist (before.shelf.content netlist) refused × (after.out ≡ before.out)
 
 -- `classes` was tried: it has written its text, or it was refused and has written nothing
-abbrev pub ClassesAs : Shelves → (before after : Bytes → ℕ) → (netlist workload : Bytes) → (written_before written_after : Option Bytes) → (faults_before faults_after : ℕ)
-    → Result Status Refused → Type 0
-ClassesAs shelf before after netlist workload out_before out_after faults_before faults_after (Ok ended) =
-    (p : Analysis) × IsClassesPlan shelf netlist workload p × HasNoLoop p.circuit × Checked (Classes netlist workload) shelf before after None
-    × TextAs out_before out_after faults_before faults_after (classes_text p) (Ok ended)
-ClassesAs shelf before after netlist workload out_before out_after faults_before faults_after (Err refused) =
-    ((status_of refused ≡ status.Memory) ⊎ RefusedInOrder (Classes netlist workload) shelf before after (status_of refused))
-    × HasItsNets netlist (shelf netlist) refused × (out_after ≡ out_before) × (faults_after ≡ faults_before)
+abbrev pub ClassesAs : (before after : Outside) → (netlist workload : Bytes) → Result Status Refused → Type 0
+ClassesAs before after netlist workload (Ok ended) =
+    (p : Analysis) × IsClassesPlan before.shelf netlist workload p × HasNoLoop p.circuit
+    × Checked (Classes netlist workload) before.shelf after.shelf None × TextAs before.out after.out (classes_text p) (Ok ended)
+ClassesAs before after netlist workload (Err refused) =
+    RefusedBy netlist before after refused (RefusedInOrder (Classes netlist workload) before.shelf after.shelf)
 
 -- a command over a plan was tried: it has written this text of the plan, or it was refused and has written nothing
-abbrev pub PlanTextAs : Shelves → (before after : Bytes → ℕ) → Inputs → Settings → (Analysis → Bytes) → (written_before written_after : Option Bytes)
-    → (faults_before faults_after : ℕ) → Result Status Refused → Type 0
-PlanTextAs shelf before after inputs set text out_before out_after faults_before faults_after (Ok ended) =
-    (p : Analysis) × (files : Files) × AreHeld shelf inputs files × IsPlanOf inputs.netlist set files p × PlanChecked inputs set shelf before after None
-    × TextAs out_before out_after faults_before faults_after (text p) (Ok ended)
-PlanTextAs shelf before after inputs set text out_before out_after faults_before faults_after (Err refused) =
-    ((status_of refused ≡ status.Memory) ⊎ PlanRefused inputs set shelf before after (status_of refused))
-    × HasItsNets inputs.netlist (shelf inputs.netlist) refused × (out_after ≡ out_before) × (faults_after ≡ faults_before)
+abbrev pub PlanTextAs : (before after : Outside) → Inputs → Settings → (Analysis → Bytes) → Result Status Refused → Type 0
+PlanTextAs before after inputs set text (Ok ended) =
+    (p : Analysis) × OfInputs before.shelf inputs (λ files. IsPlanOf inputs.netlist set files p) × PlanChecked inputs set before.shelf after.shelf None
+    × TextAs before.out after.out (text p) (Ok ended)
+PlanTextAs before after inputs set text (Err refused) =
+    RefusedBy inputs.netlist before after refused (PlanRefused inputs set before.shelf after.shelf)
 
 -- all rows have the planes that their batches truly have, or the first that hasn't is refused
 abbrev pub ChecksAs : Analysis → KeptRows → Result (Unit {0}) Refused → Type 0
@@ -66,20 +67,17 @@ ChecksAs p k (Err (By ended)) = (ended ≡ status.Memory) ⊎ (audit_step p k �
 ChecksAs p k (Err (Looped walk net)) = ⊥
 
 -- the files of `audit` stand for this plan, and these rows of it were found right
-abbrev pub AreAudited : Shelves → Inputs → Bytes → Settings → Analysis → KeptRows → Type 0
+abbrev pub AreAudited : ShelfState → Inputs → Bytes → Settings → Analysis → KeptRows → Type 0
 AreAudited shelf inputs name set p k =
-    (files : Files) (bytes : Bytes) → HoldsInputs shelf inputs files → Holds shelf name bytes
-    → IsPlanOf inputs.netlist set files p × (audited_of inputs.netlist None set (all_read files bytes) ≡ Ok k)
+    OfCampaign shelf inputs name (λ files bytes. IsPlanOf inputs.netlist set files p × (audited_of inputs.netlist None set (all_read files bytes) ≡ Ok k))
 
 -- `audit` was tried: it has written its line, or it was refused and has written nothing
-abbrev pub AuditAs : Shelves → (before after : Bytes → ℕ) → Inputs → Bytes → Settings → (written_before written_after : Option Bytes)
-    → (faults_before faults_after : ℕ) → Result Status Refused → Type 0
-AuditAs shelf before after inputs name set out_before out_after faults_before faults_after (Ok ended) =
-    (p : Analysis) × (k : KeptRows) × AreAudited shelf inputs name set p k × Checked (Audit inputs name set) shelf before after None
-    × TextAs out_before out_after faults_before faults_after (audit_text (length k.rows) p) (Ok ended)
-AuditAs shelf before after inputs name set out_before out_after faults_before faults_after (Err refused) =
-    ((status_of refused ≡ status.Memory) ⊎ RefusedInOrder (Audit inputs name set) shelf before after (status_of refused))
-    × HasItsNets inputs.netlist (shelf inputs.netlist) refused × (out_after ≡ out_before) × (faults_after ≡ faults_before)
+abbrev pub AuditAs : (before after : Outside) → Inputs → Bytes → Settings → Result Status Refused → Type 0
+AuditAs before after inputs name set (Ok ended) =
+    (p : Analysis) × (k : KeptRows) × AreAudited before.shelf inputs name set p k × Checked (Audit inputs name set) before.shelf after.shelf None
+    × TextAs before.out after.out (audit_text (length k.rows) p) (Ok ended)
+AuditAs before after inputs name set (Err refused) =
+    RefusedBy inputs.netlist before after refused (RefusedInOrder (Audit inputs name set) before.shelf after.shelf)
 
 -- the pairs are those by the rows that were kept, or the refusal says why there are none
 abbrev pub ChoosesAs : Analysis → KeptRows → Result Chosen Status → Type 0
@@ -87,43 +85,35 @@ ChoosesAs p k (Ok c) = (pairs_step p k ≡ Ok k) × (c ≡ chosen p (planes_in k
 ChoosesAs p k (Err ended) = (ended ≡ status.Memory) ⊎ (pairs_step p k ≡ Err ended)
 
 -- the files of `pairs` stand for this plan, and these rows of it pair its faults
-abbrev pub ArePaired : Shelves → Inputs → Bytes → Settings → Analysis → KeptRows → Type 0
+abbrev pub ArePaired : ShelfState → Inputs → Bytes → Settings → Analysis → KeptRows → Type 0
 ArePaired shelf inputs name set p k =
-    (files : Files) (bytes : Bytes) → HoldsInputs shelf inputs files → Holds shelf name bytes
-    → IsPlanOf inputs.netlist set files p × (paired_of inputs.netlist None set (all_read files bytes) ≡ Ok k)
+    OfCampaign shelf inputs name (λ files bytes. IsPlanOf inputs.netlist set files p × (paired_of inputs.netlist None set (all_read files bytes) ≡ Ok k))
 
 -- `pairs` was tried: it has written its text, or it was refused and has written nothing
-abbrev pub PairsAs : Shelves → (before after : Bytes → ℕ) → Inputs → Bytes → Settings → (workers : ℕ) → (written_before written_after : Option Bytes)
-    → (faults_before faults_after : ℕ) → Result Status Refused → Type 0
-PairsAs shelf before after inputs name set workers out_before out_after faults_before faults_after (Ok ended) =
-    (p : Analysis) × (k : KeptRows) × ArePaired shelf inputs name set p k × HoldEachOnce p k.rows × Checked (Pairs inputs name set workers) shelf before after None
-    × TextAs out_before out_after faults_before faults_after (pairs_text p (planes_in k.rows)) (Ok ended)
-PairsAs shelf before after inputs name set workers out_before out_after faults_before faults_after (Err refused) =
-    ((status_of refused ≡ status.Memory) ⊎ RefusedInOrder (Pairs inputs name set workers) shelf before after (status_of refused))
-    × HasItsNets inputs.netlist (shelf inputs.netlist) refused × (out_after ≡ out_before) × (faults_after ≡ faults_before)
+abbrev pub PairsAs : (before after : Outside) → Inputs → Bytes → Settings → (workers : ℕ) → Result Status Refused → Type 0
+PairsAs before after inputs name set workers (Ok ended) =
+    (p : Analysis) × (k : KeptRows) × ArePaired before.shelf inputs name set p k × HoldEachOnce p k.rows
+    × Checked (Pairs inputs name set workers) before.shelf after.shelf None × TextAs before.out after.out (pairs_text p (planes_in k.rows)) (Ok ended)
+PairsAs before after inputs name set workers (Err refused) =
+    RefusedBy inputs.netlist before after refused (RefusedInOrder (Pairs inputs name set workers) before.shelf after.shelf)
 
 -- `parts` was tried: it has written its text, or it was refused and has written nothing
-abbrev pub PartsAs : Shelves → (before after : Bytes → ℕ) → (netlist rates : Bytes) → (written_before written_after : Option Bytes) → (faults_before faults_after : ℕ)
-    → Result Status Refused → Type 0
-PartsAs shelf before after netlist rates out_before out_after faults_before faults_after (Ok ended) =
-    (c : Circuit) × (table : RateTable) × AreRated shelf netlist rates c table × HasNoLoop c × Checked (Parts netlist rates) shelf before after None
-    × TextAs out_before out_after faults_before faults_after (part_table c table) (Ok ended)
-PartsAs shelf before after netlist rates out_before out_after faults_before faults_after (Err refused) =
-    ((status_of refused ≡ status.Memory) ⊎ RefusedInOrder (Parts netlist rates) shelf before after (status_of refused))
-    × HasItsNets netlist (shelf netlist) refused × (out_after ≡ out_before) × (faults_after ≡ faults_before)
+abbrev pub PartsAs : (before after : Outside) → (netlist rates : Bytes) → Result Status Refused → Type 0
+PartsAs before after netlist rates (Ok ended) =
+    (c : Circuit) × (table : RateTable) × AreRated before.shelf netlist rates c table × HasNoLoop c
+    × Checked (Parts netlist rates) before.shelf after.shelf None × TextAs before.out after.out (part_table c table) (Ok ended)
+PartsAs before after netlist rates (Err refused) =
+    RefusedBy netlist before after refused (RefusedInOrder (Parts netlist rates) before.shelf after.shelf)
 
 -- the files of a command stand for this plan, and these rows are kept of its result file
-abbrev pub AreKeptOf : Shelves → Inputs → Bytes → Settings → Analysis → KeptRows → Type 0
+abbrev pub AreKeptOf : ShelfState → Inputs → Bytes → Settings → Analysis → KeptRows → Type 0
 AreKeptOf shelf inputs name set p k =
-    (files : Files) (bytes : Bytes) → HoldsInputs shelf inputs files → Holds shelf name bytes
-    → IsPlanOf inputs.netlist set files p × (kept (own_header set files p) p bytes ≡ Ok k)
+    OfCampaign shelf inputs name (λ files bytes. IsPlanOf inputs.netlist set files p × (kept (own_header set files p) p bytes ≡ Ok k))
 
 -- a command over the rows that are kept was tried: it has written this text of them, or it was refused and has written nothing
-abbrev pub KeptTextAs : Shelves → (before after : Bytes → ℕ) → Inputs → Bytes → Settings → (Analysis → List Entry → Bytes) → (written_before written_after : Option Bytes)
-    → (faults_before faults_after : ℕ) → Result Status Refused → Type 0
-KeptTextAs shelf before after inputs name set text out_before out_after faults_before faults_after (Ok ended) =
-    (p : Analysis) × (k : KeptRows) × AreKeptOf shelf inputs name set p k × KeptChecked inputs name set shelf before after
-    × TextAs out_before out_after faults_before faults_after (text p (kept_entries k)) (Ok ended)
-KeptTextAs shelf before after inputs name set text out_before out_after faults_before faults_after (Err refused) =
-    ((status_of refused ≡ status.Memory) ⊎ KeptRefused inputs name set shelf before after (status_of refused))
-    × HasItsNets inputs.netlist (shelf inputs.netlist) refused × (out_after ≡ out_before) × (faults_after ≡ faults_before)
+abbrev pub KeptTextAs : (before after : Outside) → Inputs → Bytes → Settings → (Analysis → List Entry → Bytes) → Result Status Refused → Type 0
+KeptTextAs before after inputs name set text (Ok ended) =
+    (p : Analysis) × (k : KeptRows) × AreKeptOf before.shelf inputs name set p k × KeptChecked inputs name set before.shelf after.shelf
+    × TextAs before.out after.out (text p (kept_entries k)) (Ok ended)
+KeptTextAs before after inputs name set text (Err refused) =
+    RefusedBy inputs.netlist before after refused (KeptRefused inputs name set before.shelf after.shelf)

@@ -21,6 +21,15 @@ IsFit (Faults inputs result set) = AreSettings set
 IsFit (Progress inputs result set) = AreSettings set
 IsFit _ = Unit {0}
 
+-- a command that uses no thread beside its own, and waits for nobody
+abbrev pub WaitsForNobody : Command → Type 0
+WaitsForNobody (Run inputs result set workers) = ⊥
+WaitsForNobody (Resume inputs result set workers) = ⊥
+WaitsForNobody (Gen stages result workers) = ⊥
+WaitsForNobody (Shard inputs result set part parts) = ⊥
+WaitsForNobody (Pairs inputs result set workers) = ⊥
+WaitsForNobody _ = Unit {0}
+
 -- a refusal of the words themselves
 abbrev pub IsOfWords : Status → Type 0
 IsOfWords status.Usage = Unit {0}

@@ -1,14 +1,15 @@
 // The commands `faults` and `progress`, which write a text of what is kept of a result file.
 ghost use Rattle.std.specs.Prelude.{◌≡◌, ℕ, List, map};
-ghost use Rattle.fm_shelf.specs.Shelf.{held_in};
+ghost use Rattle.fm_shelf.specs.Shelf.{OnlyReadsAny};
+ghost use Rattle.fm_shelf.specs.Sink.{Sends};
+ghost use Rattle.fm_shelf.specs.Outside.{outside};
 ghost use Rattle.campaign_plan.specs.Analysis.{batch_count};
 ghost use Rattle.campaign_plan.specs.Batches.{AreDistinct};
 ghost use Rattle.campaign_plan.specs.Kept.{AreSettings};
 ghost use Rattle.result_file.specs.KeptRows.{entry_of, kept_entries};
 ghost use Rattle.result_merge.specs.Tables.{table_of};
-ghost use Rattle.fmeda_report.specs.Sends.{Sends};
 ghost use Rattle.command_steps.specs.PlanSteps.{names_of};
-ghost use Rattle.fmeda_top.specs.Causes.{CommandEnds};
+ghost use Rattle.fmeda_top.specs.Promises.{CommandEnds};
 ghost use Rattle.fmeda_top.specs.Kept.{command_of, text_of};
 ghost use Rattle.fmeda_top.specs.Tried.{KeptTextAs, TextAs};
 
@@ -45,7 +46,7 @@ fn write_kept<O: Sink>(
 ) -> Result<(), Failed>
     requires distinct { AreDistinct plan.now (map entry_of rows.now) }
     requires table { table.now ≡ table_of (batch_count plan.now) (map entry_of rows.now) }
-    ensures { Sends (O.written out.old) (O.written out.new) (O.faults out.old) (O.faults out.new)
+    ensures { Sends (O.seen out.old) (O.seen out.new)
         (text_of text plan.now (map entry_of rows.now)) result }
 {
     match text {
@@ -62,7 +63,7 @@ fn tell_kept<O: Sink>(
     out: &mut O,
 ) -> Result<Status, Refused>
     requires { AreDistinct begun.now.planned.plan (kept_entries begun.now.kept) }
-    ensures { TextAs (O.written out.old) (O.written out.new) (O.faults out.old) (O.faults out.new)
+    ensures { TextAs (O.seen out.old) (O.seen out.new)
         (text_of text begun.now.planned.plan (kept_entries begun.now.kept)) result }
 {
     let (plan, rows) = (&begun.planned.plan, begun.kept.rows.as_slice());
@@ -81,11 +82,9 @@ fn try_kept<F: Shelf, O: Sink>(
     settings: Settings,
 ) -> Result<Status, Refused>
     requires settings { AreSettings settings }
-    ensures tried { KeptTextAs (held_in (F.files shelf.old) (F.rest_absent shelf.old)) (F.read_faults shelf.old) (F.read_faults shelf.new)
-        (names_of inputs.now) rows.now settings (text_of text) (O.written out.old) (O.written out.new) (O.faults out.old) (O.faults out.new) result }
-    ensures files { F.files shelf.new ≡ F.files shelf.old }
-    ensures rest { F.rest_absent shelf.new ≡ F.rest_absent shelf.old }
-    ensures write_counts { (other : List ℕ) → F.write_faults shelf.new other ≡ F.write_faults shelf.old other }
+    ensures tried { KeptTextAs (outside (F.seen shelf.old) (O.seen out.old)) (outside (F.seen shelf.new) (O.seen out.new))
+        (names_of inputs.now) rows.now settings (text_of text) result }
+    ensures rest { OnlyReadsAny (F.seen shelf.old) (F.seen shelf.new) }
 {
     let begun = read_begun(alloc, shelf, inputs, rows, settings)?;
     tell_kept(alloc, text, &begun, out)
@@ -104,15 +103,7 @@ pub fn kept<F: Shelf, O: Sink>(
 ) -> Status
     requires settings { AreSettings settings }
     ensures { CommandEnds (command_of text (names_of inputs.now) rows.now settings) result
-        (held_in (F.files shelf.old) (F.rest_absent shelf.old)) (held_in (F.files shelf.new) (F.rest_absent shelf.new))
-        (record {
-          reads_before = F.read_faults shelf.old;
-          reads_after = F.read_faults shelf.new;
-          writes_before = F.write_faults shelf.old;
-          writes_after = F.write_faults shelf.new;
-          out_before = O.faults out.old;
-          out_after = O.faults out.new;
-        }) (O.written out.old) (O.written out.new) }
+        (outside (F.seen shelf.old) (O.seen out.old)) (outside (F.seen shelf.new) (O.seen out.new)) }
 {
     let names = FileNames {
         netlist: inputs.netlist,

@@ -1,15 +1,16 @@
 // The command `merge`.
 ghost use Rattle.std.specs.Prelude.{◌≡◌, ◌++◌, ◌⊎◌, IfOk, flat_map, length};
-ghost use Rattle.fm_shelf.specs.Shelf.{held_in, NowHas};
+ghost use Rattle.fm_shelf.specs.Content.{HasIfKnown};
+ghost use Rattle.fm_shelf.specs.Sink.{Wrote};
+ghost use Rattle.fm_shelf.specs.Outside.{outside};
 ghost use Rattle.campaign_plan.specs.Kept.{AreSettings};
 ghost use Rattle.result_file.specs.ResultText.{row_text};
-ghost use Rattle.campaign_run.specs.Outside.{Wrote};
 ghost use Rattle.campaign_run.specs.Left.{IsPrefixOf};
 ghost use Rattle.command_line.specs.Commands.{Merge};
 ghost use Rattle.command_steps.specs.PlanSteps.{names_of};
 ghost use Rattle.command_text.specs.Texts.{merge_text};
 ghost use Rattle.fmeda_top.specs.Campaigns.{HasEnded};
-ghost use Rattle.fmeda_top.specs.Causes.{CommandEnds};
+ghost use Rattle.fmeda_top.specs.Promises.{CommandEnds};
 ghost use Rattle.fmeda_top.specs.Written.{IsWrittenAnew, rows_file};
 
 use crate::run::say_end;
@@ -41,8 +42,7 @@ fn file_with(alloc: Global, own: &Line, rows: &[Row]) -> Result<Vec<u8>, AllocEr
 
 // Cuts a file to nothing and writes it anew.
 fn write_anew<F: Shelf>(shelf: &mut F, name: &str, text: &[u8]) -> Result<(), Failed>
-    ensures { IsWrittenAnew name.now text.now (held_in (F.files shelf.old) (F.rest_absent shelf.old)) (held_in (F.files shelf.new) (F.rest_absent shelf.new))
-        (F.write_faults shelf.old name.now) (F.write_faults shelf.new name.now) result }
+    ensures { IsWrittenAnew name.now text.now (F.seen shelf.old) (F.seen shelf.new) result }
 {
     shelf.cut(name, 0)?;
     append_all(shelf, name, text)
@@ -57,13 +57,11 @@ fn write_rows<F: Shelf, O: Sink>(
     rows: &str,
 ) -> End
     ensures { HasEnded result
-        (λ out_after. NowHas (held_in (F.files shelf.new) (F.rest_absent shelf.new) rows.now) (rows_file merged.now.own merged.now.rows)
-        × Wrote (O.written out.old) out_after (merge_text (length merged.now.rows) merged.now.planned.plan))
-        ((held_in (F.files shelf.new) (F.rest_absent shelf.new) rows.now ≡ held_in (F.files shelf.old) (F.rest_absent shelf.old) rows.now)
-        ⊎ IsPrefixOf (held_in (F.files shelf.new) (F.rest_absent shelf.new) rows.now) (rows_file merged.now.own merged.now.rows))
-        rows.now
-        (record { files = held_in (F.files shelf.old) (F.rest_absent shelf.old); faults = F.write_faults shelf.old; out = O.written out.old; out_faults = O.faults out.old })
-        (record { files = held_in (F.files shelf.new) (F.rest_absent shelf.new); faults = F.write_faults shelf.new; out = O.written out.new; out_faults = O.faults out.new }) }
+        (λ after. HasIfKnown (after.shelf.content rows.now) (rows_file merged.now.own merged.now.rows)
+        × Wrote (O.seen out.old) after.out (merge_text (length merged.now.rows) merged.now.planned.plan))
+        (((F.seen shelf.new).content rows.now ≡ (F.seen shelf.old).content rows.now)
+        ⊎ IsPrefixOf ((F.seen shelf.new).content rows.now) (rows_file merged.now.own merged.now.rows))
+        rows.now (outside (F.seen shelf.old) (O.seen out.old)) (outside (F.seen shelf.new) (O.seen out.new)) }
 {
     let Ok(file) = file_with(alloc, &merged.own, merged.rows.as_slice()) else {
         return End::NoMemory;
@@ -91,15 +89,7 @@ pub fn merge<F: Shelf, O: Sink>(
 ) -> Status
     requires settings { AreSettings settings }
     ensures { CommandEnds (Merge (names_of inputs.now) rows.now first.now second.now settings) result
-        (held_in (F.files shelf.old) (F.rest_absent shelf.old)) (held_in (F.files shelf.new) (F.rest_absent shelf.new))
-        (record {
-          reads_before = F.read_faults shelf.old;
-          reads_after = F.read_faults shelf.new;
-          writes_before = F.write_faults shelf.old;
-          writes_after = F.write_faults shelf.new;
-          out_before = O.faults out.old;
-          out_after = O.faults out.new;
-        }) (O.written out.old) (O.written out.new) }
+        (outside (F.seen shelf.old) (O.seen out.old)) (outside (F.seen shelf.new) (O.seen out.new)) }
 {
     merges_are_lawful();
     let names = FileNames {

@@ -1,12 +1,13 @@
 // The command `pairs`.
 ghost use Rattle.std.specs.Prelude.{◌≡◌, ◌<◌, ◌≤◌, ℕ, List, map};
-ghost use Rattle.fm_shelf.specs.Shelf.{held_in};
+ghost use Rattle.fm_shelf.specs.Shelf.{OnlyReadsAny};
+ghost use Rattle.fm_shelf.specs.Outside.{outside};
 ghost use Rattle.campaign_plan.specs.Batches.{AreDistinct};
 ghost use Rattle.campaign_plan.specs.Kept.{AreSettings};
 ghost use Rattle.result_file.specs.KeptRows.{entry_of};
 ghost use Rattle.command_line.specs.Commands.{Pairs as PairsCommand};
 ghost use Rattle.command_steps.specs.PlanSteps.{names_of};
-ghost use Rattle.fmeda_top.specs.Causes.{CommandEnds};
+ghost use Rattle.fmeda_top.specs.Promises.{CommandEnds};
 ghost use Rattle.fmeda_top.specs.Tried.{ChoosesAs, PairsAs};
 
 use campaign_plan::{Plan, Settings};
@@ -53,11 +54,9 @@ fn try_pairs<R: Threads + Wait + Sync, F: Shelf, O: Sink>(
 ) -> Result<Status, Refused>
     requires settings { AreSettings settings }
     requires workers { (0 < workers) × (workers ≤ 32) }
-    ensures tried { PairsAs (held_in (F.files shelf.old) (F.rest_absent shelf.old)) (F.read_faults shelf.old) (F.read_faults shelf.new)
-        (names_of inputs.now) rows.now settings workers (O.written out.old) (O.written out.new) (O.faults out.old) (O.faults out.new) result }
-    ensures files { F.files shelf.new ≡ F.files shelf.old }
-    ensures rest { F.rest_absent shelf.new ≡ F.rest_absent shelf.old }
-    ensures write_counts { (other : List ℕ) → F.write_faults shelf.new other ≡ F.write_faults shelf.old other }
+    ensures tried { PairsAs (outside (F.seen shelf.old) (O.seen out.old)) (outside (F.seen shelf.new) (O.seen out.new))
+        (names_of inputs.now) rows.now settings workers result }
+    ensures rest { OnlyReadsAny (F.seen shelf.old) (F.seen shelf.new) }
 {
     pairs_are_told();
     let begun = read_begun(alloc, shelf, inputs, rows, settings)?;
@@ -83,15 +82,7 @@ pub fn pairs<R: Threads + Wait + Sync, F: Shelf, O: Sink>(
     requires settings { AreSettings settings }
     requires workers { (0 < workers) × (workers ≤ 32) }
     ensures { CommandEnds (PairsCommand (names_of inputs.now) rows.now settings workers) result
-        (held_in (F.files shelf.old) (F.rest_absent shelf.old)) (held_in (F.files shelf.new) (F.rest_absent shelf.new))
-        (record {
-          reads_before = F.read_faults shelf.old;
-          reads_after = F.read_faults shelf.new;
-          writes_before = F.write_faults shelf.old;
-          writes_after = F.write_faults shelf.new;
-          out_before = O.faults out.old;
-          out_after = O.faults out.new;
-        }) (O.written out.old) (O.written out.new) }
+        (outside (F.seen shelf.old) (O.seen out.old)) (outside (F.seen shelf.new) (O.seen out.new)) }
 {
     pairs_are_told();
     let names = FileNames {

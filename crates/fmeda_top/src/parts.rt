@@ -1,9 +1,10 @@
 // The command `parts`.
 ghost use Rattle.std.specs.Prelude.{◌≡◌, ℕ, List};
-ghost use Rattle.fm_shelf.specs.Shelf.{held_in};
+ghost use Rattle.fm_shelf.specs.Shelf.{OnlyReadsAny};
+ghost use Rattle.fm_shelf.specs.Outside.{outside};
 ghost use Rattle.part_table.specs.PartTable.{part_table};
 ghost use Rattle.command_line.specs.Commands.{Parts};
-ghost use Rattle.fmeda_top.specs.Causes.{CommandEnds};
+ghost use Rattle.fmeda_top.specs.Promises.{CommandEnds};
 ghost use Rattle.fmeda_top.specs.Tried.{PartsAs, TextAs};
 
 use command_steps::rated::{Rated, read_rated};
@@ -17,7 +18,7 @@ use std::alloc::Global;
 
 // Looks up each net and latch, and writes what each row of the rates takes.
 fn tell_parts<O: Sink>(alloc: Global, rated: &Rated, out: &mut O) -> Result<Status, Refused>
-    ensures { TextAs (O.written out.old) (O.written out.new) (O.faults out.old) (O.faults out.new)
+    ensures { TextAs (O.seen out.old) (O.seen out.new)
         (part_table rated.now.ordered.net rated.now.rates) result }
 {
     let table = PartTable::new(alloc, &rated.ordered.net, &rated.rates)?;
@@ -32,11 +33,9 @@ fn try_parts<F: Shelf, O: Sink>(
     netlist: &str,
     rates: &str,
 ) -> Result<Status, Refused>
-    ensures tried { PartsAs (held_in (F.files shelf.old) (F.rest_absent shelf.old)) (F.read_faults shelf.old) (F.read_faults shelf.new)
-        netlist.now rates.now (O.written out.old) (O.written out.new) (O.faults out.old) (O.faults out.new) result }
-    ensures files { F.files shelf.new ≡ F.files shelf.old }
-    ensures rest { F.rest_absent shelf.new ≡ F.rest_absent shelf.old }
-    ensures write_counts { (other : List ℕ) → F.write_faults shelf.new other ≡ F.write_faults shelf.old other }
+    ensures tried { PartsAs (outside (F.seen shelf.old) (O.seen out.old)) (outside (F.seen shelf.new) (O.seen out.new))
+        netlist.now rates.now result }
+    ensures rest { OnlyReadsAny (F.seen shelf.old) (F.seen shelf.new) }
 {
     let rated = read_rated(alloc, shelf, netlist, rates)?;
     tell_parts(alloc, &rated, out)
@@ -52,15 +51,7 @@ pub fn parts<F: Shelf, O: Sink>(
     rates: &str,
 ) -> Status
     ensures { CommandEnds (Parts netlist.now rates.now) result
-        (held_in (F.files shelf.old) (F.rest_absent shelf.old)) (held_in (F.files shelf.new) (F.rest_absent shelf.new))
-        (record {
-          reads_before = F.read_faults shelf.old;
-          reads_after = F.read_faults shelf.new;
-          writes_before = F.write_faults shelf.old;
-          writes_after = F.write_faults shelf.new;
-          out_before = O.faults out.old;
-          out_after = O.faults out.new;
-        }) (O.written out.old) (O.written out.new) }
+        (outside (F.seen shelf.old) (O.seen out.old)) (outside (F.seen shelf.new) (O.seen out.new)) }
 {
     let names = FileNames {
         netlist,

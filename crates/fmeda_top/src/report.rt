@@ -1,12 +1,13 @@
 // The command `report`.
 ghost use Rattle.std.specs.Prelude.{◌≡◌, ℕ, List};
-ghost use Rattle.fm_shelf.specs.Shelf.{held_in};
+ghost use Rattle.fm_shelf.specs.Shelf.{OnlyReadsAny};
+ghost use Rattle.fm_shelf.specs.Outside.{outside};
 ghost use Rattle.circuit.specs.Order.{IsOrder};
 ghost use Rattle.campaign_plan.specs.Kept.{AreSettings};
 ghost use Rattle.fmeda_report.specs.Report.{true_report};
 ghost use Rattle.command_line.specs.Commands.{Report};
 ghost use Rattle.command_steps.specs.PlanSteps.{names_of};
-ghost use Rattle.fmeda_top.specs.Causes.{CommandEnds};
+ghost use Rattle.fmeda_top.specs.Promises.{CommandEnds};
 ghost use Rattle.fmeda_top.specs.Tried.{PlanTextAs, TextAs};
 
 use campaign_plan::Settings;
@@ -24,7 +25,7 @@ use std::alloc::Global;
 // Simulates one of each group of equal faults, and writes the report.
 fn tell_report<O: Sink>(alloc: Global, planned: &Planned, out: &mut O) -> Result<Status, Refused>
     requires { IsOrder planned.now.plan.circuit planned.now.order }
-    ensures { TextAs (O.written out.old) (O.written out.new) (O.faults out.old) (O.faults out.new) (true_report planned.now.plan) result }
+    ensures { TextAs (O.seen out.old) (O.seen out.new) (true_report planned.now.plan) result }
 {
     rows_report_truly();
     let plan = &planned.plan;
@@ -42,11 +43,9 @@ fn try_report<F: Shelf, O: Sink>(
     settings: Settings,
 ) -> Result<Status, Refused>
     requires settings { AreSettings settings }
-    ensures tried { PlanTextAs (held_in (F.files shelf.old) (F.rest_absent shelf.old)) (F.read_faults shelf.old) (F.read_faults shelf.new)
-        (names_of inputs.now) settings true_report (O.written out.old) (O.written out.new) (O.faults out.old) (O.faults out.new) result }
-    ensures files { F.files shelf.new ≡ F.files shelf.old }
-    ensures rest { F.rest_absent shelf.new ≡ F.rest_absent shelf.old }
-    ensures write_counts { (other : List ℕ) → F.write_faults shelf.new other ≡ F.write_faults shelf.old other }
+    ensures tried { PlanTextAs (outside (F.seen shelf.old) (O.seen out.old)) (outside (F.seen shelf.new) (O.seen out.new))
+        (names_of inputs.now) settings true_report result }
+    ensures rest { OnlyReadsAny (F.seen shelf.old) (F.seen shelf.new) }
 {
     let planned = read_plan(alloc, shelf, inputs, settings)?;
     tell_report(alloc, &planned, out)
@@ -63,15 +62,7 @@ pub fn report<F: Shelf, O: Sink>(
 ) -> Status
     requires settings { AreSettings settings }
     ensures { CommandEnds (Report (names_of inputs.now) settings) result
-        (held_in (F.files shelf.old) (F.rest_absent shelf.old)) (held_in (F.files shelf.new) (F.rest_absent shelf.new))
-        (record {
-          reads_before = F.read_faults shelf.old;
-          reads_after = F.read_faults shelf.new;
-          writes_before = F.write_faults shelf.old;
-          writes_after = F.write_faults shelf.new;
-          out_before = O.faults out.old;
-          out_after = O.faults out.new;
-        }) (O.written out.old) (O.written out.new) }
+        (outside (F.seen shelf.old) (O.seen out.old)) (outside (F.seen shelf.new) (O.seen out.new)) }
 {
     let names = FileNames {
         netlist: inputs.netlist,

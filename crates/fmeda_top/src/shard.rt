@@ -1,10 +1,10 @@
 // The command `shard`.
 ghost use Rattle.std.specs.Prelude.{◌<◌, ◌≤◌};
-ghost use Rattle.fm_shelf.specs.Shelf.{held_in};
+ghost use Rattle.fm_shelf.specs.Outside.{outside};
 ghost use Rattle.campaign_plan.specs.Kept.{AreSettings};
 ghost use Rattle.command_line.specs.Commands.{Shard as ShardCommand};
 ghost use Rattle.command_steps.specs.PlanSteps.{names_of};
-ghost use Rattle.fmeda_top.specs.Causes.{CommandEnds};
+ghost use Rattle.fmeda_top.specs.Promises.{CommandEnds};
 
 use crate::ended::Ended;
 use crate::run::say_end;
@@ -34,15 +34,7 @@ pub fn shard<R: Wait, F: Shelf + Drop, O: Sink>(
     requires settings { AreSettings settings }
     requires part { (part.part < part.parts) × (part.parts ≤ 1024) }
     ensures { CommandEnds (ShardCommand (names_of inputs.now) rows.now settings part.part part.parts) result.status
-        (held_in (F.files shelf) (F.rest_absent shelf)) (held_in (F.files result.shelf) (F.rest_absent result.shelf))
-        (record {
-          reads_before = F.read_faults shelf;
-          reads_after = F.read_faults result.shelf;
-          writes_before = F.write_faults shelf;
-          writes_after = F.write_faults result.shelf;
-          out_before = O.faults out.old;
-          out_after = O.faults out.new;
-        }) (O.written out.old) (O.written out.new) }
+        (outside (F.seen shelf) (O.seen out.old)) (outside (F.seen result.shelf) (O.seen out.new)) }
 {
     let names = FileNames {
         netlist: inputs.netlist,

@@ -1,12 +1,12 @@
 // The program, but for the edge of the system.
 ghost use Rattle.std.specs.Prelude.{◌≡◌, map, string_bytes};
-ghost use Rattle.fm_shelf.specs.Shelf.{held_in, Told};
+ghost use Rattle.fm_shelf.specs.Content.{Content};
+ghost use Rattle.fm_shelf.specs.Outside.{outside};
 ghost use Rattle.command_line.specs.Asks.{told_by};
-ghost use Rattle.fmeda_top.specs.Causes.{CommandEnds, HasCause, WordsEnd};
 ghost use Rattle.refusal_text.specs.Refusals.{IsSaidOf};
-ghost use Rattle.fmeda_top.specs.Words.{IsFit, IsOfWords};
 ghost use Rattle.refusal_text.specs.Named.{no_names};
-ghost use Rattle.fmeda_top.specs.Ends.{AfterOutFault, AfterRefusal, AfterResultFault, AtDone};
+ghost use Rattle.fmeda_top.specs.Promises.{CommandEnds, Promises};
+ghost use Rattle.fmeda_top.specs.Words.{IsFit, IsOfWords, WaitsForNobody};
 
 use crate::audit::audit;
 use crate::check::check;
@@ -33,6 +33,73 @@ use std::sync::Wait;
 use std::thread::Threads;
 use worker_gate::Gate;
 
+/// Does what a command asks for that waits for nobody, and so returns: it has no runtime to wait on.
+pub fn run_alone<F: Shelf, O: Sink>(
+    alloc: Global,
+    asked: Asked<'_>,
+    shelf: &mut F,
+    out: &mut O,
+) -> Status
+    requires fit { IsFit (told_by asked) }
+    requires alone { WaitsForNobody (told_by asked) }
+    ensures { CommandEnds (told_by asked.entry) result
+        (outside (F.seen shelf.old) (O.seen out.old)) (outside (F.seen shelf.new) (O.seen out.new)) }
+{
+    match asked {
+        Asked::Classes { netlist, workload } => classes(alloc, shelf, out, netlist, workload),
+        Asked::Check {
+            inputs,
+            flips,
+            pulses,
+        } => check(alloc, shelf, out, &inputs, flips, pulses),
+        Asked::Audit {
+            inputs,
+            result,
+            settings,
+        } => audit(alloc, shelf, out, &inputs, result, settings),
+        Asked::Report { inputs, settings } => report(alloc, shelf, out, &inputs, settings),
+        Asked::Merge {
+            inputs,
+            result,
+            first,
+            second,
+            settings,
+        } => merge(alloc, shelf, out, &inputs, result, first, second, settings),
+        Asked::Parts { netlist, rates } => parts(alloc, shelf, out, netlist, rates),
+        Asked::Faults {
+            inputs,
+            result,
+            settings,
+        } => kept(
+            alloc,
+            KeptText::FaultTable,
+            shelf,
+            out,
+            &inputs,
+            result,
+            settings,
+        ),
+        Asked::Progress {
+            inputs,
+            result,
+            settings,
+        } => kept(
+            alloc,
+            KeptText::Bounds,
+            shelf,
+            out,
+            &inputs,
+            result,
+            settings,
+        ),
+        Asked::Run { .. }
+        | Asked::Resume { .. }
+        | Asked::Gen { .. }
+        | Asked::Shard { .. }
+        | Asked::Pairs { .. } => unreachable!(),
+    }
+}
+
 // Does what the words ask for.
 fn run_asked<R: Threads + Wait + Sync, F: Shelf + Send + Drop, O: Sink, G: Gate + Sync>(
     rt: &R,
@@ -44,31 +111,9 @@ fn run_asked<R: Threads + Wait + Sync, F: Shelf + Send + Drop, O: Sink, G: Gate 
 ) -> Ended<F>
     requires fit { IsFit (told_by asked) }
     ensures { CommandEnds (told_by asked.entry) result.status
-        (held_in (F.files shelf) (F.rest_absent shelf)) (held_in (F.files result.shelf) (F.rest_absent result.shelf))
-        (record {
-          reads_before = F.read_faults shelf;
-          reads_after = F.read_faults result.shelf;
-          writes_before = F.write_faults shelf;
-          writes_after = F.write_faults result.shelf;
-          out_before = O.faults out.old;
-          out_after = O.faults out.new;
-        }) (O.written out.old) (O.written out.new) }
+        (outside (F.seen shelf) (O.seen out.old)) (outside (F.seen result.shelf) (O.seen out.new)) }
 {
     match asked {
-        Asked::Classes { netlist, workload } => {
-            let mut shelf = shelf;
-            let status = classes(alloc, &mut shelf, out, netlist, workload);
-            Ended { status, shelf }
-        }
-        Asked::Check {
-            inputs,
-            flips,
-            pulses,
-        } => {
-            let mut shelf = shelf;
-            let status = check(alloc, &mut shelf, out, &inputs, flips, pulses);
-            Ended { status, shelf }
-        }
         Asked::Run {
             inputs,
             result,
@@ -85,25 +130,11 @@ fn run_asked<R: Threads + Wait + Sync, F: Shelf + Send + Drop, O: Sink, G: Gate 
         } => resume(
             rt, alloc, shelf, out, gate, &inputs, result, settings, workers,
         ),
-        Asked::Audit {
-            inputs,
-            result,
-            settings,
-        } => {
-            let mut shelf = shelf;
-            let status = audit(alloc, &mut shelf, out, &inputs, result, settings);
-            Ended { status, shelf }
-        }
         Asked::Gen {
             stages,
             result,
             workers,
         } => generate(rt, alloc, shelf, out, gate, stages, result, workers),
-        Asked::Report { inputs, settings } => {
-            let mut shelf = shelf;
-            let status = report(alloc, &mut shelf, out, &inputs, settings);
-            Ended { status, shelf }
-        }
         Asked::Shard {
             inputs,
             result,
@@ -113,19 +144,6 @@ fn run_asked<R: Threads + Wait + Sync, F: Shelf + Send + Drop, O: Sink, G: Gate 
         } => {
             let part = Shard { part, parts };
             shard(rt, alloc, shelf, out, &inputs, result, settings, part)
-        }
-        Asked::Merge {
-            inputs,
-            result,
-            first,
-            second,
-            settings,
-        } => {
-            let mut shelf = shelf;
-            let status = merge(
-                alloc, &mut shelf, out, &inputs, result, first, second, settings,
-            );
-            Ended { status, shelf }
         }
         Asked::Pairs {
             inputs,
@@ -139,39 +157,19 @@ fn run_asked<R: Threads + Wait + Sync, F: Shelf + Send + Drop, O: Sink, G: Gate 
             );
             Ended { status, shelf }
         }
-        Asked::Parts { netlist, rates } => {
+        alone => {
             let mut shelf = shelf;
-            let status = parts(alloc, &mut shelf, out, netlist, rates);
-            Ended { status, shelf }
-        }
-        Asked::Faults {
-            inputs,
-            result,
-            settings,
-        } => {
-            let mut shelf = shelf;
-            let text = KeptText::FaultTable;
-            let status = kept(alloc, text, &mut shelf, out, &inputs, result, settings);
-            Ended { status, shelf }
-        }
-        Asked::Progress {
-            inputs,
-            result,
-            settings,
-        } => {
-            let mut shelf = shelf;
-            let text = KeptText::Bounds;
-            let status = kept(alloc, text, &mut shelf, out, &inputs, result, settings);
+            let status = run_alone(alloc, alone, &mut shelf, out);
             Ended { status, shelf }
         }
     }
 }
 
-// Writes the line of a refusal of the words themselves.
-fn refuse_words<O: Sink>(out: &mut O, status: Status) -> Status
+/// Writes the line of a refusal of the words themselves, and answers their status.
+pub fn refuse_words<O: Sink>(out: &mut O, status: Status) -> Status
     requires { IsOfWords status }
     ensures status { result ≡ status }
-    ensures said { (told : Told) → IsSaidOf told (O.written out.old) (O.written out.new) (O.faults out.old) (O.faults out.new) no_names status }
+    ensures said { (netlist : Content) → IsSaidOf netlist (O.seen out.old) (O.seen out.new) no_names status }
 {
     let none = FileNames {
         netlist: "",
@@ -185,8 +183,12 @@ fn refuse_words<O: Sink>(out: &mut O, status: Status) -> Status
     say_refused(out, &none, Refused::By(status))
 }
 
-// Reads the words, and does what they ask for.
-fn run_words<R: Threads + Wait + Sync, F: Shelf + Send + Drop, O: Sink, G: Gate + Sync>(
+/// Does what the words ask for; the first of them is the program's name. What is promised of the content of a file is of one whose
+/// content the shelf tells, and what is promised of what was written is of a sink that tells it. A fault of the outside is the answer
+/// only where its count rose in this call. In `run`, `resume`, `gen`, `shard` and `pairs` it waits: for the workers of a campaign, each
+/// of which tells the gate after each draw, for the one seat of a part, or for those that judge pairs. The other commands wait for
+/// nobody, and are `run_alone`.
+pub fn fmeda<R: Threads + Wait + Sync, F: Shelf + Send + Drop, O: Sink, G: Gate + Sync>(
     rt: &R,
     alloc: Global,
     words: &[String],
@@ -194,16 +196,8 @@ fn run_words<R: Threads + Wait + Sync, F: Shelf + Send + Drop, O: Sink, G: Gate 
     out: &mut O,
     gate: &G,
 ) -> Ended<F>
-    ensures { WordsEnd (map string_bytes words.now) result.status
-        (held_in (F.files shelf) (F.rest_absent shelf)) (held_in (F.files result.shelf) (F.rest_absent result.shelf))
-        (record {
-          reads_before = F.read_faults shelf;
-          reads_after = F.read_faults result.shelf;
-          writes_before = F.write_faults shelf;
-          writes_after = F.write_faults result.shelf;
-          out_before = O.faults out.old;
-          out_after = O.faults out.new;
-        }) (O.written out.old) (O.written out.new) }
+    ensures { Promises (map string_bytes words.now) result.status
+        (outside (F.seen shelf) (O.seen out.old)) (outside (F.seen result.shelf) (O.seen out.new)) }
 {
     match read_words(alloc, words) {
         Ok(asked) => run_asked(rt, alloc, asked, shelf, out, gate),
@@ -216,38 +210,4 @@ fn run_words<R: Threads + Wait + Sync, F: Shelf + Send + Drop, O: Sink, G: Gate 
             shelf,
         },
     }
-}
-
-/// Does what the words ask for; the first of them is the program's name. A clause on what files hold is of those that the
-/// shelf tells, and one on what was written is of a sink that tells it. A fault of the outside is the answer only where its
-/// count rose in this call. In `run`, `resume`, `gen`, `shard` and `pairs` it waits: for
-/// the workers of a campaign, each of which tells the gate after each draw, for the one seat of a part, or for those that judge
-/// pairs. The other commands wait for nobody.
-pub fn fmeda<R: Threads + Wait + Sync, F: Shelf + Send + Drop, O: Sink, G: Gate + Sync>(
-    rt: &R,
-    alloc: Global,
-    words: &[String],
-    shelf: F,
-    out: &mut O,
-    gate: &G,
-) -> Ended<F>
-    ensures cause { HasCause result.status (map string_bytes words.now) (held_in (F.files shelf) (F.rest_absent shelf))
-        (record {
-          reads_before = F.read_faults shelf;
-          reads_after = F.read_faults result.shelf;
-          writes_before = F.write_faults shelf;
-          writes_after = F.write_faults result.shelf;
-          out_before = O.faults out.old;
-          out_after = O.faults out.new;
-        }) }
-    ensures done { AtDone result.status (map string_bytes words.now) (held_in (F.files shelf) (F.rest_absent shelf))
-        (held_in (F.files result.shelf) (F.rest_absent result.shelf)) (O.written out.old) (O.written out.new) }
-    ensures refusal { AfterRefusal result.status (map string_bytes words.now) (held_in (F.files shelf) (F.rest_absent shelf))
-        (held_in (F.files result.shelf) (F.rest_absent result.shelf)) (O.written out.old) (O.written out.new) (O.faults out.old) (O.faults out.new) }
-    ensures result_fault { AfterResultFault result.status (map string_bytes words.now) (held_in (F.files shelf) (F.rest_absent shelf))
-        (held_in (F.files result.shelf) (F.rest_absent result.shelf)) (O.written out.old) (O.written out.new) (O.faults out.old) (O.faults out.new) }
-    ensures out_fault { AfterOutFault result.status (map string_bytes words.now) (held_in (F.files shelf) (F.rest_absent shelf))
-        (held_in (F.files result.shelf) (F.rest_absent result.shelf)) (O.written out.old) (O.written out.new) }
-{
-    run_words(rt, alloc, words, shelf, out, gate)
 }

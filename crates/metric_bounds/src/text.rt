@@ -4,7 +4,7 @@ ghost use Rattle.campaign_plan.specs.Analysis.{batch_count};
 ghost use Rattle.campaign_plan.specs.Batches.{AreDistinct};
 ghost use Rattle.result_file.specs.KeptRows.{entry_of};
 ghost use Rattle.result_merge.specs.Tables.{table_of};
-ghost use Rattle.fmeda_report.specs.Sends.{Sends};
+ghost use Rattle.fm_shelf.specs.Sink.{Sends};
 ghost use Rattle.fmeda_report.specs.Words.{fraction_word as word_of_fraction};
 ghost use Rattle.metric_bounds.specs.Progress.{bound_lines, ends_line, judged_lines, part_line, progress, standing_line, standing_lines, standing_word as word_of_standing, term_line, AreAllConsistent};
 
@@ -63,7 +63,7 @@ fn fraction_word(fraction: Option<Fraction>) -> Line
 
 // Writes a label and how much there is of how much.
 fn write_part<O: Sink>(label: &[u8], part: u64, whole: u64, out: &mut O) -> Result<(), Failed>
-    ensures { Sends (O.written out.old) (O.written out.new) (O.faults out.old) (O.faults out.new) (part_line label.now part whole) result }
+    ensures { Sends (O.seen out.old) (O.seen out.new) (part_line label.now part whole) result }
 {
     write_line(
         out,
@@ -84,7 +84,7 @@ fn write_judged<O: Sink>(
     all: &Sums,
     out: &mut O,
 ) -> Result<(), Failed>
-    ensures { Sends (O.written out.old) (O.written out.new) (O.faults out.old) (O.faults out.new)
+    ensures { Sends (O.seen out.old) (O.seen out.new)
         (judged_lines rows batches judged.now all.now) result }
 {
     write_part(b"rows", rows, batches, out)?;
@@ -104,7 +104,7 @@ fn write_judged<O: Sink>(
 
 // Writes a label and both ends of a metric.
 fn write_ends<O: Sink>(label: &[u8], ends: Ends, out: &mut O) -> Result<(), Failed>
-    ensures { Sends (O.written out.old) (O.written out.new) (O.faults out.old) (O.faults out.new) (ends_line label.now ends) result }
+    ensures { Sends (O.seen out.old) (O.seen out.new) (ends_line label.now ends) result }
 {
     write_line(
         out,
@@ -120,7 +120,7 @@ fn write_ends<O: Sink>(label: &[u8], ends: Ends, out: &mut O) -> Result<(), Fail
 
 // Writes the ends of the term.
 fn write_term<O: Sink>(least: u64, greatest: u64, out: &mut O) -> Result<(), Failed>
-    ensures { Sends (O.written out.old) (O.written out.new) (O.faults out.old) (O.faults out.new) (term_line least greatest) result }
+    ensures { Sends (O.seen out.old) (O.seen out.new) (term_line least greatest) result }
 {
     write_line(
         out,
@@ -137,7 +137,7 @@ fn write_term<O: Sink>(least: u64, greatest: u64, out: &mut O) -> Result<(), Fai
 // Writes the bounds of the metrics.
 fn write_bounds<O: Sink>(sums: &EndSums, out: &mut O) -> Result<(), Failed>
     requires { AreAllConsistent sums.now }
-    ensures { Sends (O.written out.old) (O.written out.new) (O.faults out.old) (O.faults out.new) (bound_lines sums.now) result }
+    ensures { Sends (O.seen out.old) (O.seen out.new) (bound_lines sums.now) result }
 {
     write_ends(b"spfm permanent", sums.spfm_permanent(), out)?;
     write_ends(b"spfm transient", sums.spfm_transient(), out)?;
@@ -151,7 +151,7 @@ fn write_standing<O: Sink>(
     standing: Option<Standing>,
     out: &mut O,
 ) -> Result<(), Failed>
-    ensures { Sends (O.written out.old) (O.written out.new) (O.faults out.old) (O.faults out.new) (standing_line label.now standing) result }
+    ensures { Sends (O.seen out.old) (O.seen out.new) (standing_line label.now standing) result }
 {
     write_line(out, &[b"target", label, standing_word(&standing)])
 }
@@ -159,7 +159,7 @@ fn write_standing<O: Sink>(
 // Writes how the targets of a level stand.
 fn write_standings<O: Sink>(asil: Asil, sums: &EndSums, out: &mut O) -> Result<(), Failed>
     requires { AreAllConsistent sums.now }
-    ensures { Sends (O.written out.old) (O.written out.new) (O.faults out.old) (O.faults out.new) (standing_lines asil sums.now) result }
+    ensures { Sends (O.seen out.old) (O.seen out.new) (standing_lines asil sums.now) result }
 {
     let spfm = asil.spfm_target();
     write_standing(b"spfm permanent", sums.spfm_permanent().standing(spfm), out)?;
@@ -178,7 +178,7 @@ pub fn write_progress<O: Sink>(
 ) -> Result<(), Failed>
     requires distinct { AreDistinct plan.now (map entry_of rows.now) }
     requires table { table.now ≡ table_of (batch_count plan.now) (map entry_of rows.now) }
-    ensures { Sends (O.written out.old) (O.written out.new) (O.faults out.old) (O.faults out.new)
+    ensures { Sends (O.seen out.old) (O.seen out.new)
         (progress plan.now (map entry_of rows.now)) result }
 {
     let batches = u64::from(plan.batches());

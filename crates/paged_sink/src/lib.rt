@@ -2,7 +2,8 @@
 #![tactic(auto)]
 
 ghost use Rattle.std.specs.Prelude.{◌≡◌, ◌<◌, ◌≤◌, ◌-◌, ◌++◌, [], length, take, drop, OnOk, OnErr, if◌then◌else◌};
-ghost use Rattle.fm_shelf.specs.Shelf.{told_more, HasPrefix, Rose};
+ghost use Rattle.fm_shelf.specs.Shelf.{CountRose};
+ghost use Rattle.fm_shelf.specs.Sink.{Sends, Wrote, with_more};
 
 use fm_shelf::shelf::{Failed, Sink};
 use std::alloc::Global;
@@ -26,9 +27,9 @@ fn send<O: Sink>(out: &mut O, piece: &[u8], sent: &mut usize) -> Result<(), Fail
     ensures whole { OnOk result (length piece.now ≤ sent.new) }
     ensures forward { sent.old ≤ sent.new }
     ensures within { sent.new - sent.old ≤ length piece.now - sent.old }
-    ensures written { O.written out.new ≡ told_more (O.written out.old) (take (sent.new - sent.old) (drop sent.old piece.now)) }
-    ensures failed { OnErr result (Rose (O.faults out.old) (O.faults out.new)) }
-    ensures grows { O.faults out.old ≤ O.faults out.new }
+    ensures written { Wrote (O.seen out.old) (O.seen out.new) (take (sent.new - sent.old) (drop sent.old piece.now)) }
+    ensures failed { OnErr result (CountRose (O.seen out.old).faults (O.seen out.new).faults) }
+    ensures grows { (O.seen out.old).faults ≤ (O.seen out.new).faults }
 {
     'rest: while *sent < piece.len() {
         let n = out.write(&piece[*sent..])?;
@@ -63,12 +64,10 @@ impl<O: Sink + Drop> Paged<O> {
 
     /// Sends on all that waits. After `Failed` a prefix of it went out, and the rest waits.
     pub fn flush(&mut self) -> Result<(), Failed>
-        ensures ok { OnOk result (O.written self.new.out ≡ told_more (O.written self.old.out) (drop self.old.sent self.old.page.items)) }
+        ensures sends { Sends (O.seen self.old.out) (O.seen self.new.out) (drop self.old.sent self.old.page.items) result }
         ensures empty { OnOk result (drop self.new.sent self.new.page.items ≡ []) }
-        ensures torn { OnErr result (HasPrefix (O.written self.old.out) (O.written self.new.out) (drop self.old.sent self.old.page.items)) }
-        ensures waits { OnErr result (told_more (O.written self.new.out) (drop self.new.sent self.new.page.items) ≡ told_more (O.written self.old.out) (drop self.old.sent self.old.page.items)) }
-        ensures failed { OnErr result (Rose (O.faults self.old.out) (O.faults self.new.out)) }
-        ensures grows { O.faults self.old.out ≤ O.faults self.new.out }
+        ensures waits { OnErr result (with_more (O.seen self.new.out).written (drop self.new.sent self.new.page.items)
+            ≡ with_more (O.seen self.old.out).written (drop self.old.sent self.old.page.items)) }
     {
         send(&mut self.out, self.page.as_slice(), &mut self.sent)?;
         self.page.clear();
@@ -79,11 +78,9 @@ impl<O: Sink + Drop> Paged<O> {
 
 impl<O: Sink + Drop> Sink for Paged<O> {
     ghost use Rattle.std.specs.Prelude.{drop};
-    ghost use Rattle.fm_shelf.specs.Shelf.{told_more};
+    ghost use Rattle.fm_shelf.specs.Sink.{with_more};
 
-    ghost written = { λ s. told_more (O.written s.out) (drop s.sent s.page.items) };
-
-    ghost faults = { λ s. O.faults s.out };
+    ghost seen = { λ s. record { written = with_more (O.seen s.out).written (drop s.sent s.page.items); faults = (O.seen s.out).faults } };
 
     fn write(&mut self, piece: &[u8]) -> Result<usize, Failed> {
         if self.takes(piece) {

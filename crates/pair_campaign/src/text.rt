@@ -4,7 +4,7 @@ ghost use Rattle.fault_list.specs.Faults.{fault_name};
 ghost use Rattle.fm_base.specs.Lists.{below};
 ghost use Rattle.campaign_plan.specs.Analysis.{fault_count, fault_numbered};
 ghost use Rattle.pair_list.specs.Chosen.{AreFaults, pair_count, pair_numbered};
-ghost use Rattle.fmeda_report.specs.Sends.{Sends};
+ghost use Rattle.fm_shelf.specs.Sink.{Sends};
 ghost use Rattle.pair_campaign.specs.PairPlanes.{pair_bit};
 ghost use Rattle.pair_campaign.specs.PairText.{line_by_bit, pair_line, pairs_line, text_by_planes};
 
@@ -25,7 +25,7 @@ fn write_before_name<O: Sink>(
     out: &mut O,
 ) -> Result<(), Failed>
     requires { fault < fault_count plan.now }
-    ensures { Sends (O.written out.old) (O.written out.new) (O.faults out.old) (O.faults out.new)
+    ensures { Sends (O.seen out.old) (O.seen out.new)
         (before.now ++ fault_name plan.now.circuit (fault_numbered plan.now fault)) result }
 {
     write_all(out, before)?;
@@ -36,7 +36,7 @@ fn write_before_name<O: Sink>(
 fn write_pair<O: Sink>(plan: &Plan, pairs: &Pairs, pair: u32, out: &mut O) -> Result<(), Failed>
     requires pairs { AreFaults plan.now pairs.now }
     requires pair { pair < pair_count pairs.now }
-    ensures { Sends (O.written out.old) (O.written out.new) (O.faults out.old) (O.faults out.new)
+    ensures { Sends (O.seen out.old) (O.seen out.new)
         (pair_line plan.now (pair_numbered pairs.now pair)) result }
 {
     let first = pairs.first(pair);
@@ -56,7 +56,7 @@ fn write_by_bit<O: Sink>(
 ) -> Result<(), Failed>
     requires pairs { AreFaults plan.now pairs.now }
     requires pair { pair < pair_count pairs.now }
-    ensures { Sends (O.written out.old) (O.written out.new) (O.faults out.old) (O.faults out.new)
+    ensures { Sends (O.seen out.old) (O.seen out.new)
         (line_by_bit plan.now pairs.now planes.now pair) result }
 {
     if has_pair_bit(planes, pair) {
@@ -74,7 +74,7 @@ fn write_dangerous<O: Sink>(
     out: &mut O,
 ) -> Result<(), Failed>
     requires { AreFaults plan.now pairs.now }
-    ensures { Sends (O.written out.old) (O.written out.new) (O.faults out.old) (O.faults out.new)
+    ensures { Sends (O.seen out.old) (O.seen out.new)
         (flat_map (line_by_bit plan.now pairs.now planes.now) (below (pair_count pairs.now))) result }
 {
     for pair in 0..pairs.count() {
@@ -85,7 +85,7 @@ fn write_dangerous<O: Sink>(
 
 // Writes how many pairs there are, and how many of their bits are 1.
 fn write_numbers<O: Sink>(pairs: &Pairs, planes: &[u64], out: &mut O) -> Result<(), Failed>
-    ensures { Sends (O.written out.old) (O.written out.new) (O.faults out.old) (O.faults out.new)
+    ensures { Sends (O.seen out.old) (O.seen out.new)
         (pairs_line (pair_count pairs.now) (count_by (pair_bit planes.now) (below (pair_count pairs.now)))) result }
 {
     let count = pairs.count();
@@ -109,7 +109,7 @@ pub fn write_pairs<O: Sink>(
     out: &mut O,
 ) -> Result<(), Failed>
     requires pairs { AreFaults plan.now pairs.now }
-    ensures { Sends (O.written out.old) (O.written out.new) (O.faults out.old) (O.faults out.new)
+    ensures { Sends (O.seen out.old) (O.seen out.new)
         (text_by_planes plan.now pairs.now planes.now) result }
 {
     write_dangerous(plan, pairs, planes.as_slice(), out)?;

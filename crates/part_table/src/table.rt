@@ -2,7 +2,7 @@
 ghost use Rattle.std.specs.Prelude.{◌≡◌, ◌<◌, IfOk, Option, flat_map, length};
 ghost use Rattle.circuit.specs.Sound.{IsNetlist};
 ghost use Rattle.fm_base.specs.Lists.{below};
-ghost use Rattle.fmeda_report.specs.Sends.{Sends};
+ghost use Rattle.fm_shelf.specs.Sink.{Sends};
 ghost use Rattle.fmeda_report.specs.Words.{role_word as word_of_role};
 ghost use Rattle.part_table.specs.PartTable.{name_or_dash as name_by, part_table, row_line, star_word as word_of_star, unmatched_line};
 
@@ -93,7 +93,7 @@ impl<'a> PartTable<'a> {
     // Writes the line of a row.
     fn write_row<O: Sink>(&self, k: usize, out: &mut O) -> Result<(), Failed>
         requires { k < length self.now.rates.patterns }
-        ensures { Sends (O.written out.old) (O.written out.new) (O.faults out.old) (O.faults out.new)
+        ensures { Sends (O.seen out.old) (O.seen out.new)
             (row_line self.now.circuit self.now.rates k) result }
     {
         let pattern = &self.rates.patterns()[k];
@@ -128,7 +128,7 @@ impl<'a> PartTable<'a> {
 
     // Writes how many nets no row takes, and the first of them.
     fn write_unmatched<O: Sink>(&self, out: &mut O) -> Result<(), Failed>
-        ensures { Sends (O.written out.old) (O.written out.new) (O.faults out.old) (O.faults out.new)
+        ensures { Sends (O.seen out.old) (O.seen out.new)
             (unmatched_line self.now.circuit self.now.rates) result }
     {
         write_line(
@@ -144,7 +144,7 @@ impl<'a> PartTable<'a> {
 
     // Writes the line of each row.
     fn write_rows<O: Sink>(&self, out: &mut O) -> Result<(), Failed>
-        ensures { Sends (O.written out.old) (O.written out.new) (O.faults out.old) (O.faults out.new)
+        ensures { Sends (O.seen out.old) (O.seen out.new)
             (flat_map (row_line self.now.circuit self.now.rates) (below (length self.now.rates.patterns))) result }
     {
         for k in 0..self.rates.patterns().len() {
@@ -155,7 +155,7 @@ impl<'a> PartTable<'a> {
 
     /// Writes for each row of the rates file, in order, what it takes; and then how many nets no row takes. It takes no memory.
     pub fn write<O: Sink>(&self, out: &mut O) -> Result<(), Failed>
-        ensures { Sends (O.written out.old) (O.written out.new) (O.faults out.old) (O.faults out.new)
+        ensures { Sends (O.seen out.old) (O.seen out.new)
             (part_table self.now.circuit self.now.rates) result }
     {
         self.write_rows(out)?;

@@ -1,8 +1,9 @@
 -- The line of a refusal, whatever the circuit, and that of a loop.
-use Rattle.std.proofs.Common.{◌≡◌, ◌∙◌, ap, sym, refl, subst, ℕ, List, [], Ok, Err}
-use Rattle.std.specs.Prelude.{Option, Some, None, Result}
+use Rattle.std.proofs.Common.{◌≡◌, ◌∙◌, ap, sym, refl, subst, List, [], Ok, Err}
+use Rattle.std.specs.Prelude.{Result}
 use Rattle.fm_base.specs.Names.{Bytes}
-use Rattle.fm_shelf.specs.Shelf.{Told}
+use Rattle.fm_shelf.specs.Content.{Content, Unknown, Absent, Held, bytes_of}
+use Rattle.fm_shelf.specs.Sink.{SinkState}
 use Rattle.circuit.specs.Circuit.{Circuit}
 use Rattle.circuit.specs.declared.parts.NetId.{NetId}
 use Rattle.refusal_text.specs.NetlistFile.{netlist_in}
@@ -28,25 +29,19 @@ ok_same r x y a b = ap (value_or x) (sym a ∙ b)
 abbrev pub no_circuit : Circuit
 no_circuit = record { names = []; drivers = []; tables = []; latches = []; inputs = []; outputs = [] }
 
--- the bytes that are told
-abbrev bytes_in : Told → Bytes
-bytes_in None = []
-bytes_in (Some None) = []
-bytes_in (Some (Some bytes)) = bytes
-
 -- the circuit that a netlist's file stands for, or any other
-pub some_circuit : (netlist : Bytes) (told : Told) → (c : Circuit) × IsCircuitOf netlist told c
-some_circuit netlist None = (no_circuit, λ bytes e d got. let bad : None ≡ Some (Some bytes) = e in cc bad)
-some_circuit netlist (Some None) = (no_circuit, λ bytes e d got. let bad : Some None ≡ Some (Some bytes) = e in cc bad)
-some_circuit netlist (Some (Some held)) = by_netlist (netlist_in netlist held) refl
+pub some_circuit : (netlist : Bytes) (held : Content) → (c : Circuit) × IsCircuitOf netlist held c
+some_circuit netlist Unknown = (no_circuit, λ bytes e d got. let bad : Unknown ≡ Held bytes = e in cc bad)
+some_circuit netlist Absent = (no_circuit, λ bytes e d got. let bad : Absent ≡ Held bytes = e in cc bad)
+some_circuit netlist (Held held) = by_netlist (netlist_in netlist held) refl
   where
-    by_netlist : (r : Result Circuit Status) → netlist_in netlist held ≡ r → (c : Circuit) × IsCircuitOf netlist (Some (Some held)) c
+    by_netlist : (r : Result Circuit Status) → netlist_in netlist held ≡ r → (c : Circuit) × IsCircuitOf netlist (Held held) c
     by_netlist (Ok c) is =
-        (c, λ bytes e d got. let same : held ≡ bytes = ap bytes_in e in ok_same (netlist_in netlist held) c d is (ap (netlist_in netlist) same ∙ got))
+        (c, λ bytes e d got. let same : held ≡ bytes = ap bytes_of e in ok_same (netlist_in netlist held) c d is (ap (netlist_in netlist) same ∙ got))
     by_netlist (Err ended) is = (
       no_circuit,
       λ bytes e d got.
-          let same : held ≡ bytes = ap bytes_in e in let bad : Err ended ≡ Ok d = sym is ∙ ap (netlist_in netlist) same ∙ got in cc bad,
+          let same : held ≡ bytes = ap bytes_of e in let bad : Err ended ≡ Ok d = sym is ∙ ap (netlist_in netlist) same ∙ got in cc bad,
     )
 
 -- the line of a plain refusal is the same for every circuit
@@ -73,21 +68,21 @@ plain_line file c d (status.WriteFault place) plain = refl
 plain_line file c d status.Memory plain = refl
 
 -- the line of a plain refusal, whatever the circuit
-pub said_plain : (told : Told) (w0 w1 : Option Bytes) (f0 f1 : ℕ) (file : Which → Bytes) (ended : Status) → IsPlain ended
-    → ((c : Circuit) → c.names ≡ [] → IsSaid w0 w1 f0 f1 (refusal_line file c ended)) → IsSaidOf told w0 w1 f0 f1 file ended
-said_plain told w0 w1 f0 f1 file ended plain said =
-    let some = some_circuit (file which.Netlist) told in
-    (some.0, some.1, subst (λ text. IsSaid w0 w1 f0 f1 text) (plain_line file no_circuit some.0 ended plain) (said no_circuit refl))
+pub said_plain : (held : Content) (before after : SinkState) (file : Which → Bytes) (ended : Status) → IsPlain ended
+    → ((c : Circuit) → c.names ≡ [] → IsSaid before after (refusal_line file c ended)) → IsSaidOf held before after file ended
+said_plain held before after file ended plain said =
+    let some = some_circuit (file which.Netlist) held in
+    (some.0, some.1, subst (λ text. IsSaid before after text) (plain_line file no_circuit some.0 ended plain) (said no_circuit refl))
 
 -- the line of a refusal by its status
-pub said_by : (told : Told) (w0 w1 : Option Bytes) (f0 f1 : ℕ) (file : Which → Bytes) (refused : Refused) (ended : Status) → refused ≡ By ended → HasItsNets (file which.Netlist) told refused
-    → ((c : Circuit) → c.names ≡ [] → IsSaid w0 w1 f0 f1 (refusal_line file c ended)) → IsSaidOf told w0 w1 f0 f1 file (status_of refused)
-said_by told w0 w1 f0 f1 file refused ended is nets said =
-    subst (λ r. IsSaidOf told w0 w1 f0 f1 file (status_of r)) (sym is) (said_plain told w0 w1 f0 f1 file ended (subst (HasItsNets (file which.Netlist) told) is nets) said)
+pub said_by : (held : Content) (before after : SinkState) (file : Which → Bytes) (refused : Refused) (ended : Status) → refused ≡ By ended → HasItsNets (file which.Netlist) held refused
+    → ((c : Circuit) → c.names ≡ [] → IsSaid before after (refusal_line file c ended)) → IsSaidOf held before after file (status_of refused)
+said_by held before after file refused ended is nets said =
+    subst (λ r. IsSaidOf held before after file (status_of r)) (sym is) (said_plain held before after file ended (subst (HasItsNets (file which.Netlist) held) is nets) said)
 
 -- the line of a loop
-pub said_looped : (told : Told) (w0 w1 : Option Bytes) (f0 f1 : ℕ) (file : Which → Bytes) (refused : Refused) (walk : List NetId) (net : Circuit) → refused ≡ Looped walk net
-    → HasItsNets (file which.Netlist) told refused → ((c : Circuit) → c.names ≡ net.names → IsSaid w0 w1 f0 f1 (refusal_line file c (status.Loop walk)))
-    → IsSaidOf told w0 w1 f0 f1 file (status_of refused)
-said_looped told w0 w1 f0 f1 file refused walk net is nets said =
-    subst (λ r. IsSaidOf told w0 w1 f0 f1 file (status_of r)) (sym is) (net, subst (HasItsNets (file which.Netlist) told) is nets, said net refl)
+pub said_looped : (held : Content) (before after : SinkState) (file : Which → Bytes) (refused : Refused) (walk : List NetId) (net : Circuit) → refused ≡ Looped walk net
+    → HasItsNets (file which.Netlist) held refused → ((c : Circuit) → c.names ≡ net.names → IsSaid before after (refusal_line file c (status.Loop walk)))
+    → IsSaidOf held before after file (status_of refused)
+said_looped held before after file refused walk net is nets said =
+    subst (λ r. IsSaidOf held before after file (status_of r)) (sym is) (net, subst (HasItsNets (file which.Netlist) held) is nets, said net refl)

@@ -1,7 +1,7 @@
 // The line of a status.
 ghost use Rattle.std.specs.Prelude.{◌≡◌, codes, if◌then◌else◌};
 ghost use Rattle.circuit.specs.Circuit.{Circuit};
-ghost use Rattle.fm_shelf.specs.Shelf.{Told};
+ghost use Rattle.fm_shelf.specs.Content.{Content};
 ghost use Rattle.refusal_text.specs.Said.{IsSaid};
 ghost use Rattle.refusal_text.specs.Refusals.{status_of, HasItsNets, IsSaidOf};
 ghost use Rattle.refusal_text.specs.Named.{name_by};
@@ -33,7 +33,7 @@ fn rate_word(permanent: bool) -> &'static [u8]
 
 // The line of what is too large.
 fn refuse_large<O: Sink>(out: &mut O, names: &FileNames, what: What)
-    ensures { (c : Circuit) → IsSaid (O.written out.old) (O.written out.new) (O.faults out.old) (O.faults out.new)
+    ensures { (c : Circuit) → IsSaid (O.seen out.old) (O.seen out.new)
         (refusal_line (name_by names.now) c (Status.TooLarge what)) }
 {
     match what {
@@ -50,7 +50,7 @@ fn refuse_large<O: Sink>(out: &mut O, names: &FileNames, what: What)
 
 // The line of a fault of writing; a fault of `out` has none.
 fn refuse_write<O: Sink>(out: &mut O, names: &FileNames, to: WriteTo)
-    ensures { (c : Circuit) → IsSaid (O.written out.old) (O.written out.new) (O.faults out.old) (O.faults out.new)
+    ensures { (c : Circuit) → IsSaid (O.seen out.old) (O.seen out.new)
         (refusal_line (name_by names.now) c (Status.WriteFault to)) }
 {
     match to {
@@ -62,7 +62,7 @@ fn refuse_write<O: Sink>(out: &mut O, names: &FileNames, to: WriteTo)
 /// Writes the line of a refusal. `nets` has the names of the netlist's nets, for the line of a loop.
 pub fn refuse<O: Sink>(out: &mut O, names: &FileNames, nets: &[Name], status: &Status)
     ensures { (c : Circuit) → c.names ≡ nets.now
-        → IsSaid (O.written out.old) (O.written out.new) (O.faults out.old) (O.faults out.new) (refusal_line (name_by names.now) c status.now) }
+        → IsSaid (O.seen out.old) (O.seen out.new) (refusal_line (name_by names.now) c status.now) }
 {
     match status {
         Status::Done => (),
@@ -131,8 +131,8 @@ pub fn refuse<O: Sink>(out: &mut O, names: &FileNames, nets: &[Name], status: &S
 /// Writes the line of a refusal, and answers its status.
 pub fn say_refused<O: Sink>(out: &mut O, names: &FileNames, refused: Refused) -> Status
     ensures status { result ≡ status_of refused }
-    ensures said { (told : Told) → HasItsNets (name_by names.now Which.Netlist) told refused
-        → IsSaidOf told (O.written out.old) (O.written out.new) (O.faults out.old) (O.faults out.new) (name_by names.now) (status_of refused) }
+    ensures said { (held : Content) → HasItsNets (name_by names.now Which.Netlist) held refused
+        → IsSaidOf held (O.seen out.old) (O.seen out.new) (name_by names.now) (status_of refused) }
 {
     match refused {
         Refused::By(status) => {

@@ -25,13 +25,7 @@ impl<'a, F: Shelf + Drop> Watched<'a, F> {
 }
 
 impl<'a, F: Shelf + Drop> Shelf for Watched<'a, F> {
-    ghost files = { λ s. F.files s.shelf };
-
-    ghost rest_absent = { λ s. F.rest_absent s.shelf };
-
-    ghost read_faults = { λ s. F.read_faults s.shelf };
-
-    ghost write_faults = { λ s. F.write_faults s.shelf };
+    ghost seen = { λ s. F.seen s.shelf };
 
     fn read(&mut self, name: &str, at: u64, piece: &mut [u8]) -> Result<usize, Failed> {
         self.shelf.read(name, at, piece)

@@ -39,7 +39,7 @@ goes_on own p bytes k are =
       planes = same;
       same_report = ap (report p) same;
       whole = λ entries. subst (λ planes. IsWhole p planes entries) same;
-      resumed = λ after out_before out_after. subst (λ planes. ResumedAs own (report p planes) p planes bytes after out_before out_after) same;
+      resumed = λ name before after. subst (λ planes. ResumedAs own (report p planes) p planes bytes name before after) same;
     }
 
 pub taken_up : PrefixesKeepWholeRows → StoppedAreTakenUp

@@ -1,7 +1,7 @@
 -- What a campaign that was stopped has left to the one that goes on from it.
-use Rattle.std.specs.Prelude.{◌≡◌, ℕ, List, length, take, Option, Ok}
+use Rattle.std.specs.Prelude.{◌≡◌, ℕ, List, length, take, Ok}
 use Rattle.fm_base.specs.Names.{Bytes}
-use Rattle.fm_shelf.specs.Shelf.{Told}
+use Rattle.fm_shelf.specs.Outside.{Outside}
 use Rattle.campaign_plan.specs.Analysis.{Analysis}
 use Rattle.campaign_plan.specs.Batches.{Entry, AreTrue, true_planes}
 use Rattle.campaign_plan.specs.Kept.{IsPlan}
@@ -18,9 +18,8 @@ pub record GoesOnTruly (own : Bytes) (p : Analysis) (bytes : Bytes) (k : KeptRow
   pub planes : kept_or_true p k ≡ true_planes p
   pub same_report : report p (kept_or_true p k) ≡ true_report p
   pub whole : (entries : List Entry) → IsWhole p (kept_or_true p k) entries → IsWhole p (true_planes p) entries
-  pub resumed : (after : Told) (out_before out_after : Option Bytes)
-      → ResumedAs own (report p (kept_or_true p k)) p (kept_or_true p k) bytes after out_before out_after
-      → ResumedAs own (true_report p) p (true_planes p) bytes after out_before out_after
+  pub resumed : (name : Bytes) (before after : Outside) → ResumedAs own (report p (kept_or_true p k)) p (kept_or_true p k) bytes name before after
+      → ResumedAs own (true_report p) p (true_planes p) bytes name before after
 
 -- the file is accepted, and whatever rows are kept of it are such
 pub record IsTakenUp (own : Bytes) (p : Analysis) (bytes : Bytes) : Type 0 where

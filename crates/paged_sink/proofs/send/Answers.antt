@@ -1,17 +1,17 @@
 use Rattle.std.proofs.Common.{◌≡◌, ◌+◌, ◌-◌, ◌++◌, length-drop, take, drop, ap, sym, ◌∙◌, arith}
 use Rattle.std.proofs.lemmas.List.{take_rest, drop-drop}
 use Rattle.std.proofs.Math.Seq.{take-add}
-use Rattle.fm_shelf.specs.Shelf.{told_more}
+use Rattle.fm_shelf.specs.Sink.{with_more}
 use Rattle.paged_sink.proofs.Pages.{goes_first}
 use Rattle.paged_sink.proofs.send.Goals as goal
-use Rattle.fm_shelf.proofs.Sends.{told_more-append}
+use Rattle.fm_shelf.proofs.Sends.{with_more-append}
 
 pub rest-init : goal.rest-init
-rest-init g c = goes_first (g.O.Sink.written c.args.out.now) (g.O.Sink.faults c.args.out.now) c.args.piece.now c.args.sent.now
+rest-init g c = goes_first (g.O.Sink.seen c.args.out.now) c.args.piece.now c.args.sent.now
 
 pub rest-preserved : goal.rest-preserved
 rest-preserved g c =
-    let start = g.O.Sink.written c.args.out.now in
+    let start = (g.O.Sink.seen c.args.out.now).written in
     let from = c.args.sent.now in
     let sent = c.rest.sent in
     let n = c.in_ok-n.n in
@@ -25,10 +25,10 @@ rest-preserved g c =
       forward = omega arith;
       within = omega (arith, length-drop sent piece);
       written =
-          c.in_ok-n.ensures.ok ∙ ap (λ rest. told_more (g.O.Sink.written c.rest.out) (take n rest)) (take_rest piece sent)
-          ∙ ap (λ w. told_more w (take n (drop sent piece))) c.rest.invariant.written
-          ∙ told_more-append start (take (sent - from) (drop from piece)) (take n (drop sent piece))
-          ∙ ap (λ rest. told_more start (take (sent - from) (drop from piece) ++ take n rest)) left
-          ∙ ap (told_more start) (sym (take-add (sent - from) n (drop from piece)) ∙ ap (λ k. take k (drop from piece)) moved);
+          c.in_ok-n.ensures.ok ∙ ap (λ rest. with_more (g.O.Sink.seen c.rest.out).written (take n rest)) (take_rest piece sent)
+          ∙ ap (λ w. with_more w (take n (drop sent piece))) c.rest.invariant.written
+          ∙ with_more-append start (take (sent - from) (drop from piece)) (take n (drop sent piece))
+          ∙ ap (λ rest. with_more start (take (sent - from) (drop from piece) ++ take n rest)) left
+          ∙ ap (with_more start) (sym (take-add (sent - from) n (drop from piece)) ∙ ap (λ k. take k (drop from piece)) moved);
       grows = omega (arith, c.write.ensures.grows);
     }

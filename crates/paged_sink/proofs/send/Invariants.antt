@@ -4,7 +4,7 @@ use Rattle.paged_sink.proofs.send.Given as goal
 
 abbrev pub invariant-rest : goal.invariant-rest
 invariant-rest g l =
-    GoesOut (g.O.Sink.written l.initial.out) (g.O.Sink.written l.out) (g.O.Sink.faults l.initial.out) (g.O.Sink.faults l.out) l.piece l.initial.sent l.sent
+    GoesOut (g.O.Sink.seen l.initial.out) (g.O.Sink.seen l.out) l.piece l.initial.sent l.sent
 
 abbrev pub decreases-rest : goal.decreases-rest
 decreases-rest g l = length l.piece - l.sent

@@ -10,8 +10,6 @@ ghosts-play_over g a = record {
     header = a.own.now;
     name = string_bytes a.name.now;
     rows = [];
-    files = g.F.Shelf.files a.shelf;
-    rest_absent = g.F.Shelf.rest_absent a.shelf;
-    faults = g.F.Shelf.write_faults a.shelf (string_bytes a.name.now);
+    shelf = g.F.Shelf.seen a.shelf;
   };
 }

@@ -5,6 +5,5 @@ use Rattle.campaign_run.proofs.run.run_campaign.Given as goal
 -- what the board begins with, from the callee's arguments
 abbrev pub ghosts-run_over : goal.ghosts-run_over
 ghosts-run_over g a = record {
-  start = origin_of (record { name = string_bytes a.name.now; own = a.own.now; p = a.plan.now; k = a.kept; text = a.text })
-      (g.F.Shelf.files a.shelf) (g.F.Shelf.rest_absent a.shelf) (g.F.Shelf.write_faults a.shelf (string_bytes a.name.now));
+  start = origin_of (record { name = string_bytes a.name.now; own = a.own.now; p = a.plan.now; k = a.kept; text = a.text }) (g.F.Shelf.seen a.shelf);
 }

@@ -5,6 +5,5 @@ use Rattle.campaign_shard.proofs.run.run_part.Given as goal
 -- what the board begins with, from the callee's arguments
 abbrev pub ghosts-run_over : goal.ghosts-run_over
 ghosts-run_over g a = record {
-  start = part_origin (string_bytes a.name.now) a.own.now a.plan.now
-      (g.F.Shelf.files a.shelf) (g.F.Shelf.rest_absent a.shelf) (g.F.Shelf.write_faults a.shelf (string_bytes a.name.now));
+  start = part_origin (string_bytes a.name.now) a.own.now a.plan.now (g.F.Shelf.seen a.shelf);
 }

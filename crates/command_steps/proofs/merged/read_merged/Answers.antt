@@ -1,11 +1,10 @@
-use Rattle.std.proofs.Common.{◌∙◌, ◌≤◌, ap, subst, arith}
+use Rattle.std.proofs.Common.{◌∙◌, ap}
 use Rattle.std.proofs.lemmas.Result.{err_from_is_err_and}
-use Rattle.fm_shelf.specs.Shelf.{held_in, NowHas}
 use Rattle.refusal_text.specs.declared.status.Which.TheVariants as which
 use Rattle.command_steps.specs.FirstRefusal.{back_step, own_header}
 use Rattle.command_steps.specs.PlanSteps.{names_of, bytes_of}
-use Rattle.command_steps.proofs.Keeping.{keeps_all}
-use Rattle.command_steps.proofs.PlanOrder.{step_on}
+use Rattle.command_steps.proofs.Keeping.{none_read, more_read, had_if_known}
+use Rattle.command_steps.proofs.InOrder.{step_since}
 use Rattle.command_steps.proofs.BegunOrder.{rows_kept, rows_plain}
 use Rattle.command_steps.proofs.Distinct.{kept_distinct}
 use Rattle.command_steps.proofs.MergeOrder.{merge_planned, merge_first, merge_second, merge_differs, merge_plain}
@@ -15,8 +14,8 @@ pub returns-in_err-planned-clause-read : goal.returns-in_err-planned-clause-read
 returns-in_err-planned-clause-read g c =
     let p = err_from_is_err_and c.from_residual.result c.from_residual.ensures.1 in
     rw (p.1, p.2) (
-      merge_planned (names_of c.args.inputs.now) c.args.first.now c.args.second.now c.args.set (held_in (g.F.Shelf.files c.args.shelf.now) (g.F.Shelf.rest_absent c.args.shelf.now))
-          (g.F.Shelf.read_faults c.args.shelf.now) (g.F.Shelf.read_faults c.read_plan.new.shelf) _ c.in_err-planned.ensures.read.0,
+      merge_planned (names_of c.args.inputs.now) c.args.first.now c.args.second.now c.args.set
+          (g.F.Shelf.seen c.args.shelf.now) (g.F.Shelf.seen c.read_plan.new.shelf) _ c.in_err-planned.ensures.read.0,
       c.in_err-planned.ensures.read.1,
     )
 
@@ -27,15 +26,20 @@ returns-in_err-one-clause-read g c =
     let planned = c.in_ok-planned.planned in
     let own = c.own_line-own.result in
     let own_is = c.own_line-own.ensures.text ∙ ap (λ set. own_header set (bytes_of planned.files) planned.plan) c.in_ok-planned.ensures.read.4 in
-    let le : g.F.Shelf.read_faults c.args.shelf.now name ≤ g.F.Shelf.read_faults c.read_plan.new.shelf name = c.in_ok-planned.ensures.counts name in
-    let end : g.F.Shelf.read_faults c.read_rows.new.shelf name ≤ g.F.Shelf.read_faults c.read_rows.new.shelf name = omega arith in
+    let before = g.F.Shelf.seen c.args.shelf.now in
+    let mid = g.F.Shelf.seen c.read_plan.new.shelf in
+    let after = g.F.Shelf.seen c.read_rows.new.shelf in
     rw (p.1, p.2) (
-      merge_first (names_of c.args.inputs.now) name c.args.second.now c.args.set (held_in (g.F.Shelf.files c.args.shelf.now) (g.F.Shelf.rest_absent c.args.shelf.now))
-          (g.F.Shelf.read_faults c.args.shelf.now) (g.F.Shelf.read_faults c.read_rows.new.shelf) planned c.in_ok-planned.ensures.read own own_is _
-          (step_on which.First (back_step which.First own planned.plan) _ _ _ _ _ _ _ (keeps_all (g.F.Shelf.files c.args.shelf.now) (g.F.Shelf.files c.read_plan.new.shelf)
-          (g.F.Shelf.rest_absent c.args.shelf.now) (g.F.Shelf.rest_absent c.read_plan.new.shelf) c.in_ok-planned.ensures.files c.in_ok-planned.ensures.rest name) le end c.in_err-one.ensures.read),
-      rows_plain which.First own planned.plan _ _ _ _ c.in_err-one.ensures.read,
+      merge_first (names_of c.args.inputs.now) name c.args.second.now c.args.set before after planned c.in_ok-planned.ensures.read own own_is _
+          (step_since which.First (back_step which.First own planned.plan) name before mid after after _ c.in_ok-planned.ensures.rest (none_read after)
+          c.in_err-one.ensures.read),
+      rows_plain which.First own planned.plan name mid after _ c.in_err-one.ensures.read,
     )
+
+pub returns-in_err-one-clause-rest : goal.returns-in_err-one-clause-rest
+returns-in_err-one-clause-rest g c =
+    more_read (g.F.Shelf.seen c.args.shelf.now) (g.F.Shelf.seen c.read_plan.new.shelf) (g.F.Shelf.seen c.read_rows.new.shelf) c.args.first.now
+    c.in_ok-planned.ensures.rest c.in_err-one.ensures.rest
 
 pub returns-in_err-two-clause-read : goal.returns-in_err-two-clause-read
 returns-in_err-two-clause-read g c =
@@ -44,22 +48,28 @@ returns-in_err-two-clause-read g c =
     let planned = c.in_ok-planned.planned in
     let own = c.own_line-own.result in
     let own_is = c.own_line-own.ensures.text ∙ ap (λ set. own_header set (bytes_of planned.files) planned.plan) c.in_ok-planned.ensures.read.4 in
-    let le : g.F.Shelf.read_faults c.args.shelf.now name ≤ g.F.Shelf.read_faults c.read_rows.new.shelf name =
-    omega (arith, c.in_ok-planned.ensures.counts name, c.in_ok-one.ensures.counts name) in
-    let end : g.F.Shelf.read_faults c.read_rows-2.new.shelf name ≤ g.F.Shelf.read_faults c.read_rows-2.new.shelf name = omega arith in
+    let before = g.F.Shelf.seen c.args.shelf.now in
+    let mid = g.F.Shelf.seen c.read_plan.new.shelf in
+    let one = g.F.Shelf.seen c.read_rows.new.shelf in
+    let after = g.F.Shelf.seen c.read_rows-2.new.shelf in
+    let kept = c.in_ok-one.ensures.read in
+    let to_one = more_read before mid one c.args.first.now c.in_ok-planned.ensures.rest c.in_ok-one.ensures.rest in
     rw (p.1, p.2) (
-      merge_second (names_of c.args.inputs.now) c.args.first.now name c.args.set (held_in (g.F.Shelf.files c.args.shelf.now) (g.F.Shelf.rest_absent c.args.shelf.now))
-          (g.F.Shelf.read_faults c.args.shelf.now) (g.F.Shelf.read_faults c.read_rows-2.new.shelf) planned
-          c.in_ok-planned.ensures.read own own_is
-          c.in_ok-one.ensures.read.0
-          (subst (λ told. NowHas told c.in_ok-one.ensures.read.0) (keeps_all (g.F.Shelf.files c.args.shelf.now) (g.F.Shelf.files c.read_plan.new.shelf)
-          (g.F.Shelf.rest_absent c.args.shelf.now) (g.F.Shelf.rest_absent c.read_plan.new.shelf) c.in_ok-planned.ensures.files c.in_ok-planned.ensures.rest c.args.first.now) c.in_ok-one.ensures.read.1)
-          c.in_ok-one.one c.in_ok-one.ensures.read.2 _
-          (step_on which.Second (back_step which.Second own planned.plan) _ _ _ _ _ _ _ (keeps_all (g.F.Shelf.files c.args.shelf.now) (g.F.Shelf.files c.read_rows.new.shelf)
-          (g.F.Shelf.rest_absent c.args.shelf.now) (g.F.Shelf.rest_absent c.read_rows.new.shelf) (c.in_ok-one.ensures.files ∙ c.in_ok-planned.ensures.files)
-          (c.in_ok-one.ensures.rest ∙ c.in_ok-planned.ensures.rest) name) le end c.in_err-two.ensures.read),
-      rows_plain which.Second own planned.plan _ _ _ _ c.in_err-two.ensures.read,
+      merge_second (names_of c.args.inputs.now) c.args.first.now name c.args.set before after planned c.in_ok-planned.ensures.read own own_is
+          kept.0 (had_if_known before mid c.args.first.now kept.0 c.in_ok-planned.ensures.rest kept.1) c.in_ok-one.one kept.2 _
+          (step_since which.Second (back_step which.Second own planned.plan) name before one after after _ to_one (none_read after)
+          c.in_err-two.ensures.read),
+      rows_plain which.Second own planned.plan name one after _ c.in_err-two.ensures.read,
     )
+
+pub returns-in_err-two-clause-rest : goal.returns-in_err-two-clause-rest
+returns-in_err-two-clause-rest g c =
+    let before = g.F.Shelf.seen c.args.shelf.now in
+    let mid = g.F.Shelf.seen c.read_plan.new.shelf in
+    let one = g.F.Shelf.seen c.read_rows.new.shelf in
+    let after = g.F.Shelf.seen c.read_rows-2.new.shelf in
+    let to_one = more_read before mid one c.args.first.now c.in_ok-planned.ensures.rest c.in_ok-one.ensures.rest in
+    more_read before one after c.args.second.now to_one c.in_err-two.ensures.rest
 
 pub rows_of_both-requires-clause-first : goal.rows_of_both-requires-clause-first
 rows_of_both-requires-clause-first g c =
@@ -77,49 +87,60 @@ returns-in_err-rows-clause-read g c =
     let planned = c.in_ok-planned.planned in
     let own = c.own_line-own.result in
     let own_is = c.own_line-own.ensures.text ∙ ap (λ set. own_header set (bytes_of planned.files) planned.plan) c.in_ok-planned.ensures.read.4 in
+    let before = g.F.Shelf.seen c.args.shelf.now in
+    let mid = g.F.Shelf.seen c.read_plan.new.shelf in
+    let one = g.F.Shelf.seen c.read_rows.new.shelf in
+    let after = g.F.Shelf.seen c.read_rows-2.new.shelf in
+    let first = c.in_ok-one.ensures.read in
+    let second = c.in_ok-two.ensures.read in
+    let to_one = more_read before mid one c.args.first.now c.in_ok-planned.ensures.rest c.in_ok-one.ensures.rest in
     rw (p.1, p.2) (
-      merge_differs (names_of c.args.inputs.now) c.args.first.now c.args.second.now c.args.set (held_in (g.F.Shelf.files c.args.shelf.now) (g.F.Shelf.rest_absent c.args.shelf.now))
-          (g.F.Shelf.read_faults c.args.shelf.now) (g.F.Shelf.read_faults c.read_rows-2.new.shelf) planned
-          c.in_ok-planned.ensures.read own own_is
-          c.in_ok-one.ensures.read.0
-          (subst (λ told. NowHas told c.in_ok-one.ensures.read.0) (keeps_all (g.F.Shelf.files c.args.shelf.now) (g.F.Shelf.files c.read_plan.new.shelf)
-          (g.F.Shelf.rest_absent c.args.shelf.now) (g.F.Shelf.rest_absent c.read_plan.new.shelf) c.in_ok-planned.ensures.files c.in_ok-planned.ensures.rest c.args.first.now) c.in_ok-one.ensures.read.1)
-          c.in_ok-one.one c.in_ok-one.ensures.read.2
-          c.in_ok-two.ensures.read.0
-          (subst (λ told. NowHas told c.in_ok-two.ensures.read.0) (keeps_all (g.F.Shelf.files c.args.shelf.now) (g.F.Shelf.files c.read_rows.new.shelf)
-          (g.F.Shelf.rest_absent c.args.shelf.now) (g.F.Shelf.rest_absent c.read_rows.new.shelf) (c.in_ok-one.ensures.files ∙ c.in_ok-planned.ensures.files)
-          (c.in_ok-one.ensures.rest ∙ c.in_ok-planned.ensures.rest) c.args.second.now) c.in_ok-two.ensures.read.1)
-          c.in_ok-two.two c.in_ok-two.ensures.read.2 _ c.in_err-rows.ensures,
+      merge_differs (names_of c.args.inputs.now) c.args.first.now c.args.second.now c.args.set before after planned c.in_ok-planned.ensures.read own own_is
+          first.0 (had_if_known before mid c.args.first.now first.0 c.in_ok-planned.ensures.rest first.1) c.in_ok-one.one first.2
+          second.0 (had_if_known before one c.args.second.now second.0 to_one second.1) c.in_ok-two.two second.2 _ c.in_err-rows.ensures,
       merge_plain planned.plan c.in_ok-one.one c.in_ok-two.two _ c.in_err-rows.ensures,
     )
 
+pub returns-in_err-rows-clause-rest : goal.returns-in_err-rows-clause-rest
+returns-in_err-rows-clause-rest g c =
+    let before = g.F.Shelf.seen c.args.shelf.now in
+    let mid = g.F.Shelf.seen c.read_plan.new.shelf in
+    let one = g.F.Shelf.seen c.read_rows.new.shelf in
+    let after = g.F.Shelf.seen c.read_rows-2.new.shelf in
+    let to_one = more_read before mid one c.args.first.now c.in_ok-planned.ensures.rest c.in_ok-one.ensures.rest in
+    more_read before one after c.args.second.now to_one c.in_ok-two.ensures.rest
+
 pub returns-clause-read : goal.returns-clause-read
 returns-clause-read g c =
-    let planned = c.in_ok-planned.planned in (
+    let planned = c.in_ok-planned.planned in
+    let before = g.F.Shelf.seen c.args.shelf.now in
+    let mid = g.F.Shelf.seen c.read_plan.new.shelf in
+    let one = g.F.Shelf.seen c.read_rows.new.shelf in
+    let kept = c.in_ok-one.ensures.read in
+    let other = c.in_ok-two.ensures.read in
+    let to_one = more_read before mid one c.args.first.now c.in_ok-planned.ensures.rest c.in_ok-one.ensures.rest in (
       c.in_ok-planned.ensures.read,
       record {
         sound = c.own_line-own.ensures.plan;
         own = c.own_line-own.ensures.text ∙ ap (λ set. own_header set (bytes_of planned.files) planned.plan) c.in_ok-planned.ensures.read.4;
         header = c.own_line-own.ensures.len;
-        first_bytes = c.in_ok-one.ensures.read.0;
-        second_bytes = c.in_ok-two.ensures.read.0;
-        first_held = subst (λ told. NowHas told c.in_ok-one.ensures.read.0) (keeps_all (g.F.Shelf.files c.args.shelf.now) (g.F.Shelf.files c.read_plan.new.shelf)
-            (g.F.Shelf.rest_absent c.args.shelf.now) (g.F.Shelf.rest_absent c.read_plan.new.shelf) c.in_ok-planned.ensures.files c.in_ok-planned.ensures.rest c.args.first.now) c.in_ok-one.ensures.read.1;
-        second_held = subst (λ told. NowHas told c.in_ok-two.ensures.read.0) (keeps_all (g.F.Shelf.files c.args.shelf.now) (g.F.Shelf.files c.read_rows.new.shelf)
-            (g.F.Shelf.rest_absent c.args.shelf.now) (g.F.Shelf.rest_absent c.read_rows.new.shelf) (c.in_ok-one.ensures.files ∙ c.in_ok-planned.ensures.files)
-            (c.in_ok-one.ensures.rest ∙ c.in_ok-planned.ensures.rest) c.args.second.now) c.in_ok-two.ensures.read.1;
+        first_bytes = kept.0;
+        second_bytes = other.0;
+        first_held = had_if_known before mid c.args.first.now kept.0 c.in_ok-planned.ensures.rest kept.1;
+        second_held = had_if_known before one c.args.second.now other.0 to_one other.1;
         first = c.in_ok-one.one;
         second = c.in_ok-two.two;
-        first_kept = c.in_ok-one.ensures.read.2;
-        second_kept = c.in_ok-two.ensures.read.2;
+        first_kept = kept.2;
+        second_kept = other.2;
         merge = c.in_ok-rows.ensures;
       },
     )
 
-pub returns-clause-write_counts : goal.returns-clause-write_counts
-returns-clause-write_counts g c =
-    λ other. c.in_ok-two.ensures.write_counts other ∙ c.in_ok-one.ensures.write_counts other ∙ c.in_ok-planned.ensures.write_counts other
-
-pub returns-in_err-rows-clause-write_counts : goal.returns-in_err-rows-clause-write_counts
-returns-in_err-rows-clause-write_counts g c =
-    λ other. c.in_ok-two.ensures.write_counts other ∙ c.in_ok-one.ensures.write_counts other ∙ c.in_ok-planned.ensures.write_counts other
+pub returns-clause-rest : goal.returns-clause-rest
+returns-clause-rest g c =
+    let before = g.F.Shelf.seen c.args.shelf.now in
+    let mid = g.F.Shelf.seen c.read_plan.new.shelf in
+    let one = g.F.Shelf.seen c.read_rows.new.shelf in
+    let after = g.F.Shelf.seen c.read_rows-2.new.shelf in
+    let to_one = more_read before mid one c.args.first.now c.in_ok-planned.ensures.rest c.in_ok-one.ensures.rest in
+    more_read before one after c.args.second.now to_one c.in_ok-two.ensures.rest

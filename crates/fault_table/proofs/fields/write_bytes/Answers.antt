@@ -4,7 +4,7 @@ use Rattle.fault_table.specs.Csv.{between_quotes}
 use Rattle.fault_table.proofs.fields.write_bytes.Goals as goal
 
 pub loop-byte-init : goal.loop-byte-init
-loop-byte-init g c = sends_none _ _
+loop-byte-init g c = sends_none _
 
 pub loop-byte-preserved : goal.loop-byte-preserved
 loop-byte-preserved g c =

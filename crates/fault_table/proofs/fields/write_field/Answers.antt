@@ -10,4 +10,4 @@ pub returns-else-is_quoted : goal.returns-else-is_quoted
 returns-else-is_quoted g c =
     let wrote = c.write_pieces.ensures in
     sends_as (field_plain c.args.pieces.now (sym c.is_quoted.ensures ∙ c.if-is_quoted.false))
-    (record { ok = wrote.ok; torn = wrote.torn; failed = wrote.failed; grows = wrote.grows })
+    wrote

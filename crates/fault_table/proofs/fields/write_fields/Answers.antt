@@ -4,7 +4,7 @@ use Rattle.fault_table.proofs.Quoting.{next_field}
 use Rattle.fault_table.proofs.fields.write_fields.Goals as goal
 
 pub loop-field-init : goal.loop-field-init
-loop-field-init g c = sends_none _ _
+loop-field-init g c = sends_none _
 
 pub loop-field-preserved : goal.loop-field-preserved
 loop-field-preserved g c =

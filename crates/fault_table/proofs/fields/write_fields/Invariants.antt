@@ -1,10 +1,10 @@
 use Rattle.std.proofs.Common.{take, Ok}
 use Rattle.std.specs.List.{flat_map}
-use Rattle.fmeda_report.specs.Sends.{Sends}
+use Rattle.fm_shelf.specs.Sink.{Sends}
 use Rattle.fault_table.proofs.Quoting.{next_field}
 use Rattle.fault_table.proofs.fields.write_fields.Given as goal
 
 abbrev pub invariant-loop-field : goal.invariant-loop-field
 invariant-loop-field g l =
-    Sends (g.O.Sink.written l.initial.out) (g.O.Sink.written l.out) (g.O.Sink.faults l.initial.out) (g.O.Sink.faults l.out)
+    Sends (g.O.Sink.seen l.initial.out) (g.O.Sink.seen l.out)
     (flat_map next_field (take l.field-index l.fields)) (Ok tt)

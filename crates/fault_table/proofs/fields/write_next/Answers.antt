@@ -9,10 +9,10 @@ pub returns-in_err-write_all : goal.returns-in_err-write_all
 returns-in_err-write_all g c =
     let p = err_from_is_err_and c.from_residual.result c.from_residual.ensures.1 in
     let wrote = c.in_err-write_all.ensures in
-    rw p.1 (sends_stop (csv_field c.args.field.now) p.0 (record { ok = tt; torn = wrote.torn; failed = wrote.failed; grows = wrote.grows }))
+    rw p.1 (sends_stop (csv_field c.args.field.now) p.0 wrote)
 
 pub returns : goal.returns
 returns g c =
     let begun = c.in_ok-write_all.ensures in
-    sends_then (record { ok = begun.ok; torn = tt; failed = tt; grows = begun.grows })
+    sends_then begun
     (sends_as (ap csv_field (append-nil c.args.field.now)) c.write_field.ensures)

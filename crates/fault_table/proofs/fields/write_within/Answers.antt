@@ -4,7 +4,7 @@ use Rattle.fault_table.proofs.Quoting.{quoted_piece}
 use Rattle.fault_table.proofs.fields.write_within.Goals as goal
 
 pub loop-piece-init : goal.loop-piece-init
-loop-piece-init g c = sends_none _ _
+loop-piece-init g c = sends_none _
 
 pub loop-piece-preserved : goal.loop-piece-preserved
 loop-piece-preserved g c =

@@ -29,4 +29,4 @@ returns g c =
     let wrote = c.write_all.ensures in
     sends_as (row_is c.args.plan.now c.args.planes c.args.i) (sends_then (sends_then
     (sends_as (λ j. csv_field (fault_name (c.net.ensures.value j) (fault j))) c.in_ok-write_name.ensures) c.in_ok-write_rest.ensures)
-    (record { ok = wrote.ok; torn = wrote.torn; failed = wrote.failed; grows = wrote.grows }))
+    wrote)

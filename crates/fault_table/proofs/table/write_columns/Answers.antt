@@ -13,4 +13,4 @@ row = refl
 pub returns : goal.returns
 returns g c =
     let wrote = c.write_all.ensures in
-    sends_as row (record { ok = wrote.ok; torn = wrote.torn; failed = wrote.failed; grows = wrote.grows })
+    sends_as row wrote

@@ -8,7 +8,7 @@ use Rattle.fault_table.proofs.Keeping.{row_by_table}
 use Rattle.fault_table.proofs.table.write_rows.Goals as goal
 
 pub loop-i-init : goal.loop-i-init
-loop-i-init g c = sends_no_number (row_by_table c.args.plan.now c.args.table.now) _ _
+loop-i-init g c = sends_no_number (row_by_table c.args.plan.now c.args.table.now) _
 
 pub loop-i-preserved : goal.loop-i-preserved
 loop-i-preserved g c =

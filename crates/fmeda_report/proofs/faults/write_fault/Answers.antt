@@ -12,4 +12,4 @@ returns-then-is_named g c =
 pub returns-else-is_named : goal.returns-else-is_named
 returns-else-is_named g c =
     sends_as (sym (unnamed_line c.args.plan.now (planes_at c.args.planes.now) c.args.i c.class_of_fault-class.result c.class_of_fault-class.ensures
-    (sym c.is_named.ensures ∙ c.if-is_named.false))) (sends_none _ _)
+    (sym c.is_named.ensures ∙ c.if-is_named.false))) (sends_none _)

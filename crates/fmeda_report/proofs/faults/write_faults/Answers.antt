@@ -9,7 +9,7 @@ use Rattle.fmeda_report.proofs.Sending.{sends_as, sends_no_number, sends_number,
 use Rattle.fmeda_report.proofs.faults.write_faults.Goals as goal
 
 pub loop-i-init : goal.loop-i-init
-loop-i-init g c = sends_no_number (fault_line c.args.plan.now (planes_at c.args.planes.now)) _ _
+loop-i-init g c = sends_no_number (fault_line c.args.plan.now (planes_at c.args.planes.now)) _
 
 pub loop-i-preserved : goal.loop-i-preserved
 loop-i-preserved g c =

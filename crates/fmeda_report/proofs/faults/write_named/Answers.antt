@@ -29,7 +29,7 @@ returns-in_err-write_pieces g c =
     let wrote = c.in_err-write_pieces.ensures in
     rw p.1 (sends_as (pieces (class_word c.args.class) name (decimal (weight plan c.args.i)))
     (sends_stop (last (decimal (weight plan c.args.i))) p.0 (sends_stop name p.0 (sends_as (ap first c.class_word.ensures)
-    (record { ok = tt; torn = wrote.torn; failed = wrote.failed; grows = wrote.grows })))))
+    wrote))))
 
 pub returns-in_err-write_name : goal.returns-in_err-write_name
 returns-in_err-write_name g c =
@@ -40,9 +40,9 @@ returns-in_err-write_name g c =
     let wrote = c.in_err-write_name.ensures in
     rw p.1 (sends_as (pieces (class_word c.args.class) name (decimal (weight plan c.args.i)))
     (sends_stop (last (decimal (weight plan c.args.i))) p.0 (sends_then
-    (sends_as (ap first c.class_word.ensures) (record { ok = begun.ok; torn = tt; failed = tt; grows = begun.grows }))
+    (sends_as (ap first c.class_word.ensures) begun)
     (sends_as (λ j. fault_name (c.net.ensures.value j) (fault_at (c.faults.ensures.value j) c.args.i))
-    (record { ok = tt; torn = wrote.torn; failed = wrote.failed; grows = wrote.grows })))))
+    wrote))))
 
 pub returns : goal.returns
 returns g c =
@@ -52,8 +52,8 @@ returns g c =
     let named = c.in_ok-write_name.ensures in
     let wrote = c.write_pieces-2.ensures in
     sends_as (pieces (class_word c.args.class) name (decimal (weight plan c.args.i))) (sends_then (sends_then
-    (sends_as (ap first c.class_word.ensures) (record { ok = begun.ok; torn = tt; failed = tt; grows = begun.grows }))
+    (sends_as (ap first c.class_word.ensures) begun)
     (sends_as (λ j. fault_name (c.net.ensures.value j) (fault_at (c.faults.ensures.value j) c.args.i))
-    (record { ok = named.ok; torn = tt; failed = tt; grows = named.grows })))
+    named))
     (sends_as (ap last (c.bytes.ensures ∙ c.number_word.ensures ∙ ap decimal c.weight.ensures))
-    (record { ok = wrote.ok; torn = wrote.torn; failed = wrote.failed; grows = wrote.grows })))
+    wrote))

@@ -15,4 +15,4 @@ returns g c =
     let e = line_parts c.args.words.now c.in-Some.words.now c.in-Some.last.now c.in-Some.ensures.cases.0 in
     let wrote = c.write_pieces.ensures in
     sends_as (sym e) (sends_then c.in_ok-write_words.ensures
-    (record { ok = wrote.ok; torn = wrote.torn; failed = wrote.failed; grows = wrote.grows }))
+    wrote)

@@ -1,10 +1,10 @@
 use Rattle.std.proofs.Common.{take, Ok}
 use Rattle.std.specs.List.{flat_map}
-use Rattle.fmeda_report.specs.Sends.{Sends}
+use Rattle.fm_shelf.specs.Sink.{Sends}
 use Rattle.fmeda_report.specs.Spaces.{with_space}
 use Rattle.fmeda_report.proofs.lines.write_words.Given as goal
 
 abbrev pub invariant-loop-word : goal.invariant-loop-word
 invariant-loop-word g l =
-    Sends (g.O.Sink.written l.initial.out) (g.O.Sink.written l.out) (g.O.Sink.faults l.initial.out) (g.O.Sink.faults l.out)
+    Sends (g.O.Sink.seen l.initial.out) (g.O.Sink.seen l.out)
     (flat_map with_space (take l.word-index l.words)) (Ok tt)

@@ -8,7 +8,7 @@ use Rattle.fmeda_report.proofs.Sending.{sends_as, sends_no_number, sends_number,
 use Rattle.fmeda_report.proofs.parts.write_parts.Goals as goal
 
 pub loop-number-init : goal.loop-number-init
-loop-number-init g c planes tallied = sends_no_number (part_line c.args.plan.now planes) _ _
+loop-number-init g c planes tallied = sends_no_number (part_line c.args.plan.now planes) _
 
 pub loop-number-preserved : goal.loop-number-preserved
 loop-number-preserved g c planes tallied =

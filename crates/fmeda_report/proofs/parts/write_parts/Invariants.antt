@@ -2,12 +2,12 @@ use Rattle.std.proofs.Common.{Ok}
 use Rattle.std.specs.List.{flat_map}
 use Rattle.fm_base.specs.Lists.{below}
 use Rattle.fmeda_report.specs.Report.{Planes, part_line}
-use Rattle.fmeda_report.specs.Sends.{Sends}
+use Rattle.fm_shelf.specs.Sink.{Sends}
 use Rattle.fmeda_report.specs.Tallies.{AreTallied}
 use Rattle.fmeda_report.proofs.parts.write_parts.Given as goal
 
 abbrev pub invariant-loop-number : goal.invariant-loop-number
 invariant-loop-number g l =
     (planes : Planes) → AreTallied l.plan planes l.tallies
-    → Sends (g.O.Sink.written l.initial.out) (g.O.Sink.written l.out) (g.O.Sink.faults l.initial.out) (g.O.Sink.faults l.out)
+    → Sends (g.O.Sink.seen l.initial.out) (g.O.Sink.seen l.out)
     (flat_map (part_line l.plan planes) (below l.number)) (Ok tt)

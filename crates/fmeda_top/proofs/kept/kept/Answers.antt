@@ -1,22 +1,26 @@
-use Rattle.std.proofs.Common.{refl, sym}
-use Rattle.fm_shelf.specs.Shelf.{held_in}
+use Rattle.std.proofs.Common.{refl}
+use Rattle.fm_shelf.specs.Outside.{outside}
+use Rattle.std.proofs.Common.{◌∙◌, sym}
 use Rattle.command_steps.specs.PlanSteps.{names_of}
-use Rattle.command_steps.proofs.Keeping.{keeps_all}
-use Rattle.fmeda_top.proofs.Ending.{plain_refusal}
-use Rattle.fmeda_top.proofs.PlanEnding.{inputs_said}
-use Rattle.fmeda_top.proofs.KeptEnding.{kept_end, kept_refused}
+use Rattle.command_steps.specs.BegunSteps.{KeptRefused}
+use Rattle.fmeda_top.specs.Kept.{command_of}
+use Rattle.fmeda_top.proofs.Ending.{tried_ends}
+use Rattle.fmeda_top.proofs.PlanEnding.{inputs_names}
+use Rattle.fmeda_top.proofs.KeptEnding.{kept_end, kept_names, kept_netlist, kept_refused}
 use Rattle.fmeda_top.proofs.kept.kept.Goals as goal
 
 pub returns-in-Ok : goal.returns-in-Ok
 returns-in-Ok g c =
-    kept_end c.args.text (names_of c.args.inputs.now) c.args.rows.now c.args.settings _ _ _ _ _ _ (keeps_all _ _ _ _ c.in-Ok.ensures.files c.in-Ok.ensures.rest) c.in-Ok.ensures.tried
+    let before = outside (g.F.Shelf.seen c.args.shelf.now) (g.O.Sink.seen c.args.out.now) in
+    let after = outside (g.F.Shelf.seen c.try_kept.new.shelf) (g.O.Sink.seen c.try_kept.new.out) in
+    kept_end c.args.text (names_of c.args.inputs.now) c.args.rows.now c.args.settings before after c.in-Ok.status c.in-Ok.ensures.rest.content c.in-Ok.ensures.tried
 
 pub returns-in-Err : goal.returns-in-Err
 returns-in-Err g c =
-    let told = held_in (g.F.Shelf.files c.args.shelf.now) (g.F.Shelf.rest_absent c.args.shelf.now) c.args.inputs.now.netlist.now in
-    let nets = c.in-Err.ensures.tried.1 in
-    rw c.say_refused.ensures.status (kept_refused c.args.text (names_of c.args.inputs.now) c.args.rows.now c.args.settings _ _ _ _ _ _
-    (plain_refusal c.args.inputs.now.netlist.now told _ nets) (keeps_all _ _ _ _ c.in-Err.ensures.files c.in-Err.ensures.rest)
-    c.in-Err.ensures.tried.0
-    (inputs_said told _ _ _ _ _ _ _ (names_of c.args.inputs.now) c.args.rows.now _ (c.say_refused.ensures.said told nets)
-    (sym c.in-Err.ensures.tried.2) (sym c.in-Err.ensures.tried.3) refl refl refl refl refl refl refl))
+    let before = outside (g.F.Shelf.seen c.args.shelf.now) (g.O.Sink.seen c.args.out.now) in
+    let mid = outside (g.F.Shelf.seen c.try_kept.new.shelf) (g.O.Sink.seen c.try_kept.new.out) in
+    rw c.say_refused.ensures.status
+    (tried_ends (command_of c.args.text (names_of c.args.inputs.now) c.args.rows.now c.args.settings) c.args.inputs.now.netlist.now c.in-Err.refused _ before mid (g.O.Sink.seen c.say_refused.new.out)
+    (KeptRefused (names_of c.args.inputs.now) c.args.rows.now c.args.settings before.shelf mid.shelf) c.in-Err.ensures.tried (kept_refused c.args.text (names_of c.args.inputs.now) c.args.rows.now c.args.settings before.shelf mid.shelf)
+    c.in-Err.ensures.rest.content (kept_netlist c.args.text (names_of c.args.inputs.now) c.args.rows.now c.args.settings before.shelf)
+    (inputs_names _ (names_of c.args.inputs.now) c.args.rows.now refl refl refl refl refl refl refl ∙ sym (kept_names c.args.text (names_of c.args.inputs.now) c.args.rows.now c.args.settings)) c.say_refused.ensures.said)

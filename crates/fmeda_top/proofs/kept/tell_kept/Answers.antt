@@ -7,6 +7,6 @@ use Rattle.fmeda_top.proofs.kept.tell_kept.Goals as goal
 
 pub returns : goal.returns
 returns g c =
-    text_as _ _ _ _ _ c.write_kept.result c.after_text.result
+    text_as _ _ _ c.write_kept.result c.after_text.result
     (sends_as (ap (λ rows. text_of c.args.text c.args.begun.now.planned.plan (map entry_of rows)) c.as_slice-rows.ensures) c.write_kept.ensures)
     c.after_text.ensures.done c.after_text.ensures.failed

@@ -1,21 +1,17 @@
 use Rattle.std.proofs.Common.{refl}
 use Rattle.std.proofs.lemmas.Result.{err_from_is_err_and}
-use Rattle.fm_shelf.specs.Shelf.{held_in}
 use Rattle.command_steps.specs.PlanSteps.{names_of}
 use Rattle.fmeda_top.proofs.KeptEnding.{kept_once, kept_told}
 use Rattle.fmeda_top.proofs.kept.try_kept.Goals as goal
 
 pub tell_kept-requires : goal.tell_kept-requires
-tell_kept-requires g c =
-    kept_once (names_of c.args.inputs.now) c.args.rows.now c.args.settings (held_in (g.F.Shelf.files c.args.shelf.now) (g.F.Shelf.rest_absent c.args.shelf.now))
-    (g.F.Shelf.read_faults c.args.shelf.now) (g.F.Shelf.read_faults c.read_begun.new.shelf) c.in_ok-begun.begun c.in_ok-begun.ensures.read
+tell_kept-requires g c = kept_once (names_of c.args.inputs.now) c.args.rows.now c.args.settings (g.F.Shelf.seen c.args.shelf.now) (g.F.Shelf.seen c.read_begun.new.shelf) c.in_ok-begun.begun c.in_ok-begun.ensures.read
 
 pub returns-in_err-begun-clause-tried : goal.returns-in_err-begun-clause-tried
 returns-in_err-begun-clause-tried g c =
     let p = err_from_is_err_and c.from_residual.result c.from_residual.ensures.1 in
-    rw (p.1, p.2) (c.in_err-begun.ensures.read.0, c.in_err-begun.ensures.read.1, refl, refl)
+    rw (p.1, p.2) (c.in_err-begun.ensures.read.0, c.in_err-begun.ensures.read.1, refl)
 
 pub returns-clause-tried : goal.returns-clause-tried
 returns-clause-tried g c =
-    kept_told (names_of c.args.inputs.now) c.args.rows.now c.args.settings (held_in (g.F.Shelf.files c.args.shelf.now) (g.F.Shelf.rest_absent c.args.shelf.now)) _ _
-    c.in_ok-begun.begun c.in_ok-begun.ensures.read c.args.text _ _ _ _ c.tell_kept.result c.tell_kept.ensures
+    kept_told (names_of c.args.inputs.now) c.args.rows.now c.args.settings (g.F.Shelf.seen c.args.shelf.now) (g.F.Shelf.seen c.read_begun.new.shelf) c.in_ok-begun.begun c.in_ok-begun.ensures.read c.args.text (g.O.Sink.seen c.args.out.now) (g.O.Sink.seen c.tell_kept.new.out) c.tell_kept.result c.tell_kept.ensures

@@ -1,6 +1,7 @@
 use Rattle.std.proofs.Common.{◌≡◌, ◌∙◌, sym, ap, subst, length, false}
 use Rattle.std.specs.Result.{is_err}
-use Rattle.fm_shelf.specs.Shelf.{held_in, NowHas, told_more}
+use Rattle.fm_shelf.specs.Content.{HasIfKnown}
+use Rattle.fm_shelf.specs.Sink.{with_more}
 use Rattle.command_text.specs.Texts.{merge_line, merge_text}
 use Rattle.fmeda_top.specs.Written.{rows_file}
 use Rattle.fmeda_top.proofs.RowsFile.{merge_is, written}
@@ -8,8 +9,8 @@ use Rattle.fmeda_top.proofs.merge.write_rows.Goals as goal
 
 pub returns-in-Ok-write_merge : goal.returns-in-Ok-write_merge
 returns-in-Ok-write_merge g c =
-    let before = held_in (g.F.Shelf.files c.args.shelf.now) (g.F.Shelf.rest_absent c.args.shelf.now) in
-    let after = held_in (g.F.Shelf.files c.write_anew.new.shelf) (g.F.Shelf.rest_absent c.write_anew.new.shelf) in
+    let before = g.F.Shelf.seen c.args.shelf.now in
+    let after = g.F.Shelf.seen c.write_anew.new.shelf in
     let name = c.args.rows.now in
     let rows = c.args.merged.now.rows in
     let fine : is_err c.write_anew.result ≡ false = sym c.is_err.ensures.value ∙ c.if-is_err.false in
@@ -18,16 +19,16 @@ returns-in-Ok-write_merge g c =
     (λ j. merge_line (c.len.ensures j) (c.batches.ensures.count j)) ∙ merge_is (length rows) c.args.merged.now.planned.plan in
     record {
       ends = (
-        subst (NowHas (after name)) file (written c.as_slice-2.result.now (before name) (after name) _ _ c.write_anew.result c.write_anew.ensures.writes fine),
-        c.in-Ok-write_merge.ensures.ok ∙ ap (λ t. told_more (g.O.Sink.written c.args.out.now) t) text,
+        subst (HasIfKnown (after.content name)) file (written name c.as_slice-2.result.now before after c.write_anew.result c.write_anew.ensures.writes fine),
+        c.in-Ok-write_merge.ensures.ok ∙ ap (λ t. with_more (g.O.Sink.seen c.args.out.now).written t) text,
       );
       others = c.write_anew.ensures.others;
     }
 
 pub returns : goal.returns
 returns g c =
-    let before = held_in (g.F.Shelf.files c.args.shelf.now) (g.F.Shelf.rest_absent c.args.shelf.now) in
-    let after = held_in (g.F.Shelf.files c.write_anew.new.shelf) (g.F.Shelf.rest_absent c.write_anew.new.shelf) in
+    let before = g.F.Shelf.seen c.args.shelf.now in
+    let after = g.F.Shelf.seen c.write_anew.new.shelf in
     let name = c.args.rows.now in
     let rows = c.args.merged.now.rows in
     let fine : is_err c.write_anew.result ≡ false = sym c.is_err.ensures.value ∙ c.if-is_err.false in
@@ -37,15 +38,12 @@ returns g c =
     (λ j. merge_line (c.len.ensures j) (c.batches.ensures.count j)) ∙ merge_is (length rows) c.args.merged.now.planned.plan in
     record {
       ends = (
-        c.in-Err.ensures.failed,
+        line,
         (
-          line,
-          (
-            subst (NowHas (after name)) file (written c.as_slice-2.result.now (before name) (after name) _ _ c.write_anew.result c.write_anew.ensures.writes fine),
-            ap (λ t. told_more (g.O.Sink.written c.args.out.now) t) text,
-          ),
-          c.in-Err.ensures.torn,
+          subst (HasIfKnown (after.content name)) file (written name c.as_slice-2.result.now before after c.write_anew.result c.write_anew.ensures.writes fine),
+          ap (λ t. with_more (g.O.Sink.seen c.args.out.now).written t) text,
         ),
+        c.in-Err.ensures.failed,
       );
       others = c.write_anew.ensures.others;
     }

@@ -1,20 +1,25 @@
-use Rattle.std.proofs.Common.{refl, sym}
-use Rattle.fm_shelf.specs.Shelf.{held_in}
+use Rattle.std.proofs.Common.{[], refl}
+use Rattle.fm_shelf.specs.Outside.{outside}
+use Rattle.command_line.specs.Commands.{Pairs}
+use Rattle.command_steps.specs.Steps.{RefusedInOrder}
 use Rattle.command_steps.specs.PlanSteps.{names_of}
-use Rattle.command_steps.proofs.Keeping.{keeps_all}
-use Rattle.fmeda_top.proofs.Ending.{refused_ends, plain_refusal}
-use Rattle.fmeda_top.proofs.PlanEnding.{inputs_said}
+use Rattle.fmeda_top.proofs.Ending.{tried_ends}
+use Rattle.fmeda_top.proofs.PlanEnding.{inputs_names}
 use Rattle.fmeda_top.proofs.PairsEnding.{pairs_end}
 use Rattle.fmeda_top.proofs.pairs.pairs.Goals as goal
 
 pub returns-in-Ok : goal.returns-in-Ok
-returns-in-Ok g c = pairs_end _ _ _ _ c.pairs_are_told.ensures _ _ _ _ _ _ (keeps_all _ _ _ _ c.in-Ok.ensures.files c.in-Ok.ensures.rest) c.in-Ok.ensures.tried
+returns-in-Ok g c =
+    let before = outside (g.F.Shelf.seen c.args.shelf.now) (g.O.Sink.seen c.args.out.now) in
+    let after = outside (g.F.Shelf.seen c.try_pairs.new.shelf) (g.O.Sink.seen c.try_pairs.new.out) in
+    pairs_end (names_of c.args.inputs.now) c.args.rows.now c.args.settings c.args.workers c.pairs_are_told.ensures before after c.in-Ok.status c.in-Ok.ensures.rest.content c.in-Ok.ensures.tried
 
 pub returns-in-Err : goal.returns-in-Err
 returns-in-Err g c =
-    let told = held_in (g.F.Shelf.files c.args.shelf.now) (g.F.Shelf.rest_absent c.args.shelf.now) c.args.inputs.now.netlist.now in
-    let nets = c.in-Err.ensures.tried.1 in
-    rw c.say_refused.ensures.status (refused_ends _ _ _ _ _ _ _ (plain_refusal c.args.inputs.now.netlist.now told _ nets) (keeps_all _ _ _ _ c.in-Err.ensures.files c.in-Err.ensures.rest)
-    c.in-Err.ensures.tried.0
-    (inputs_said told _ _ _ _ _ _ _ (names_of c.args.inputs.now) c.args.rows.now _ (c.say_refused.ensures.said told nets)
-    (sym c.in-Err.ensures.tried.2) (sym c.in-Err.ensures.tried.3) refl refl refl refl refl refl refl))
+    let before = outside (g.F.Shelf.seen c.args.shelf.now) (g.O.Sink.seen c.args.out.now) in
+    let mid = outside (g.F.Shelf.seen c.try_pairs.new.shelf) (g.O.Sink.seen c.try_pairs.new.out) in
+    rw c.say_refused.ensures.status
+    (tried_ends (Pairs (names_of c.args.inputs.now) c.args.rows.now c.args.settings c.args.workers) c.args.inputs.now.netlist.now c.in-Err.refused _ before mid (g.O.Sink.seen c.say_refused.new.out)
+    (RefusedInOrder (Pairs (names_of c.args.inputs.now) c.args.rows.now c.args.settings c.args.workers) before.shelf mid.shelf) c.in-Err.ensures.tried (λ ended refused. refused)
+    c.in-Err.ensures.rest.content refl
+    (inputs_names _ (names_of c.args.inputs.now) c.args.rows.now refl refl refl refl refl refl refl) c.say_refused.ensures.said)

@@ -7,5 +7,5 @@ use Rattle.fmeda_top.proofs.parts.tell_parts.Goals as goal
 
 pub returns : goal.returns
 returns g c =
-    text_as _ _ _ _ _ c.write.result c.after_text.result (sends_as (ap (λ (t : Looked). part_table t.circuit t.rates) c.in_ok-table.ensures) c.write.ensures)
+    text_as _ _ _ c.write.result c.after_text.result (sends_as (ap (λ (t : Looked). part_table t.circuit t.rates) c.in_ok-table.ensures) c.write.ensures)
     c.after_text.ensures.done c.after_text.ensures.failed

@@ -10,12 +10,12 @@ returns-in_err-write_all g c =
     let plan = c.args.plan.now in
     let wrote = c.in_err-write_all.ensures in
     rw p.1 (sends_stop (fault_name plan.circuit (fault_numbered plan c.args.fault)) p.0
-    (record { ok = tt; torn = wrote.torn; failed = wrote.failed; grows = wrote.grows }))
+    wrote)
 
 pub returns : goal.returns
 returns g c =
     let begun = c.in_ok-write_all.ensures in
     let named = c.write_name.ensures in
-    sends_then (record { ok = begun.ok; torn = tt; failed = tt; grows = begun.grows })
+    sends_then begun
     (sends_as (λ j. fault_name (c.net.ensures.value j) (fault_at (c.faults.ensures.value j) c.args.fault))
-    (record { ok = named.ok; torn = named.torn; failed = named.failed; grows = named.grows }))
+    named)

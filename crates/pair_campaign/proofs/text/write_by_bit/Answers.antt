@@ -13,4 +13,4 @@ returns-then-has_pair_bit g c =
 pub returns-else-has_pair_bit : goal.returns-else-has_pair_bit
 returns-else-has_pair_bit g c =
     sends_as (sym (ap (λ b. if b then pair_line c.args.plan.now (pair_numbered c.args.pairs.now c.args.pair) else [])
-    (sym c.has_pair_bit.ensures ∙ c.if-has_pair_bit.false))) (sends_none _ _)
+    (sym c.has_pair_bit.ensures ∙ c.if-has_pair_bit.false))) (sends_none _)

@@ -8,7 +8,7 @@ use Rattle.pair_campaign.specs.PairText.{line_by_bit}
 use Rattle.pair_campaign.proofs.text.write_dangerous.Goals as goal
 
 pub loop-pair-init : goal.loop-pair-init
-loop-pair-init g c = sends_no_number (line_by_bit c.args.plan.now c.args.pairs.now c.args.planes.now) _ _
+loop-pair-init g c = sends_no_number (line_by_bit c.args.plan.now c.args.pairs.now c.args.planes.now) _
 
 pub loop-pair-preserved : goal.loop-pair-preserved
 loop-pair-preserved g c =

@@ -52,4 +52,4 @@ returns g c =
     (sends_then (sends_then
     (sends_as (ap (named plan (codes "pair ")) c.first-first.ensures) c.in_ok-write_before_name.ensures)
     (sends_as (ap (named plan (codes " ")) c.second-second.ensures) c.in_ok-write_before_name-2.ensures))
-    (record { ok = wrote.ok; torn = wrote.torn; failed = wrote.failed; grows = wrote.grows }))
+    wrote)

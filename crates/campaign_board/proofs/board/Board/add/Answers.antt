@@ -1,6 +1,6 @@
-use Rattle.std.proofs.Common.{◌++◌, sym, subst, ◌∙◌, arith}
+use Rattle.std.proofs.Common.{sym, subst, ◌∙◌, arith}
 use Rattle.std.proofs.lemmas.Grind.{common_steps}
-use Rattle.fm_shelf.specs.Shelf.{held_in, MayHaveMore, NowHas, bytes_of}
+use Rattle.fm_shelf.specs.Shelf.{Appends, MayAppend}
 use Rattle.campaign_board.proofs.Adding.{has_room}
 use Rattle.campaign_board.proofs.Posting.{IsAsked, now_small, post_kept, post_stopped, on_err, on_ok}
 use Rattle.campaign_board.proofs.board.Board.add.Goals as goal
@@ -9,7 +9,7 @@ pub plus-sums-requires : goal.plus-sums-requires
 plus-sums-requires g c =
     let batch = rw (← c.self.view_is) at c.requires.batch in
     let asked : IsAsked g.N.Origin.start c.self.inside.rows.items c.args.entry.now = record { within = batch.0; lacks = batch.1; own = c.requires.entry } in
-    now_small g.N.Origin.start _ _ _ _ _ _ c.args.entry.now c.self.invariant.0 asked
+    now_small g.N.Origin.start _ _ _ _ (g.F.Shelf.seen c.self.inside.shelf) c.args.entry.now c.self.invariant.0 asked
 
 pub push_reserved-requires : goal.push_reserved-requires
 push_reserved-requires g c =
@@ -22,19 +22,18 @@ invariant_of-self g c =
     let o = g.N.Origin.start in
     let entry = c.args.entry.now in
     let name = c.as_str.result.now in
-    let held = held_in (g.F.Shelf.files c.self.inside.shelf) (g.F.Shelf.rest_absent c.self.inside.shelf) in
-    let now = held_in (g.F.Shelf.files c.append_all.new.shelf) (g.F.Shelf.rest_absent c.append_all.new.shelf) in
+    let before = g.F.Shelf.seen c.self.inside.shelf in
+    let now = g.F.Shelf.seen c.append_all.new.shelf in
     let batch = rw (← c.self.view_is) at c.requires.batch in
     let written = rw (← c.self.view_is) at c.requires.written in
     let asked : IsAsked o c.self.inside.rows.items entry = record { within = batch.0; lacks = batch.1; own = c.requires.entry } in
     let err = sym c.is_err.ensures.value ∙ c.if-is_err.true in
     let text = c.bytes.ensures ∙ c.row_line.ensures.text in
-    let torn = on_err c.append_all.result err c.append_all.ensures.torn in
-    let rose = on_err c.append_all.result err c.append_all.ensures.failed in (
-      post_stopped o c.self.inside.rows.items c.self.inside.sums c.plus-sums.result c.self.inside.failed c.self.inside.written held now
-          (g.F.Shelf.write_faults c.self.inside.shelf) (g.F.Shelf.write_faults c.append_all.new.shelf) entry name c.self.invariant.0 c.if-self.false written asked
-          c.plus-sums.ensures (c.as_str.ensures.value ∙ c.self.invariant.1) c.append_all.ensures.files
-          (subst (MayHaveMore (held name) (now name)) text torn) (c.append_all.ensures.counts.grows o.name) rose,
+    let torn = on_err c.append_all.result err c.append_all.ensures.failed in (
+      post_stopped o c.self.inside.rows.items c.self.inside.sums c.plus-sums.result c.self.inside.failed c.self.inside.written before now
+          entry name c.self.invariant.0 c.if-self.false written asked
+          c.plus-sums.ensures (c.as_str.ensures.value ∙ c.self.invariant.1) c.append_all.ensures.rest
+          (subst (MayAppend before now name) text torn),
       c.self.invariant.1,
       c.self.invariant.2,
     )
@@ -44,8 +43,8 @@ invariant_of-self-2 g c =
     let o = g.N.Origin.start in
     let entry = c.args.entry.now in
     let name = c.as_str.result.now in
-    let held = held_in (g.F.Shelf.files c.self.inside.shelf) (g.F.Shelf.rest_absent c.self.inside.shelf) in
-    let now = held_in (g.F.Shelf.files c.append_all.new.shelf) (g.F.Shelf.rest_absent c.append_all.new.shelf) in
+    let before = g.F.Shelf.seen c.self.inside.shelf in
+    let now = g.F.Shelf.seen c.append_all.new.shelf in
     let batch = rw (← c.self.view_is) at c.requires.batch in
     let written = rw (← c.self.view_is) at c.requires.written in
     let asked : IsAsked o c.self.inside.rows.items entry = record { within = batch.0; lacks = batch.1; own = c.requires.entry } in
@@ -53,10 +52,10 @@ invariant_of-self-2 g c =
     let text = c.bytes.ensures ∙ c.row_line.ensures.text in
     let has = on_ok c.append_all.result ok c.append_all.ensures.ok in (
       rw c.push_reserved.ensures.items
-          (post_kept o c.self.inside.rows.items c.self.inside.sums c.plus-sums.result c.self.inside.failed c.self.inside.written held now
-          (g.F.Shelf.write_faults c.self.inside.shelf o.name) (g.F.Shelf.write_faults c.append_all.new.shelf o.name) entry name c.self.invariant.0 c.if-self.false written asked
-          c.plus-sums.ensures (c.as_str.ensures.value ∙ c.self.invariant.1) c.append_all.ensures.files
-          (subst (λ t. NowHas (now name) (bytes_of (held name) ++ t)) text has) (c.append_all.ensures.counts.grows o.name)),
+          (post_kept o c.self.inside.rows.items c.self.inside.sums c.plus-sums.result c.self.inside.failed c.self.inside.written before now
+          entry name c.self.invariant.0 c.if-self.false written asked
+          c.plus-sums.ensures (c.as_str.ensures.value ∙ c.self.invariant.1) c.append_all.ensures.rest
+          (subst (Appends before now name) text has)),
       c.self.invariant.1,
       grind (arith, common_steps),
     )

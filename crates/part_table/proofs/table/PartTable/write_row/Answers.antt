@@ -36,7 +36,7 @@ returns-in_err-write_pieces g c =
     rw p.1 (sends_as (row_pieces own.name (star_word own.star) rest ∙ ap (λ (l : Looked). row_line l.circuit l.rates k) c.self.view_is)
     (sends_stop (line (codes "part" ∷ rest)) p.0
     (sends_as (λ j. codes "pattern " ++ ((c.as_slice.ensures ∙ ap (λ (q : Pattern). q.name) pattern) j ++ ((c.star_word.ensures ∙ ap (λ (q : Pattern). star_word q.star) pattern) j ++ 32 ∷ [])))
-    (record { ok = tt; torn = wrote.torn; failed = wrote.failed; grows = wrote.grows }))))
+    wrote)))
 
 pub returns : goal.returns
 unfolding row_line
@@ -79,7 +79,7 @@ returns g c =
     sends_as (row_pieces own.name (star_word own.star) rest ∙ ap (λ (l : Looked). row_line l.circuit l.rates k) c.self.view_is)
     (sends_then
     (sends_as (λ j. codes "pattern " ++ ((c.as_slice.ensures ∙ ap (λ (q : Pattern). q.name) pattern) j ++ ((c.star_word.ensures ∙ ap (λ (q : Pattern). star_word q.star) pattern) j ++ 32 ∷ [])))
-    (record { ok = begun.ok; torn = tt; failed = tt; grows = begun.grows }))
+    begun)
     (sends_as
     (λ j. line (
     codes "part" ∷ name j ∷ codes "role" ∷ role j ∷ codes "covered" ∷ covered j ∷ codes "nets" ∷ some j ∷ codes "latches" ∷ latches j

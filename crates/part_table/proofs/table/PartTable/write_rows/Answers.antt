@@ -6,7 +6,7 @@ use Rattle.part_table.specs.Counted.{Looked}
 use Rattle.part_table.proofs.table.PartTable.write_rows.Goals as goal
 
 pub loop-k-init : goal.loop-k-init
-loop-k-init g c = sends_no_number (row_line c.args.self.now.circuit c.args.self.now.rates) _ _
+loop-k-init g c = sends_no_number (row_line c.args.self.now.circuit c.args.self.now.rates) _
 
 pub loop-k-preserved : goal.loop-k-preserved
 loop-k-preserved g c =

@@ -1,0 +1,63 @@
+-- WHAT IS PROMISED OF A CALL OF THE PROGRAM, of the command that its words are. Counts of faults are compared with the call's own entry.
+use Rattle.std.specs.Prelude.{◌≡◌, ◌⊎◌, List, Option, Some, None}
+use Rattle.fm_base.specs.Names.{Bytes}
+use Rattle.fm_shelf.specs.Content.{Unknown}
+use Rattle.fm_shelf.specs.Shelf.{CountRose}
+use Rattle.fm_shelf.specs.Outside.{Outside}
+use Rattle.refusal_text.specs.declared.status.Status.{Status}
+use Rattle.refusal_text.specs.declared.status.Status.TheVariants as status
+use Rattle.refusal_text.specs.declared.status.Which.{Which}
+use Rattle.refusal_text.specs.declared.status.WriteTo.TheVariants as to
+use Rattle.refusal_text.specs.Named.{no_names}
+use Rattle.command_line.specs.Commands.{Command, Run, Resume, Gen, Shard, Merge}
+use Rattle.command_line.specs.Words.{IsAlone, IsCommand, IsNoCommand}
+use Rattle.command_steps.specs.Held.{name_of}
+use Rattle.command_steps.specs.Checked.{Checked}
+use Rattle.fmeda_top.specs.Ends.{IsRefusal, DoneAs, netlist_of, RefusedAs, FaultAs, FaultSaid, OutFaultAs}
+
+-- the result file that a command writes
+abbrev pub result_of : Command → Option Bytes
+result_of (Run inputs name set workers) = Some name
+result_of (Resume inputs name set workers) = Some name
+result_of (Gen n name workers) = Some name
+result_of (Shard inputs name set part parts) = Some name
+result_of (Merge inputs name first second set) = Some name
+result_of _ = None
+
+-- the faults of writing this file rose, and there is one
+abbrev pub WritesRose : Option Bytes → (before after : Outside) → Type 0
+WritesRose None before after = ⊥
+WritesRose (Some name) before after = CountRose (before.shelf.write_faults name) (after.shelf.write_faults name)
+
+-- a refusal is the answer; where nothing refuses the call is done, or a write has failed
+abbrev pub EndsBy : Option Status → Command → Status → (before after : Outside) → Type 0
+EndsBy (Some refusal) command ended before after = ended ≡ refusal
+EndsBy None command ended before after =
+    (ended ≡ status.Done)
+    ⊎ ((ended ≡ status.WriteFault to.Result) × WritesRose (result_of command) before after)
+    ⊎ ((ended ≡ status.WriteFault to.Out) × CountRose before.out.faults after.out.faults)
+
+-- the status is the first refusal over what the call has read, and says that a file can't be read only where a read of it has failed
+pub record EndsInOrder (command : Command) (ended : Status) (before after : Outside) : Type 0 where
+  pub refusal : Option Status
+  pub checked : Checked command before.shelf after.shelf refusal
+  pub ends : EndsBy refusal command ended before after
+  pub fault : (which : Which) → ended ≡ status.ReadFault which
+      → CountRose (before.shelf.read_faults (name_of command which)) (after.shelf.read_faults (name_of command which))
+
+-- WHAT IS PROMISED OF A COMMAND: why it ended so, where memory may run out at any time; and what it has done at Done, after a refusal,
+-- after a fault of writing RESULT, and after one of writing its text
+pub record CommandEnds (command : Command) (ended : Status) (before after : Outside) : Type 0 where
+  pub cause : EndsInOrder command ended before after ⊎ (ended ≡ status.Memory)
+  pub done : ended ≡ status.Done → DoneAs command before after
+  pub refusal : IsRefusal ended → RefusedAs (name_of command) (netlist_of command before.shelf) ended before after
+  pub result_fault : ended ≡ status.WriteFault to.Result → FaultAs command before.shelf after.shelf × FaultSaid (name_of command) before.out after.out
+  pub out_fault : ended ≡ status.WriteFault to.Out → OutFaultAs command before after
+
+-- WHAT IS PROMISED OF A CALL: its words are a command, and no other, and this is promised of it; or they are none, which is Usage; or there
+-- was no memory to read them
+abbrev pub Promises : (words : List Bytes) → (ended : Status) → (before after : Outside) → Type 0
+Promises words ended before after =
+    ((command : Command) × IsCommand words command × IsAlone words command × CommandEnds command ended before after)
+    ⊎ (IsNoCommand words × (ended ≡ status.Usage) × RefusedAs no_names Unknown ended before after)
+    ⊎ ((ended ≡ status.Memory) × RefusedAs no_names Unknown ended before after)
