@@ -1,12 +1,15 @@
 // A plain simulator of stuck-at faults, 64 at a time in a word, that walks the rows of each table. It is what the program is compared
 // with: it reads the same netlist, workload and points, and prints how many faults are dangerous and how many are noticed.
 //
-//     lanes NETLIST WORKLOAD POINTS FTTI
+//     lanes NETLIST WORKLOAD POINTS FTTI [EVERY]
 //
-// The netlist is flat: .inputs, .outputs, .names, .latch. Nothing is checked.
+// Of all batches of 64 faults each EVERY-th is simulated, from the first on (1); `seconds` is the processor time that these took.
+// Each takes as long as another, since all tables are walked in all cycles. The netlist is flat: .inputs, .outputs, .names, .latch.
+// Nothing is checked.
 #include <cstdint>
 #include <cstdio>
 #include <cstdlib>
+#include <ctime>
 #include <fstream>
 #include <iostream>
 #include <sstream>
@@ -40,8 +43,8 @@ static std::vector<std::string> split(const std::string& line, char by) {
 }
 
 int main(int argc, char** argv) {
-    if (argc != 5) return 2;
-    const uint32_t ftti = std::atoi(argv[4]);
+    if (argc != 5 && argc != 6) return 2;
+    const uint32_t ftti = std::atoi(argv[4]), every = argc == 6 ? std::atoi(argv[5]) : 1;
     std::ifstream netlist(argv[1]);
     std::string line, clock;
     std::vector<std::vector<std::string>> lines;
@@ -159,9 +162,10 @@ int main(int argc, char** argv) {
         for (uint32_t n : alarm) golden.push_back(words[n]);
     });
     const size_t seen = observe.size() + alarm.size();
-    uint64_t dangerous = 0, noticed = 0;
+    uint64_t dangerous = 0, noticed = 0, batches = 0;
     std::vector<Word> differed(vectors.size());
-    for (uint64_t batch = 0; batch * 64 < 2ull * nets; ++batch) {
+    const std::clock_t start = std::clock();
+    for (uint64_t batch = 0; batch * 64 < 2ull * nets; batch += every, ++batches) {
         const uint64_t first = batch * 64, count = std::min<uint64_t>(64, 2ull * nets - first);
         for (uint64_t k = 0; k < count; ++k) ((first + k) % 2 ? high : low)[(first + k) / 2] |= Word(1) << k;
         Word danger = 0, notice = 0, raised_yet = 0;
@@ -188,5 +192,6 @@ int main(int argc, char** argv) {
         noticed += __builtin_popcountll(notice & used);
         for (uint64_t k = 0; k < count; ++k) low[(first + k) / 2] = high[(first + k) / 2] = 0;
     }
-    std::printf("nets %u faults %llu dangerous %llu noticed %llu\n", nets, 2ull * nets, (unsigned long long)dangerous, (unsigned long long)noticed);
+    std::printf("nets %u faults %llu dangerous %llu noticed %llu batches %llu seconds %.3f\n", nets, 2ull * nets, (unsigned long long)dangerous,
+                (unsigned long long)noticed, (unsigned long long)batches, double(std::clock() - start) / CLOCKS_PER_SEC);
 }

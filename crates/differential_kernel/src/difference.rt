@@ -83,6 +83,14 @@ pub fn named_difference<W: Word>(
     }
 }
 
+/// Sets what a net differs in.
+pub fn set_word<W: Word>(net: NetId, word: W, words: &mut [W])
+    requires { net.0 < length words.old }
+    ensures { words.new ≡ slice_set words.old net.0 word }
+{
+    words[net.0 as usize] = word;
+}
+
 fn mark_all(places: &[u32], marks: &mut PlaceSet)
     requires { All (λ place. place < marks.old.bound) places.now }
     ensures bound { marks.new.bound ≡ marks.old.bound }

@@ -13,7 +13,7 @@ ghost use Rattle.differential_kernel.specs.Kernel.{IsKernel, bank_of, lanes_of};
 ghost use Rattle.differential_kernel.specs.Places.{ArePlaces};
 
 use crate::arm::{is_some_transient, place};
-use crate::cycle::run;
+use crate::cycle::advance;
 use crate::difference::{same_words, value_word, word_at};
 use crate::drop::{keep_lanes, unload};
 use crate::flip::flip;
@@ -55,6 +55,8 @@ pub struct Kernel<W> {
     forces: Vec<Force<W>>,
     stale: bool,
     cycle: u32,
+    // The number of cycles to come that are run by all tables.
+    sweeps: u32,
     // What the latches differ in; those that differ are in `live`.
     raw: Vec<W>,
     live: PlaceSet,
@@ -119,6 +121,7 @@ impl<W: LaneWord> Kernel<W> {
             forces,
             stale: true,
             cycle: 0,
+            sweeps: 0,
             raw,
             live,
             words,
@@ -171,6 +174,7 @@ impl<W: LaneWord> Kernel<W> {
         self.take_loads();
         clear(&mut self.live, &mut self.raw);
         self.cycle = 0;
+        self.sweeps = 0;
     }
 
     /// Drops the lanes whose bit is set: until the next start none of their faults is in force, and nothing differs in them.
@@ -230,7 +234,7 @@ impl<W: LaneWord> Kernel<W> {
             &mut self.raw,
             &mut self.live,
         );
-        run(
+        advance(
             netlist,
             order.nets(),
             &self.places,
@@ -245,6 +249,7 @@ impl<W: LaneWord> Kernel<W> {
             &mut self.words,
             &mut self.touched,
             &mut self.marks,
+            &mut self.sweeps,
             steps,
         );
         self.cycle += 1;

@@ -12,6 +12,7 @@ mod lane_word;
 mod lanes;
 mod note;
 mod sources;
+mod sweep;
 mod table;
 mod walk;
 

@@ -76,7 +76,8 @@ fn evaluate<W: LaneWord>(
     store(net, word, fanout, words, touched, marks);
 }
 
-/// Evaluates the tables at the marked places, in the order's sequence, with at most one step for each table.
+/// Evaluates the tables at the marked places, in the order's sequence, with at most one step for each table, and answers how many
+/// there were.
 pub fn walk<W: LaneWord, L: Ledger>(
     netlist: &Netlist,
     order: &[NetId],
@@ -90,7 +91,7 @@ pub fn walk<W: LaneWord, L: Ledger>(
     touched: &mut PlaceSet,
     marks: &mut PlaceSet,
     steps: &mut Steps<L>,
-)
+) -> usize
     requires sound { IsNetlist netlist.now }
     requires order { IsOrder netlist.now order.now }
     requires program { IsProgram netlist.now order.now gates.now }
@@ -111,6 +112,7 @@ pub fn walk<W: LaneWord, L: Ledger>(
     ensures bound { marks.new.bound ≡ marks.old.bound }
     ensures cost { steps.new ≤ steps.old + length order.now }
 {
+    let mut evaluated = 0;
     let mut from = 0;
     'places: while let Some(place) = next_table(marks, from, order.len()) {
         marks.remove(place);
@@ -128,8 +130,10 @@ pub fn walk<W: LaneWord, L: Ledger>(
             marks,
         );
         steps.tick();
+        evaluated += 1;
         from = place + 1;
     }
+    evaluated
 }
 
 /// Each latch whose place is marked, behind those of all tables, takes what the net differs in that it reads.

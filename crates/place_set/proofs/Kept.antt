@@ -1,6 +1,7 @@
 -- A set with one place more, or with one less, and a search in it.
-use Rattle.std.proofs.Common.{zero, suc, Option, Some, None, replicate, ◌≡◌, ◌≢◌, inl, inr, ℕ, ◌+◌, ◌*◌, ◌/◌, ◌%◌, ◌^◌, ◌<◌, ◌≤◌, List, length, get_or, ◌==◌, Bool, true, false, cond, refl, ap, ap₂, sym, ◌∙◌, subst, arith}
-use Rattle.std.proofs.lemmas.Bool.{cases_eq, eq-eqb, ne_eqb, true≢false}
+use Rattle.std.proofs.Common.{zero, suc, Option, Some, None, replicate, ◌≡◌, ◌≢◌, inl, inr, ℕ, ◌+◌, ◌*◌, ◌/◌, ◌%◌, ◌^◌, ◌<◌, ◌≤◌, List, length, get_or, ◌==◌, ltb, Bool, true, false, cond, refl, ap, ap₂, sym, ◌∙◌, subst, arith}
+use Rattle.std.proofs.lemmas.Bool.{cases_eq, cases_lt, eq-eqb, le-ltb, lt-ltb, ne_eqb, true≢false}
+use Rattle.std.proofs.lemmas.List.{get_or_past}
 use Rattle.std.specs.Option.{MatchOption}
 use Rattle.std.specs.Int.{trailing_zeros}
 use Rattle.std.proofs.Common.{w64}
@@ -43,6 +44,39 @@ put_kept bound words summary next notes place set lt size notes_size next_is not
         let apart : 64 * i + found.0 ≢ place = λ e. other (omega (arith, e, low)) in
         (found.0, low, next_is (64 * i + found.0) ∙ away (64 * i + found.0) place true (value_in words (64 * i + found.0)) apart ∙ found.2))
   ];
+}
+
+-- words of which all values below a bound are true, and no others
+filled_below : (words : List ℕ) (bound p : ℕ) → ((q : ℕ) → q / 64 < length words → value_in words q ≡ ltb q bound) → value_in words p ≡ true → p < bound
+filled_below words bound p is there =
+    elim (cases_lt p bound) [
+      | inl below ↦ below
+      | inr behind ↦ absurd (true≢false (sym there ∙ elim (cases_lt (p / 64) (length words)) [
+        | inl within ↦ is p within ∙ le-ltb p bound behind
+        | inr past ↦ ap (λ word. bit word (p % 64)) (get_or_past words (p / 64) 0 past) ∙ zero_bit 0 (p % 64) refl
+      ]))
+    ]
+
+-- a set with all places
+pub fill_kept : (bound : ℕ) (words summary next notes : List ℕ) → IsSet bound words summary
+    → length next ≡ length words → length notes ≡ length summary
+    → ((p : ℕ) → p / 64 < length next → value_in next p ≡ ltb p bound)
+    → ((i : ℕ) → i / 64 < length notes → value_in notes i ≡ ltb i ((bound + 63) / 64)) → IsSet bound next notes
+fill_kept bound words summary next notes set size notes_size next_is notes_is = record {
+  few = set.few;
+  words_count = size ∙ set.words_count;
+  summary_count = notes_size ∙ set.summary_count ∙ ap (λ n. n / 64 + 1) (sym size);
+  inside = λ p there. filled_below next bound p next_is there;
+  noted = λ p there.
+      let below : p < bound = filled_below next bound p next_is there in
+      let few : p / 64 < (bound + 63) / 64 = omega (arith, below) in
+      let within : p / 64 / 64 < length notes = omega (arith, below, notes_size, set.summary_count, set.words_count) in
+      notes_is (p / 64) within ∙ lt-ltb (p / 64) ((bound + 63) / 64) few;
+  some = λ i there.
+      let few : i < (bound + 63) / 64 = filled_below notes ((bound + 63) / 64) i notes_is there in
+      let below : 64 * i + 0 < bound = omega (arith, few) in
+      let within : (64 * i + 0) / 64 < length next = omega (arith, few, size, set.words_count) in
+      (0, omega arith, next_is (64 * i + 0) within ∙ lt-ltb (64 * i + 0) bound below);
 }
 
 -- what is true after a place is taken out is another place, and was true

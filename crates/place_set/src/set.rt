@@ -2,7 +2,9 @@
 ghost use Rattle.place_set.specs.Places.{has};
 ghost use Rattle.std.specs.Prelude.{◌≡◌, ◌<◌, ◌≤◌, ◌==◌, ℕ, false, true, IfOk, MatchOption, if◌then◌else◌};
 
-use crate::words::{clear_value, first_from, first_in, is_empty_word, set_value, value_in_words};
+use crate::words::{
+    clear_value, fill_values, first_from, first_in, is_empty_word, set_value, value_in_words,
+};
 use std::alloc::{AllocError, Global};
 use std::marker::Model;
 
@@ -74,6 +76,16 @@ impl PlaceSet {
         if is_empty_word(&self.words, place / 64) {
             clear_value(&mut self.summary, place / 64);
         }
+    }
+
+    /// Puts all places below the bound into the set, a word of them at a time.
+    pub fn fill(&mut self)
+        ensures bound { self.new.bound ≡ self.old.bound }
+        ensures all { (p : ℕ) → p < self.old.bound → has self.new p ≡ true }
+    {
+        let places = self.bound as usize;
+        fill_values(&mut self.words, places);
+        fill_values(&mut self.summary, (places + 63) / 64);
     }
 
     /// The first place of the set from a place on.

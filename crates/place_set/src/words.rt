@@ -1,5 +1,6 @@
 // Truth values in words, 64 to a word.
-ghost use Rattle.std.specs.Prelude.{◌≡◌, ◌≢◌, ◌<◌, ◌≤◌, ◌*◌, ◌/◌, ◌==◌, ◌^◌, ℕ, false, true, length, slice_index, MatchOption, if◌then◌else◌};
+ghost use Rattle.std.specs.Prelude.{◌≡◌, ◌≢◌, ◌<◌, ◌≤◌, ◌+◌, ◌-◌, ◌*◌, ◌/◌, ◌==◌, ◌^◌, ℕ, false, true, length, min, nat_lt, slice_index, MatchOption, if◌then◌else◌};
+ghost use Rattle.fm_base.specs.Planes.{bit};
 ghost use Rattle.place_set.specs.Places.{value_in};
 
 /// The value at a place; behind the end it is false.
@@ -28,6 +29,35 @@ pub fn clear_value(words: &mut [u64], place: usize)
 {
     let at = place / 64;
     words[at] = words[at] & !(1 << (place % 64));
+}
+
+// A word of which so many bits are set, from the lowest on.
+fn first_bits(count: usize) -> u64
+    ensures { result ≡ 2 ^ min 64 count - 1 }
+{
+    if count < 64 {
+        (1 << count) - 1
+    } else {
+        u64::MAX
+    }
+}
+
+// The word of this number, where the values of all places below a bound are true and no others.
+fn full_word(bound: usize, at: usize) -> u64
+    requires { at < 2 ^ 32 }
+    ensures { (k : ℕ) → k < 64 → bit result k ≡ nat_lt (64 * at + k) bound }
+{
+    first_bits(bound.saturating_sub(64 * at))
+}
+
+/// Sets the values of all places below a bound to true, and all others to false.
+pub fn fill_values(words: &mut [u64], bound: usize)
+    requires { length words.old ≤ 2 ^ 32 }
+    ensures { (p : ℕ) → p / 64 < length words.old → value_in words.new p ≡ nat_lt p bound }
+{
+    for at in 0..words.len() {
+        words[at] = full_word(bound, at);
+    }
 }
 
 /// Whether a word has no bit.

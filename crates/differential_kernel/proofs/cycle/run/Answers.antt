@@ -17,8 +17,8 @@ use Rattle.differential_kernel.proofs.cycle.run.Goals as goal
 pub force_all-requires-clause-tables : goal.force_all-requires-clause-tables
 force_all-requires-clause-tables g c = λ n p is. let at = c.requires.places.each n p is in omega (arith, at.0, c.take_live.ensures.marks, c.requires.marks_bound)
 
-pub walk-requires-clause-ahead : goal.walk-requires-clause-ahead
-walk-requires-clause-ahead g c =
+pub walk-evaluated-requires-clause-ahead : goal.walk-evaluated-requires-clause-ahead
+walk-evaluated-requires-clause-ahead g c =
     let lanes = g.W.Word.lanes in
     let bit = g.W.Word.lane_bit in
     let order = c.args.order.now in
@@ -41,12 +41,12 @@ walk-requires-clause-ahead g c =
 pub take_latches-requires-clause-few : goal.take_latches-requires-clause-few
 take_latches-requires-clause-few g c =
     let sound = c.take_live.ensures.sound in
-    omega (arith, c.walk.ensures.bound, c.force_all.ensures.marks, c.take_live.ensures.marks, c.requires.marks_bound, c.requires.raw, few_tables c.args.netlist.now sound, sound.few, sound.few_latches, c.requires.order.count)
+    omega (arith, c.walk-evaluated.ensures.bound, c.force_all.ensures.marks, c.take_live.ensures.marks, c.requires.marks_bound, c.requires.raw, few_tables c.args.netlist.now sound, sound.few, sound.few_latches, c.requires.order.count)
 
 pub take_latches-requires-clause-noted : goal.take_latches-requires-clause-noted
 take_latches-requires-clause-noted g c = λ l lt none.
     let order = c.args.order.now in
-    c.walk.ensures.noted.places (length order + l) (latch_at c.args.netlist.now.latches l).from.0 (omega arith)
+    c.walk-evaluated.ensures.noted.places (length order + l) (latch_at c.args.netlist.now.latches l).from.0 (omega arith)
     (subst (λ (o : Ordered). IsReadAt o (latch_at c.args.netlist.now.latches l).from.0 (length order + l)) (sym c.requires.fanout)
     (latch_read (record { circuit = c.args.netlist.now; order = order }) l lt)) none
 
@@ -55,9 +55,9 @@ returns-clause-values g c = λ k x golden lt pair are holds n net.
     let lanes = g.W.Word.lanes in
     let bit = g.W.Word.lane_bit in
     let row = c.args.row.now in
-    sym (either_again (value_in row n) (bit_at (plane bit k c.walk.new.words) n))
+    sym (either_again (value_in row n) (bit_at (plane bit k c.walk-evaluated.new.words) n))
     ∙ ap₂ either
-    (c.walk.ensures.values k x golden lt pair are
+    (c.walk-evaluated.ensures.values k x golden lt pair are
     (begun lanes bit k lt c.args.netlist.now c.args.order.now c.take_live.ensures.sound c.requires.order c.args.places.now c.requires.places row c.args.forces.now c.requires.forces x golden pair are
     (bit_at (plane bit k c.args.raw.now)) c.take_live.new.words c.force_all.new.words holds
     (λ m within. c.take_live.ensures.values k m lt within)

@@ -1,4 +1,4 @@
-use Rattle.std.proofs.Common.{◌≡◌, ◌<◌, ◌≤◌, ℕ, true, false, [], length}
+use Rattle.std.proofs.Common.{◌≡◌, ◌<◌, ℕ, true, false, []}
 use Rattle.lane_kernel.specs.Loads.{faults_of}
 use Rattle.differential_kernel.proofs.drop.unload.Given as goal
 

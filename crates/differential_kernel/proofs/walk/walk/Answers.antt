@@ -66,6 +66,7 @@ places-preserved g c =
           (quiet_run lanes bit k lt circuit order c.requires.sound c.requires.order row forces c.requires.forces x golden pair are c.places.words c.places.touched c.places.marks from (p - from)
           (omega (arith, up, found.1)) noted c.places.invariant.ahead (λ q low less. found.3 q low (omega (arith, up, less)))
           (c.places.invariant.values k x golden lt pair are first)));
+      few = omega (arith, c.places.invariant.few, found.0);
       cost = omega (arith, c.tick.ensures, c.places.invariant.cost, found.0);
     }
 

@@ -19,5 +19,6 @@ invariant-places g l = record {
   values : (k : ℕ) (x golden : Cycle) → k < g.W.Word.lanes → IsPair l.netlist l.row x golden → AreForces g.W.Word.lane_bit k l.forces x
       → Walked x (read_in g.W.Word.lane_bit k l.row l.initial.words) [] 0
       → Walked x (read_in g.W.Word.lane_bit k l.row l.words) (take l.from l.order) l.from;
+  few : l.evaluated ≤ l.from;
   cost : l.steps ≤ l.initial.steps + l.from;
 }

@@ -19,8 +19,8 @@ use Rattle.differential_kernel.specs.Walk.{AreForces, IsPair}
 use Rattle.differential_kernel.proofs.Stepped.{stepped}
 use Rattle.differential_kernel.proofs.kernel.Kernel.cycle.Goals as goal
 
-pub run-requires-clause-held : goal.run-requires-clause-held
-run-requires-clause-held g c =
+pub advance-requires-clause-held : goal.advance-requires-clause-held
+advance-requires-clause-held g c =
     let flips : c.deref_mut-3.result.now ≡ c.flip.new.raw = grind (arith, common_steps) in
     subst (AreSameOff g.W.Word.lanes g.W.Word.lane_bit c.flip.new.live) (sym flips) c.flip.ensures.same
 
@@ -31,15 +31,15 @@ returns-clause-kernel g c =
     let lanes = g.W.Word.lanes in
     let bit = g.W.Word.lane_bit in
     let forces : (with_items s.forces c.prepare-self.new.forces).items ≡ c.prepare-self.new.forces = grind (arith, common_steps) in
-    let raw : (with_items (with_items s.raw c.flip.new.raw) c.run.new.raw).items ≡ c.run.new.raw = grind (arith, common_steps) in
-    let words : (with_items s.words c.run.new.words).items ≡ c.run.new.words = grind (arith, common_steps) in
+    let raw : (with_items (with_items s.raw c.flip.new.raw) c.advance.new.raw).items ≡ c.advance.new.raw = grind (arith, common_steps) in
+    let words : (with_items s.words c.advance.new.words).items ≡ c.advance.new.words = grind (arith, common_steps) in
     let size : length c.deref_mut.result.now ≡ length s.circuit.value.drivers = ap length c.deref_mut.ensures.value ∙ kept.forces in
     let flips : c.deref_mut-3.result.now ≡ c.flip.new.raw = grind (arith, common_steps) in
-    let latches : length (with_items (with_items s.raw c.flip.new.raw) c.run.new.raw).items ≡ length s.raw.items =
-    ap (λ (ws : List g.row.W.Denot). length ws) raw ∙ c.run.auto.raw ∙ ap (λ (ws : List g.row.W.Denot). length ws) flips ∙ c.flip.auto.raw
+    let latches : length (with_items (with_items s.raw c.flip.new.raw) c.advance.new.raw).items ≡ length s.raw.items =
+    ap (λ (ws : List g.row.W.Denot). length ws) raw ∙ c.advance.auto.raw ∙ ap (λ (ws : List g.row.W.Denot). length ws) flips ∙ c.flip.auto.raw
     ∙ ap (λ (ws : List g.row.W.Denot). length ws) c.deref_mut-2.ensures.value in
-    let nets : length (with_items s.words c.run.new.words).items ≡ length s.words.items =
-    ap (λ (ws : List g.row.W.Denot). length ws) words ∙ c.run.auto.words ∙ ap (λ (ws : List g.row.W.Denot). length ws) c.deref_mut-4.ensures.value in
+    let nets : length (with_items s.words c.advance.new.words).items ≡ length s.words.items =
+    ap (λ (ws : List g.row.W.Denot). length ws) words ∙ c.advance.auto.words ∙ ap (λ (ws : List g.row.W.Denot). length ws) c.deref_mut-4.ensures.value in
     record {
       sound = kept.sound;
       ordered = kept.ordered;
@@ -64,11 +64,11 @@ returns-clause-kernel g c =
           (subst (λ (ls : List (List (Option Fault))). AreSteady lanes bit ls c.prepare-self.new.forces) c.deref.ensures.value (c.prepare-self.ensures.steady fresh));
       raw = latches ∙ kept.raw;
       words = nets ∙ kept.words;
-      live_bound = c.run.ensures.live_bound ∙ c.flip.ensures.latches ∙ kept.live_bound ∙ sym latches;
-      touched_bound = c.run.ensures.touched_bound ∙ kept.touched_bound ∙ sym nets;
-      marks_bound = c.run.ensures.marks_bound ∙ kept.marks_bound ∙ ap (λ n. length s.order.value + n) (sym latches);
-      held = subst (AreSameOff lanes bit c.run.new.live) (sym raw) c.run.ensures.held;
-      same = subst (AreSameOff lanes bit c.run.new.touched) (sym words) c.run.ensures.same;
+      live_bound = c.advance.ensures.live_bound ∙ c.flip.ensures.latches ∙ kept.live_bound ∙ sym latches;
+      touched_bound = c.advance.ensures.touched_bound ∙ kept.touched_bound ∙ sym nets;
+      marks_bound = c.advance.ensures.marks_bound ∙ kept.marks_bound ∙ ap (λ n. length s.order.value + n) (sym latches);
+      held = subst (AreSameOff lanes bit c.advance.new.live) (sym raw) c.advance.ensures.held;
+      same = subst (AreSameOff lanes bit c.advance.new.touched) (sym words) c.advance.ensures.same;
     }
 
 pub returns-clause-step : goal.returns-clause-step
@@ -81,15 +81,15 @@ returns-clause-step g c = λ vectors inputs beside golden k lt.
     let made : circuit ≡ c.args.netlist.now = c.requires.made.circuit in
     let forces : c.deref-6.result.now ≡ c.prepare-self.new.forces = grind (arith, common_steps) in
     let flips : c.deref_mut-3.result.now ≡ c.flip.new.raw = grind (arith, common_steps) in
-    let raw : (with_items (with_items s.raw c.flip.new.raw) c.run.new.raw).items ≡ c.run.new.raw = grind (arith, common_steps) in
-    let words : (with_items s.words c.run.new.words).items ≡ c.run.new.words = grind (arith, common_steps) in
-    let new : Moment = record { cycle = s.cycle + 1; raw = plane bit k c.run.new.raw; values = plane bit k c.run.new.words } in
+    let raw : (with_items (with_items s.raw c.flip.new.raw) c.advance.new.raw).items ≡ c.advance.new.raw = grind (arith, common_steps) in
+    let words : (with_items s.words c.advance.new.words).items ≡ c.advance.new.words = grind (arith, common_steps) in
+    let new : Moment = record { cycle = s.cycle + 1; raw = plane bit k c.advance.new.raw; values = plane bit k c.advance.new.words } in
     rw (raw, words)
     (stepped circuit faults vectors inputs row (lane_of bit k (bank_of s)) new c.requires.kernel.sound (beside k lt)
     (length_plane bit k s.raw.items ∙ c.requires.kernel.raw)
     (subst (λ (m : Circuit). IsGoldenRow m (vectors ++ inputs ∷ []) (length vectors) row) (sym made) golden)
     (λ x other pair faults_are number_is holds m net.
-    c.run.ensures.values k x other lt (subst (λ (e : Circuit). IsPair e row x other) made pair)
+    c.advance.ensures.values k x other lt (subst (λ (e : Circuit). IsPair e row x other) made pair)
     (subst (λ fs. AreForces bit k fs x) (sym forces)
     (λ n d own within.
     c.prepare-self.ensures.armed k n d own lt within
@@ -102,6 +102,6 @@ returns-clause-step g c = λ vectors inputs beside golden k lt.
     ∙ holds l (subst (λ (e : Circuit). l < length e.latches) (sym made) within))
     m (subst (λ (e : Circuit). m < length e.drivers) made net))
     (λ l within.
-    c.run.ensures.raw k l lt (subst (λ (e : Circuit). l < length e.latches) made within)
-    ∙ ap (λ (e : Circuit). bit_at (plane bit k c.run.new.words) (latch_at e.latches l).from.0) (sym made))
+    c.advance.ensures.raw k l lt (subst (λ (e : Circuit). l < length e.latches) made within)
+    ∙ ap (λ (e : Circuit). bit_at (plane bit k c.advance.new.words) (latch_at e.latches l).from.0) (sym made))
     refl)

@@ -1,0 +1,167 @@
+// A cycle in which every table is evaluated. Where much differs, that is quicker than to find out what does.
+ghost use Rattle.std.specs.Prelude.{◌≡◌, ◌≢◌, ◌<◌, ◌^◌, ◌+◌, ℕ, Bool, List, [], None, length, slice_index_or};
+ghost use Rattle.circuit.specs.Order.{IsOrder};
+ghost use Rattle.circuit.specs.Sound.{IsNetlist};
+ghost use Rattle.circuit.specs.Value.{Cycle, bit_at, driven, driver_at, net_value, table_gives};
+ghost use Rattle.golden_difference.proofs.Walked.{Walked};
+ghost use Rattle.golden_difference.specs.Beside.{latched};
+ghost use Rattle.lane_kernel.specs.Bits.{either};
+ghost use Rattle.lane_kernel.specs.Gates.{AreOps, IsGate, IsProgram, latch_at, plane};
+ghost use Rattle.place_set.specs.Places.{value_in};
+ghost use Rattle.differential_kernel.specs.declared.force.Force.{Force as ForceValue};
+ghost use Rattle.differential_kernel.specs.Differences.{IsSame, read_in};
+ghost use Rattle.differential_kernel.specs.Forces.{AreIdleOff, force_value};
+ghost use Rattle.differential_kernel.specs.Walk.{AreForces, IsPair};
+
+use crate::difference::{forced_difference, named_difference, set_word, value_word, word_at};
+use crate::force::Force;
+use crate::table::own_word;
+use circuit::netlist::Netlist;
+use circuit::parts::NetId;
+use fm_base::Steps;
+use lane_kernel::Word;
+use lane_kernel::gate::{Gate, Masks};
+use place_set::PlaceSet;
+use std::sync::ledger::Ledger;
+
+/// Takes away all that differs.
+pub fn blank<W: Word>(words: &mut [W])
+    ensures { (n : ℕ) → IsSame W.lanes W.lane_bit words.new n }
+{
+    for n in 0..words.len() {
+        words[n] = W::all(false);
+    }
+}
+
+/// The net of each latch differs in what the latch holds.
+pub fn show_latches<W: Word>(netlist: &Netlist, raw: &[W], words: &mut [W])
+    requires nets { length words.old ≡ length netlist.now.drivers }
+    requires same { (n : ℕ) → IsSame W.lanes W.lane_bit words.old n }
+    requires raw { length raw.now ≡ length netlist.now.latches }
+    ensures values { (k n : ℕ) → k < W.lanes → n < length netlist.now.drivers
+        → bit_at (plane W.lane_bit k words.new) n ≡ latched (bit_at (plane W.lane_bit k raw.now)) (driver_at netlist.now n) }
+    ensures sound { IsNetlist netlist.now }
+{
+    for (l, latch) in netlist.latches().iter().enumerate() {
+        set_word(latch.to, word_at(raw, l), words);
+    }
+}
+
+// A net that no table drives differs in what its force leaves; one that a table drives is left as it is.
+fn force_source<W: Word>(
+    net: NetId,
+    place: Option<u32>,
+    row: &[u64],
+    forces: &[Force<W>],
+    words: &mut [W],
+)
+    requires net { net.0 < length words.old }
+    requires forces { length forces.now ≡ length words.old }
+    ensures source { (k : ℕ) (d : ForceValue W) → place ≡ None → k < W.lanes
+        → bit_at (plane W.lane_bit k words.new) net.0 ≡ either (force_value W.lane_bit k (slice_index_or forces.now net.0 d) (read_in W.lane_bit k row.now words.old net.0)) (value_in row.now net.0) }
+    ensures others { (k n : ℕ) → n ≢ net.0 → bit_at (plane W.lane_bit k words.new) n ≡ bit_at (plane W.lane_bit k words.old) n }
+{
+    if let None = place {
+        let own = value_word(row, words, net.0);
+        set_word(net, forced_difference(row, forces, net.0, own), words);
+    }
+}
+
+/// So for each net in the set of those that are forced; all other nets are left as they are.
+pub fn force_sources<W: Word>(
+    named: &PlaceSet,
+    places: &[Option<u32>],
+    row: &[u64],
+    forces: &[Force<W>],
+    words: &mut [W],
+)
+    requires named { named.now.bound ≡ length words.old }
+    requires few { length words.old < 2 ^ 32 }
+    requires each_place { length places.now ≡ length words.old }
+    requires forces { length forces.now ≡ length words.old }
+    requires idle { AreIdleOff W.lanes W.lane_bit named.now forces.now }
+    ensures { (k n : ℕ) (d : ForceValue W) → k < W.lanes → n < length words.old → slice_index_or places.now n None ≡ None
+        → bit_at (plane W.lane_bit k words.new) n ≡ either (force_value W.lane_bit k (slice_index_or forces.now n d) (read_in W.lane_bit k row.now words.old n)) (value_in row.now n) }
+{
+    let mut from = 0;
+    'nets: while let Some(n) = named.next_from(from) {
+        force_source(NetId(n as u32), places[n], row, forces, words);
+        from = n + 1;
+    }
+}
+
+// Evaluates the table of a net, and sets what the net differs in.
+fn settle<W: Word>(
+    netlist: &Netlist,
+    net: NetId,
+    gate: &Gate,
+    ops: &[Masks<W>],
+    named: &PlaceSet,
+    row: &[u64],
+    forces: &[Force<W>],
+    words: &mut [W],
+)
+    requires net { net.0 < length words.old }
+    requires ops { AreOps W.lanes W.lane_bit ops.now }
+    requires gate { IsGate netlist.now gate.now }
+    requires to { gate.now.to ≡ net.0 }
+    requires idle { AreIdleOff W.lanes W.lane_bit named.now forces.now }
+    requires forces { length forces.now ≡ length words.old }
+    ensures value { (k : ℕ) (d : ForceValue W) (state inputs : List Bool) → k < W.lanes
+        → bit_at (plane W.lane_bit k words.new) net.0
+        ≡ either (force_value W.lane_bit k (slice_index_or forces.now net.0 d) (driven state inputs (table_gives netlist.now (read_in W.lane_bit k row.now words.old)) (driver_at netlist.now net.0))) (value_in row.now net.0) }
+    ensures others { (k n : ℕ) → n ≢ net.0 → bit_at (plane W.lane_bit k words.new) n ≡ bit_at (plane W.lane_bit k words.old) n }
+{
+    let own = own_word(netlist, gate, ops, row, words);
+    set_word(net, named_difference(named, row, forces, net.0, own), words);
+}
+
+/// Evaluates all tables, in the order's sequence, with one step for each.
+pub fn sweep<W: Word, L: Ledger>(
+    netlist: &Netlist,
+    order: &[NetId],
+    gates: &[Gate],
+    ops: &[Masks<W>],
+    named: &PlaceSet,
+    row: &[u64],
+    forces: &[Force<W>],
+    words: &mut [W],
+    steps: &mut Steps<L>,
+)
+    requires sound { IsNetlist netlist.now }
+    requires order { IsOrder netlist.now order.now }
+    requires program { IsProgram netlist.now order.now gates.now }
+    requires ops { AreOps W.lanes W.lane_bit ops.now }
+    requires idle { AreIdleOff W.lanes W.lane_bit named.now forces.now }
+    requires forces { length forces.now ≡ length netlist.now.drivers }
+    requires nets { length words.old ≡ length netlist.now.drivers }
+    ensures values { (k : ℕ) (x golden : Cycle) → k < W.lanes → IsPair netlist.now row.now x golden → AreForces W.lane_bit k forces.now x
+        → Walked x (read_in W.lane_bit k row.now words.old) [] 0
+        → (n : ℕ) → n < length netlist.now.drivers → read_in W.lane_bit k row.now words.new n ≡ net_value x n }
+    ensures cost { steps.new ≡ steps.old + length order.now }
+{
+    for place in 0..order.len() {
+        settle(
+            netlist,
+            order[place],
+            &gates[place],
+            ops,
+            named,
+            row,
+            forces,
+            words,
+        );
+        steps.tick();
+    }
+}
+
+/// Each latch takes what the net differs in that it reads.
+pub fn take_all<W: Word>(netlist: &Netlist, words: &[W], raw: &mut [W])
+    requires { length raw.old ≡ length netlist.now.latches }
+    ensures { (k l : ℕ) → k < W.lanes → l < length netlist.now.latches
+        → bit_at (plane W.lane_bit k raw.new) l ≡ bit_at (plane W.lane_bit k words.now) (latch_at netlist.now.latches l).from.0 }
+{
+    for (l, latch) in netlist.latches().iter().enumerate() {
+        raw[l] = word_at(words, latch.from.0 as usize);
+    }
+}
