@@ -8,7 +8,7 @@ ghost use Rattle.golden_difference.specs.Beside.{AreBeside, IsGoldenRow};
 ghost use Rattle.golden_difference.specs.Lanes.{IsMadeFor, KeepsLoads};
 ghost use Rattle.lane_kernel.specs.Gates.{plane};
 ghost use Rattle.lane_kernel.specs.Loads.{faults_of};
-ghost use Rattle.differential_kernel.specs.Differences.{read_in};
+ghost use Rattle.differential_kernel.specs.Differences.{IsSame, read_in};
 ghost use Rattle.differential_kernel.specs.Kernel.{IsKernel, bank_of, lanes_of};
 ghost use Rattle.differential_kernel.specs.Places.{ArePlaces};
 
@@ -260,6 +260,14 @@ impl<W: LaneWord> Kernel<W> {
         ensures { (k : ℕ) → k < W.lanes → W.lane_bit result k ≡ read_in W.lane_bit k row.now self.now.words.items net.0 }
     {
         value_word(row, &self.words, net.0)
+    }
+
+    /// Whether a net doesn't differ in any lane in the last cycle; it may not differ where the answer is no.
+    pub fn is_same(&self, net: NetId) -> bool
+        requires { IsKernel W.lanes W.lane_bit self.now }
+        ensures { result ≡ true → IsSame W.lanes W.lane_bit self.now.words.items net.0 }
+    {
+        !self.touched.has(net.0 as usize)
     }
 
     /// What a net differs in in the last cycle.

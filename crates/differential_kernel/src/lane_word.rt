@@ -22,11 +22,6 @@ impl LaneWord for u64 {
 impl LaneWord for u64x4 {
     fn is_none(self) -> bool {
         let words = self.to_array();
-        for word in words.iter() {
-            if *word != 0 {
-                return false;
-            }
-        }
-        true
+        ((words[0] | words[1]) | (words[2] | words[3])) == 0
     }
 }

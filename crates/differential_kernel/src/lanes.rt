@@ -252,6 +252,10 @@ impl DifferentialLanes4 {
             → net.0 < length self.now.circuit.drivers
             → bit result k ≡ trace_differs self.now.circuit (faults_of self.now.in_force (word * 64 + k)) vectors t net.0 }
     {
-        word_of(self.kernel.differs(net), word)
+        if self.kernel.is_same(net) {
+            0
+        } else {
+            word_of(self.kernel.differs(net), word)
+        }
     }
 }

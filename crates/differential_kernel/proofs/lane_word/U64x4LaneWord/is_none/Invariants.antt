@@ -1,5 +1,0 @@
-use Rattle.std.proofs.Common.{◌≡◌, ◌<◌, ℕ, get_or}
-use Rattle.differential_kernel.proofs.lane_word.U64x4LaneWord.is_none.Given as goal
-
-abbrev pub invariant-loop-word : goal.invariant-loop-word
-invariant-loop-word l = (i : ℕ) → i < l.word-index → get_or l.word-items i 0 ≡ 0
