@@ -1,3 +1,4 @@
+pub mod Acting
 pub mod Four
 pub mod Notes
 pub mod Latching

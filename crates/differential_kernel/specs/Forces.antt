@@ -1,9 +1,11 @@
 -- What faults do to nets, lane by lane.
-use Rattle.std.specs.Prelude.{◌≡◌, ℕ, ◌<◌, ◌&&◌, false, Bool, List, [], length, Option, slice_index_or}
+use Rattle.std.specs.Prelude.{◌≡◌, ℕ, ◌<◌, ◌&&◌, ◌==◌, false, Bool, List, [], length, Option, slice_index_or}
+use Rattle.std.specs.List.{list_any}
 use Rattle.circuit.specs.declared.parts.Fault.{Fault}
+use Rattle.circuit.specs.declared.parts.Fault.TheVariants.{Stuck, Flip, Pulse}
 use Rattle.circuit.specs.Effects.{affected}
 use Rattle.lane_kernel.specs.Bits.{either}
-use Rattle.lane_kernel.specs.Loads.{faults_of, has_pulses, named, names}
+use Rattle.lane_kernel.specs.Loads.{faults_of, has_pulses, named, names, somes}
 use Rattle.place_set.specs.Places.{Places, has}
 use Rattle.differential_kernel.specs.declared.force.Force.{Force}
 
@@ -42,3 +44,21 @@ AreArmed {W} lanes bit loads t forces =
 -- the set has the nets that faults name, and no others
 abbrev pub AreNamed : List (List (Option Fault)) → ℕ → Places → Type 0
 AreNamed loads nets set = (n : ℕ) → n < nets → has set n ≡ named loads n
+
+-- the fault is a flip or a pulse of this cycle
+abbrev pub is_act_in : ℕ → Fault → Bool
+is_act_in t (Stuck net value) = false
+is_act_in t (Flip latch cycle) = cycle == t
+is_act_in t (Pulse net cycle) = cycle == t
+
+-- some fault is
+abbrev pub acts : List (Option Fault) → ℕ → Bool
+acts faults t = list_any (is_act_in t) (somes faults)
+
+-- some fault of some lane is
+abbrev pub has_acts : List (List (Option Fault)) → ℕ → Bool
+has_acts loads t = list_any (λ faults. acts faults t) loads
+
+-- the set has the cycles in which flips or pulses act, and no others
+abbrev pub AreActs : List (List (Option Fault)) → Places → Type 0
+AreActs loads set = (t : ℕ) → t < set.bound → has set t ≡ has_acts loads t

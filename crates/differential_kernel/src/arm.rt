@@ -1,11 +1,11 @@
 // The forces of a cycle, from the faults of each lane.
-ghost use Rattle.std.specs.Prelude.{◌≡◌, ◌≢◌, ◌<◌, ◌≤◌, ◌+◌, ◌==◌, ◌⊎◌, ℕ, Bool, false, not, List, [], Option, length, slice_index_or, if◌then◌else◌};
+ghost use Rattle.std.specs.Prelude.{◌≡◌, ◌≢◌, ◌<◌, ◌≤◌, ◌+◌, ◌==◌, ◌⊎◌, ℕ, Bool, false, List, [], Option, length, slice_index_or, if◌then◌else◌};
 ghost use Rattle.std.specs.List.{list_any};
 ghost use Rattle.circuit.specs.declared.parts.Fault.{Fault as FaultValue};
-ghost use Rattle.circuit.specs.Effects.{affected, is_permanent};
-ghost use Rattle.lane_kernel.specs.Loads.{faults_of, has_pulses, has_transients, is_pulse_in, names, somes};
+ghost use Rattle.circuit.specs.Effects.{affected};
+ghost use Rattle.lane_kernel.specs.Loads.{faults_of, has_pulses, is_pulse_in, names, somes};
 ghost use Rattle.differential_kernel.specs.declared.force.Force.{Force as ForceValue};
-ghost use Rattle.differential_kernel.specs.Forces.{AreArmed, AreIdle, AreSteady, force_value};
+ghost use Rattle.differential_kernel.specs.Forces.{AreArmed, AreIdle, AreSteady, force_value, has_acts};
 
 use crate::force::{Force, with_lane};
 use circuit::parts::{Fault, NetId};
@@ -92,51 +92,32 @@ fn is_some_pulsing(loads: &[[Option<Fault>; 2]], cycle: u32) -> bool
     loads.iter().any(|faults| is_pulsing(faults, cycle))
 }
 
-fn is_transient(faults: &[Option<Fault>]) -> bool
-    ensures { result ≡ list_any (λ fault. not (is_permanent fault)) (somes faults.now) }
-{
-    for fault in faults {
-        if let Some(fault) = fault {
-            if !fault.permanent() {
-                return true;
-            }
-        }
-    }
-    false
-}
-
-/// Some fault of some lane is a flip or a pulse.
-pub fn is_some_transient(loads: &[[Option<Fault>; 2]]) -> bool
-    ensures { result ≡ has_transients loads.now }
-{
-    loads.iter().any(|faults| is_transient(faults))
-}
-
-#[tactic(auto, using(lane_kernel::proofs::Armed::no_pulses))]
-fn has_some_pulse(loads: &[[Option<Fault>; 2]], transient: bool, cycle: u32) -> bool
-    requires { transient ≡ has_transients loads.now }
+#[tactic(auto, using(crate::proofs::Acting::no_pulses_now))]
+fn has_some_pulse(loads: &[[Option<Fault>; 2]], acting: bool, cycle: u32) -> bool
+    requires { acting ≡ has_acts loads.now cycle }
     ensures { result ≡ has_pulses loads.now cycle }
 {
-    transient && is_some_pulsing(loads, cycle)
+    acting && is_some_pulsing(loads, cycle)
 }
 
-/// Sets the forces to those of a cycle, and answers whether they are of no use in the next one.
+/// Sets the forces to those of a cycle, and answers whether they are of no use in the next one. `acting` tells whether a flip or a
+/// pulse acts in this cycle.
 pub fn arm_for<W: Word>(
     loads: &[[Option<Fault>; 2]],
-    transient: bool,
+    acting: bool,
     stale: bool,
     cycle: u32,
     forces: &mut [Force<W>],
 ) -> bool
     requires lanes { length loads.now ≡ W.lanes }
-    requires transient { transient ≡ has_transients loads.now }
+    requires acting { acting ≡ has_acts loads.now cycle }
     requires idle { AreIdle W.lanes W.lane_bit loads.now forces.old }
     requires steady { stale ≡ false → AreSteady W.lanes W.lane_bit loads.now forces.old }
     ensures armed { AreArmed W.lanes W.lane_bit loads.now cycle forces.new }
     ensures idle { AreIdle W.lanes W.lane_bit loads.now forces.new }
     ensures steady { result ≡ false → AreSteady W.lanes W.lane_bit loads.now forces.new }
 {
-    let pulses = has_some_pulse(loads, transient, cycle);
+    let pulses = has_some_pulse(loads, acting, cycle);
     if pulses || stale {
         arm_all(loads, cycle, forces);
     }

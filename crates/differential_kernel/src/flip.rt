@@ -4,8 +4,9 @@ ghost use Rattle.circuit.specs.Effects.{has_flip, inverted};
 ghost use Rattle.circuit.specs.Value.{bit_at};
 ghost use Rattle.circuit.specs.Trace.{flipped};
 ghost use Rattle.lane_kernel.specs.Gates.{plane};
-ghost use Rattle.lane_kernel.specs.Loads.{faults_of, has_transients, somes};
+ghost use Rattle.lane_kernel.specs.Loads.{faults_of, somes};
 ghost use Rattle.differential_kernel.specs.Differences.{AreSameOff};
+ghost use Rattle.differential_kernel.specs.Forces.{has_acts};
 
 use crate::difference::word_at;
 use circuit::parts::Fault;
@@ -101,23 +102,23 @@ fn flip_all<W: Word>(loads: &[[Option<Fault>; 2]], cycle: u32, raw: &mut [W], li
     }
 }
 
-/// Inverts the latches that faults flip in this cycle.
+/// Inverts the latches that faults flip in this cycle. `acting` tells whether a flip or a pulse acts in it.
 pub fn flip<W: Word>(
     loads: &[[Option<Fault>; 2]],
-    transient: bool,
+    acting: bool,
     cycle: u32,
     raw: &mut [W],
     live: &mut PlaceSet,
 )
     requires lanes { length loads.now ≡ W.lanes }
-    requires transient { transient ≡ has_transients loads.now }
+    requires acting { acting ≡ has_acts loads.now cycle }
     requires latches { live.old.bound ≡ length raw.old }
     requires same { AreSameOff W.lanes W.lane_bit live.old raw.old }
     ensures flipped { (k : ℕ) → k < W.lanes → plane W.lane_bit k raw.new ≡ flipped (faults_of loads.now k) cycle (plane W.lane_bit k raw.old) }
     ensures latches { live.new.bound ≡ live.old.bound }
     ensures same { AreSameOff W.lanes W.lane_bit live.new raw.new }
 {
-    if transient {
+    if acting {
         flip_all(loads, cycle, raw, live);
     }
 }

@@ -12,7 +12,7 @@ ghost use Rattle.differential_kernel.specs.Differences.{IsSame, read_in};
 ghost use Rattle.differential_kernel.specs.Kernel.{IsKernel, bank_of, lanes_of};
 ghost use Rattle.differential_kernel.specs.Places.{ArePlaces};
 
-use crate::arm::{is_some_transient, place};
+use crate::arm::place;
 use crate::cycle::advance;
 use crate::difference::{same_words, value_word, word_at};
 use crate::drop::{keep_lanes, unload};
@@ -33,6 +33,9 @@ use std::alloc::{AllocError, Global};
 use std::snapshot::Snapshot;
 use std::sync::ledger::Ledger;
 
+// The number of cycles that there may be since the start.
+const MOST_CYCLES: u32 = 65536;
+
 /// Simulations of one netlist, one in each lane of a word, which stand between two cycles and hold what differs from the golden run.
 #[derive(Drop)]
 pub struct Kernel<W> {
@@ -48,10 +51,10 @@ pub struct Kernel<W> {
     in_force: Vec<[Option<Fault>; 2]>,
     // Whether all that was loaded is in force.
     whole: bool,
-    transient: bool,
-    // Whether the nets of the faults are in `named`.
+    // Whether the nets of the faults are in `named`, and the cycles in which flips and pulses act in `acts`.
     noted: bool,
     named: PlaceSet,
+    acts: PlaceSet,
     forces: Vec<Force<W>>,
     stale: bool,
     cycle: u32,
@@ -99,13 +102,13 @@ impl<W: LaneWord> Kernel<W> {
         let loads = vec![in alloc; [None, None]; W::count() as usize]?;
         let in_force = vec![in alloc; [None, None]; W::count() as usize]?;
         let named = PlaceSet::new(alloc, nets as u32)?;
+        let acts = PlaceSet::new(alloc, MOST_CYCLES)?;
         let forces = idle_forces(alloc, nets)?;
         let raw = same_words(alloc, latches)?;
         let live = PlaceSet::new(alloc, latches as u32)?;
         let words = same_words(alloc, nets)?;
         let touched = PlaceSet::new(alloc, nets as u32)?;
         let marks = PlaceSet::new(alloc, (tables + latches) as u32)?;
-        let transient = is_some_transient(&in_force);
         Ok(Kernel {
             circuit: Snapshot::of(netlist),
             order: Snapshot::of(order),
@@ -115,9 +118,9 @@ impl<W: LaneWord> Kernel<W> {
             loads,
             in_force,
             whole: false,
-            transient,
             noted: false,
             named,
+            acts,
             forces,
             stale: true,
             cycle: 0,
@@ -156,7 +159,6 @@ impl<W: LaneWord> Kernel<W> {
     {
         if !self.whole {
             self.in_force.copy_from_slice(&self.loads);
-            self.transient = is_some_transient(&self.in_force);
             self.noted = false;
             self.whole = true;
         }
@@ -190,7 +192,6 @@ impl<W: LaneWord> Kernel<W> {
         unload(out, &mut self.in_force);
         keep_lanes(out, &self.live, &mut self.raw);
         keep_lanes(out, &self.touched, &mut self.words);
-        self.transient = is_some_transient(&self.in_force);
         self.noted = false;
         self.whole = false;
     }
@@ -219,17 +220,17 @@ impl<W: LaneWord> Kernel<W> {
     {
         self.stale = prepare(
             &self.in_force,
-            self.transient,
             self.noted,
             self.stale,
             self.cycle,
             &mut self.named,
+            &mut self.acts,
             &mut self.forces,
         );
         self.noted = true;
         flip(
             &self.in_force,
-            self.transient,
+            self.acts.has(self.cycle as usize),
             self.cycle,
             &mut self.raw,
             &mut self.live,

@@ -1,9 +1,9 @@
-// The nets that faults name, and the forces on them.
-ghost use Rattle.std.specs.Prelude.{◌≡◌, ◌<◌, ◌||◌, ◌==◌, ℕ, Bool, true, false, length, if◌then◌else◌};
-ghost use Rattle.lane_kernel.specs.Loads.{has_transients, named, names};
+// The nets that faults name, the cycles in which they act, and the forces.
+ghost use Rattle.std.specs.Prelude.{◌≡◌, ◌<◌, ◌≤◌, ◌||◌, ◌==◌, ℕ, Bool, true, false, length, if◌then◌else◌};
+ghost use Rattle.lane_kernel.specs.Loads.{named, names};
 ghost use Rattle.place_set.specs.Places.{has};
 ghost use Rattle.differential_kernel.specs.Differences.{IsEmptySet};
-ghost use Rattle.differential_kernel.specs.Forces.{AreAllIdle, AreArmed, AreIdle, AreIdleOff, AreNamed, AreSteady};
+ghost use Rattle.differential_kernel.specs.Forces.{AreActs, AreAllIdle, AreArmed, AreIdle, AreIdleOff, AreNamed, AreSteady, acts, has_acts};
 
 use crate::arm::arm_for;
 use crate::force::{Force, idle};
@@ -67,52 +67,122 @@ pub fn note_all(loads: &[[Option<Fault>; 2]], set: &mut PlaceSet)
     note_lanes(loads, set);
 }
 
-// Names the nets of the faults, and leaves all nets as they are, unless that was done.
+// Takes all cycles out of a set.
+fn forget_cycles(set: &mut PlaceSet)
+    requires { set.old.bound ≤ 65536 }
+    ensures bound { set.new.bound ≡ set.old.bound }
+    ensures none { IsEmptySet set.new }
+{
+    let mut from = 0;
+    'cycles: while let Some(t) = set.next_from(from) {
+        set.remove(t);
+        from = t + 1;
+    }
+}
+
+fn note_cycle(cycle: u32, set: &mut PlaceSet)
+    ensures bound { set.new.bound ≡ set.old.bound }
+    ensures has { (t : ℕ) → t < set.old.bound → has set.new t ≡ ((cycle == t) || has set.old t) }
+{
+    if cycle < set.bound() {
+        set.put(cycle as usize);
+    }
+}
+
+fn note_acts_of(faults: &[Option<Fault>], set: &mut PlaceSet)
+    ensures bound { set.new.bound ≡ set.old.bound }
+    ensures has { (t : ℕ) → t < set.old.bound → has set.new t ≡ (acts faults.now t || has set.old t) }
+{
+    for fault in faults {
+        match fault {
+            Some(Fault::Flip(_, cycle)) => note_cycle(*cycle, set),
+            Some(Fault::Pulse(_, cycle)) => note_cycle(*cycle, set),
+            _ => {}
+        }
+    }
+}
+
+fn note_acts(loads: &[[Option<Fault>; 2]], set: &mut PlaceSet)
+    ensures bound { set.new.bound ≡ set.old.bound }
+    ensures has { (t : ℕ) → t < set.old.bound → has set.new t ≡ (has_acts loads.now t || has set.old t) }
+{
+    for faults in loads {
+        note_acts_of(faults, set);
+    }
+}
+
+/// Puts the cycles in which flips and pulses act into the set, and no others.
+pub fn note_cycles(loads: &[[Option<Fault>; 2]], set: &mut PlaceSet)
+    requires { set.old.bound ≤ 65536 }
+    ensures bound { set.new.bound ≡ set.old.bound }
+    ensures acts { AreActs loads.now set.new }
+{
+    forget_cycles(set);
+    note_acts(loads, set);
+}
+
+// Names the nets of the faults and the cycles in which they act, and leaves all nets as they are, unless that was done.
 fn renew<W: Word>(
     loads: &[[Option<Fault>; 2]],
     noted: bool,
     set: &mut PlaceSet,
+    cycles: &mut PlaceSet,
     forces: &mut [Force<W>],
 )
     requires bound { set.old.bound ≡ length forces.old }
     requires off { AreIdleOff W.lanes W.lane_bit set.old forces.old }
     requires named { noted ≡ true → AreNamed loads.now (length forces.old) set.old }
     requires idle { noted ≡ true → AreIdle W.lanes W.lane_bit loads.now forces.old }
+    requires few { cycles.old.bound ≤ 65536 }
+    requires acts { noted ≡ true → AreActs loads.now cycles.old }
     ensures bound { set.new.bound ≡ set.old.bound }
+    ensures cycles { cycles.new.bound ≡ cycles.old.bound }
     ensures named { AreNamed loads.now (length forces.old) set.new }
     ensures idle { AreIdle W.lanes W.lane_bit loads.now forces.new }
+    ensures acts { AreActs loads.now cycles.new }
     ensures same { noted ≡ true → forces.new ≡ forces.old }
 {
     if !noted {
         forget_all(set, forces);
         note_all(loads, set);
+        note_cycles(loads, cycles);
     }
 }
 
 /// Sets the forces to those of a cycle, after a load from anew, and answers whether they are of no use in the next one.
 pub fn prepare<W: Word>(
     loads: &[[Option<Fault>; 2]],
-    transient: bool,
     noted: bool,
     stale: bool,
     cycle: u32,
     set: &mut PlaceSet,
+    cycles: &mut PlaceSet,
     forces: &mut [Force<W>],
 ) -> bool
     requires lanes { length loads.now ≡ W.lanes }
-    requires transient { transient ≡ has_transients loads.now }
+    requires cycle { cycle < cycles.old.bound }
+    requires few { cycles.old.bound ≤ 65536 }
     requires bound { set.old.bound ≡ length forces.old }
     requires off { AreIdleOff W.lanes W.lane_bit set.old forces.old }
     requires named { noted ≡ true → AreNamed loads.now (length forces.old) set.old }
     requires idle { noted ≡ true → AreIdle W.lanes W.lane_bit loads.now forces.old }
     requires steady { noted ≡ true → stale ≡ false → AreSteady W.lanes W.lane_bit loads.now forces.old }
+    requires acts { noted ≡ true → AreActs loads.now cycles.old }
     ensures bound { set.new.bound ≡ set.old.bound }
+    ensures cycles { cycles.new.bound ≡ cycles.old.bound }
+    ensures acts { AreActs loads.now cycles.new }
     ensures named { AreNamed loads.now (length forces.old) set.new }
     ensures idle { AreIdle W.lanes W.lane_bit loads.now forces.new }
     ensures off { AreIdleOff W.lanes W.lane_bit set.new forces.new }
     ensures armed { AreArmed W.lanes W.lane_bit loads.now cycle forces.new }
     ensures steady { result ≡ false → AreSteady W.lanes W.lane_bit loads.now forces.new }
 {
-    renew(loads, noted, set, forces);
-    arm_for(loads, transient, stale || !noted, cycle, forces)
+    renew(loads, noted, set, cycles, forces);
+    arm_for(
+        loads,
+        cycles.has(cycle as usize),
+        stale || !noted,
+        cycle,
+        forces,
+    )
 }

@@ -34,13 +34,13 @@ pub named_more : (loads : List (List (Option Fault))) (i n : ℕ) → i < length
 named_more loads i n lt = ap (λ xs. named xs n) (drop_more loads i [] lt)
 
 -- where no item passes a test, none passes a stricter one
-none_passes : {X : Type 0} (p q : X → Bool) → ((x : X) → q x ≡ false → p x ≡ false) → (xs : List X) → list_any q xs ≡ false → list_any p xs ≡ false
+pub none_passes : {X : Type 0} (p q : X → Bool) → ((x : X) → q x ≡ false → p x ≡ false) → (xs : List X) → list_any q xs ≡ false → list_any p xs ≡ false
 none_passes p q each [] e = refl
 none_passes p q each (x ∷ xs) e =
     ap (λ b. b || list_any p xs) (each x (or_parts (q x) (list_any q xs) e).0) ∙ none_passes p q each xs (or_parts (q x) (list_any q xs) e).1
 
 -- where no lane passes a test, this lane doesn't
-lane_fails : (q : List (Option Fault) → Bool) → q [] ≡ false → (loads : List (List (Option Fault))) (k : ℕ) → list_any q loads ≡ false → q (get_or loads k []) ≡ false
+pub lane_fails : (q : List (Option Fault) → Bool) → q [] ≡ false → (loads : List (List (Option Fault))) (k : ℕ) → list_any q loads ≡ false → q (get_or loads k []) ≡ false
 lane_fails q none [] k e = none
 lane_fails q none (faults ∷ loads) zero e = (or_parts (q faults) (list_any q loads) e).0
 lane_fails q none (faults ∷ loads) (suc k) e = lane_fails q none loads k (or_parts (q faults) (list_any q loads) e).1
@@ -101,7 +101,7 @@ no_pulses loads t e =
     none_passes (λ faults. list_any (is_pulse_in t) (somes faults)) (λ faults. list_any (λ fault. not (is_permanent fault)) (somes faults))
     (λ faults none. none_passes (is_pulse_in t) (λ fault. not (is_permanent fault)) (stays_unpulsed t) (somes faults) none) loads e
 
-flipped_same : (faults : List Fault) (t latch : ℕ) (bits : List Bool) → ((l : ℕ) → has_flip faults l t ≡ false) → flipped_from faults t latch bits ≡ bits
+pub flipped_same : (faults : List Fault) (t latch : ℕ) (bits : List Bool) → ((l : ℕ) → has_flip faults l t ≡ false) → flipped_from faults t latch bits ≡ bits
 flipped_same faults t latch [] none = refl
 flipped_same faults t latch (bit ∷ bits) none =
     ap (λ b. inverted b bit ∷ flipped_from faults t (latch + 1) bits) (none latch) ∙ ap (λ xs. bit ∷ xs) (flipped_same faults t (latch + 1) bits none)

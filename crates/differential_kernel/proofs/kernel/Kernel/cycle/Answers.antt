@@ -13,7 +13,7 @@ use Rattle.lane_kernel.specs.Gates.{latch_at, plane}
 use Rattle.lane_kernel.specs.Loads.{faults_of}
 use Rattle.lane_kernel.proofs.Sources.{length_plane}
 use Rattle.differential_kernel.specs.Differences.{AreSameOff}
-use Rattle.differential_kernel.specs.Forces.{AreIdle, AreIdleOff, AreNamed, AreSteady}
+use Rattle.differential_kernel.specs.Forces.{AreActs, AreIdle, AreIdleOff, AreNamed, AreSteady}
 use Rattle.differential_kernel.specs.Kernel.{bank_of}
 use Rattle.differential_kernel.specs.Walk.{AreForces, IsPair}
 use Rattle.differential_kernel.proofs.Stepped.{stepped}
@@ -23,6 +23,15 @@ pub advance-requires-clause-held : goal.advance-requires-clause-held
 advance-requires-clause-held g c =
     let flips : c.deref_mut-3.result.now ≡ c.flip.new.raw = grind (arith, common_steps) in
     subst (AreSameOff g.W.Word.lanes g.W.Word.lane_bit c.flip.new.live) (sym flips) c.flip.ensures.same
+
+pub advance-requires-clause-idle : goal.advance-requires-clause-idle
+advance-requires-clause-idle g c =
+    let forces : c.deref-6.result.now ≡ c.prepare-self.new.forces = grind (arith, common_steps) in
+    subst (AreIdleOff g.W.Word.lanes g.W.Word.lane_bit c.prepare-self.new.set) (sym forces) c.prepare-self.ensures.off
+
+pub advance-requires-clause-same : goal.advance-requires-clause-same
+advance-requires-clause-same g c =
+    subst (AreSameOff g.W.Word.lanes g.W.Word.lane_bit c.args.self.now.touched) (sym c.deref_mut-4.ensures.value) c.requires.kernel.same
 
 pub returns-clause-kernel : goal.returns-clause-kernel
 returns-clause-kernel g c =
@@ -49,7 +58,8 @@ returns-clause-kernel g c =
       given = kept.given;
       whole = kept.whole;
       loads = kept.loads;
-      transient = kept.transient;
+      acts_bound = c.prepare-self.ensures.cycles ∙ kept.acts_bound;
+      acts = λ noted. subst (λ (ls : List (List (Option Fault))). AreActs ls c.prepare-self.new.cycles) c.deref.ensures.value c.prepare-self.ensures.acts;
       named_bound = c.prepare-self.ensures.bound ∙ kept.named_bound;
       forces = ap length forces ∙ c.prepare-self.auto.forces ∙ size;
       off = subst (AreIdleOff lanes bit c.prepare-self.new.set) (sym forces) c.prepare-self.ensures.off;

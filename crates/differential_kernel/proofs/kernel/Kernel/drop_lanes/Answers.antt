@@ -9,7 +9,7 @@ use Rattle.circuit.specs.Value.{bit_at}
 use Rattle.golden_difference.specs.Beside.{IsBeside}
 use Rattle.lane_kernel.specs.Bank.{lane_of}
 use Rattle.lane_kernel.specs.Gates.{plane}
-use Rattle.lane_kernel.specs.Loads.{faults_of, has_transients}
+use Rattle.lane_kernel.specs.Loads.{faults_of}
 use Rattle.differential_kernel.specs.Kernel.{bank_of}
 use Rattle.differential_kernel.proofs.Dropping.{all_kept, beside_dropped, beside_kept, none_kept, none_out}
 use Rattle.differential_kernel.proofs.kernel.Kernel.drop_lanes.Goals as goal
@@ -38,7 +38,8 @@ returns-clause-kernel g c =
       loads =
           ap (λ (ls : List (List (Option Fault))). length ls) loads ∙ c.unload.auto.loads ∙ ap (λ (ls : List (List (Option Fault))). length ls) c.deref_mut.ensures.value
           ∙ kept.loads;
-      transient = c.is_some_transient-self.ensures ∙ ap has_transients c.deref.ensures.value;
+      acts_bound = kept.acts_bound;
+      acts = λ noted. absurd (false≢true noted);
       named_bound = kept.named_bound;
       forces = kept.forces;
       off = kept.off;

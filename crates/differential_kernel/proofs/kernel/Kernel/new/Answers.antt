@@ -7,7 +7,6 @@ use Rattle.circuit.specs.Order.{IsOrder}
 use Rattle.circuit.specs.Sound.{IsNetlist}
 use Rattle.circuit.proofs.FewTables.{few_tables}
 use Rattle.lane_kernel.specs.Gates.{IsProgram}
-use Rattle.lane_kernel.specs.Loads.{has_transients}
 use Rattle.differential_kernel.specs.Places.{ArePlaces}
 use Rattle.differential_kernel.proofs.kernel.Kernel.new.Goals as goal
 
@@ -37,7 +36,8 @@ returns-clause-kernel g c =
       given = omega (arith, c.in_ok-loads.loads.ok.0, c.in_ok-loads.ensures.len, c.count.ensures);
       whole = λ whole. absurd (false≢true whole);
       loads = omega (arith, c.in_ok-in_force.in_force.ok.0, c.in_ok-in_force.ensures.len, c.count-2.ensures);
-      transient = c.is_some_transient-transient.ensures ∙ ap has_transients c.deref.ensures.value;
+      acts_bound = c.in_ok-acts.ensures.bound;
+      acts = λ noted. absurd (false≢true noted);
       named_bound = c.in_ok-named.ensures.bound ∙ nets;
       forces = c.in_ok-forces.ensures.count ∙ nets;
       off = λ n lt none. c.in_ok-forces.ensures.idle n lt;
