@@ -1,6 +1,6 @@
 -- How `pairs` ends.
 use Rattle.std.proofs.Common.{◌≡◌, ◌∙◌, ap, ap₂, sym, refl, subst, ℕ, ◌+◌, ◌<◌, Bool, true, false, not, List, [], ◌∷◌, map, Ok, Err, inl, inr, arith, suc}
-use Rattle.std.specs.Prelude.{◌⊎◌, ◌==◌, Option, Some, None, All, Contains}
+use Rattle.std.specs.Prelude.{◌⊎◌, ◌==◌, Option, Some, None, Result, All, Contains}
 use Rattle.std.specs.List.{list_any}
 use Rattle.std.proofs.lemmas.Bool.Decides.{nat_tests}
 use Rattle.std.proofs.lemmas.List.Elements.{All-filter}
@@ -35,6 +35,7 @@ use Rattle.refusal_text.specs.declared.status.Status.TheVariants as status
 use Rattle.refusal_text.specs.declared.status.What.TheVariants as what
 use Rattle.refusal_text.specs.declared.status.Which.{Which}
 use Rattle.refusal_text.specs.declared.status.Which.TheVariants as which
+use Rattle.refusal_text.specs.declared.refused.Refused.{Refused}
 use Rattle.refusal_text.specs.Refusals.{IsPlain}
 use Rattle.command_steps.specs.declared.begun.Begun.{Begun}
 use Rattle.command_steps.specs.Files.{Files, all_read}
@@ -50,7 +51,7 @@ use Rattle.command_steps.proofs.PlanOrder.{are_held}
 use Rattle.command_steps.proofs.BegunOrder.{paired_made, paired_refused, rows_kept}
 use Rattle.command_steps.proofs.Distinct.{kept_distinct}
 use Rattle.fmeda_top.specs.Promises.{CommandEnds}
-use Rattle.fmeda_top.specs.Tried.{TextAs, ChoosesAs, ArePaired, PairsAs}
+use Rattle.fmeda_top.specs.Tried.{TextAs, ChoosesAs, ArePaired, PairsAs, PairsTold, RefusedBy}
 use Rattle.fmeda_top.proofs.Ending.{text_ends}
 use Rattle.pair_list.proofs.Placing.{under}
 
@@ -183,7 +184,7 @@ module _ (inputs : Inputs) (name : Bytes) (set : Settings) (workers : ℕ) where
         }
 
     -- there are no pairs
-    pub pairs_none : (ended : Status) → ChoosesAs p made.kept (Err ended)
+    pairs_none : (ended : Status) → ChoosesAs p made.kept (Err ended)
         → ((ended ≡ status.Memory) ⊎ RefusedInOrder command before after ended) × IsPlain ended
     pairs_none ended (inl memory) = (inl memory, subst IsPlain (sym memory) tt)
     pairs_none ended (inr is) =
@@ -201,9 +202,17 @@ module _ (inputs : Inputs) (name : Bytes) (set : Settings) (workers : ℕ) where
       ),
     )
 
-    pub pairs_told : (out now : SinkState) (ended : Status) → pairs_step p made.kept ≡ Ok made.kept → TextAs out now (pairs_text p (planes_in made.kept.rows)) (Ok ended)
+    pairs_told : (out now : SinkState) (ended : Status) → pairs_step p made.kept ≡ Ok made.kept → TextAs out now (pairs_text p (planes_in made.kept.rows)) (Ok ended)
         → PairsAs (outside before out) (outside after now) inputs name set workers (Ok ended)
     pairs_told out now ended chose told = (p, made.kept, paired chose, pairs_hold p made.kept rows_distinct chose, by_pairs None (ap refusal_in chose), told)
+
+    -- `pairs` after its files were read
+    pub pairs_tried : (out now : SinkState) (r : Result Status Refused) → PairsTold p made.kept out now r
+        → PairsAs (outside before out) (outside after now) inputs name set workers r
+    pairs_tried out now (Ok ended) (chose, text) = pairs_told out now ended chose text
+    pairs_tried out now (Err refused) (ended, is, chose, same) =
+        let none = pairs_none ended chose in
+        subst (λ r. RefusedBy inputs.netlist (outside before out) (outside after now) r (RefusedInOrder command before after)) (sym is) (none.0, none.1, same)
 
   -- `pairs` has ended
   pub pairs_end : AllPairsAreTold → (before after : Outside) (ended : Status) → KeepsAll before.shelf after.shelf → PairsAs before after inputs name set workers (Ok ended)

@@ -84,6 +84,11 @@ abbrev pub ChoosesAs : Analysis → KeptRows → Result Chosen Status → Type 0
 ChoosesAs p k (Ok c) = (pairs_step p k ≡ Ok k) × (c ≡ chosen p (planes_in k.rows))
 ChoosesAs p k (Err ended) = (ended ≡ status.Memory) ⊎ (pairs_step p k ≡ Err ended)
 
+-- the pairs of kept rows were told: their text went out, or a prefix of it; or the refusal says why there are none, and nothing went out
+abbrev pub PairsTold : Analysis → KeptRows → (before after : SinkState) → Result Status Refused → Type 0
+PairsTold p k before after (Ok ended) = (pairs_step p k ≡ Ok k) × TextAs before after (pairs_text p (planes_in k.rows)) (Ok ended)
+PairsTold p k before after (Err refused) = (ended : Status) × (refused ≡ By ended) × ChoosesAs p k (Err ended) × (after ≡ before)
+
 -- the files of `pairs` stand for this plan, and these rows of it pair its faults
 abbrev pub ArePaired : ShelfState → Inputs → Bytes → Settings → Analysis → KeptRows → Type 0
 ArePaired shelf inputs name set p k =

@@ -2,17 +2,18 @@
 ghost use Rattle.std.specs.Prelude.{◌≡◌, ◌<◌, ◌≤◌, ℕ, List, map};
 ghost use Rattle.fm_shelf.specs.Shelf.{OnlyReadsAny};
 ghost use Rattle.fm_shelf.specs.Outside.{outside};
+ghost use Rattle.circuit.specs.Order.{IsOrder};
 ghost use Rattle.campaign_plan.specs.Batches.{AreDistinct};
 ghost use Rattle.campaign_plan.specs.Kept.{AreSettings};
 ghost use Rattle.result_file.specs.KeptRows.{entry_of};
 ghost use Rattle.command_line.specs.Commands.{Pairs as PairsCommand};
 ghost use Rattle.command_steps.specs.PlanSteps.{names_of};
 ghost use Rattle.fmeda_top.specs.Promises.{CommandEnds};
-ghost use Rattle.fmeda_top.specs.Tried.{ChoosesAs, PairsAs};
+ghost use Rattle.fmeda_top.specs.Tried.{ChoosesAs, PairsAs, PairsTold};
 
 use campaign_plan::{Plan, Settings};
 use command_line::InputNames;
-use command_steps::begun::read_begun;
+use command_steps::begun::{Begun, read_begun};
 use fm_base::Refusal;
 use fm_shelf::shelf::{Shelf, Sink};
 use pair_campaign::{PairCrew, judge, pairs_are_told, write_pairs};
@@ -41,6 +42,27 @@ fn pairs_from(alloc: Global, plan: &Plan, kept: &KeptRows) -> Result<Pairs, Stat
     }
 }
 
+// Judges the pairs of what is kept, and writes their text, or says why there are none.
+fn tell_pairs<R: Threads + Wait + Sync, O: Sink>(
+    rt: &R,
+    alloc: Global,
+    begun: &Begun,
+    out: &mut O,
+    workers: u32,
+) -> Result<Status, Refused>
+    requires order { IsOrder begun.now.planned.plan.circuit begun.now.planned.order }
+    requires distinct { AreDistinct begun.now.planned.plan (map entry_of begun.now.kept.rows) }
+    requires workers { (0 < workers) × (workers ≤ 32) }
+    ensures { PairsTold begun.now.planned.plan begun.now.kept (O.seen out.old) (O.seen out.new) result }
+{
+    pairs_are_told();
+    let (plan, order) = (&begun.planned.plan, &begun.planned.order);
+    let pairs = pairs_from(alloc, plan, &begun.kept)?;
+    let crew = PairCrew::new(alloc, plan, order, &pairs, workers)?;
+    let planes = judge(rt, plan, order, &pairs, crew);
+    Ok(after_text(write_pairs(plan, &pairs, &planes, out)))
+}
+
 // Reads the files, judges the pairs and writes their text, or says why not.
 fn try_pairs<R: Threads + Wait + Sync, F: Shelf, O: Sink>(
     rt: &R,
@@ -58,13 +80,8 @@ fn try_pairs<R: Threads + Wait + Sync, F: Shelf, O: Sink>(
         (names_of inputs.now) rows.now settings workers result }
     ensures rest { OnlyReadsAny (F.seen shelf.old) (F.seen shelf.new) }
 {
-    pairs_are_told();
     let begun = read_begun(alloc, shelf, inputs, rows, settings)?;
-    let (plan, order) = (&begun.planned.plan, &begun.planned.order);
-    let pairs = pairs_from(alloc, plan, &begun.kept)?;
-    let crew = PairCrew::new(alloc, plan, order, &pairs, workers)?;
-    let planes = judge(rt, plan, order, &pairs, crew);
-    Ok(after_text(write_pairs(plan, &pairs, &planes, out)))
+    tell_pairs(rt, alloc, &begun, out, workers)
 }
 
 /// Judges each pair of a latent and a detected fault by the rows of a result file, with 1 to 32 workers, and writes which are
