@@ -17,6 +17,7 @@ use Rattle.net_names.proofs.Times.{one_of_both, place, place-found}
 use Rattle.bench_reader.specs.declared.nets.Mark.{Mark}
 use Rattle.bench_reader.specs.Marks.{NetMarks, fresh, ids_from, is_driven, is_given, mention, mention_all, with_driven, with_given}
 use Rattle.std.proofs.lemmas.Bool.{or_left}
+use Rattle.std.proofs.Math.Bool.{or-false}
 
 -- a name and the line that names it
 abbrev pub Visit : Type 0
@@ -53,10 +54,6 @@ pub record IsMarked (visits : List Visit) (driven outs : List Name) (t : NetMark
   pub outs_in : (name : Name) → is_one_of outs name ≡ true → is_one_of t.names name ≡ true
 
 -- ---- places
-
-or_none : (a : Bool) → (a || false) ≡ a
-or_none true = refl
-or_none false = refl
 
 -- the place of a name is below the number of names
 pub place_within : (names : List Name) (name : Name) → is_one_of names name ≡ true → place names name < length names
@@ -193,7 +190,7 @@ module _ (visits : List Visit) (driven outs : List Name) (t : NetMarks) (m : IsM
           as (λ _. get_or more.marks (place more.names other) blank ≡ mark_of (visits ++ (name, line) ∷ []) driven outs other) [
             | inl old ↦ old_each other old
             | inr new ↦ subst (λ (n : Name). get_or more.marks (place more.names n) blank ≡ mark_of (visits ++ (name, line) ∷ []) driven outs n)
-                (sym (same_name other name (sym (or_none (bytes_eq other name)) ∙ new))) new_each
+                (sym (same_name other name (sym (or-false (bytes_eq other name)) ∙ new))) new_each
           ];
       driven_in = λ other f. among_more t.names (name ∷ []) other (m.driven_in other f);
       outs_in = λ other f. among_more t.names (name ∷ []) other (m.outs_in other f);
@@ -244,7 +241,7 @@ module _ (visits : List Visit) (driven outs driven' outs' : List Name) (t : NetM
 
 module _ (visits : List Visit) (driven outs : List Name) (t : NetMarks) (m : IsMarked visits driven outs t) (name : Name) (e : is_one_of t.names name ≡ true) where
   last_other : (names : List Name) (other : Name) → bytes_eq other name ≡ false → is_one_of (names ++ name ∷ []) other ≡ is_one_of names other
-  last_other names other f = one_of_both names (name ∷ []) other ∙ rw f (or_none (is_one_of names other))
+  last_other names other f = one_of_both names (name ∷ []) other ∙ rw f (or-false (is_one_of names other))
 
   last_found : (names : List Name) → is_one_of (names ++ name ∷ []) name ≡ true
   last_found names = one_of_both names (name ∷ []) name ∙ or_second (is_one_of names name) _ (ap (λ b. b || false) (is_same name))

@@ -2,6 +2,7 @@
 use Rattle.std.proofs.Common.{◌≡◌, ℕ, suc, ◌+◌, ◌<◌, ◌≤◌, ◌⊎◌, inl, inr, Bool, true, false, ◌&&◌, ◌||◌, List, [], ◌∷◌, ◌++◌, length, refl, ap, ap₂, sym, ◌∙◌, subst, arith}
 use Rattle.std.proofs.lemmas.Bool.{cases_Bool, cases_lt, false_from_ne_true, or_cases, or_left, or_parts, or_right, true≢false}
 use Rattle.std.proofs.lemmas.List.{length_push}
+use Rattle.std.proofs.Math.Bool.{or-false}
 use Rattle.circuit.specs.declared.parts.Fault.{Fault}
 use Rattle.circuit.specs.Circuit.{Circuit}
 use Rattle.workload.specs.declared.run.Run.{Run}
@@ -84,16 +85,12 @@ no_test : (kind : Kind) → is_mission kind ≡ true → is_test kind ≡ false
 no_test Mission e = refl
 no_test Test e = absurd (true≢false (sym e))
 
-or_none : (a : Bool) → (a || false) ≡ a
-or_none true = refl
-or_none false = refl
-
 -- in a mission a raised alarm is what is noticed
 raised_in_mission : (c : Circuit) (points : Points) (x : List Fault) (run : Run) (n : ℕ) → is_mission run.kind ≡ true
     → is_noticed_by c points x run n ≡ some_below n (is_raised c points x run)
 raised_in_mission c points x run n mission =
     ap (λ test. some_below n (is_raised c points x run) || (test && some_below n (is_silenced c points x run))) (no_test run.kind mission)
-    ∙ or_none (some_below n (is_raised c points x run))
+    ∙ or-false (some_below n (is_raised c points x run))
 
 -- the first pairs are those of a longer list
 shown_longer : (c : Circuit) (points : Points) (run : Run) (x : List Fault) (goal : Goal) (pairs : List Pair) (p : Pair) (k n m : ℕ) → length pairs ≡ n → m ≤ n
