@@ -16,7 +16,7 @@ use Rattle.campaign_board.specs.declared.board.Origin.{Ghosts as OriginGhosts}
 use Rattle.campaign_workers.specs.contracts.worker.Worker.{the_row as worker_row}
 
 pub lanes_send : IsSend the_row
-lanes_send = search (sendable, crosses, fault.the_send, gate.the_send, masks.the_send, force.the_send, places.the_send) depth 30
+lanes_send = search (sendable, crosses, fault.the_send, gate.the_send, masks.the_send, force.the_send, places.the_send) depth 30 fits 8000
 
 pub worker_send : (F N : RattleType) (f : ShelfGhosts F.Denot) (n : OriginGhosts N.Denot) → IsSend F → IsSend (worker_row F N f n)
 worker_send F N f n s = search (sendable, crosses, seat.the_send, headed.the_send, windows.the_send, lanes_send) depth 20
