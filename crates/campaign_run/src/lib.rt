@@ -1,8 +1,10 @@
 //! A whole campaign, from a plan to its report.
 #![tactic(auto)]
 
+mod campaign;
 mod over;
 mod run;
 mod tell;
 
+pub use campaign::Campaign;
 pub use run::{End, Ran, Text, run_campaign};

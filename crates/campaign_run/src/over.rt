@@ -1,8 +1,6 @@
 ghost use Rattle.std.specs.Prelude.{◌≡◌, ◌<◌, ◌≤◌, IfOk, IfErr, length};
-ghost use Rattle.std.specs.String.{string_bytes};
 ghost use Rattle.circuit.specs.Order.{IsOrder};
 ghost use Rattle.campaign_plan.specs.Analysis.{batch_count};
-ghost use Rattle.result_file.specs.KeptRows.{header_len};
 ghost use Rattle.campaign_board.specs.Kept.{IsStart, IsWhole};
 ghost use Rattle.campaign_workers.specs.Truth.{HasTrueEntries};
 ghost use Rattle.fmeda_report.specs.Rooms.{room_for};
@@ -11,7 +9,8 @@ ghost use Rattle.campaign_run.specs.Starting.{StartsFrom};
 ghost use Rattle.campaign_run.specs.Steps.{IsFresh, HasWorked};
 ghost use Rattle.campaign_run.specs.Ran.{HasRun};
 
-use crate::run::{End, Ran, Text};
+use crate::campaign::Campaign;
+use crate::run::{End, Ran};
 use crate::tell::tell;
 use campaign_board::{Board, NoBoard, Origin};
 use campaign_plan::Plan;
@@ -103,38 +102,29 @@ pub(crate) fn run_over<
 >(
     rt: &R,
     alloc: Global,
-    plan: &Plan,
-    order: &Order,
-    own: &Line,
-    kept: KeptRows,
-    text: Text,
+    campaign: Campaign<'_>,
     workers: u32,
     shelf: F,
-    name: &String,
     out: &mut O,
     gate: &G,
 ) -> Ran<F>
     requires workers { (0 < workers) × (workers ≤ 32) }
-    requires order { IsOrder plan.now.circuit order.now }
-    requires own { length own.now ≡ header_len }
-    requires kept { StartsFrom own.now plan.now ((F.seen shelf).content (string_bytes name.now)) kept }
-    requires origin { N.start ≡ origin_of (record { name = string_bytes name.now; own = own.now; p = plan.now; k = kept; text = text }) (F.seen shelf) }
-    ensures run { HasRun result.end (record { name = string_bytes name.now; own = own.now; p = plan.now; k = kept; text = text })
-        (record { shelf = F.seen shelf; out = O.seen out.old }) (record { shelf = F.seen result.shelf; out = O.seen out.new }) }
+    requires kept { StartsFrom campaign.own campaign.p ((F.seen shelf).content campaign.name) campaign.k }
+    requires origin { N.start ≡ origin_of campaign (F.seen shelf) }
+    ensures run { HasRun result.end campaign.entry (record { shelf = F.seen shelf; out = O.seen out.old }) (record { shelf = F.seen result.shelf; out = O.seen out.new }) }
     ensures untouched { result.end ≡ End.NoMemory → (result.shelf ≡ shelf) × (out.new ≡ out.old) }
 {
-    let KeptRows { rows, whole } = kept;
-    let batches = plan.batches();
-    let prepared = prepare::<F, N>(
-        alloc,
+    let Campaign {
         plan,
         order,
-        batches,
-        rows,
-        workers,
-        shelf,
-        name.as_str(),
-    );
+        name,
+        own,
+        kept,
+        text,
+    } = campaign;
+    let KeptRows { rows, whole } = kept;
+    let batches = plan.batches();
+    let prepared = prepare::<F, N>(alloc, plan, order, batches, rows, workers, shelf, name);
     let Prepared { mut space, crew } = match prepared {
         Ok(prepared) => prepared,
         Err(NoBoard { shelf }) => {
