@@ -3,8 +3,10 @@
 
 mod law;
 mod over;
+mod part;
 mod run;
 mod seat;
 
 pub use law::{stopped_parts_merge, unposted_draws_leave_no_row};
-pub use run::{Shard, run_part};
+pub use part::{PartCampaign, Shard};
+pub use run::run_part;

@@ -1,9 +1,7 @@
 // A part of a campaign, over the origin of its board.
 ghost use Rattle.std.specs.Prelude.{◌≡◌, ◌<◌, ◌≤◌, [], IfOk, IfErr, length};
-ghost use Rattle.std.specs.String.{string_bytes};
 ghost use Rattle.circuit.specs.Order.{IsOrder};
 ghost use Rattle.campaign_plan.specs.Analysis.{batch_count};
-ghost use Rattle.result_file.specs.KeptRows.{header_len};
 ghost use Rattle.campaign_board.specs.Boards.{batches_of, sums_over};
 ghost use Rattle.campaign_board.specs.Kept.{IsBoard, IsStart};
 ghost use Rattle.campaign_board.specs.Missing.{missing};
@@ -13,7 +11,7 @@ ghost use Rattle.command_text.specs.Texts.{shard_line};
 ghost use Rattle.campaign_shard.specs.RanPart.{HasRunPart};
 ghost use Rattle.campaign_shard.specs.PartSteps.{part_origin, simulated, HasPartWorked, IsOpening};
 
-use crate::run::Shard;
+use crate::part::{PartCampaign, Shard};
 use crate::seat::work_part;
 use campaign_board::{BatchList, Board, NoBoard, Origin, Seat, Shared, missing_batches};
 use campaign_plan::Plan;
@@ -169,24 +167,23 @@ fn tell<F: Shelf + Drop, N: Origin, O: Sink>(
 pub(crate) fn run_over<R: Wait, F: Shelf + Drop, N: Origin, O: Sink>(
     rt: &R,
     alloc: Global,
-    plan: &Plan,
-    order: &Order,
-    own: &Line,
-    shard: Shard,
+    campaign: PartCampaign<'_>,
     shelf: F,
-    name: &String,
     out: &mut O,
 ) -> Ran<F>
-    requires parts { 0 < shard.parts }
-    requires order { IsOrder plan.now.circuit order.now }
-    requires own { length own.now ≡ header_len }
-    requires origin { N.start ≡ part_origin (string_bytes name.now) own.now plan.now (F.seen shelf) }
-    ensures run { HasRunPart result.end (record { name = string_bytes name.now; own = own.now; p = plan.now; part = shard.part; parts = shard.parts })
-        (record { shelf = F.seen shelf; out = O.seen out.old }) (record { shelf = F.seen result.shelf; out = O.seen out.new }) }
+    requires origin { N.start ≡ part_origin campaign.name campaign.own campaign.p (F.seen shelf) }
+    ensures run { HasRunPart result.end campaign.entry (record { shelf = F.seen shelf; out = O.seen out.old }) (record { shelf = F.seen result.shelf; out = O.seen out.new }) }
     ensures untouched { result.end ≡ End.NoMemory → (result.shelf ≡ shelf) × (out.new ≡ out.old) }
 {
+    let PartCampaign {
+        plan,
+        order,
+        name,
+        own,
+        shard,
+    } = campaign;
     let batches = plan.batches();
-    match prepare::<F, N>(alloc, plan, order, batches, shelf, name.as_str()) {
+    match prepare::<F, N>(alloc, plan, order, batches, shelf, name) {
         Ok(prepared) => {
             let board = worked(rt, plan, own, shard, prepared);
             tell(shard, board, out)
