@@ -9,7 +9,7 @@ ghost use Rattle.fmeda_top.specs.Promises.{CommandEnds};
 use crate::ended::Ended;
 use crate::run::say_end;
 use campaign_plan::Settings;
-use campaign_shard::{Shard, run_part};
+use campaign_shard::{PartCampaign, Shard, run_part};
 use command_line::InputNames;
 use command_steps::own::own_line;
 use command_steps::planned::read_plan;
@@ -50,7 +50,8 @@ pub fn shard<R: Wait, F: Shelf + Drop, O: Sink>(
         Ok(planned) => {
             let own = own_line(&planned);
             let (plan, order) = (&planned.plan, &planned.order);
-            let ran = run_part(rt, alloc, plan, order, &own, part, shelf, rows, out);
+            let campaign = PartCampaign::new(plan, order, rows, &own, part);
+            let ran = run_part(rt, alloc, campaign, shelf, out);
             let status = say_end(out, &names, ran.end);
             Ended {
                 status,

@@ -22,7 +22,7 @@ returns-in-Ok g c =
     (shard_none (names_of c.args.inputs.now) c.args.rows.now c.args.settings c.args.part.part c.args.part.parts before mid after.shelf made c.own_line-own.result reads read own)
     (shard_done (names_of c.args.inputs.now) c.args.rows.now c.args.settings c.args.part.part c.args.part.parts before mid after.shelf made c.own_line-own.result reads read own)
     (shard_left (names_of c.args.inputs.now) c.args.rows.now c.args.settings c.args.part.part c.args.part.parts before mid after.shelf made c.own_line-own.result reads read own)
-    c.run_part-ran.result.end c.say_end-status.result c.run_part-ran.ensures.run c.say_end-status.ensures refl refl refl refl refl refl refl
+    c.run_part-ran.result.end c.say_end-status.result (rw c.new-campaign.ensures at c.run_part-ran.ensures.run) c.say_end-status.ensures refl refl refl refl refl refl refl
 
 pub returns-in-Err : goal.returns-in-Err
 returns-in-Err g c =
