@@ -1,3 +1,4 @@
+// A part of a campaign, as one argument.
 ghost use Rattle.std.specs.Prelude.{◌≡◌, ◌<◌, length};
 ghost use Rattle.circuit.specs.Order.{IsOrder};
 ghost use Rattle.result_file.specs.KeptRows.{header_len};
