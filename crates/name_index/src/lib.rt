@@ -1,8 +1,8 @@
 // Names that are looked up in constant time.
 #![tactic(auto)]
 
-ghost use Rattle.std.specs.Prelude.{◌≡◌, ◌==◌, ◌<◌, [], length, position, not, IfOk, IfSome, OnOk, OnErr};
-ghost use Rattle.std.specs.Option.{is_some};
+ghost use Rattle.std.specs.Prelude.{◌≡◌, ◌==◌, ◌<◌, [], length, position, not, Some, slice_get, IfOk, IfSome, OnOk, OnErr};
+ghost use Rattle.std.specs.Option.{is_some, option_map};
 ghost use Rattle.std.specs.Str.{bytes_eq};
 ghost use Rattle.fm_base.specs.Names.{is_one_of};
 ghost use Rattle.name_index.specs.Index.{with_name};
@@ -68,17 +68,41 @@ impl NameIndex {
         self.names.contains(name)
     }
 
+    /// The number of a name, which goes to the end where it isn't there yet.
+    pub fn enter(&mut self, name: &[u8]) -> Result<usize, AllocError>
+        ensures names { OnOk result (self.new ≡ with_name self.old name.now) }
+        ensures number { IfOk result (λ n. slice_get self.new n ≡ Some name.now) }
+        ensures err { OnErr result (self.new ≡ self.old) }
+    {
+        match self.number(name) {
+            Some(number) => Ok(number),
+            None => {
+                let number = self.len();
+                let own = Vec::from_slice(self.alloc, name)?;
+                self.names.insert(own)?;
+                Ok(number)
+            }
+        }
+    }
+
+    /// The name of a number, if there is one.
+    pub fn name(&self, number: usize) -> Option<&[u8]>
+        ensures { option_map (λ t. t.now) result ≡ slice_get self.now number }
+    {
+        match self.names.get_index(number) {
+            Some(name) => Some(name.as_slice()),
+            None => None,
+        }
+    }
+
     /// Adds a name at the end where it isn't there yet, and answers whether it was added.
     pub fn insert(&mut self, name: &[u8]) -> Result<bool, AllocError>
         ensures names { OnOk result (self.new ≡ with_name self.old name.now) }
         ensures added { IfOk result (λ added. added ≡ not (is_one_of self.old name.now)) }
         ensures err { OnErr result (self.new ≡ self.old) }
     {
-        if self.contains(name) {
-            return Ok(false);
-        }
-        let own = Vec::from_slice(self.alloc, name)?;
-        self.names.insert(own)?;
-        Ok(true)
+        let before = self.len();
+        self.enter(name)?;
+        Ok(self.len() > before)
     }
 }
