@@ -1,7 +1,8 @@
 -- Instances, rows and cells, line by line.
-use Rattle.std.proofs.Common.{◌≡◌, ◌+◌, ◌-◌, ◌<◌, ◌≤◌, ◌^◌, ℕ, suc, min, Bool, cond, List, [], ◌∷◌, refl, ap, sym, ◌∙◌, length, sum_by, arith}
+use Rattle.std.proofs.Common.{◌≡◌, ◌+◌, ◌-◌, ◌<◌, ◌≤◌, ◌^◌, ℕ, suc, min, Bool, cond, List, [], ◌∷◌, refl, ap, sym, ◌∙◌, length, drop, get_or, sum_by, arith}
 use Rattle.std.specs.Prelude.{Option, Some, None, count_by, filter_map, is_some}
 use Rattle.std.specs.List.{cons_option}
+use Rattle.std.proofs.lemmas.List.{drop_all}
 use Rattle.std.proofs.lemmas.List.Recursion.{is_count_by}
 use Rattle.std.proofs.lemmas.List.Sums.{sum_by-cons}
 use Rattle.fm_base.specs.Names.{Name}
@@ -12,6 +13,8 @@ use Rattle.blif_model.specs.Statement.{statement_of, texts}
 use Rattle.blif_says.specs.declared.says.Says.{Says}
 use Rattle.blif_says.specs.Grouped.{all_said}
 use Rattle.blif_says.specs.Meant.{meant}
+use Rattle.blif_walk.proofs.Items.{drop_item}
+use Rattle.blif_reader.specs.Mentions.{mentions_on}
 
 -- a line as an item
 abbrev item_at : TextLine → List TextLine → Item
@@ -92,3 +95,32 @@ pub cells_end : (cap total all : ℕ) (rest : List TextLine) → length rest < 1
 unfolding items_of
 cells_end cap total all [] h within e = omega arith
 cells_end cap total all (line ∷ rest) h within e = absurd (omega arith)
+
+-- ---- mentions of clock names
+
+abbrev pub mentions_in : List TextLine → ℕ
+mentions_in lines = sum_by (λ (item : Item). mentions_on item.says) (items_of (all_said lines))
+
+mentions_more : (line : TextLine) (below : List TextLine) → mentions_in (line ∷ below) ≡ mentions_on (statement_of (texts (line_of line))) + mentions_in below
+mentions_more line below =
+    ap (λ (items : List Item). sum_by (λ (item : Item). mentions_on item.says) items) (items_more line below)
+    ∙ sum_by-cons (λ (item : Item). mentions_on item.says) (item_at line below) (items_of (all_said below))
+
+-- one more line
+pub mentions_step : (cap total own sum new : ℕ) (lines : List TextLine) (i : ℕ) (line : TextLine) (says : Says) (all : ℕ) → cap < 2 ^ 32 → total ≤ cap
+    → i < length lines → line ≡ get_or lines i line → meant says ≡ statement_of (texts (line_of line)) → own ≡ mentions_on (meant says)
+    → sum ≡ min (total + own) (2 ^ 64 - 1) → new ≡ min sum cap → min cap (total + mentions_in (drop i lines)) ≡ min cap all → min cap (new + mentions_in (drop (i + 1) lines)) ≡ min cap all
+mentions_step cap total own sum new lines i line says all small within h is m o s n inv =
+    let e : mentions_in (drop i lines) ≡ mentions_on (meant says) + mentions_in (drop (i + 1) lines) =
+    ap mentions_in (drop_item lines i line h is) ∙ mentions_more line (drop (i + 1) lines) ∙ ap (λ t. mentions_on t + mentions_in (drop (i + 1) lines)) (sym m) in
+    by_sum cap total own sum new (mentions_on (meant says)) (mentions_in (drop (i + 1) lines)) (mentions_in (drop i lines)) all small within e o s n inv
+  where
+    by_sum : (cap total own sum new here more left all : ℕ) → cap < 2 ^ 32 → total ≤ cap → left ≡ here + more → own ≡ here
+        → sum ≡ min (total + own) (2 ^ 64 - 1) → new ≡ min sum cap → min cap (total + left) ≡ min cap all → min cap (new + more) ≡ min cap all
+    by_sum cap total own sum new here more left all small within e o s n h = omega arith
+
+pub mentions_end : (cap total all : ℕ) (lines : List TextLine) (i : ℕ) → length lines ≤ i → total ≤ cap → min cap (total + mentions_in (drop i lines)) ≡ min cap all → total ≡ min cap all
+unfolding items_of
+mentions_end cap total all lines i h within e =
+    let none : mentions_in (drop i lines) ≡ 0 = ap mentions_in (drop_all i lines h) in
+    omega arith

@@ -3,5 +3,6 @@ pub mod Places
 pub mod Below
 pub mod Counting
 pub mod Built
+pub mod Mentions
 pub mod Totals
 pub mod Reading

@@ -1,10 +1,11 @@
 -- What capped totals of the main model tell.
 use Rattle.std.proofs.Common.{◌≡◌, ℕ, ◌+◌, ◌<◌, ◌≤◌, ◌^◌, Bool, true, false, List, [], ◌∷◌, refl, ◌∙◌, map, min, arith}
 use Rattle.std.specs.Prelude.{Option, Some, None, nat_lt, slice_get}
-use Rattle.std.specs.Option.{option_map, option_map_or}
+use Rattle.std.specs.Option.{option_map, option_map_or, unwrap_or}
 use Rattle.std.proofs.lemmas.Bool.{lt-ltb, le-ltb, ltb-false}
 use borrow.Author.Tests.{ltb-true}
 use Rattle.blif_model.specs.ModelFault.{count_of_cells, count_of_instances}
+use Rattle.blif_reader.specs.Mentions.{count_of_mentions, mention_count}
 use Rattle.blif_model.specs.Models.{Model, cell_count, instance_count, instances, sum_over_instances}
 
 -- a number that is capped right above a limit is past the limit where the number is
@@ -43,6 +44,16 @@ module _ (models : List Model) (total : Option ℕ) (past : Bool) where
       by_cases : (ms : List Model) → option_map_or (λ m. nat_lt (2 ^ 24) (sum_over_instances cell_count ms 32 m)) (slice_get ms 0) false ≡ nat_lt (2 ^ 24) (count_of_cells ms)
       by_cases [] = refl
       by_cases (m ∷ ms) = refl
+
+-- the capped mentions of the main model, or none where there is no model
+pub few_mentions : (models : List Model) (total : Option ℕ) → total ≡ option_map (λ m. min (2 ^ 31) (sum_over_instances mention_count models 32 m)) (slice_get models 0)
+    → unwrap_or total 0 ≡ min (2 ^ 31) (count_of_mentions models)
+unfolding sum_over_instances instances
+few_mentions models total e = rw e (by_cases models)
+  where
+    by_cases : (ms : List Model) → unwrap_or (option_map (λ m. min (2 ^ 31) (sum_over_instances mention_count ms 32 m)) (slice_get ms 0)) 0 ≡ min (2 ^ 31) (count_of_mentions ms)
+    by_cases [] = refl
+    by_cases (m ∷ ms) = refl
 
 -- the first of the totals is that of the main model
 pub first_total : (number : Model → ℕ) (models : List Model) → slice_get (map number models) 0 ≡ option_map number (slice_get models 0)

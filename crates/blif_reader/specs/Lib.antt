@@ -1,4 +1,5 @@
 pub mod Parts
 pub mod Seen
+pub mod Mentions
 pub mod Ready
 pub mod Stages

@@ -1,12 +1,14 @@
 // Instances and cells of a model.
-ghost use Rattle.std.specs.Prelude.{◌≡◌, ◌*◌, ◌<◌, ◌^◌, count_by, filter_map, is_some, length, max, min, sum_by};
+ghost use Rattle.std.specs.Prelude.{◌≡◌, ◌*◌, ◌<◌, ◌^◌, bytes_eq, codes, count_by, filter_map, if◌then◌else◌, is_some, length, max, min, sum_by};
+ghost use Rattle.std.specs.Option.{option_map_or};
 ghost use Rattle.blif_model.specs.Models.{cells_from, instance_from, items_of, rows_below};
 ghost use Rattle.blif_model.specs.Statement.{statement_of, texts};
 ghost use Rattle.blif_text.specs.Read.{line_of};
 ghost use Rattle.blif_says.specs.Grouped.{all_said};
 ghost use Rattle.blif_says.specs.Meant.{meant};
+ghost use Rattle.blif_reader.specs.Mentions.{mentions_on};
 
-use blif_says::says::Says;
+use blif_says::says::{Clocked, Says};
 use blif_says::statement::line_says;
 use blif_text::lines::TextLine;
 
@@ -81,6 +83,47 @@ pub fn capped_cells(lines: &[TextLine<'_>], cap: u64) -> u64
             .saturating_add(line_cells(line_says(line), below, cap))
             .min(cap);
         rest = below;
+    }
+    total
+}
+
+/// The control of a latch, where it has one; `NIL` is none.
+fn control_count(clocking: Option<Clocked<'_>>) -> usize
+    ensures { result ≡ option_map_or (λ c. if bytes_eq c.control.now (codes "NIL") then 0 else 1) clocking.entry 0 }
+{
+    match clocking {
+        None => 0,
+        Some(clocked) => {
+            if clocked.control == b"NIL".as_slice() {
+                0
+            } else {
+                1
+            }
+        }
+    }
+}
+
+/// The clock names of a line.
+fn line_mentions(says: Says<'_, '_>) -> usize
+    ensures { result ≡ mentions_on (meant says.entry) }
+{
+    match says {
+        Says::Clock(names) => names.len(),
+        Says::Latch(line) => control_count(line.clocking),
+        _ => 0,
+    }
+}
+
+/// The clock names of a model's lines, up to the cap.
+pub fn capped_mentions(lines: &[TextLine<'_>], cap: u64) -> u64
+    requires { cap < 2 ^ 32 }
+    ensures { result ≡ min cap (sum_by (λ item. mentions_on item.says) (items_of (all_said lines.now))) }
+{
+    let mut total: u64 = 0;
+    for line in lines {
+        total = total
+            .saturating_add(line_mentions(line_says(line)) as u64)
+            .min(cap);
     }
     total
 }

@@ -8,7 +8,7 @@ ghost use Rattle.fm_base.specs.Answers.{Gives};
 ghost use Rattle.blif_reader.specs.Stages.{GiveSound, ModelsGive, unwalked_fault, WalkGives, WalkSound};
 
 use crate::netlist::walk_netlist;
-use crate::sizes::is_large;
+use crate::sizes::{MOST_NETS, is_large};
 use blif_faults::walk::walk_fault;
 use blif_nest::faults::nest_fault;
 use blif_ports::faults::port_fault;
@@ -20,9 +20,6 @@ use circuit::netlist::Netlist;
 use fm_base::Refusal;
 use indexmap::IndexSet;
 use std::alloc::{AllocError, Global};
-
-/// More nets than this are too many.
-const MOST_NETS: usize = 1 << 18;
 
 /// TooLarge at a line.
 fn too_large(line: u32) -> NetlistFault

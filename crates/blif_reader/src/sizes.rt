@@ -4,8 +4,9 @@ ghost use Rattle.std.specs.Option.{option_map, option_map_or};
 ghost use Rattle.blif_model.specs.ModelFault.{count_of_cells, count_of_instances};
 ghost use Rattle.blif_model.specs.Models.{Model, cell_count, instance_from, sum_over_instances};
 ghost use Rattle.blif_says.specs.Grouped.{model_of};
+ghost use Rattle.blif_reader.specs.Mentions.{count_of_mentions, mention_count};
 
-use crate::counts::{capped_cells, capped_instances};
+use crate::counts::{capped_cells, capped_instances, capped_mentions};
 use blif_counts::rounds::capped_totals;
 use blif_says::models::ModelLines;
 use blif_walk::table::ModelTable;
@@ -16,6 +17,12 @@ const MOST_INSTANCES: u64 = 1 << 18;
 
 /// More cells than this are too many.
 const MOST_CELLS: u64 = 1 << 24;
+
+/// More nets than this are too many.
+pub const MOST_NETS: usize = 1 << 18;
+
+/// As many clock names as this aren't looked at.
+const MOST_MENTIONS: u64 = 1 << 31;
 
 /// A number of the main model, summed over all instances in it, up to the cap; none where the file has no model.
 fn main_total(
@@ -94,4 +101,40 @@ pub fn is_large(alloc: Global, models: &ModelTable<'_, '_>) -> Result<bool, Allo
         return Ok(true);
     }
     has_many_cells(alloc, models)
+}
+
+fn mention_counts(
+    alloc: Global,
+    models: &[ModelLines<'_, '_>],
+    cap: u64,
+) -> Result<Vec<u64>, AllocError>
+    requires { cap < 2 ^ 32 }
+    ensures { IfOk result (λ v. v.items ≡ map (λ m. min cap (mention_count (model_of m))) models.now) }
+{
+    models
+        .iter()
+        .map(|model| capped_mentions(model.items, cap))
+        .collect(alloc)
+}
+
+/// The clock names in the flattened main model, counted as often as they stand there, up to the limit.
+fn clock_mentions(alloc: Global, models: &ModelTable<'_, '_>) -> Result<u64, AllocError>
+    ensures { IfOk result (λ n. n ≡ min (2 ^ 31) (count_of_mentions models.now)) }
+{
+    let own = mention_counts(alloc, models.lines(), MOST_MENTIONS)?;
+    let total = main_total(alloc, models, own.as_slice(), MOST_MENTIONS)?;
+    Ok(total.unwrap_or(0))
+}
+
+/// No flattened main model with at most 2^18 nets has more names than this: its nets, and a clock name wherever one may
+/// stand. Where these may be 2^31 or more, they are taken for more than there is memory for.
+pub fn most_names(alloc: Global, models: &ModelTable<'_, '_>) -> Result<usize, AllocError>
+    ensures fits { IfOk result (λ n. n < 2 ^ 32) }
+    ensures counted { IfOk result (λ n. n ≡ 2 ^ 18 + count_of_mentions models.now) }
+{
+    let mentions = clock_mentions(alloc, models)?;
+    if mentions >= MOST_MENTIONS {
+        return Err(AllocError);
+    }
+    Ok(MOST_NETS + mentions as usize)
 }
