@@ -5,3 +5,5 @@ pub mod Splits
 pub mod FirstPlaces
 pub mod NameSets
 pub mod Items
+pub mod Numbering
+pub mod Marking

@@ -4,3 +4,8 @@ pub mod Ports
 pub mod Coming
 pub mod Passing
 pub mod Numbers
+pub mod Flat
+pub mod Flattened
+pub mod Sorts
+pub mod Marks
+pub mod Numbering

@@ -4,9 +4,13 @@
 pub mod acts;
 pub mod bound;
 pub mod enter;
+pub mod flat;
+pub mod flatten;
 pub mod frames;
+pub mod marks;
 pub mod numbers;
 pub mod places;
+pub mod sorts;
 pub mod table;
 pub mod text;
 pub mod walker;

@@ -1,0 +1,12 @@
+use Rattle.std.proofs.Common.{◌<◌, ◌∷◌, [], List, ℕ}
+use Rattle.std.specs.Option.{option_to_list}
+use Rattle.fm_base.proofs.Lists.{all_left}
+use Rattle.blif_walk.specs.declared.flat.NameId.{NameId}
+use Rattle.blif_walk.specs.Flat.{AreBelow}
+use Rattle.blif_walk.proofs.sorts.visits.Goals as goal
+
+pub returns-in-Latch-clause-within : goal.returns-in-Latch-clause-within
+returns-in-Latch-clause-within c n below =
+    let l = c.in-Latch.latch in
+    let P : NameId → Type 0 = λ id. id.0 < n in
+    all_left P (l.from ∷ l.to ∷ []) (option_to_list l.control) (rw c.in-Latch.is at below)
