@@ -18,7 +18,6 @@ use Rattle.blif_says.specs.declared.says.Says.TheVariants.{Model, Inputs, Output
 use Rattle.blif_says.specs.Grouped.{all_said}
 use Rattle.blif_says.specs.Meant.{meant}
 use Rattle.blif_walk.proofs.Items.{drop_item}
-use Rattle.blif_reader.specs.Parts.{unclocked_by}
 
 below_more : (line : TextLine) (lines : List TextLine) → rows_below (all_said (line ∷ lines)) ≡ rows_from (statement_of (texts (line_of line))) (rows_below (all_said lines))
 unfolding rows_below
@@ -58,28 +57,3 @@ rows_step rows new row tokens more all e f h = rw (e, f) (append_assoc rows (lit
 
 pub rows_end : (rows all : List (List Lit)) (left : List (List Name)) → left ≡ [] → rows ++ map lits_of left ≡ all → rows ≡ all
 rows_end rows all left e h = sym (append-nil rows) ∙ ap (λ (rs : List (List Name)). rows ++ map lits_of rs) (sym e) ∙ h
-
--- one input, or a clock name that is left out
-pub input_kept : (left_out nets : List Name) (inputs new : List NetId) (name : Name) → is_one_of left_out name ≡ false → new ≡ inputs ++ net_id nets name ∷ []
-    → new ≡ inputs ++ map (net_id nets) (unclocked_by left_out (name ∷ []))
-input_kept left_out nets inputs new name f e = e ∙ ap (λ b. inputs ++ map (net_id nets) (cond (not b) (name ∷ []) [])) (sym f)
-
-pub input_left : (left_out nets : List Name) (inputs : List NetId) (name : Name) → is_one_of left_out name ≡ true
-    → inputs ≡ inputs ++ map (net_id nets) (unclocked_by left_out (name ∷ []))
-input_left left_out nets inputs name f = sym (append-nil inputs) ∙ ap (λ b. inputs ++ map (net_id nets) (cond (not b) (name ∷ []) [])) (sym f)
-
--- one more of the inputs
-pub input_step : (left_out nets : List Name) (inputs new : List NetId) (names : List Name) (i : ℕ) (name : Name) (all : List NetId) → i < length names → name ≡ get_or names i name
-    → new ≡ inputs ++ map (net_id nets) (unclocked_by left_out (name ∷ []))
-    → inputs ++ map (net_id nets) (unclocked_by left_out (drop i names)) ≡ all → new ++ map (net_id nets) (unclocked_by left_out (drop (i + 1) names)) ≡ all
-input_step left_out nets inputs new names i name all h is e inv =
-    let rest : List Name = drop (i + 1) names in
-    rw e (append_assoc inputs (map (net_id nets) (unclocked_by left_out (name ∷ []))) (map (net_id nets) (unclocked_by left_out rest))
-    ∙ ap (λ (ids : List NetId). inputs ++ ids) (sym (map-append (net_id nets) (unclocked_by left_out (name ∷ [])) (unclocked_by left_out rest))
-    ∙ ap (map (net_id nets)) (sym (filter-append (λ n. not (is_one_of left_out n)) (name ∷ []) rest) ∙ ap (unclocked_by left_out) (sym (drop_item names i name h is))))
-    ∙ inv)
-
-pub input_end : (left_out nets : List Name) (inputs all : List NetId) (names : List Name) (i : ℕ) → length names ≤ i
-    → inputs ++ map (net_id nets) (unclocked_by left_out (drop i names)) ≡ all → inputs ≡ all
-input_end left_out nets inputs all names i h inv =
-    sym (append-nil inputs) ∙ ap (λ (rest : List Name). inputs ++ map (net_id nets) (unclocked_by left_out rest)) (sym (drop_all i names h)) ∙ inv

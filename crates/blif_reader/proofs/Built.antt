@@ -1,46 +1,70 @@
--- The netlist that is built is that of the walk.
-use Rattle.std.proofs.Common.{◌≡◌, ℕ, ◌≤◌, ◌^◌, List, [], ap, sym, ◌∙◌, length, fold}
-use Rattle.std.specs.Prelude.{map, Vec}
-use Rattle.std.specs.declared.alloc.Global.{Global}
+-- The netlist that is built of its parts is that of the walk.
+use Rattle.std.proofs.Common.{◌≡◌, ℕ, ◌≤◌, ◌^◌, List, refl, ap, sym, ◌∙◌, length, arith}
+use Rattle.std.specs.Prelude.{map, filter_map, None}
 use Rattle.std.proofs.lemmas.List.{length-map}
 use Rattle.circuit.specs.declared.parts.Driver.{Driver}
+use Rattle.circuit.specs.declared.parts.Latch.{Latch}
 use Rattle.circuit.specs.declared.parts.NetId.{NetId}
-use Rattle.fm_base.specs.Names.{Name, is_one_of}
-use Rattle.blif_model.specs.Walk.{Step, is_clock, nets_of}
-use Rattle.blif_model.specs.Net.{circuit_of}
-use Rattle.net_names.specs.Nets.{net_id}
-use Rattle.blif_walk.specs.Numbers.{add_name, names_by, owned_texts}
-use Rattle.blif_walk.specs.declared.numbers.Sort.TheVariants.{Clock, Output}
-use Rattle.blif_walk.proofs.NameSets.{taken_found, clocks_all}
+use Rattle.circuit.specs.declared.parts.Table.{Table}
+use Rattle.circuit.specs.Circuit.{Circuit}
+use Rattle.fm_base.specs.Names.{Name}
+use Rattle.net_names.specs.Nets.{driver_of, net_id}
 use Rattle.net_names.specs.Drivers.{drivers_by}
-use Rattle.blif_reader.specs.Parts.{Parts, no_parts, put_steps}
+use Rattle.net_names.proofs.Once.{few-inputs, few-tables, few-latches}
+use Rattle.net_names.proofs.Putting.{drivers-put}
+use Rattle.blif_model.specs.Walk.{Step, nets_of}
+use Rattle.blif_model.specs.WalkFault.{two_drivers, undriven}
+use Rattle.blif_model.specs.Net.{table_of, latch_of, input_names_of, table_names_of, latch_names_of, output_names_of, drivers_of, circuit_of}
+use Rattle.blif_model.proofs.Sound.{walk-driven}
+use Rattle.blif_reader.specs.Parts.{parts_of}
 use Rattle.blif_reader.specs.Ready.{IsReady}
-use Rattle.blif_reader.proofs.Places.{outputs_taken}
-use Rattle.blif_reader.proofs.Taken.{circuit_by, few_driven, netlist-made, parts-made}
+use Rattle.blif_reader.specs.declared.parts.NetParts.{NetParts}
 
--- the names of a set in order
-abbrev taken_names : List Name → List Name → List Name
-taken_names left_out names = fold (add_name left_out) [] names
+abbrev circuit_by : List Name → List Driver → List Table → List Latch → List NetId → List NetId → Circuit
+circuit_by names drivers tables latches inputs outputs = record { names = names; drivers = drivers; tables = tables; latches = latches; inputs = inputs; outputs = outputs }
 
--- the clock names that are taken are those of the walk
-same_clocks : (steps : List Step) (left_out : List Name) → left_out ≡ taken_names [] (names_by Clock steps) → (q : Name) → is_one_of left_out q ≡ is_clock steps q
-same_clocks steps left_out e q =
-    ap (λ (names : List Name). is_one_of names q) e ∙ taken_found [] (names_by Clock steps) q ∙ ap (λ (names : List Name). is_one_of names q) (clocks_all steps)
+module _ (steps : List Step) (ready : IsReady steps) where
+  -- the drivers that are put are those of the netlist
+  drivers_made : drivers_by (map (net_id (nets_of steps)) (input_names_of steps)) (map (net_id (nets_of steps)) (table_names_of steps)) (map (net_id (nets_of steps)) (latch_names_of steps)) (length (nets_of steps))
+      ≡ map (driver_of (drivers_of steps)) (nets_of steps)
+  unfolding drivers_of
+  drivers_made = drivers-put (nets_of steps) (input_names_of steps) (table_names_of steps) (latch_names_of steps) (walk-driven steps ready.once ready.driven)
 
-module _ (steps : List Step) (ready : IsReady steps) (p : Parts) (nets left_out : List Name) (here : nets ≡ nets_of steps) (clocks : left_out ≡ taken_names [] (names_by Clock steps))
-    (made : p ≡ put_steps left_out nets no_parts steps) where
-  -- inputs, tables and latches are few
-  pub few_parts : (length p.inputs ≤ 2 ^ 18) × (length p.table_nets ≤ 2 ^ 18) × (length p.latch_nets ≤ 2 ^ 18)
-  few_parts =
-      let parts = made ∙ ap (λ (ns : List Name). put_steps left_out ns no_parts steps) here ∙ parts-made steps left_out (nets_of steps) (same_clocks steps left_out clocks) in
-      rw (parts, length-map, length-map, length-map) (few_driven steps ready.once ready.driven ready.few)
+  -- inputs, tables and latches are no more than nets
+  few_driven : (length (input_names_of steps) ≤ 2 ^ 18) × (length (table_names_of steps) ≤ 2 ^ 18) × (length (latch_names_of steps) ≤ 2 ^ 18)
+  few_driven =
+      let small = ready.few in
+      let ins = few-inputs (nets_of steps) (input_names_of steps) (table_names_of steps) (latch_names_of steps) (walk-driven steps ready.once ready.driven) in
+      let tabs = few-tables (nets_of steps) (input_names_of steps) (table_names_of steps) (latch_names_of steps) (walk-driven steps ready.once ready.driven) in
+      let lats = few-latches (nets_of steps) (input_names_of steps) (table_names_of steps) (latch_names_of steps) (walk-driven steps ready.once ready.driven) in
+      (omega arith, omega arith, omega arith)
 
-  -- the netlist of its parts
-  pub built : (keys : List (Vec ℕ Global)) (names left outputs : List Name) (count : ℕ) (drivers : List Driver) (ids : List NetId)
-      → nets ≡ owned_texts keys → count ≡ length keys → drivers ≡ drivers_by p.inputs p.table_nets p.latch_nets count → names ≡ owned_texts keys → left ≡ [] → outputs ≡ taken_names left (names_by Output steps)
-      → ids ≡ map (net_id nets) outputs
-      → circuit_by names drivers p.tables p.latches p.inputs ids ≡ circuit_of steps
-  built keys names left outputs count drivers ids texts counted by named none out numbered =
-      let size : count ≡ length nets = counted ∙ sym (length-map keys (λ (v : Vec ℕ Global). v.items)) ∙ ap (λ (ns : List Name). length ns) (sym texts) in
-      let names_are : names ≡ nets = named ∙ sym texts in
-      rw (names_are, by, size, numbered, out, none, outputs_taken steps) (netlist-made steps ready.once ready.driven p nets left_out here (same_clocks steps left_out clocks) made)
+  -- the parts of the walk, by the names of its nets
+  named_parts : NetParts
+  named_parts = record {
+    inputs = map (net_id (nets_of steps)) (input_names_of steps);
+    tables = filter_map (λ s. table_of (nets_of steps) s.act) steps;
+    table_nets = map (net_id (nets_of steps)) (table_names_of steps);
+    latches = filter_map (λ s. latch_of (nets_of steps) s.act) steps;
+    latch_nets = map (net_id (nets_of steps)) (latch_names_of steps);
+  }
+
+  parts_named : parts_of steps steps ≡ named_parts
+  unfolding input_names_of table_names_of latch_names_of named_parts
+  parts_named = refl
+
+  module _ (p : NetParts) (made : p ≡ parts_of steps steps) where
+    pub few_parts : (length p.inputs ≤ 2 ^ 18) × (length p.table_nets ≤ 2 ^ 18) × (length p.latch_nets ≤ 2 ^ 18)
+    unfolding named_parts
+    few_parts = let parts = made ∙ parts_named in rw (parts, length-map, length-map, length-map) few_driven
+
+    pub built : (names : List Name) (count : ℕ) (drivers : List Driver) (outputs : List NetId) → names ≡ nets_of steps → count ≡ length names
+        → drivers ≡ drivers_by p.inputs p.table_nets p.latch_nets count → outputs ≡ map (net_id (nets_of steps)) (output_names_of steps)
+        → circuit_by names drivers p.tables p.latches p.inputs outputs ≡ circuit_of steps
+    unfolding circuit_of named_parts
+    built names count drivers outputs named counted by numbered =
+        let parts = made ∙ parts_named in
+        rw (by, counted, named, numbered, parts)
+        (ap (λ (ds : List Driver). circuit_by (nets_of steps) ds (filter_map (λ s. table_of (nets_of steps) s.act) steps) (filter_map (λ s. latch_of (nets_of steps) s.act) steps)
+        (map (net_id (nets_of steps)) (input_names_of steps)) (map (net_id (nets_of steps)) (output_names_of steps)))
+        drivers_made)

@@ -1,8 +1,10 @@
-pub mod Taken
-pub mod Places
+pub mod FlatNets
+pub mod NetNumbers
+pub mod PartLines
+pub mod OutputLines
 pub mod Below
 pub mod Counting
-pub mod Built
 pub mod Mentions
+pub mod Built
 pub mod Totals
 pub mod Reading

@@ -1,10 +1,8 @@
 -- What is answered for a file, from what is found of its models and of their walk.
-use Rattle.std.proofs.Common.{◌≡◌, ℕ, ◌<◌, ◌≤◌, ◌^◌, Bool, true, false, ◌||◌, List, refl, ap, sym, subst, ◌∙◌, length, arith}
-use Rattle.std.specs.Prelude.{Option, Some, None, is_some, Result, Ok, Err, nat_lt, Vec}
-use Rattle.std.specs.declared.alloc.Global.{Global}
+use Rattle.std.proofs.Common.{◌≡◌, ℕ, ◌+◌, ◌<◌, ◌≤◌, ◌^◌, Bool, true, false, ◌||◌, List, refl, ap, sym, subst, ◌∙◌, length, arith}
+use Rattle.std.specs.Prelude.{Option, Some, None, is_some, Result, Ok, Err, nat_lt}
 use Rattle.std.specs.Option.{option_or}
 use Rattle.std.proofs.lemmas.Bool.{lt-ltb, le-ltb}
-use Rattle.std.proofs.lemmas.List.{length-map}
 use Rattle.blif_text.specs.declared.NetlistFault.{NetlistFault}
 use Rattle.blif_text.specs.declared.NetlistKind.TheVariants.{TooLarge}
 use Rattle.circuit.specs.Circuit.{Circuit}
@@ -14,7 +12,7 @@ use Rattle.fm_base.specs.Names.{Bytes, Name}
 use Rattle.blif_model.specs.LineFault.{at_line}
 use Rattle.blif_model.specs.Models.{Model, main_of}
 use Rattle.blif_model.specs.ModelFault.{bad_formal, count_of_cells, count_of_instances, count_of_nets, model_fault, recursive, too_deep, too_large, two_models, unbound, unknown_model}
-use Rattle.blif_model.specs.Walk.{walk, nets_of}
+use Rattle.blif_model.specs.Walk.{Step, clock_names, nets_of, walk}
 use Rattle.blif_model.specs.WalkFault.{walk_fault}
 use Rattle.blif_model.specs.Net.{bad_net, circuit_of, netlist_of, netlist_unless}
 use Rattle.blif_model.proofs.Answer.{netlist-refused}
@@ -23,7 +21,10 @@ use Rattle.blif_model.proofs.FileNetlist.{unfaulted-netlist, walk_unfaulted}
 use Rattle.blif_ports.proofs.Bindings.{skip, stop}
 use Rattle.blif_says.specs.Answer.{models_read}
 use Rattle.blif_says.proofs.Answered.{lines-refused, models-taken}
-use Rattle.blif_walk.specs.Numbers.{owned_texts}
+use Rattle.blif_walk.specs.Flat.{names_of}
+use Rattle.blif_reader.specs.Mentions.{count_of_mentions}
+use Rattle.blif_reader.proofs.FlatNets.{few_names}
+use Rattle.blif_reader.proofs.Mentions.{few_clocks}
 use Rattle.fm_base.specs.Answers.{Gives}
 use Rattle.fm_base.specs.declared.refusal.Refusal.{Refusal}
 use Rattle.fm_base.specs.declared.refusal.Refusal.TheVariants.{Fault, Memory}
@@ -33,34 +34,37 @@ use Rattle.fm_base.proofs.Options.{or_none, none_from, none_both}
 
 -- ---- the walk
 
--- the nets that are counted are those of the walk
-pub counted_nets : (models : List Model) (keys : List (Vec ℕ Global)) (count : ℕ) → owned_texts keys ≡ nets_of (walk models) → count ≡ length keys → count ≤ 2 ^ 18 → count_of_nets models ≤ 2 ^ 18
-counted_nets models keys count e n h =
-    let size : length (owned_texts keys) ≡ length keys = length-map keys (λ (v : Vec ℕ Global). v.items) in
-    let same : length (nets_of (walk models)) ≡ length (owned_texts keys) = ap (λ (names : List Name). length names) (sym e) in
-    omega arith
+-- more names than nets and mentions of clock names allow
+pub over_names : (models : List Model) (most : ℕ) → most ≡ 2 ^ 18 + count_of_mentions models → most < length (names_of (walk models)) → 2 ^ 18 < length (nets_of (walk models))
+over_names models most counted over =
+    let names = few_names (walk models) in
+    let clocks = few_clocks models in
+    past (length (names_of (walk models))) (length (nets_of (walk models))) (length (clock_names (walk models))) (count_of_mentions models) most names clocks counted over
+  where
+    past : (names nets clocks mentions most : ℕ) → names ≤ nets + clocks → clocks ≤ mentions → most ≡ 2 ^ 18 + mentions → most < names → 2 ^ 18 < nets
+    past names nets clocks mentions most h few e over = omega arith
 
-module _ (models : List Model) (line : ℕ) where
+module _ (steps : List Step) (line : ℕ) where
   -- too many nets
-  pub walk_large : (fault : NetlistFault) → fault ≡ at_line line TooLarge → 2 ^ 18 < count_of_nets models → walk_gives models line ≡ Err fault
-  walk_large fault e h = rw (lt-ltb (2 ^ 18) (count_of_nets models) h, e) refl
+  pub walk_large : (fault : NetlistFault) → fault ≡ at_line line TooLarge → 2 ^ 18 < length (nets_of steps) → walk_gives steps line ≡ Err fault
+  walk_large fault e h = rw (lt-ltb (2 ^ 18) (length (nets_of steps)) h, e) refl
 
-  module _ (few : count_of_nets models ≤ 2 ^ 18) where
-    within : walk_gives models line ≡ netlist_unless (walk_fault (walk models)) (walk models)
-    within = rw (le-ltb (2 ^ 18) (count_of_nets models) few) refl
+  module _ (few : length (nets_of steps) ≤ 2 ^ 18) where
+    within : walk_gives steps line ≡ netlist_unless (walk_fault steps) steps
+    within = rw (le-ltb (2 ^ 18) (length (nets_of steps)) few) refl
 
     -- a fault of the walk
-    pub walk_refused : (fault : NetlistFault) → Some fault ≡ walk_fault (walk models) → walk_gives models line ≡ Err fault
-    walk_refused fault e = within ∙ ap (λ (f : Option NetlistFault). netlist_unless f (walk models)) (sym e)
+    pub walk_refused : (fault : NetlistFault) → Some fault ≡ walk_fault steps → walk_gives steps line ≡ Err fault
+    walk_refused fault e = within ∙ ap (λ (f : Option NetlistFault). netlist_unless f steps) (sym e)
 
     -- no fault
-    pub walk_read : (c : Circuit) → None ≡ walk_fault (walk models) → c ≡ circuit_of (walk models) → walk_gives models line ≡ Ok c
-    walk_read c e made = within ∙ ap (λ (f : Option NetlistFault). netlist_unless f (walk models)) (sym e) ∙ ap Ok (sym made)
+    pub walk_read : (c : Circuit) → None ≡ walk_fault steps → c ≡ circuit_of steps → walk_gives steps line ≡ Ok c
+    walk_read c e made = within ∙ ap (λ (f : Option NetlistFault). netlist_unless f steps) (sym e) ∙ ap Ok (sym made)
 
     -- a walk without a fault gives a netlist
-    pub walk_ready : WalkSound models → None ≡ walk_fault (walk models) → IsReady (walk models)
+    pub walk_ready : WalkSound steps → None ≡ walk_fault steps → IsReady steps
     walk_ready sound e =
-        let none = walk_unfaulted (walk models) (sym e) in
+        let none = walk_unfaulted steps (sym e) in
         record { once = none.drivers; driven = none.driven; few = few; sound = sound few (sym e) }
 
 -- ---- the models
@@ -135,11 +139,11 @@ module _ (models : List Model) where
     only_nets = nets_last ∙ ap (λ (o : Option NetlistFault). option_or o (given (nat_lt (2 ^ 18) (count_of_nets models)) (at_line (main_of models).line TooLarge))) (sym none)
 
     -- the walk of the models may be read
-    pub models_sound : GiveSound models → WalkSound models
+    pub models_sound : GiveSound models → WalkSound (walk models)
     models_sound sound nets = sound (only_nets ∙ rw (le-ltb (2 ^ 18) (count_of_nets models) nets) refl)
 
-    pub models_walk : (r : Result Circuit (Refusal NetlistFault)) → WalkGives models (main_of models).line r → ModelsGive models r
-    models_walk r gives = gives_same (models_give models) (walk_gives models (main_of models).line) r
+    pub models_walk : (r : Result Circuit (Refusal NetlistFault)) → WalkGives (walk models) (main_of models).line r → ModelsGive models r
+    models_walk r gives = gives_same (models_give models) (walk_gives (walk models) (main_of models).line) r
         (ap (λ (o : Option NetlistFault). netlist_unless (option_or o (walk_fault (walk models))) (walk models)) only_nets) gives
 
 -- ---- the file

@@ -1,5 +1,5 @@
+pub mod Numbers
 pub mod Parts
-pub mod Seen
 pub mod Mentions
 pub mod Ready
 pub mod Stages

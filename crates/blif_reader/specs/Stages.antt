@@ -7,8 +7,8 @@ use Rattle.fm_base.specs.Answers.{Gives}
 use Rattle.fm_base.specs.Firsts.{first_answer, given}
 use Rattle.blif_text.specs.declared.NetlistKind.TheVariants.{TooLarge}
 use Rattle.blif_model.specs.LineFault.{at_line}
-use Rattle.blif_model.specs.ModelFault.{bad_formal, count_of_cells, count_of_instances, count_of_nets, model_fault, recursive, too_deep, two_models, unbound, unknown_model}
-use Rattle.blif_model.specs.Walk.{nets_of, walk}
+use Rattle.blif_model.specs.ModelFault.{bad_formal, count_of_cells, count_of_instances, model_fault, recursive, too_deep, two_models, unbound, unknown_model}
+use Rattle.blif_model.specs.Walk.{Step, nets_of, walk}
 use Rattle.blif_model.specs.WalkFault.{walk_fault}
 use Rattle.blif_text.specs.declared.NetlistFault.{NetlistFault}
 use Rattle.circuit.specs.Circuit.{Circuit}
@@ -25,22 +25,22 @@ unwalked_fault models = option_or (first_answer (two_models models ∷ unknown_m
 abbrev pub models_give : List Model → Result Circuit NetlistFault
 models_give models = netlist_unless (option_or (model_fault models) (walk_fault (walk models))) (walk models)
 
--- what their walk gives: too many nets, a fault, or the netlist; `line` is that of the first model
-abbrev pub walk_gives : List Model → ℕ → Result Circuit NetlistFault
-walk_gives models line = netlist_unless (option_or (given (nat_lt (2 ^ 18) (count_of_nets models)) (at_line line TooLarge)) (walk_fault (walk models))) (walk models)
+-- what a walk gives: too many nets, a fault, or the netlist; `line` is that of the first model
+abbrev pub walk_gives : List Step → ℕ → Result Circuit NetlistFault
+walk_gives steps line = netlist_unless (option_or (given (nat_lt (2 ^ 18) (length (nets_of steps))) (at_line line TooLarge)) (walk_fault steps)) steps
 
 -- where these models have no fault, their walk gives a netlist
 abbrev pub GiveSound : List Model → Type 0
 GiveSound models = model_fault models ≡ None → walk_fault (walk models) ≡ None → IsNetlist (circuit_of (walk models))
 
--- where the walk of these models has no fault and no more nets than may be, it gives a netlist
-abbrev pub WalkSound : List Model → Type 0
-WalkSound models = length (nets_of (walk models)) ≤ 2 ^ 18 → walk_fault (walk models) ≡ None → IsNetlist (circuit_of (walk models))
+-- where a walk has no fault and no more nets than may be, it gives a netlist
+abbrev pub WalkSound : List Step → Type 0
+WalkSound steps = length (nets_of steps) ≤ 2 ^ 18 → walk_fault steps ≡ None → IsNetlist (circuit_of steps)
 
 -- the answer that these models call for, where no line is faulty
 abbrev pub ModelsGive : List Model → Result Circuit (Refusal NetlistFault) → Type 0
 ModelsGive models = Gives (models_give models)
 
--- the same for their walk
-abbrev pub WalkGives : List Model → ℕ → Result Circuit (Refusal NetlistFault) → Type 0
-WalkGives models line = Gives (walk_gives models line)
+-- the answer that a walk calls for
+abbrev pub WalkGives : List Step → ℕ → Result Circuit (Refusal NetlistFault) → Type 0
+WalkGives steps line = Gives (walk_gives steps line)

@@ -1,60 +1,89 @@
-// The numbers of nets.
-ghost use Rattle.std.specs.Prelude.{◌≡◌, ◌<◌, ◌^◌, IfOk, length, map};
+// Nets, counted by the marks of clock names.
+ghost use Rattle.std.specs.Prelude.{◌≡◌, ◌+◌, ◌<◌, ◌^◌, List, IfOk, count_by, if◌then◌else◌, length, map, not};
+ghost use Rattle.blif_model.specs.Walk.{Step, is_clock, nets_of};
 ghost use Rattle.net_names.specs.Nets.{net_id};
-ghost use Rattle.blif_walk.specs.Numbers.{owned_texts};
+ghost use Rattle.blif_walk.specs.Flat.{AreBelow, name_at, names_of};
+ghost use Rattle.blif_reader.specs.Numbers.{AreNetNumbers};
 
+use blif_walk::flat::NameId;
+use crate::numbers::NetNumbers;
 use circuit::parts::{NetId, NetIds};
-use fm_list::{Name, Names, Seq};
-use indexmap::IndexSet;
-use net_names::copies::own_name;
+use fm_list::Seq;
 use std::alloc::{AllocError, Global};
 
-/// The number of the net of a name, or the number of nets.
-pub fn id_of(nets: &IndexSet<Vec<u8>>, name: &[u8]) -> NetId
-    requires { length nets.now.keys < 2 ^ 32 }
-    ensures { result ≡ net_id (owned_texts nets.now.keys) name.now }
+/// The number of nets, where these names are clock names.
+pub fn net_count(clocks: &[bool]) -> usize
+    ensures { result ≡ count_by not clocks.now }
 {
-    match nets.get_index_of(name) {
-        Some(k) => NetId(k as u32),
-        None => NetId(nets.len() as u32),
-    }
+    clocks.iter().filter(|clock| !**clock).count()
 }
 
-/// The numbers of the nets of names.
-pub fn ids_of(alloc: Global, nets: &IndexSet<Vec<u8>>, names: &[Name]) -> Result<NetIds, AllocError>
-    requires { length nets.now.keys < 2 ^ 32 }
-    ensures { IfOk result (λ ids. ids ≡ map (net_id (owned_texts nets.now.keys)) names.now) }
+/// The number of a name's net, where `behind` is the number behind the last, and `next` that of the next net.
+fn net_number(is_clock: bool, behind: u32, next: u32) -> NetId
+    ensures { result ≡ record { 0 = if is_clock then behind else next } }
 {
-    let mut ids = Seq::new(alloc);
-    for name in names {
-        ids.push(id_of(nets, name.as_slice()))?;
+    NetId(if is_clock { behind } else { next })
+}
+
+/// The number of the next net behind a name.
+fn next_number(is_clock: bool, next: u32) -> u32
+    requires { next + 1 < 2 ^ 32 }
+    ensures { result ≡ (if is_clock then next else next + 1) }
+{
+    if is_clock { next } else { next + 1 }
+}
+
+/// The number of each name's net.
+fn net_ids(alloc: Global, clocks: &[bool]) -> Result<Vec<NetId>, AllocError>
+    requires { length clocks.now < 2 ^ 32 }
+    ensures length { IfOk result (λ ids. length ids.items ≡ length clocks.now) }
+    ensures numbers { IfOk result (λ ids. (steps : List Step) → clocks.now ≡ map (is_clock steps) (names_of steps) → ids.items ≡ map (net_id (nets_of steps)) (names_of steps)) }
+{
+    let behind = net_count(clocks) as u32;
+    let mut next: u32 = 0;
+    let mut ids = Vec::with_capacity(alloc, clocks.len())?;
+    for clock in clocks {
+        ids.push(net_number(*clock, behind, next))?;
+        next = next_number(*clock, next);
     }
     Ok(ids)
 }
 
-/// The numbers of the nets of a set of names.
-pub fn ids_of_keys(
-    alloc: Global,
-    nets: &IndexSet<Vec<u8>>,
-    names: &[Vec<u8>],
-) -> Result<NetIds, AllocError>
-    requires { length nets.now.keys < 2 ^ 32 }
-    ensures { IfOk result (λ ids. ids ≡ map (net_id (owned_texts nets.now.keys)) (owned_texts names.now)) }
-{
-    let mut ids = Seq::new(alloc);
-    for name in names {
-        ids.push(id_of(nets, name.as_slice()))?;
+impl NetNumbers {
+    /// The numbers of nets, where these names are clock names.
+    pub fn new(alloc: Global, clocks: Vec<bool>) -> Result<Self, AllocError>
+        requires { length clocks.items < 2 ^ 32 }
+        ensures { IfOk result (λ n. (steps : List Step) → clocks.items ≡ map (is_clock steps) (names_of steps) → AreNetNumbers steps n) }
+    {
+        let ids = net_ids(alloc, clocks.as_slice())?;
+        Ok(NetNumbers { clocks, ids })
     }
-    Ok(ids)
-}
 
-/// Names as a list of their own.
-pub fn owned_names(alloc: Global, names: &[Vec<u8>]) -> Result<Names, AllocError>
-    ensures { IfOk result (λ ns. ns ≡ owned_texts names.now) }
-{
-    let mut owned = Seq::new(alloc);
-    for name in names {
-        owned.push(own_name(alloc, name.as_slice())?)?;
+    /// The name is a clock name.
+    pub fn is_clock(&self, name: NameId) -> bool
+        requires { name.0 < length self.now.ids.items }
+        ensures { (steps : List Step) → AreNetNumbers steps self.now → result ≡ is_clock steps (name_at (names_of steps) name) }
+    {
+        self.clocks[name.0 as usize]
     }
-    Ok(owned)
+
+    /// The number of the name's net.
+    pub fn net(&self, name: NameId) -> NetId
+        requires { name.0 < length self.now.ids.items }
+        ensures { (steps : List Step) → AreNetNumbers steps self.now → result ≡ net_id (nets_of steps) (name_at (names_of steps) name) }
+    {
+        self.ids[name.0 as usize]
+    }
+
+    /// The numbers of the nets of names.
+    pub fn nets(&self, alloc: Global, names: &[NameId]) -> Result<NetIds, AllocError>
+        requires { AreBelow (length self.now.ids.items) names.now }
+        ensures { IfOk result (λ ids. (steps : List Step) → AreNetNumbers steps self.now → ids ≡ map (net_id (nets_of steps)) (map (name_at (names_of steps)) names.now)) }
+    {
+        let mut ids = Seq::new(alloc);
+        for name in names {
+            ids.push(self.net(*name))?;
+        }
+        Ok(ids)
+    }
 }

@@ -4,9 +4,13 @@
 mod counts;
 mod ids;
 mod netlist;
+mod nets;
+mod numbers;
+mod outputs;
 mod parts;
 mod read;
 mod rows;
 mod sizes;
+mod stub;
 
 pub use read::read_blif;

@@ -1,44 +1,42 @@
-// The netlist of a walk.
-ghost use Rattle.std.specs.Prelude.{◌≡◌, [], IfOk, fold};
+// The netlist of a flattened model.
+ghost use Rattle.std.specs.Prelude.{◌≡◌, ◌<◌, ◌^◌, IfOk, length, map};
 ghost use Rattle.blif_model.specs.Net.{circuit_of};
-ghost use Rattle.blif_model.specs.Walk.{nets_of, walk};
-ghost use Rattle.blif_walk.specs.Numbers.{add_name, names_by, owned_texts};
-ghost use Rattle.blif_walk.specs.declared.numbers.Sort.TheVariants.{Clock};
+ghost use Rattle.blif_model.specs.Walk.{is_clock};
+ghost use Rattle.blif_walk.specs.Flat.{names_of};
+ghost use Rattle.blif_walk.specs.Flattened.{flat_steps};
 ghost use Rattle.blif_reader.specs.Ready.{IsReady};
 
-use crate::ids::{ids_of_keys, owned_names};
+use blif_walk::flat::FlatModel;
+use crate::nets::net_names;
+use crate::numbers::NetNumbers;
+use crate::outputs::take_outputs;
 use crate::parts::{NetParts, take_parts};
-use blif_walk::numbers::{Sort, name_set};
-use blif_walk::table::ModelTable;
 use circuit::netlist::Netlist;
-use indexmap::IndexSet;
 use net_names::drivers::drivers_of;
 use std::alloc::{AllocError, Global};
 
-/// The netlist of a walk without faults. `clocks` has its clock names, and `nets` its nets in their order.
-pub fn walk_netlist(
+/// The netlist of a flattened model without faults. `clocks` says which of its names are clock names.
+pub fn flat_netlist(
     alloc: Global,
-    models: &ModelTable<'_, '_>,
-    clocks: &IndexSet<Vec<u8>>,
-    nets: &IndexSet<Vec<u8>>,
+    flat: &FlatModel<'_, '_>,
+    clocks: Vec<bool>,
 ) -> Result<Netlist, AllocError>
-    requires clocks { owned_texts clocks.now.keys ≡ fold (add_name []) [] (names_by Clock (walk models.now)) }
-    requires nets { owned_texts nets.now.keys ≡ nets_of (walk models.now) }
-    requires ready { IsReady (walk models.now) }
-    ensures { IfOk result (λ n. n ≡ circuit_of (walk models.now)) }
+    requires clocks { clocks.items ≡ map (is_clock (flat_steps flat.now)) (names_of (flat_steps flat.now)) }
+    requires few { length flat.now.names < 2 ^ 32 }
+    requires ready { IsReady (flat_steps flat.now) }
+    ensures { IfOk result (λ n. n ≡ circuit_of (flat_steps flat.now)) }
 {
-    let none = IndexSet::new(alloc);
-    let output_names = name_set(alloc, models, Sort::Output, &none)?;
-    let parts = take_parts(alloc, models, clocks, nets)?;
+    let names = net_names(alloc, &flat.names, clocks.as_slice())?;
+    let numbers = NetNumbers::new(alloc, clocks)?;
+    let parts = take_parts(alloc, flat, &numbers)?;
+    let outputs = take_outputs(alloc, flat, &numbers)?;
     let drivers = drivers_of(
         alloc,
         parts.inputs.as_slice(),
         parts.table_nets.as_slice(),
         parts.latch_nets.as_slice(),
-        nets.len(),
+        names.len(),
     )?;
-    let names = owned_names(alloc, nets.as_slice())?;
-    let outputs = ids_of_keys(alloc, nets, output_names.as_slice())?;
     let NetParts {
         inputs,
         tables,

@@ -1,23 +1,19 @@
-// The parts of a netlist, taken from the walk.
-ghost use Rattle.std.specs.Prelude.{◌≡◌, ◌∷◌, [], ◌++◌, ◌<◌, ◌^◌, IfOk, OnOk, length, map};
-ghost use Rattle.blif_model.specs.Models.{rows_below};
+// The parts of a netlist, taken from the flattened model.
+ghost use Rattle.std.specs.Prelude.{◌≡◌, ◌∷◌, ◌++◌, [], ◌<◌, ℕ, List, IfOk, OnOk, Some, length, map};
+ghost use Rattle.blif_model.specs.Walk.{Step, nets_of, unclocked};
+ghost use Rattle.blif_model.specs.Net.{latch_of, table_of};
 ghost use Rattle.net_names.specs.Nets.{net_id};
-ghost use Rattle.blif_model.specs.Walk.{walk};
-ghost use Rattle.blif_says.specs.Grouped.{all_said};
-ghost use Rattle.blif_walk.specs.Numbers.{owned_texts};
-ghost use Rattle.blif_walk.specs.Seen.{latch_at, step_at};
-ghost use Rattle.blif_reader.specs.Parts.{latch_by, no_parts, put_act, put_steps, table_by, unclocked_by, with_latch, with_table};
-ghost use Rattle.blif_reader.specs.Seen.{parts_seen};
+ghost use Rattle.blif_walk.specs.Flat.{AreBelow, act_by, ids_in, name_at, names_of, step_by};
+ghost use Rattle.blif_walk.specs.Flattened.{flat_steps};
+ghost use Rattle.blif_reader.specs.Numbers.{AreNetNumbers};
+ghost use Rattle.blif_reader.specs.Parts.{parts_of};
+ghost use Rattle.blif_walk.specs.declared.flat.NumberedAct.TheVariants as acts;
 
-use crate::ids::{id_of, ids_of};
+use blif_walk::flat::{FlatModel, NameId, NumberedAct, NumberedLatch, NumberedStep, NumberedTable};
+use crate::numbers::NetNumbers;
 use crate::rows::{plane_of, rows_of};
-use blif_text::lines::TextLine;
-use blif_walk::frames::{LatchNets, NetAct, NetStep, TableNets};
-use blif_walk::table::ModelTable;
-use blif_walk::walker::Walker;
 use circuit::parts::{Latch, Latches, NetIds, Table, Tables};
-use fm_list::{Name, Seq};
-use indexmap::IndexSet;
+use fm_list::Seq;
 use std::alloc::{AllocError, Global};
 
 /// Inputs, tables beside their nets, and latches beside theirs.
@@ -32,62 +28,59 @@ pub struct NetParts {
 
 /// An input, unless it is a clock name.
 fn put_input(
-    clocks: &IndexSet<Vec<u8>>,
-    nets: &IndexSet<Vec<u8>>,
+    numbers: &NetNumbers,
     inputs: &mut NetIds,
-    name: &[u8],
+    name: NameId,
 ) -> Result<(), AllocError>
-    requires { length nets.now.keys < 2 ^ 32 }
-    ensures { OnOk result (inputs.new ≡ inputs.old ++ map (net_id (owned_texts nets.now.keys)) (unclocked_by (owned_texts clocks.now.keys) (name.now ∷ []))) }
+    requires { name.0 < length numbers.now.ids.items }
+    ensures { OnOk result ((steps : List Step) → AreNetNumbers steps numbers.now → inputs.new ≡ inputs.old ++ map (net_id (nets_of steps)) (unclocked steps (name_at (names_of steps) name ∷ []))) }
 {
-    if clocks.contains(name) {
+    if numbers.is_clock(name) {
         return Ok(());
     }
-    inputs.push(id_of(nets, name))?;
-    Ok(())
+    inputs.push(numbers.net(name))
 }
 
 /// Inputs that are no clock names.
 fn put_inputs(
-    clocks: &IndexSet<Vec<u8>>,
-    nets: &IndexSet<Vec<u8>>,
+    numbers: &NetNumbers,
     inputs: &mut NetIds,
-    names: &[Name],
+    names: &[NameId],
 ) -> Result<(), AllocError>
-    requires { length nets.now.keys < 2 ^ 32 }
-    ensures { OnOk result (inputs.new ≡ inputs.old ++ map (net_id (owned_texts nets.now.keys)) (unclocked_by (owned_texts clocks.now.keys) names.now)) }
+    requires { AreBelow (length numbers.now.ids.items) names.now }
+    ensures { OnOk result ((steps : List Step) → AreNetNumbers steps numbers.now → inputs.new ≡ inputs.old ++ map (net_id (nets_of steps)) (unclocked steps (map (name_at (names_of steps)) names.now))) }
 {
     for name in names {
-        put_input(clocks, nets, inputs, name.as_slice())?;
+        put_input(numbers, inputs, *name)?;
     }
     Ok(())
 }
 
-fn table_of(
+fn net_table(
     alloc: Global,
-    nets: &IndexSet<Vec<u8>>,
-    ins: &[Name],
-    below: &[TextLine<'_>],
+    numbers: &NetNumbers,
+    table: &NumberedTable<'_, '_>,
 ) -> Result<Table, AllocError>
-    requires { length nets.now.keys < 2 ^ 32 }
-    ensures { IfOk result (λ t. t ≡ table_by (owned_texts nets.now.keys) ins.now (rows_below (all_said below.now))) }
+    requires { AreBelow (length numbers.now.ids.items) table.now.ins }
+    ensures { IfOk result (λ t. (steps : List Step) → AreNetNumbers steps numbers.now → table_of (nets_of steps) (act_by (name_at (names_of steps)) (acts.Table table.now)) ≡ Some t) }
 {
-    let ins = ids_of(alloc, nets, ins)?;
-    let rows = rows_of(alloc, below)?;
+    let ins = numbers.nets(alloc, table.ins.as_slice())?;
+    let rows = rows_of(alloc, table.below)?;
     Ok(Table {
         ins,
         rows,
-        on: plane_of(below),
+        on: plane_of(table.below),
     })
 }
 
-fn latch_of(nets: &IndexSet<Vec<u8>>, latch: &LatchNets<'_>) -> Latch
-    requires { length nets.now.keys < 2 ^ 32 }
-    ensures { result ≡ latch_by (owned_texts nets.now.keys) (latch_at latch.now) }
+fn net_latch(numbers: &NetNumbers, latch: &NumberedLatch<'_>) -> Latch
+    requires from { latch.now.from.0 < length numbers.now.ids.items }
+    requires to { latch.now.to.0 < length numbers.now.ids.items }
+    ensures { (steps : List Step) → AreNetNumbers steps numbers.now → latch_of (nets_of steps) (act_by (name_at (names_of steps)) (acts.Latch latch.now)) ≡ Some result }
 {
     Latch {
-        from: id_of(nets, latch.from.as_slice()),
-        to: id_of(nets, latch.to.as_slice()),
+        from: numbers.net(latch.from),
+        to: numbers.net(latch.to),
         start: latch.start,
     }
 }
@@ -95,60 +88,57 @@ fn latch_of(nets: &IndexSet<Vec<u8>>, latch: &LatchNets<'_>) -> Latch
 /// A table and its net.
 fn put_table(
     alloc: Global,
-    nets: &IndexSet<Vec<u8>>,
+    numbers: &NetNumbers,
     parts: &mut NetParts,
-    table: TableNets<'_, '_>,
+    table: &NumberedTable<'_, '_>,
 ) -> Result<(), AllocError>
-    requires { length nets.now.keys < 2 ^ 32 }
-    ensures { OnOk result (parts_seen parts.new ≡ with_table (owned_texts nets.now.keys) (parts_seen parts.old) table.entry.ins table.entry.out (rows_below (all_said table.entry.below.now))) }
+    requires { AreBelow (length numbers.now.ids.items) (ids_in (acts.Table table.now)) }
+    ensures { OnOk result ((steps done : List Step) (line : ℕ) → AreNetNumbers steps numbers.now → parts.old ≡ parts_of steps done → parts.new ≡ parts_of steps (done ++ record { line = line; act = act_by (name_at (names_of steps)) (acts.Table table.now) } ∷ [])) }
 {
-    let TableNets { ins, out, below } = table;
-    let made = table_of(alloc, nets, ins.as_slice(), below)?;
+    let made = net_table(alloc, numbers, table)?;
     parts.tables.push(made)?;
-    parts.table_nets.push(id_of(nets, out.as_slice()))
+    parts.table_nets.push(numbers.net(table.out))
 }
 
 /// A latch and its net.
 fn put_latch(
-    nets: &IndexSet<Vec<u8>>,
+    numbers: &NetNumbers,
     parts: &mut NetParts,
-    latch: &LatchNets<'_>,
+    latch: &NumberedLatch<'_>,
 ) -> Result<(), AllocError>
-    requires { length nets.now.keys < 2 ^ 32 }
-    ensures { OnOk result (parts_seen parts.new ≡ with_latch (owned_texts nets.now.keys) (parts_seen parts.old) (latch_at latch.now)) }
+    requires { AreBelow (length numbers.now.ids.items) (ids_in (acts.Latch latch.now)) }
+    ensures { OnOk result ((steps done : List Step) (line : ℕ) → AreNetNumbers steps numbers.now → parts.old ≡ parts_of steps done → parts.new ≡ parts_of steps (done ++ record { line = line; act = act_by (name_at (names_of steps)) (acts.Latch latch.now) } ∷ [])) }
 {
-    parts.latches.push(latch_of(nets, latch))?;
-    parts.latch_nets.push(id_of(nets, latch.to.as_slice()))
+    parts.latches.push(net_latch(numbers, latch))?;
+    parts.latch_nets.push(numbers.net(latch.to))
 }
 
-/// What a step adds to the parts.
+/// What a line adds to the parts.
 fn put_step(
     alloc: Global,
-    clocks: &IndexSet<Vec<u8>>,
-    nets: &IndexSet<Vec<u8>>,
+    numbers: &NetNumbers,
     parts: &mut NetParts,
-    step: NetStep<'_, '_>,
+    step: &NumberedStep<'_, '_>,
 ) -> Result<(), AllocError>
-    requires { length nets.now.keys < 2 ^ 32 }
-    ensures { OnOk result (parts_seen parts.new ≡ put_act (owned_texts clocks.now.keys) (owned_texts nets.now.keys) (parts_seen parts.old) (step_at step.entry).act) }
+    requires { AreBelow (length numbers.now.ids.items) (ids_in step.now.act) }
+    ensures { OnOk result ((steps done : List Step) → AreNetNumbers steps numbers.now → parts.old ≡ parts_of steps done → parts.new ≡ parts_of steps (done ++ step_by (name_at (names_of steps)) step.now ∷ [])) }
 {
-    match step.act {
-        NetAct::Takes(names) => put_inputs(clocks, nets, &mut parts.inputs, names.as_slice()),
-        NetAct::Table(table) => put_table(alloc, nets, parts, table),
-        NetAct::Latch(latch) => put_latch(nets, parts, &latch),
+    match &step.act {
+        NumberedAct::Inputs(names) => put_inputs(numbers, &mut parts.inputs, names.as_slice()),
+        NumberedAct::Table(table) => put_table(alloc, numbers, parts, table),
+        NumberedAct::Latch(latch) => put_latch(numbers, parts, latch),
         _ => Ok(()),
     }
 }
 
-/// The parts of the netlist of the walk.
+/// The parts of the netlist of the flattened model.
 pub fn take_parts(
     alloc: Global,
-    models: &ModelTable<'_, '_>,
-    clocks: &IndexSet<Vec<u8>>,
-    nets: &IndexSet<Vec<u8>>,
+    flat: &FlatModel<'_, '_>,
+    numbers: &NetNumbers,
 ) -> Result<NetParts, AllocError>
-    requires { length nets.now.keys < 2 ^ 32 }
-    ensures { IfOk result (λ p. parts_seen p ≡ put_steps (owned_texts clocks.now.keys) (owned_texts nets.now.keys) no_parts (walk models.now)) }
+    requires { AreNetNumbers (flat_steps flat.now) numbers.now }
+    ensures { IfOk result (λ p. p ≡ parts_of (flat_steps flat.now) (flat_steps flat.now)) }
 {
     let mut parts = NetParts {
         inputs: Seq::new(alloc),
@@ -157,9 +147,8 @@ pub fn take_parts(
         latches: Seq::new(alloc),
         latch_nets: Seq::new(alloc),
     };
-    let mut walker = Walker::new(alloc, models)?;
-    'steps: while let Some(step) = walker.next()? {
-        put_step(alloc, clocks, nets, &mut parts, step)?;
+    for step in flat.steps.as_slice() {
+        put_step(alloc, numbers, &mut parts, step)?;
     }
     Ok(parts)
 }

@@ -1,24 +1,29 @@
 // Reads the netlist of a file.
-ghost use Rattle.std.specs.Prelude.{◌≡◌, ◌≤◌, ◌^◌, IfOk, length};
+ghost use Rattle.std.specs.Prelude.{◌≡◌, ◌<◌, ◌≤◌, ◌^◌, IfOk, length};
 ghost use Rattle.blif_text.specs.declared.NetlistKind.TheVariants.{TooLarge};
 ghost use Rattle.blif_model.specs.LineFault.{at_line};
 ghost use Rattle.blif_model.specs.Models.{main_of};
 ghost use Rattle.blif_model.specs.Net.{netlist_of};
+ghost use Rattle.blif_model.specs.Walk.{walk};
+ghost use Rattle.blif_walk.specs.Flattened.{flat_steps};
 ghost use Rattle.fm_base.specs.Answers.{Gives};
 ghost use Rattle.blif_reader.specs.Stages.{GiveSound, ModelsGive, unwalked_fault, WalkGives, WalkSound};
 
-use crate::netlist::walk_netlist;
-use crate::sizes::{MOST_NETS, is_large};
-use blif_faults::walk::walk_fault;
+use crate::ids::net_count;
+use crate::netlist::flat_netlist;
+use crate::sizes::{MOST_NETS, is_large, most_names};
+use crate::stub::walk_fault;
 use blif_nest::faults::nest_fault;
 use blif_ports::faults::port_fault;
 use blif_says::model_list::read_models;
 use blif_text::{NetlistFault, NetlistKind};
-use blif_walk::numbers::{Sort, name_set, number_nets};
+use blif_walk::flat::FlatModel;
+use blif_walk::flatten::flatten;
+use blif_walk::marks::marks_of;
+use blif_walk::sorts::Sort;
 use blif_walk::table::ModelTable;
 use circuit::netlist::Netlist;
 use fm_base::Refusal;
-use indexmap::IndexSet;
 use std::alloc::{AllocError, Global};
 
 /// TooLarge at a line.
@@ -31,25 +36,40 @@ fn too_large(line: u32) -> NetlistFault
     }
 }
 
+/// The netlist of the flattened model, unless its nets are too many or it has a fault.
+fn read_flat(
+    alloc: Global,
+    flat: &FlatModel<'_, '_>,
+    line: u32,
+) -> Result<Netlist, Refusal<NetlistFault>>
+    requires sound { WalkSound (flat_steps flat.now) }
+    requires few { length flat.now.names < 2 ^ 32 }
+    ensures { WalkGives (flat_steps flat.now) line result }
+{
+    let clocks = marks_of(alloc, flat, Sort::Clock)?;
+    if net_count(clocks.as_slice()) > MOST_NETS {
+        return Err(Refusal::Fault(too_large(line)));
+    }
+    if let Some(fault) = walk_fault(alloc, flat, clocks.as_slice())? {
+        return Err(Refusal::Fault(fault));
+    }
+    Ok(flat_netlist(alloc, flat, clocks)?)
+}
+
 /// The netlist of the walk of these models, unless its nets are too many or it has a fault.
 fn read_walk(
     alloc: Global,
     models: &ModelTable<'_, '_>,
     line: u32,
 ) -> Result<Netlist, Refusal<NetlistFault>>
-    requires { WalkSound models.now }
-    ensures { WalkGives models.now line result }
+    requires { WalkSound (walk models.now) }
+    ensures { WalkGives (walk models.now) line result }
 {
-    let none = IndexSet::new(alloc);
-    let clocks = name_set(alloc, models, Sort::Clock, &none)?;
-    let nets = number_nets(alloc, models, &clocks)?;
-    if nets.len() > MOST_NETS {
-        return Err(Refusal::Fault(too_large(line)));
+    let most = most_names(alloc, models)?;
+    match flatten(alloc, models, most)? {
+        Some(flat) => read_flat(alloc, &flat, line),
+        None => Err(Refusal::Fault(too_large(line))),
     }
-    if let Some(fault) = walk_fault(alloc, models, &clocks)? {
-        return Err(Refusal::Fault(fault));
-    }
-    Ok(walk_netlist(alloc, models, &clocks, &nets)?)
 }
 
 /// The line of the main model.

@@ -1,4 +1,5 @@
 use Rattle.std.proofs.Common.{ℕ, subst, sym, ◌∙◌}
+use Rattle.blif_model.specs.Walk.{walk}
 use Rattle.blif_reader.specs.Stages.{WalkGives}
 use Rattle.blif_reader.proofs.Reading.{models_refused, models_sound, models_walk}
 use Rattle.blif_reader.proofs.read.read_table.Goals as goal
@@ -12,4 +13,4 @@ read_walk-requires c = models_sound c.args.models.now (sym c.in-None.is ∙ c.in
 pub returns-in-None : goal.returns-in-None
 returns-in-None c =
     models_walk c.args.models.now (sym c.in-None.is ∙ c.in_ok-fault.ensures) c.read_walk.result
-    (subst (λ (line : ℕ). WalkGives c.args.models.now line c.read_walk.result) c.main_line-line.ensures c.read_walk.ensures)
+    (subst (λ (line : ℕ). WalkGives (walk c.args.models.now) line c.read_walk.result) c.main_line-line.ensures c.read_walk.ensures)

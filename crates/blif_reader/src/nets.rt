@@ -1,0 +1,46 @@
+// The names of nets.
+ghost use Rattle.std.specs.Prelude.{◌≡◌, ◌∷◌, ◌++◌, [], ◌<◌, List, IfOk, OnOk, if◌then◌else◌, length, map, slice_index_or};
+ghost use Rattle.blif_model.specs.Walk.{Step, is_clock, nets_of};
+ghost use Rattle.blif_walk.specs.Flat.{names_of};
+
+use circuit::parts::Names;
+use fm_list::Seq;
+use name_index::NameIndex;
+use net_names::copies::own_name;
+use std::alloc::{AllocError, Global};
+
+/// The name of a number goes to the end, unless it is a clock name.
+fn put_net(
+    alloc: Global,
+    names: &NameIndex,
+    number: usize,
+    is_clock: bool,
+    nets: &mut Names,
+) -> Result<(), AllocError>
+    requires { number < length names.now }
+    ensures { OnOk result (nets.new ≡ (if is_clock then nets.old else nets.old ++ slice_index_or names.now number [] ∷ [])) }
+{
+    if is_clock {
+        return Ok(());
+    }
+    match names.name(number) {
+        Some(name) => nets.push(own_name(alloc, name)?),
+        None => Ok(()),
+    }
+}
+
+/// The names of the nets, in their order: those that are no clock names.
+pub fn net_names(
+    alloc: Global,
+    names: &NameIndex,
+    clocks: &[bool],
+) -> Result<Names, AllocError>
+    requires { length clocks.now ≡ length names.now }
+    ensures { IfOk result (λ nets. (steps : List Step) → names.now ≡ names_of steps → clocks.now ≡ map (is_clock steps) (names_of steps) → nets ≡ nets_of steps) }
+{
+    let mut nets = Seq::new(alloc);
+    for (number, is_clock) in clocks.iter().enumerate() {
+        put_net(alloc, names, number, *is_clock, &mut nets)?;
+    }
+    Ok(nets)
+}
