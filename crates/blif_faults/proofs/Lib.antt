@@ -1,3 +1,5 @@
 pub mod Passing
-pub mod FirstClock
+pub mod Finding
 pub mod Driving
+pub mod ClockNames
+pub mod Faults

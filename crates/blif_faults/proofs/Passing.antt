@@ -1,99 +1,45 @@
 -- The passes find the faults of the definition.
-use Rattle.std.proofs.Common.{◌≡◌, ℕ, Bool, true, false, cond, not, ◌||◌, ◌&&◌, List, [], ◌∷◌, ◌++◌, refl, ap, sym, subst, ◌∙◌, append_assoc}
-use Rattle.std.specs.Prelude.{Option, Some, None, bytes_eq, filter, map, flat_map}
-use Rattle.std.specs.List.{list_any}
-use Rattle.std.specs.Option.{option_or, option_map}
+use Rattle.std.proofs.Common.{◌≡◌, ℕ, Bool, true, false, not, ◌||◌, List, [], ◌∷◌, ◌++◌, refl, ap, sym, subst, ◌∙◌, append_assoc}
+use Rattle.std.specs.Prelude.{Option, Some, None, bytes_eq, map, flat_map}
+use Rattle.std.specs.List.{list_any, slice_get}
+use Rattle.std.specs.Option.{option_or, option_to_list}
 use Rattle.std.proofs.lemmas.List.{append-nil}
 use Rattle.std.proofs.lemmas.List.Folds.{list_any-append}
 use Rattle.fm_base.specs.Names.{Name, is_one_of}
-use Rattle.fm_base.specs.Firsts.{given, first_where, first_after}
+use Rattle.fm_base.specs.Firsts.{given, first_after}
 use Rattle.fm_base.proofs.Tests.{or_false}
-use Rattle.fm_base.proofs.Distinct.{same_name, bytes_eq-sym}
-use Rattle.blif_text.specs.declared.NetlistKind.TheVariants.{TwoClocks, BadClock, ClockRead, TwoDrivers, Undriven}
+use Rattle.fm_base.proofs.Distinct.{bytes_eq-sym, is_same, same_name}
+use Rattle.blif_text.specs.declared.NetlistKind.TheVariants.{TwoClocks, TwoDrivers}
 use Rattle.blif_text.specs.declared.NetlistFault.{NetlistFault}
 use Rattle.blif_model.specs.LineFault.{at_line}
-use Rattle.blif_model.specs.Walk.{Act, takes, gives, clocks, visits, flat_table, flat_latch, Step, Visit, clocked, visited, visits_of, names_at, is_clock, unclocked, taken, table_net, latch_net, drives_of}
-use Rattle.blif_model.specs.WalkFault.{Mark, edge, control, differ, Marked, edge_of, marks_at, marks_of, two_clocks, main_inputs, control_of, read, has_visit, two_drivers}
+use Rattle.blif_model.specs.Walk.{Act, takes, gives, clocks, visits, flat_table, flat_latch, Step, Visit, clocked, clock_names, names_at, is_clock, unclocked, taken, table_net, latch_net, drives_of}
+use Rattle.blif_model.specs.WalkFault.{Mark, edge, control, differ, Marked, edge_of, marks_at, marks_of, two_clocks, has_visit, two_drivers}
 use Rattle.fm_base.proofs.Firsts.{first_after-append}
-use Rattle.fm_base.proofs.Options.{or_assoc}
 use Rattle.std.proofs.Math.Bool.{or-false}
-use Rattle.blif_faults.specs.Passes.{is_other, kept_first, any_other, clock_fault, control_fault, read_fault, driven_names, any_twice, driver_fault, undriven_name, undriven_fault}
+use Rattle.blif_faults.specs.Passes.{is_other, kept_first, differs_from, driven_names}
 
 given_or : {X : Type 0} (a b : Bool) (x : X) → option_or (given a x) (given b x) ≡ given (a || b) x
 given_or true b x = refl
 given_or false b x = refl
 
--- ---- BadClock and ClockRead
-
-pub control-fault : (steps some : List Step) (main : List Name) → ((q : Name) → is_one_of main q ≡ is_one_of (main_inputs steps) q)
-    → control_fault main some ≡ first_where (λ s. given (list_any (λ name. not (is_one_of (main_inputs steps) name)) (control_of s.act)) (at_line s.line BadClock)) some
-unfolding first_where
-control-fault steps [] main same = refl
-control-fault steps (s ∷ some) main same =
-    ap (λ b. option_or (given b (at_line s.line BadClock)) (control_fault main some)) (alike (control_of s.act))
-    ∙ ap (option_or (given (list_any (λ name. not (is_one_of (main_inputs steps) name)) (control_of s.act)) (at_line s.line BadClock))) (control-fault steps some main same)
-  where
-    alike : (names : List Name) → list_any (λ name. not (is_one_of main name)) names ≡ list_any (λ name. not (is_one_of (main_inputs steps) name)) names
-    alike [] = refl
-    alike (name ∷ names) = rw (same name) (ap (λ b. not (is_one_of (main_inputs steps) name) || b) (alike names))
-
-pub read-fault : (steps some : List Step) (left_out : List Name) → ((q : Name) → is_one_of left_out q ≡ is_clock steps q)
-    → read_fault left_out some ≡ first_where (λ s. given (list_any (is_clock steps) (read s.act)) (at_line s.line ClockRead)) some
-unfolding first_where
-read-fault steps [] left_out same = refl
-read-fault steps (s ∷ some) left_out same =
-    ap (λ b. option_or (given b (at_line s.line ClockRead)) (read_fault left_out some)) (alike (read s.act))
-    ∙ ap (option_or (given (list_any (is_clock steps) (read s.act)) (at_line s.line ClockRead))) (read-fault steps some left_out same)
-  where
-    alike : (names : List Name) → list_any (is_one_of left_out) names ≡ list_any (is_clock steps) names
-    alike [] = refl
-    alike (name ∷ names) = rw (same name) (ap (λ b. is_clock steps name || b) (alike names))
-
--- ---- Undriven
-
-first_where-append : {X Y : Type 0} (answer : X → Option Y) (xs ys : List X) → first_where answer (xs ++ ys) ≡ option_or (first_where answer xs) (first_where answer ys)
-unfolding first_where
-first_where-append answer [] ys = refl
-first_where-append answer (x ∷ xs) ys = ap (option_or (answer x)) (first_where-append answer xs ys) ∙ sym (or_assoc (answer x) (first_where answer xs) (first_where answer ys))
-
--- the names of one line
-undriven_at : (steps : List Step) (left_out driven : List Name) → ((q : Name) → is_one_of left_out q ≡ is_clock steps q)
-    → ((q : Name) → is_clock steps q ≡ false → is_one_of driven q ≡ has_visit (drives_of steps) q) → (line : ℕ) (names : List Name)
-    → option_map (λ name. at_line line (Undriven name)) (undriven_name left_out driven names)
-    ≡ first_where (λ v. given (not (is_clock steps v.name) && not (has_visit (drives_of steps) v.name)) (at_line v.line (Undriven v.name))) (names_at line names)
-unfolding first_where
-undriven_at steps left_out driven clock drive line [] = refl
-undriven_at steps left_out driven clock drive line (name ∷ names) =
-    by_cases (is_clock steps name) refl (undriven_at steps left_out driven clock drive line names)
-  where
-    after : Option NetlistFault
-    after = first_where (λ v. given (not (is_clock steps v.name) && not (has_visit (drives_of steps) v.name)) (at_line v.line (Undriven v.name))) (names_at line names)
-
-    found : (here : Bool) → option_map (λ name. at_line line (Undriven name)) (undriven_name left_out driven names) ≡ after
-        → option_map (λ name. at_line line (Undriven name)) (cond here (Some name) (undriven_name left_out driven names)) ≡ option_or (given here (at_line line (Undriven name))) after
-    found true more = refl
-    found false more = more
-
-    by_cases : (b : Bool) → is_clock steps name ≡ b → option_map (λ name. at_line line (Undriven name)) (undriven_name left_out driven names) ≡ after
-        → option_map (λ name. at_line line (Undriven name)) (undriven_name left_out driven (name ∷ names))
-        ≡ option_or (given (not (is_clock steps name) && not (has_visit (drives_of steps) name)) (at_line line (Undriven name))) after
-    by_cases true e more = rw (clock name, e) more
-    by_cases false e more = rw (clock name, e, drive name e) (found (not (has_visit (drives_of steps) name)) more)
-
-pub undriven-fault : (steps some : List Step) (left_out driven : List Name) → ((q : Name) → is_one_of left_out q ≡ is_clock steps q)
-    → ((q : Name) → is_clock steps q ≡ false → is_one_of driven q ≡ has_visit (drives_of steps) q)
-    → undriven_fault left_out driven some
-    ≡ first_where (λ v. given (not (is_clock steps v.name) && not (has_visit (drives_of steps) v.name)) (at_line v.line (Undriven v.name))) (visits_of some)
-unfolding visits_of first_where
-undriven-fault steps [] left_out driven clock drive = refl
-undriven-fault steps (s ∷ some) left_out driven clock drive =
-    ap (λ (o : Option NetlistFault). option_or o (undriven_fault left_out driven some)) (undriven_at steps left_out driven clock drive s.line (visited s.act))
-    ∙ ap (option_or _) (undriven-fault steps some left_out driven clock drive)
-    ∙ sym (first_where-append (λ (v : Visit). given (not (is_clock steps v.name) && not (has_visit (drives_of steps) v.name)) (at_line v.line (Undriven v.name))) (names_at s.line (visited s.act)) (visits_of some))
-
--- ---- a search that knows the items before, over two parts
-
 -- ---- TwoClocks
+
+-- one of the names isn't the first one
+abbrev any_other : Option Name → List Name → Bool
+any_other first [] = false
+any_other first (name ∷ names) = is_other first name || any_other (option_or first (Some name)) names
+
+-- the first type and the first clock name are kept
+abbrev clock_fault : Option Name → Option Name → List Step → Option NetlistFault
+clock_fault e c [] = None
+clock_fault e c (s ∷ steps) =
+    option_or (given (any_other e (edge_of s.act) || any_other c (clocked s.act)) (at_line s.line TwoClocks)) (clock_fault (kept_first e (edge_of s.act)) (kept_first c (clocked s.act)) steps)
+
+-- the same with the first clock name of all lines, which is known beforehand
+abbrev pub first_clock_fault : Option Name → Option Name → List Step → Option NetlistFault
+first_clock_fault c e [] = None
+first_clock_fault c e (s ∷ steps) =
+    option_or (given (differs_from e c s.act) (at_line s.line TwoClocks)) (first_clock_fault c (kept_first e (edge_of s.act)) steps)
 
 abbrev clock_answer : List Marked → Marked → Option NetlistFault
 clock_answer before m = given (list_any (λ (earlier : Marked). differ earlier.mark m.mark) before) (at_line m.line TwoClocks)
@@ -240,64 +186,134 @@ clock_steps (s ∷ steps) before e c keeps others =
     by_cases false g one two more = rw (one.0, g) (inner (any_other c (clocked s.act)) refl (two (one.1 g) (one.2 g)) more)
 
 -- TwoClocks, with the first type and the first clock name
-pub clock-fault : (steps : List Step) → clock_fault None None steps ≡ two_clocks steps
+clock-fault : (steps : List Step) → clock_fault None None steps ≡ two_clocks steps
 unfolding two_clocks
 clock-fault steps = sym (clock_steps steps [] None None (λ q. refl) (λ q. refl))
 
+-- the first of each
+
+kept_some : (first : Name) (names : List Name) → kept_first (Some first) names ≡ Some first
+kept_some first [] = refl
+kept_some first (name ∷ names) = kept_some first names
+
+any_some : (first : Name) (names : List Name) → any_other (Some first) names ≡ list_any (is_other (Some first)) names
+any_some first [] = refl
+any_some first (name ∷ names) = ap (λ b. is_other (Some first) name || b) (any_some first names)
+
+-- a line has one type at most
+one_edge : (e : Option Name) (act : Act) → any_other e (edge_of act) ≡ list_any (is_other e) (edge_of act)
+one_edge e (flat_latch s) = by_cases s.edge
+  where
+    by_cases : (o : Option Name) → any_other e (option_to_list o) ≡ list_any (is_other e) (option_to_list o)
+    by_cases None = refl
+    by_cases (Some name) = refl
+one_edge e (takes names) = refl
+one_edge e (gives names) = refl
+one_edge e (clocks names) = refl
+one_edge e (visits names) = refl
+one_edge e (flat_table ins out rows) = refl
+
+with_first : (first : Name) (e : Option Name) (steps : List Step) → clock_fault e (Some first) steps ≡ first_clock_fault (Some first) e steps
+with_first first e [] = refl
+with_first first e (s ∷ steps) =
+    rw (one_edge e s.act, any_some first (clocked s.act), kept_some first (clocked s.act))
+    (ap (option_or (given (differs_from e (Some first) s.act) (at_line s.line TwoClocks))) (with_first first (kept_first e (edge_of s.act)) steps))
+
+from_first : (e : Option Name) (steps : List Step) → clock_fault e None steps ≡ first_clock_fault (slice_get (flat_map (λ s. clocked s.act) steps) 0) e steps
+from_first e [] = refl
+from_first e (s ∷ steps) = by_cases (clocked s.act) (from_first (kept_first e (edge_of s.act)) steps)
+  where
+    rest : List Name
+    rest = flat_map (λ x. clocked x.act) steps
+
+    next : Option Name
+    next = kept_first e (edge_of s.act)
+
+    by_cases : (names : List Name) → clock_fault next None steps ≡ first_clock_fault (slice_get rest 0) next steps
+        → option_or (given (any_other e (edge_of s.act) || any_other None names) (at_line s.line TwoClocks)) (clock_fault next (kept_first None names) steps)
+        ≡ option_or (given (list_any (is_other e) (edge_of s.act) || list_any (is_other (slice_get (names ++ rest) 0)) names) (at_line s.line TwoClocks)) (first_clock_fault (slice_get (names ++ rest) 0) next steps)
+    by_cases [] more = rw (one_edge e s.act) (ap (option_or (given (list_any (is_other e) (edge_of s.act) || false) (at_line s.line TwoClocks))) more)
+    by_cases (name ∷ names) more =
+        rw (one_edge e s.act, any_some name names, kept_some name names, is_same name)
+        (ap (option_or (given (list_any (is_other e) (edge_of s.act) || list_any (is_other (Some name)) names) (at_line s.line TwoClocks))) (with_first name next steps))
+
+-- TwoClocks, with the first clock name
+pub two-clocks : (steps : List Step) → first_clock_fault (slice_get (clock_names steps) 0) None steps ≡ two_clocks steps
+unfolding clock_names
+two-clocks steps = sym (from_first None steps) ∙ clock-fault steps
+
 -- ---- TwoDrivers
 
-module _ (steps : List Step) (left_out : List Name) (same : (q : Name) → is_one_of left_out q ≡ is_clock steps q) where
+abbrev pub any_twice : List Name → List Name → Bool
+any_twice seen [] = false
+any_twice seen (name ∷ names) = is_one_of seen name || any_twice (seen ++ name ∷ []) names
+
+-- the clock names and the driven names are kept
+abbrev pub driver_fault : List Name → List Name → List Step → Option NetlistFault
+driver_fault known seen [] = None
+driver_fault known seen (s ∷ steps) =
+    option_or (given (any_twice seen (driven_names known s.act)) (at_line s.line TwoDrivers)) (driver_fault known (seen ++ driven_names known s.act) steps)
+
+pub driven_alike : (steps : List Step) (act : Act) → driven_names (clock_names steps) act ≡ taken steps act ++ table_net act ++ latch_net act
+driven_alike steps (takes names) = sym (append-nil (unclocked steps names ++ []) ∙ append-nil (unclocked steps names))
+driven_alike steps (flat_table ins out rows) = refl
+driven_alike steps (flat_latch s) = refl
+driven_alike steps (gives names) = refl
+driven_alike steps (clocks names) = refl
+driven_alike steps (visits names) = refl
+
+module _ (steps : List Step) where
   abbrev driver_answer : List Visit → Visit → Option NetlistFault
   driver_answer before d = given (has_visit before d.name || is_clock steps d.name) (at_line d.line TwoDrivers)
 
   abbrev Holds : List Visit → List Name → Type 0
-  Holds before driven = (q : Name) → has_visit before q ≡ is_one_of driven q
+  Holds before seen = (q : Name) → (has_visit before q || is_clock steps q) ≡ is_one_of seen q
 
-  holds_more : (before : List Visit) (driven : List Name) (name : Name) (line : ℕ) → Holds before driven → Holds (before ++ record { name = name; line = line } ∷ []) (driven ++ name ∷ [])
-  holds_more before driven name line holds q =
-      list_any-append (λ (other : Visit). bytes_eq other.name q) before (record { name = name; line = line } ∷ [])
-      ∙ rw (holds q, bytes_eq-sym name q) (sym (list_any-append (bytes_eq q) driven (name ∷ [])))
+  clock_last : (a b c : Bool) → ((a || (b || false)) || c) ≡ ((a || c) || (b || false))
+  clock_last true b c = refl
+  clock_last false true c = sym (or_true c)
+    where
+      or_true : (x : Bool) → (x || true) ≡ true
+      or_true true = refl
+      or_true false = refl
+  clock_last false false c = sym (or-false c)
 
-  drives_at : (line : ℕ) (names : List Name) (before : List Visit) (driven : List Name) → Holds before driven
-      → (first_after driver_answer before (names_at line names) ≡ given (any_twice left_out driven names) (at_line line TwoDrivers))
-      × Holds (before ++ names_at line names) (driven ++ names)
+  holds_more : (before : List Visit) (seen : List Name) (name : Name) (line : ℕ) → Holds before seen → Holds (before ++ record { name = name; line = line } ∷ []) (seen ++ name ∷ [])
+  holds_more before seen name line holds q =
+      ap (λ b. b || is_clock steps q) (list_any-append (λ (other : Visit). bytes_eq other.name q) before (record { name = name; line = line } ∷ []))
+      ∙ clock_last (has_visit before q) (bytes_eq name q) (is_clock steps q)
+      ∙ rw (holds q, bytes_eq-sym name q) (sym (list_any-append (bytes_eq q) seen (name ∷ [])))
+
+  drives_at : (line : ℕ) (names : List Name) (before : List Visit) (seen : List Name) → Holds before seen
+      → (first_after driver_answer before (names_at line names) ≡ given (any_twice seen names) (at_line line TwoDrivers))
+      × Holds (before ++ names_at line names) (seen ++ names)
   unfolding first_after
-  drives_at line [] before driven holds = (refl, λ q. ap (λ (b : List Visit). has_visit b q) (append-nil before) ∙ holds q ∙ ap (λ (d : List Name). is_one_of d q) (sym (append-nil driven)))
-  drives_at line (name ∷ names) before driven holds =
+  drives_at line [] before seen holds =
+      (refl, λ q. ap (λ (b : List Visit). has_visit b q || is_clock steps q) (append-nil before) ∙ holds q ∙ ap (λ (d : List Name). is_one_of d q) (sym (append-nil seen)))
+  drives_at line (name ∷ names) before seen holds =
       let d : Visit = record { name = name; line = line } in
-      let more = drives_at line names (before ++ d ∷ []) (driven ++ name ∷ []) (holds_more before driven name line holds) in (
-        rw (holds name, ← same name, more.0) (given_or (is_one_of driven name || is_one_of left_out name) (any_twice left_out (driven ++ name ∷ []) names) (at_line line TwoDrivers)),
-        λ q. ap (λ (b : List Visit). has_visit b q) (sym (append_assoc before (d ∷ []) (names_at line names))) ∙ more.1 q
-            ∙ ap (λ (n : List Name). is_one_of n q) (append_assoc driven (name ∷ []) names),
+      let more = drives_at line names (before ++ d ∷ []) (seen ++ name ∷ []) (holds_more before seen name line holds) in (
+        rw (holds name, more.0) (given_or (is_one_of seen name) (any_twice (seen ++ name ∷ []) names) (at_line line TwoDrivers)),
+        λ q. ap (λ (b : List Visit). has_visit b q || is_clock steps q) (sym (append_assoc before (d ∷ []) (names_at line names))) ∙ more.1 q
+            ∙ ap (λ (n : List Name). is_one_of n q) (append_assoc seen (name ∷ []) names),
       )
 
-  kept_alike : (names : List Name) → filter (λ name. not (is_one_of left_out name)) names ≡ unclocked steps names
-  kept_alike [] = refl
-  kept_alike (name ∷ names) = rw (same name) (ap (λ (more : List Name). cond (not (is_clock steps name)) (name ∷ more) more) (kept_alike names))
-
-  driven_alike : (act : Act) → driven_names left_out act ≡ taken steps act ++ table_net act ++ latch_net act
-  driven_alike (takes names) = kept_alike names ∙ sym (append-nil (unclocked steps names ++ []) ∙ append-nil (unclocked steps names))
-  driven_alike (flat_table ins out rows) = refl
-  driven_alike (flat_latch s) = refl
-  driven_alike (gives names) = refl
-  driven_alike (clocks names) = refl
-  driven_alike (visits names) = refl
-
-  driver_steps : (some : List Step) (before : List Visit) (driven : List Name) → Holds before driven
-      → first_after driver_answer before (flat_map (λ s. names_at s.line (taken steps s.act ++ table_net s.act ++ latch_net s.act)) some) ≡ driver_fault left_out driven some
+  driver_steps : (some : List Step) (before : List Visit) (seen : List Name) → Holds before seen
+      → first_after driver_answer before (flat_map (λ s. names_at s.line (taken steps s.act ++ table_net s.act ++ latch_net s.act)) some) ≡ driver_fault (clock_names steps) seen some
   unfolding first_after
-  driver_steps [] before driven holds = refl
-  driver_steps (s ∷ some) before driven holds =
-      let at : List Visit = names_at s.line (driven_names left_out s.act) in
+  driver_steps [] before seen holds = refl
+  driver_steps (s ∷ some) before seen holds =
+      let own : List Name = driven_names (clock_names steps) s.act in
+      let at : List Visit = names_at s.line own in
       let rest : List Visit = flat_map (λ x. names_at x.line (taken steps x.act ++ table_net x.act ++ latch_net x.act)) some in
-      let here = drives_at s.line (driven_names left_out s.act) before driven holds in
-      ap (λ (names : List Name). first_after driver_answer before (names_at s.line names ++ rest)) (sym (driven_alike s.act))
+      let here = drives_at s.line own before seen holds in
+      ap (λ (names : List Name). first_after driver_answer before (names_at s.line names ++ rest)) (sym (driven_alike steps s.act))
       ∙ first_after-append driver_answer before at rest
       ∙ ap (λ (o : Option NetlistFault). option_or o (first_after driver_answer (before ++ at) rest)) here.0
-      ∙ ap (option_or (given (any_twice left_out driven (driven_names left_out s.act)) (at_line s.line TwoDrivers)))
-      (driver_steps some (before ++ at) (driven ++ driven_names left_out s.act) here.1)
+      ∙ ap (option_or (given (any_twice seen own) (at_line s.line TwoDrivers)))
+      (driver_steps some (before ++ at) (seen ++ own) here.1)
 
-  -- TwoDrivers, with the names that were driven
-  pub driver-fault : driver_fault left_out [] steps ≡ two_drivers steps
+  -- TwoDrivers, with the clock names and the names that were driven
+  pub driver-fault : driver_fault (clock_names steps) (clock_names steps) steps ≡ two_drivers steps
   unfolding two_drivers drives_of
-  driver-fault = sym (driver_steps steps [] [] (λ q. refl))
+  driver-fault = sym (driver_steps steps [] (clock_names steps) (λ q. refl))

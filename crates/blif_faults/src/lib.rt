@@ -3,5 +3,5 @@
 
 mod clocks;
 mod drivers;
-mod names;
+mod found;
 pub mod walk;

@@ -1,14 +1,14 @@
 -- Marks of names.
-use Rattle.std.proofs.Common.{◌≡◌, ℕ, zero, suc, ◌+◌, ◌<◌, ◌≤◌, Bool, true, false, cond, ◌||◌, List, [], ◌∷◌, ◌++◌, refl, ap, sym, subst, ◌∙◌, append_assoc, length, arith, map, take, get_or}
+use Rattle.std.proofs.Common.{◌≡◌, ℕ, zero, suc, ◌+◌, ◌<◌, Bool, true, false, ◌||◌, List, [], ◌∷◌, ◌++◌, refl, ap, sym, subst, ◌∙◌, append_assoc, length, arith, map, take, get_or}
 use Rattle.std.specs.Prelude.{bytes_eq, flat_map, replicate, slice_index_or, slice_set}
-use Rattle.std.proofs.lemmas.List.{append-nil, take_more, length-map, map-append}
+use Rattle.std.proofs.lemmas.List.{append-nil, take_more, map-append}
 use Rattle.std.proofs.lemmas.List.Elements.{All-head, All-tail, All-get_or}
 use Rattle.std.proofs.lemmas.List.Folds.{list_any-append}
 use Rattle.std.proofs.lemmas.Grind.{flat_map-append}
 use Rattle.std.proofs.Math.Bool.{or-false}
-use Rattle.fm_base.specs.Names.{Name, is_one_of, has_repeat, distinct}
+use Rattle.fm_base.specs.Names.{Name, is_one_of, has_repeat}
 use Rattle.fm_base.proofs.Distinct.{distinct-apart, is_same, bytes_eq-sym}
-use Rattle.blif_model.specs.Walk.{Act, Step}
+use Rattle.blif_model.specs.Walk.{Step}
 use Rattle.blif_walk.specs.declared.flat.NameId.{NameId}
 use Rattle.blif_walk.specs.declared.flat.NumberedStep.{NumberedStep}
 use Rattle.blif_walk.specs.declared.sorts.Sort.{Sort}
@@ -23,11 +23,11 @@ names_apart steps = distinct-apart (flat_map _ steps)
 
 -- ---- one mark
 
-either_left : (a b : Bool) → (a || b) ≡ false → a ≡ false
+pub either_left : (a b : Bool) → (a || b) ≡ false → a ≡ false
 either_left true b e = cc
 either_left false b e = refl
 
-either_right : (a b : Bool) → (a || b) ≡ false → b ≡ false
+pub either_right : (a b : Bool) → (a || b) ≡ false → b ≡ false
 either_right true b e = cc
 either_right false b e = e
 
@@ -48,12 +48,12 @@ others_stay xs (name ∷ names) x lacks =
     rw (first, rest) refl
 
 -- a name that isn't among these isn't the one at a place
-not_there : (names : List Name) (x : Name) (k : ℕ) → is_one_of names x ≡ false → k < length names → bytes_eq x (slice_index_or names k []) ≡ false
+pub not_there : (names : List Name) (x : Name) (k : ℕ) → is_one_of names x ≡ false → k < length names → bytes_eq x (slice_index_or names k []) ≡ false
 not_there [] x k lacks lt = absurd (omega arith)
 not_there (name ∷ names) x zero lacks lt = either_left (bytes_eq x name) (is_one_of names x) lacks
 not_there (name ∷ names) x (suc k) lacks lt = not_there names x k (either_right (bytes_eq x name) (is_one_of names x) lacks) (omega arith)
 
-mark_one : (xs names : List Name) (k : ℕ) → has_repeat names ≡ false → k < length names
+pub mark_one : (xs names : List Name) (k : ℕ) → has_repeat names ≡ false → k < length names
     → slice_set (map (is_one_of xs) names) k true ≡ map (is_one_of (xs ++ slice_index_or names k [] ∷ [])) names
 mark_one xs [] k apart lt = absurd (omega arith)
 mark_one xs (name ∷ names) zero apart lt =

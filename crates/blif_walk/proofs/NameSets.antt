@@ -6,7 +6,7 @@ use Rattle.std.specs.List.{list_any}
 use Rattle.std.proofs.lemmas.List.{append-nil, map-append}
 use Rattle.std.proofs.lemmas.List.Folds.{list_any-append}
 use Rattle.fm_base.specs.Names.{Name, is_one_of, distinct}
-use Rattle.blif_model.specs.Walk.{Step, Visit, Act, is_clock, unclocked, visited, clocked, visits_of, clock_names, names_at, nets_of}
+use Rattle.blif_model.specs.Walk.{Step, Visit, is_clock, unclocked, visited, visits_of, clock_names, names_at, nets_of}
 use Rattle.blif_model.proofs.Nets.{nets-snoc, nets-found}
 use Rattle.fm_base.specs.Lists.{firsts}
 use Rattle.fm_base.proofs.Distinct.{same_name}

@@ -1,5 +1,5 @@
 -- Names of nets, through what is seen of places.
-use Rattle.std.proofs.Common.{◌≡◌, Bool, true, false, cond, List, [], ◌∷◌, ◌++◌, refl, ap, sym, ◌∙◌}
+use Rattle.std.proofs.Common.{◌≡◌, List, ◌++◌, refl, ap, sym, ◌∙◌}
 use Rattle.std.specs.Prelude.{Option, Some, None, find, map, bytes_eq, codes}
 use Rattle.std.specs.Option.{option_map, option_map_or}
 use Rattle.fm_base.specs.Names.{Name}

@@ -1,12 +1,11 @@
 -- Names that get numbers.
-use Rattle.std.proofs.Common.{◌≡◌, ℕ, zero, suc, ◌+◌, ◌<◌, ◌≤◌, Bool, true, false, cond, ◌||◌, List, [], ◌∷◌, ◌++◌, refl, ap, sym, subst, ◌∙◌, append_assoc, length, arith, fold, map, take, get_or}
-use Rattle.std.specs.Prelude.{All, Option, Some, None, bytes_eq, flat_map, slice_get, slice_index_or}
+use Rattle.std.proofs.Common.{◌≡◌, ℕ, zero, suc, ◌+◌, ◌<◌, ◌≤◌, Bool, true, false, cond, List, [], ◌∷◌, ◌++◌, refl, ap, sym, subst, ◌∙◌, append_assoc, length, arith, fold, map, take, get_or}
+use Rattle.std.specs.Prelude.{All, Option, Some, None, flat_map, slice_get, slice_index_or}
 use Rattle.std.proofs.lemmas.List.{append-nil, length-append, map-append, take_more}
 use Rattle.std.proofs.lemmas.List.Elements.{All-nil, All-cons, All-weaker, All-push, All-head, All-tail}
 use Rattle.std.proofs.lemmas.List.Sums.{fold-append}
 use Rattle.std.proofs.lemmas.Grind.{flat_map-append}
 use Rattle.std.proofs.lemmas.Option.{get_or_from_slice_get, slice_get_within}
-use Rattle.std.proofs.Math.Option.{some-injective}
 use Rattle.fm_base.specs.Names.{Name, is_one_of, distinct}
 use Rattle.fm_base.proofs.Distinct.{distinct-snoc, distinct-found, distinct-nil}
 use Rattle.name_index.specs.Index.{with_name}

@@ -1,8 +1,8 @@
 // Names that are looked up in constant time.
 #![tactic(auto)]
 
-ghost use Rattle.std.specs.Prelude.{◌≡◌, ◌==◌, ◌<◌, [], length, position, not, Some, slice_get, IfOk, IfSome, OnOk, OnErr};
-ghost use Rattle.std.specs.Option.{is_some, option_map};
+ghost use Rattle.std.specs.Prelude.{◌≡◌, ◌==◌, ◌<◌, [], length, position, not, Some, slice_get, slice_index_or, IfOk, IfSome, OnOk, OnErr};
+ghost use Rattle.std.specs.Option.{is_some};
 ghost use Rattle.std.specs.Str.{bytes_eq};
 ghost use Rattle.fm_base.specs.Names.{is_one_of};
 ghost use Rattle.name_index.specs.Index.{with_name};
@@ -85,14 +85,12 @@ impl NameIndex {
         }
     }
 
-    /// The name of a number, if there is one.
-    pub fn name(&self, number: usize) -> Option<&[u8]>
-        ensures { option_map (λ t. t.now) result ≡ slice_get self.now number }
+    /// The name of a number.
+    pub fn name(&self, number: usize) -> &[u8]
+        requires { number < length self.now }
+        ensures { result.now ≡ slice_index_or self.now number [] }
     {
-        match self.names.get_index(number) {
-            Some(name) => Some(name.as_slice()),
-            None => None,
-        }
+        self.names.as_slice()[number].as_slice()
     }
 
     /// Adds a name at the end where it isn't there yet, and answers whether it was added.

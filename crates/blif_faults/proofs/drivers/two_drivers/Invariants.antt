@@ -1,11 +1,16 @@
-use Rattle.std.proofs.Common.{◌≡◌, length, []}
-use Rattle.blif_model.specs.Walk.{walk}
-use Rattle.blif_walk.specs.Numbers.{owned_texts}
-use Rattle.blif_faults.specs.Passes.{driver_fault}
+use Rattle.std.proofs.Common.{◌≡◌, drop, map, take}
+use Rattle.fm_base.specs.Names.{is_one_of}
+use Rattle.blif_model.specs.Walk.{clock_names}
+use Rattle.blif_model.specs.WalkFault.{two_drivers}
+use Rattle.blif_walk.specs.Flat.{steps_by}
+use Rattle.blif_walk.specs.Flattened.{flat_steps}
+use Rattle.blif_faults.proofs.Passing.{driver_fault}
+use Rattle.blif_faults.proofs.Driving.{settled_so_far}
 use Rattle.blif_faults.proofs.drivers.two_drivers.Given as goal
 
-abbrev pub invariant-steps : goal.invariant-steps
-invariant-steps l = driver_fault (owned_texts l.clocks.keys) (owned_texts l.driven.keys) l.walker ≡ driver_fault (owned_texts l.clocks.keys) [] (walk l.models)
-
-abbrev pub decreases-steps : goal.decreases-steps
-decreases-steps l = length l.walker
+abbrev pub invariant-loop-step : goal.invariant-loop-step
+invariant-loop-step l = record {
+  marks : l.driven.items ≡ map (is_one_of (settled_so_far (flat_steps l.flat) (steps_by l.flat.names (take l.step-index l.flat.steps.items)))) l.flat.names;
+  left : driver_fault (clock_names (flat_steps l.flat)) (settled_so_far (flat_steps l.flat) (steps_by l.flat.names (take l.step-index l.flat.steps.items))) (steps_by l.flat.names (drop l.step-index l.flat.steps.items))
+      ≡ two_drivers (flat_steps l.flat);
+}

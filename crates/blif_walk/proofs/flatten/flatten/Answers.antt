@@ -1,7 +1,7 @@
-use Rattle.std.proofs.Common.{arith, ap, sym, ◌∙◌, ◌++◌, List}
+use Rattle.std.proofs.Common.{arith, ap, ◌∙◌, ◌++◌, List}
 use Rattle.blif_model.specs.Walk.{Step}
 use Rattle.blif_walk.specs.declared.flat.NumberedStep.{NumberedStep}
-use Rattle.blif_walk.specs.Flat.{IsFlat, steps_by}
+use Rattle.blif_walk.specs.Flat.{steps_by}
 use Rattle.blif_walk.specs.Seen.{act_at, step_at}
 use Rattle.blif_walk.proofs.Numbering.{flat_none, flat_next, steps_next, walk_on, too_many}
 use Rattle.blif_walk.proofs.flatten.flatten.Goals as goal

@@ -1,8 +1,6 @@
-use Rattle.std.proofs.Common.{◌∷◌, [], ap, subst, List}
-use Rattle.fm_base.specs.Names.{Name}
+use Rattle.std.proofs.Common.{◌∷◌, []}
 use Rattle.blif_model.specs.Models.{rows_below}
 use Rattle.blif_says.specs.Grouped.{all_said}
-use Rattle.blif_walk.specs.Numbering.{AreNumbered}
 use Rattle.blif_walk.proofs.Numbering.{numbered_both, numbered_table}
 use Rattle.blif_walk.proofs.flatten.number_table.Goals as goal
 

@@ -1,11 +1,8 @@
-use Rattle.std.proofs.Common.{◌≡◌, ◌<◌, ◌∙◌, ap, false, get_or, length, map, subst, sym, List, ℕ}
+use Rattle.std.proofs.Common.{◌≡◌, ◌∙◌, ap, false, length, subst, sym, List, ℕ}
 use Rattle.std.specs.Prelude.{replicate}
 use Rattle.std.proofs.lemmas.List.{length-map}
-use Rattle.std.proofs.lemmas.List.Elements.{All-get_or}
-use Rattle.fm_base.specs.Names.{Name, is_one_of, has_repeat}
-use Rattle.blif_model.specs.Walk.{Step}
-use Rattle.blif_walk.specs.declared.flat.NumberedStep.{NumberedStep}
-use Rattle.blif_walk.specs.Flat.{AreBelow, ids_in, name_at, steps_by}
+use Rattle.fm_base.specs.Names.{Name, has_repeat}
+use Rattle.blif_walk.specs.Flat.{AreBelow, name_at, steps_by}
 use Rattle.blif_walk.specs.Sorts.{ids_of, names_by}
 use Rattle.blif_walk.proofs.Marking.{mark_step, mark_none, names_apart, step_within}
 use Rattle.blif_walk.proofs.marks.marks_of.Goals as goal

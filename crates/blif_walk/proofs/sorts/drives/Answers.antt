@@ -1,4 +1,4 @@
-use Rattle.std.proofs.Common.{◌<◌, ◌∷◌, [], List, ℕ, subst, sym}
+use Rattle.std.proofs.Common.{◌<◌, ◌∷◌, [], subst, sym}
 use Rattle.std.specs.Option.{option_to_list}
 use Rattle.std.proofs.lemmas.List.Elements.{All-tail}
 use Rattle.fm_base.proofs.Lists.{all_left}

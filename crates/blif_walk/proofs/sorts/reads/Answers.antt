@@ -1,4 +1,4 @@
-use Rattle.std.proofs.Common.{◌<◌, ◌∷◌, [], List, ℕ, subst, sym}
+use Rattle.std.proofs.Common.{◌<◌, ◌∷◌, [], subst, sym}
 use Rattle.fm_base.proofs.Lists.{all_left}
 use Rattle.blif_walk.specs.declared.flat.NameId.{NameId}
 use Rattle.blif_walk.specs.Flat.{AreBelow}

@@ -1,8 +1,7 @@
-use Rattle.std.proofs.Common.{◌<◌, ◌∷◌, [], List, ℕ}
+use Rattle.std.proofs.Common.{◌<◌, ◌∷◌, []}
 use Rattle.std.specs.Option.{option_to_list}
 use Rattle.fm_base.proofs.Lists.{all_left}
 use Rattle.blif_walk.specs.declared.flat.NameId.{NameId}
-use Rattle.blif_walk.specs.Flat.{AreBelow}
 use Rattle.blif_walk.proofs.sorts.visits.Goals as goal
 
 pub returns-in-Latch-clause-within : goal.returns-in-Latch-clause-within

@@ -1,8 +1,6 @@
 use Rattle.std.proofs.Common.{sym, ap, ◌∙◌}
-use Rattle.blif_model.specs.Walk.{top, steps_from, enter}
 use Rattle.blif_walk.specs.Coming.{to_come}
-use Rattle.blif_model.specs.Models.{items_of}
-use Rattle.blif_says.specs.Grouped.{all_said, model_of}
+use Rattle.blif_says.specs.Grouped.{model_of}
 use Rattle.blif_walk.proofs.Entering.{walk_none, walk_some, nothing_left, one_left}
 use Rattle.blif_walk.proofs.walker.main_frames.Goals as goal
 

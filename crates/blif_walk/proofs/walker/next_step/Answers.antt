@@ -1,4 +1,4 @@
-use Rattle.std.proofs.Common.{◌≡◌, ◌∷◌, ◌++◌, [], List, ap, ◌∙◌, sym, arith, length, ◌<◌}
+use Rattle.std.proofs.Common.{◌++◌, List, ap, ◌∙◌, sym, arith, length, ◌<◌}
 use Rattle.std.proofs.lemmas.Grind.{common_steps}
 use Rattle.std.specs.Option.{option_to_list}
 use Rattle.blif_walk.specs.declared.frames.Frame.{Frame}
