@@ -11,6 +11,5 @@ mod parts;
 mod read;
 mod rows;
 mod sizes;
-mod stub;
 
 pub use read::read_blif;

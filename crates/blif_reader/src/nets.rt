@@ -23,10 +23,7 @@ fn put_net(
     if is_clock {
         return Ok(());
     }
-    match names.name(number) {
-        Some(name) => nets.push(own_name(alloc, name)?),
-        None => Ok(()),
-    }
+    nets.push(own_name(alloc, names.name(number))?)
 }
 
 /// The names of the nets, in their order: those that are no clock names.

@@ -12,7 +12,7 @@ ghost use Rattle.blif_reader.specs.Stages.{GiveSound, ModelsGive, unwalked_fault
 use crate::ids::net_count;
 use crate::netlist::flat_netlist;
 use crate::sizes::{MOST_NETS, is_large, most_names};
-use crate::stub::walk_fault;
+use blif_faults::walk::walk_fault;
 use blif_nest::faults::nest_fault;
 use blif_ports::faults::port_fault;
 use blif_says::model_list::read_models;

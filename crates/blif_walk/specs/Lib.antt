@@ -3,7 +3,6 @@ pub mod Seen
 pub mod Ports
 pub mod Coming
 pub mod Passing
-pub mod Numbers
 pub mod Flat
 pub mod Flattened
 pub mod Sorts

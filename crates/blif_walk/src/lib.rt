@@ -8,7 +8,6 @@ pub mod flat;
 pub mod flatten;
 pub mod frames;
 pub mod marks;
-pub mod numbers;
 pub mod places;
 pub mod sorts;
 pub mod table;
