@@ -1,17 +1,14 @@
 -- The rows below a line, line by line.
-use Rattle.std.proofs.Common.{◌≡◌, ◌+◌, ◌<◌, ◌≤◌, ℕ, zero, suc, true, false, cond, not, List, [], ◌∷◌, ◌++◌, refl, ap, sym, ◌∙◌, append_assoc, length, drop, get_or, map, arith}
-use Rattle.std.proofs.lemmas.List.{append-nil, map-append, drop_all}
-use Rattle.std.proofs.lemmas.List.Elements.{filter-append}
+use Rattle.std.proofs.Common.{◌≡◌, ◌+◌, ◌<◌, ◌≤◌, ℕ, List, [], ◌∷◌, ◌++◌, refl, ap, sym, ◌∙◌, append_assoc, length, drop, get_or, map}
+use Rattle.std.proofs.lemmas.List.{append-nil, drop_all}
 use Rattle.circuit.specs.declared.parts.Lit.{Lit}
-use Rattle.circuit.specs.declared.parts.NetId.{NetId}
-use Rattle.fm_base.specs.Names.{Name, is_one_of}
+use Rattle.fm_base.specs.Names.{Name}
 use Rattle.blif_text.specs.declared.lines.TextLine.{TextLine}
 use Rattle.blif_text.specs.declared.token.Token.{Token}
 use Rattle.blif_text.specs.Read.{line_of}
 use Rattle.std.specs.Borrow.{Bor}
 use Rattle.blif_model.specs.Models.{rows_below, rows_from}
 use Rattle.blif_model.specs.Net.{lits_of}
-use Rattle.net_names.specs.Nets.{net_id}
 use Rattle.blif_model.specs.Statement.{statement_of, texts}
 use Rattle.blif_says.specs.declared.says.Says.{Says}
 use Rattle.blif_says.specs.declared.says.Says.TheVariants.{Model, Inputs, Outputs, Clock, Table, Latch, Instance, End, Row, Passed, Unnamed, Wrong}

@@ -1,6 +1,6 @@
 -- The netlist that is built of its parts is that of the walk.
-use Rattle.std.proofs.Common.{◌≡◌, ℕ, ◌≤◌, ◌^◌, List, refl, ap, sym, ◌∙◌, length, arith}
-use Rattle.std.specs.Prelude.{map, filter_map, None}
+use Rattle.std.proofs.Common.{◌≡◌, ℕ, ◌≤◌, ◌^◌, List, refl, ap, ◌∙◌, length, arith}
+use Rattle.std.specs.Prelude.{map, filter_map}
 use Rattle.std.proofs.lemmas.List.{length-map}
 use Rattle.circuit.specs.declared.parts.Driver.{Driver}
 use Rattle.circuit.specs.declared.parts.Latch.{Latch}
@@ -13,7 +13,6 @@ use Rattle.net_names.specs.Drivers.{drivers_by}
 use Rattle.net_names.proofs.Once.{few-inputs, few-tables, few-latches}
 use Rattle.net_names.proofs.Putting.{drivers-put}
 use Rattle.blif_model.specs.Walk.{Step, nets_of}
-use Rattle.blif_model.specs.WalkFault.{two_drivers, undriven}
 use Rattle.blif_model.specs.Net.{table_of, latch_of, input_names_of, table_names_of, latch_names_of, output_names_of, drivers_of, circuit_of}
 use Rattle.blif_model.proofs.Sound.{walk-driven}
 use Rattle.blif_reader.specs.Parts.{parts_of}

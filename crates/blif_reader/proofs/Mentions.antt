@@ -1,13 +1,13 @@
 -- The clock names of the flattened main model are no more than its mentions of them.
 use Rattle.std.proofs.Common.{◌≡◌, ℕ, zero-add, zero, suc, ◌+◌, ◌≤◌, Bool, true, false, cond, List, [], ◌∷◌, ◌++◌, refl, sym, ◌∙◌, length, arith}
-use Rattle.std.specs.Prelude.{Option, Some, None, map, flat_map, filter_map, sum_by, bytes_eq, codes}
+use Rattle.std.specs.Prelude.{Option, Some, None, map, filter_map, sum_by, bytes_eq, codes}
 use Rattle.std.specs.Option.{option_map_or, option_to_list}
 use Rattle.std.proofs.lemmas.List.Concat.{length-flat_map}
 use Rattle.std.proofs.lemmas.List.Sums.{sum_by-append, sum_by-cons}
 use Rattle.fm_base.specs.Names.{Name}
-use Rattle.blif_model.specs.Statement.{Clocking, Statement, inputs, outputs, clock, table, latch, instance}
+use Rattle.blif_model.specs.Statement.{Clocking, Statement, inputs, outputs, clock, latch, instance}
 use Rattle.blif_model.specs.Models.{Item, Instance, Model, at_model, model_named, main_of, instance_from, instances, sum_over_instances}
-use Rattle.blif_model.specs.Walk.{Scope, top, inside, Act, Step, acts_of, clocked, clock_names, control_net, inner_steps, scope_of, next, net_of, steps_from, enter, walk}
+use Rattle.blif_model.specs.Walk.{Scope, top, inside, Step, acts_of, clocked, clock_names, control_net, inner_steps, scope_of, next, net_of, steps_from, enter, walk}
 use Rattle.blif_reader.specs.Mentions.{count_of_mentions, mention_count, mentions_on}
 
 -- the clock names of a walk

@@ -1,11 +1,11 @@
 -- The outputs, each once, with one more.
-use Rattle.std.proofs.Common.{◌≡◌, ℕ, zero, suc, ◌+◌, ◌<◌, Bool, true, false, cond, ◌||◌, List, [], ◌∷◌, ◌++◌, refl, ap, sym, ◌∙◌, append_assoc, length, map, take, get_or, arith}
+use Rattle.std.proofs.Common.{◌≡◌, ℕ, zero, suc, ◌+◌, ◌<◌, Bool, true, false, cond, ◌||◌, List, [], ◌∷◌, ◌++◌, refl, ap, sym, ◌∙◌, length, map, take, get_or, arith}
 use Rattle.std.specs.Prelude.{bytes_eq, flat_map, replicate, slice_index_or, slice_set}
-use Rattle.std.proofs.lemmas.List.{append-nil, get_or-map, length-map, map-append, take_more}
+use Rattle.std.proofs.lemmas.List.{append-nil, length-map, map-append, take_more}
 use Rattle.std.proofs.lemmas.Grind.{flat_map-append}
 use Rattle.circuit.specs.declared.parts.NetId.{NetId}
 use Rattle.fm_base.specs.Names.{Name, distinct, has_repeat, is_one_of}
-use Rattle.fm_base.proofs.Distinct.{bytes_eq-sym, distinct-found, distinct-snoc, is_same, same_name}
+use Rattle.fm_base.proofs.Distinct.{bytes_eq-sym, distinct-snoc, is_same, same_name}
 use Rattle.fm_base.proofs.Tests.{clash, false_of, or_false}
 use Rattle.net_names.specs.Nets.{net_id}
 use Rattle.net_names.proofs.Times.{one_of_both}

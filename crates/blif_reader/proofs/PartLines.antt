@@ -1,5 +1,5 @@
 -- The parts of a netlist, with those of one more line.
-use Rattle.std.proofs.Common.{◌≡◌, ℕ, suc, ◌+◌, ◌<◌, Bool, true, false, cond, not, List, [], ◌∷◌, ◌++◌, refl, ap, sym, subst, ◌∙◌, append_assoc, length, map, take, get_or, arith}
+use Rattle.std.proofs.Common.{◌≡◌, ℕ, ◌+◌, ◌<◌, true, false, cond, not, List, [], ◌∷◌, ◌++◌, refl, ap, sym, subst, ◌∙◌, append_assoc, length, map, take, get_or}
 use Rattle.std.specs.Prelude.{All, Option, Some, None, filter_map, flat_map}
 use Rattle.std.specs.Option.{option_to_list}
 use Rattle.std.proofs.lemmas.List.{append-nil, length-map, map-append, take_more}
@@ -80,8 +80,18 @@ module _ (steps done : List Step) (s : Step) where
       → latch_nets ≡ (parts_of steps done).latch_nets ++ ids (latch_net s.act)
       → record { inputs = inputs; tables = tables; table_nets = table_nets; latches = latches; latch_nets = latch_nets } ≡ parts_of steps (done ++ s ∷ [])
   parts_with inputs tables table_nets latches latch_nets i t tn l ln =
-      rw (i, t, tn, l, ln, ids_more (λ x. taken steps x.act), option_more (λ x. table_of (nets_of steps) x.act) done s, ids_more (λ x. table_net x.act),
-      option_more (λ x. latch_of (nets_of steps) x.act) done s, ids_more (λ x. latch_net x.act)) refl
+      rw (
+        i,
+        t,
+        tn,
+        l,
+        ln,
+        ids_more (λ x. taken steps x.act),
+        option_more (λ x. table_of (nets_of steps) x.act) done s,
+        ids_more (λ x. table_net x.act),
+        option_more (λ x. latch_of (nets_of steps) x.act) done s,
+        ids_more (λ x. latch_net x.act),
+      ) refl
 
   same : {X : Type 0} (xs : List X) → xs ≡ xs ++ []
   same xs = sym (append-nil xs)

@@ -8,7 +8,7 @@ use Rattle.blif_text.specs.declared.NetlistKind.TheVariants.{TooLarge}
 use Rattle.circuit.specs.Circuit.{Circuit}
 use Rattle.circuit.specs.Sound.{IsNetlist}
 use Rattle.fm_base.specs.Firsts.{given}
-use Rattle.fm_base.specs.Names.{Bytes, Name}
+use Rattle.fm_base.specs.Names.{Bytes}
 use Rattle.blif_model.specs.LineFault.{at_line}
 use Rattle.blif_model.specs.Models.{Model, main_of}
 use Rattle.blif_model.specs.ModelFault.{bad_formal, count_of_cells, count_of_instances, count_of_nets, model_fault, recursive, too_deep, too_large, two_models, unbound, unknown_model}

@@ -5,8 +5,8 @@ ghost use Rattle.net_names.specs.Nets.{net_id};
 ghost use Rattle.blif_walk.specs.Flat.{AreBelow, name_at, names_of};
 ghost use Rattle.blif_reader.specs.Numbers.{AreNetNumbers};
 
-use blif_walk::flat::NameId;
 use crate::numbers::NetNumbers;
+use blif_walk::flat::NameId;
 use circuit::parts::{NetId, NetIds};
 use fm_list::Seq;
 use std::alloc::{AllocError, Global};

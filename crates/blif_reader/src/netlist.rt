@@ -6,11 +6,11 @@ ghost use Rattle.blif_walk.specs.Flat.{names_of};
 ghost use Rattle.blif_walk.specs.Flattened.{flat_steps};
 ghost use Rattle.blif_reader.specs.Ready.{IsReady};
 
-use blif_walk::flat::FlatModel;
 use crate::nets::net_names;
 use crate::numbers::NetNumbers;
 use crate::outputs::take_outputs;
 use crate::parts::{NetParts, take_parts};
+use blif_walk::flat::FlatModel;
 use circuit::netlist::Netlist;
 use net_names::drivers::drivers_of;
 use std::alloc::{AllocError, Global};

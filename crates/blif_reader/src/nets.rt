@@ -27,11 +27,7 @@ fn put_net(
 }
 
 /// The names of the nets, in their order: those that are no clock names.
-pub fn net_names(
-    alloc: Global,
-    names: &NameIndex,
-    clocks: &[bool],
-) -> Result<Names, AllocError>
+pub fn net_names(alloc: Global, names: &NameIndex, clocks: &[bool]) -> Result<Names, AllocError>
     requires { length clocks.now ≡ length names.now }
     ensures { IfOk result (λ nets. (steps : List Step) → names.now ≡ names_of steps → clocks.now ≡ map (is_clock steps) (names_of steps) → nets ≡ nets_of steps) }
 {

@@ -9,8 +9,8 @@ ghost use Rattle.blif_walk.specs.Flattened.{flat_steps};
 ghost use Rattle.blif_reader.specs.Numbers.{AreNetNumbers};
 ghost use Rattle.blif_reader.specs.Parts.{AreOutputNets};
 
-use blif_walk::flat::{FlatModel, NameId, NumberedAct, NumberedStep};
 use crate::numbers::NetNumbers;
+use blif_walk::flat::{FlatModel, NameId, NumberedAct, NumberedStep};
 use circuit::parts::NetIds;
 use fm_list::Seq;
 use std::alloc::{AllocError, Global};

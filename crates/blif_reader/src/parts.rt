@@ -9,9 +9,9 @@ ghost use Rattle.blif_reader.specs.Numbers.{AreNetNumbers};
 ghost use Rattle.blif_reader.specs.Parts.{parts_of};
 ghost use Rattle.blif_walk.specs.declared.flat.NumberedAct.TheVariants as acts;
 
-use blif_walk::flat::{FlatModel, NameId, NumberedAct, NumberedLatch, NumberedStep, NumberedTable};
 use crate::numbers::NetNumbers;
 use crate::rows::{plane_of, rows_of};
+use blif_walk::flat::{FlatModel, NameId, NumberedAct, NumberedLatch, NumberedStep, NumberedTable};
 use circuit::parts::{Latch, Latches, NetIds, Table, Tables};
 use fm_list::Seq;
 use std::alloc::{AllocError, Global};
@@ -27,11 +27,7 @@ pub struct NetParts {
 }
 
 /// An input, unless it is a clock name.
-fn put_input(
-    numbers: &NetNumbers,
-    inputs: &mut NetIds,
-    name: NameId,
-) -> Result<(), AllocError>
+fn put_input(numbers: &NetNumbers, inputs: &mut NetIds, name: NameId) -> Result<(), AllocError>
     requires { name.0 < length numbers.now.ids.items }
     ensures { OnOk result ((steps : List Step) → AreNetNumbers steps numbers.now → inputs.new ≡ inputs.old ++ map (net_id (nets_of steps)) (unclocked steps (name_at (names_of steps) name ∷ []))) }
 {
@@ -42,11 +38,7 @@ fn put_input(
 }
 
 /// Inputs that are no clock names.
-fn put_inputs(
-    numbers: &NetNumbers,
-    inputs: &mut NetIds,
-    names: &[NameId],
-) -> Result<(), AllocError>
+fn put_inputs(numbers: &NetNumbers, inputs: &mut NetIds, names: &[NameId]) -> Result<(), AllocError>
     requires { AreBelow (length numbers.now.ids.items) names.now }
     ensures { OnOk result ((steps : List Step) → AreNetNumbers steps numbers.now → inputs.new ≡ inputs.old ++ map (net_id (nets_of steps)) (unclocked steps (map (name_at (names_of steps)) names.now))) }
 {

@@ -1,4 +1,4 @@
-use Rattle.std.proofs.Common.{◌≡◌, ◌+◌, List, false, length, length-append, ap, sym, ◌∙◌, arith}
+use Rattle.std.proofs.Common.{◌≡◌, ◌+◌, List, false, length, length-append, ap, ◌∙◌, arith}
 use Rattle.blif_reader.proofs.NetNumbers.{few_step, numbers_end, numbers_from, numbers_step, nets-counted, nets-numbered}
 use Rattle.circuit.specs.declared.parts.NetId.{NetId}
 use Rattle.blif_reader.proofs.ids.net_ids.Goals as goal

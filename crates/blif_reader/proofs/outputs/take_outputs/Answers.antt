@@ -1,4 +1,4 @@
-use Rattle.std.proofs.Common.{◌≡◌, arith, Bool, false, List, ap, length, map, refl, subst, sym, ◌∙◌, take}
+use Rattle.std.proofs.Common.{◌≡◌, arith, Bool, false, List, ap, length, map, subst, sym, ◌∙◌, take}
 use Rattle.std.specs.Prelude.{flat_map, replicate}
 use Rattle.std.proofs.lemmas.Grind.{common_steps}
 use Rattle.std.proofs.lemmas.List.{length-map, length-replicate, take_all}

@@ -1,6 +1,6 @@
-use Rattle.std.proofs.Common.{◌≡◌, ◌∷◌, ◌++◌, [], List, ap, map, refl, sym, ◌∙◌}
+use Rattle.std.proofs.Common.{◌∷◌, ◌++◌, [], List, ap, map, sym, ◌∙◌}
 use Rattle.std.proofs.lemmas.Result.{on_ok_weaker}
-use Rattle.blif_model.specs.Walk.{Act, Step, nets_of, unclocked}
+use Rattle.blif_model.specs.Walk.{nets_of, unclocked}
 use Rattle.net_names.specs.Nets.{net_id}
 use Rattle.blif_walk.specs.Flat.{act_by, name_at, names_of}
 use Rattle.blif_walk.specs.declared.flat.NameId.{NameId}

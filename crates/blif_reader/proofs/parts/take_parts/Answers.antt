@@ -1,8 +1,8 @@
-use Rattle.std.proofs.Common.{◌≡◌, ◌++◌, ◌∷◌, [], List, ap, get_or, subst, sym, ◌∙◌, take}
+use Rattle.std.proofs.Common.{List, ap, ◌∙◌, take}
 use Rattle.std.proofs.lemmas.List.{take_all}
 use Rattle.blif_model.specs.Walk.{Step, nets_of}
 use Rattle.net_names.specs.Nets.{net_id}
-use Rattle.blif_walk.specs.Flat.{step_by, steps_by, name_at, names_of}
+use Rattle.blif_walk.specs.Flat.{steps_by}
 use Rattle.blif_walk.specs.Flattened.{flat_steps}
 use Rattle.blif_walk.specs.declared.flat.NumberedStep.{NumberedStep}
 use Rattle.blif_reader.specs.Parts.{parts_of}
