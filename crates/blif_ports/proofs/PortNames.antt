@@ -9,7 +9,7 @@ use Rattle.blif_model.specs.Models.{items_of}
 use Rattle.blif_model.specs.Statement.{Statement, statement_of, texts}
 use Rattle.blif_says.specs.Grouped.{all_said}
 use Rattle.blif_walk.proofs.Items.{drop_item}
-use Rattle.blif_walk.proofs.NameSets.{fold_front}
+use Rattle.std.proofs.lemmas.List.Sums.{fold-append}
 use Rattle.std.proofs.lemmas.List.{drop_all}
 
 module _ (own : Statement → List Name) where
@@ -25,7 +25,7 @@ module _ (own : Statement → List Name) where
       → new ≡ fold with_name old (own says) → fold with_name old (names_in (drop i lines)) ≡ all → fold with_name new (names_in (drop (i + 1) lines)) ≡ all
   names_step lines i x says old new all h is m e inv =
       ap (λ (seen : List Name). fold with_name seen (names_in (drop (i + 1) lines))) (e ∙ ap (λ s. fold with_name old (own s)) m)
-      ∙ sym (fold_front with_name old (own (statement_of (texts (line_of x)))) (names_in (drop (i + 1) lines)))
+      ∙ sym (fold-append with_name old (own (statement_of (texts (line_of x)))) (names_in (drop (i + 1) lines)))
       ∙ ap (λ (names : List Name). fold with_name old names) (sym (ap names_in (drop_item lines i x h is) ∙ names_more x (drop (i + 1) lines)))
       ∙ inv
 

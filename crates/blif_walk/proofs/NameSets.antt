@@ -1,15 +1,11 @@
--- Names taken one by one, each at its first place.
+-- What is among names that go to others.
 use Rattle.std.proofs.Common.{◌≡◌, Bool, true, false, cond, ◌||◌, List, [], ◌∷◌, ◌++◌, refl, ap, sym, ◌∙◌, fold}
 use Rattle.std.specs.Prelude.{bytes_eq}
-use Rattle.std.proofs.Math.Bool.{or-false, or_assoc}
 use Rattle.std.proofs.lemmas.List.Folds.{list_any-append}
+use Rattle.std.proofs.Math.Bool.{or-false, or_assoc}
 use Rattle.fm_base.specs.Names.{Name, is_one_of}
 use Rattle.fm_base.proofs.Distinct.{same_name}
 use Rattle.name_index.specs.Index.{with_name}
-
-pub fold_front : {X Y : Type 0} (f : Y → X → Y) (y : Y) (xs more : List X) → fold f y (xs ++ more) ≡ fold f (fold f y xs) more
-fold_front f y [] more = refl
-fold_front f y (x ∷ xs) more = fold_front f (f y x) xs more
 
 -- a name is among those with one more where it was, or is the one more
 added_found : (seen : List Name) (name q : Name) → is_one_of (with_name seen name) q ≡ (is_one_of seen q || bytes_eq q name)
@@ -23,7 +19,7 @@ added_found seen name q = by_cases (is_one_of seen name) refl
     by_cases true e = there (bytes_eq q name) refl e
     by_cases false e = list_any-append (bytes_eq q) seen (name ∷ []) ∙ ap (λ b. is_one_of seen q || b) (or-false (bytes_eq q name))
 
--- a name is among those taken where it is among the names
+-- a name is among those that came to be where it was, or is among those that came
 pub taken_found : (seen names : List Name) (q : Name) → is_one_of (fold with_name seen names) q ≡ (is_one_of seen q || is_one_of names q)
 taken_found seen [] q = sym (or-false (is_one_of seen q))
 taken_found seen (name ∷ names) q =

@@ -1,4 +1,4 @@
-// The walk of the flattened main model, a step at a time.
+// The walk of the flattened main model, a step at a time, and its lines over numbered names.
 #![tactic(auto)]
 
 pub mod acts;
