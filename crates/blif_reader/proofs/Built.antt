@@ -15,7 +15,7 @@ use Rattle.net_names.proofs.Putting.{drivers-put}
 use Rattle.blif_model.specs.Walk.{Step, nets_of}
 use Rattle.blif_model.specs.Net.{table_of, latch_of, input_names_of, table_names_of, latch_names_of, output_names_of, drivers_of, circuit_of}
 use Rattle.blif_model.proofs.Sound.{walk-driven}
-use Rattle.blif_reader.specs.Parts.{parts_of}
+use Rattle.blif_reader.specs.Parts.{net_parts}
 use Rattle.blif_reader.specs.Ready.{IsReady}
 use Rattle.blif_reader.specs.declared.parts.NetParts.{NetParts}
 
@@ -48,11 +48,11 @@ module _ (steps : List Step) (ready : IsReady steps) where
     latch_nets = map (net_id (nets_of steps)) (latch_names_of steps);
   }
 
-  parts_named : parts_of steps steps ≡ named_parts
+  parts_named : net_parts steps steps ≡ named_parts
   unfolding input_names_of table_names_of latch_names_of named_parts
   parts_named = refl
 
-  module _ (p : NetParts) (made : p ≡ parts_of steps steps) where
+  module _ (p : NetParts) (made : p ≡ net_parts steps steps) where
     pub few_parts : (length p.inputs ≤ 2 ^ 18) × (length p.table_nets ≤ 2 ^ 18) × (length p.latch_nets ≤ 2 ^ 18)
     unfolding named_parts
     few_parts = let parts = made ∙ parts_named in rw (parts, length-map, length-map, length-map) few_driven

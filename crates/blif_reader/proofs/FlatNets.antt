@@ -5,13 +5,14 @@ use Rattle.std.proofs.lemmas.List.{append-nil, map-append}
 use Rattle.std.proofs.lemmas.List.Elements.{filter-append}
 use Rattle.std.proofs.lemmas.List.Filters.{length-filter_both}
 use Rattle.fm_base.specs.Lists.{firsts}
-use Rattle.fm_base.specs.Names.{Name, is_one_of, has_repeat, distinct}
-use Rattle.fm_base.proofs.Distinct.{same_name, is_same, filter-found, no_repeat_where, distinct-apart}
+use Rattle.fm_base.specs.Names.{Name, is_one_of, distinct}
+use Rattle.fm_base.proofs.Distinct.{same_name, is_same, filter-found, no_repeat_where}
 use Rattle.net_names.proofs.Few.{no_more}
 use Rattle.net_names.proofs.Times.{one_of_both}
 use Rattle.blif_model.specs.Walk.{Act, takes, gives, clocks, visits, flat_table, flat_latch, Step, Visit, visited, visits_of, clocked, clock_names, is_clock, unclocked, names_at, nets_of}
 use Rattle.blif_model.specs.WalkFault.{control_of}
 use Rattle.blif_model.proofs.Drivers.{names_at-names}
+use Rattle.blif_walk.proofs.Marking.{names_apart}
 use Rattle.blif_walk.specs.Flat.{names_of}
 use Rattle.blif_walk.specs.Sorts.{names_by}
 use Rattle.blif_walk.specs.declared.sorts.Sort.TheVariants.{Clock}
@@ -131,11 +132,6 @@ module _ (steps : List Step) where
       ∙ ap distinct (sym (controls_gone steps (λ q h. ap not (controls_clocked steps q h))))
       ∙ sym (filter-distinct is_net (named_in steps))
 
-  -- no name stands twice
-  pub names-once : has_repeat (names_of steps) ≡ false
-  unfolding names_of
-  names-once = distinct-apart (named_in steps)
-
   -- a clock name is no net
   pub clock-out : (q : Name) → is_clock steps q ≡ true → is_one_of (nets_of steps) q ≡ false
   clock-out q e = ap (λ (names : List Name). is_one_of names q) nets-named ∙ filter-found is_net (names_of steps) q ∙ ap (λ b. not b && is_one_of (names_of steps) q) e
@@ -147,7 +143,7 @@ module _ (steps : List Step) where
       length-filter_both (is_clock steps) is_net (λ q. refl) (names_of steps) in
       let nets : length (nets_of steps) ≡ length (filter is_net (names_of steps)) = ap (λ (names : List Name). length names) nets-named in
       let few : length (filter (is_clock steps) (names_of steps)) ≤ length (clock_names steps) =
-      no_more (filter (is_clock steps) (names_of steps)) (clock_names steps) (no_repeat_where (is_clock steps) (names_of steps) names-once)
+      no_more (filter (is_clock steps) (names_of steps)) (clock_names steps) (no_repeat_where (is_clock steps) (names_of steps) (names_apart steps))
       (λ q h. first (is_clock steps q) (is_one_of (names_of steps) q) (sym (filter-found (is_clock steps) (names_of steps) q) ∙ h)) in
       omega arith
     where

@@ -1,12 +1,11 @@
 -- The outputs, each once, with one more.
-use Rattle.std.proofs.Common.{◌≡◌, ℕ, zero, suc, ◌+◌, ◌<◌, Bool, true, false, cond, ◌||◌, List, [], ◌∷◌, ◌++◌, refl, ap, sym, ◌∙◌, length, map, take, get_or, arith}
+use Rattle.std.proofs.Common.{◌≡◌, ℕ, ◌+◌, ◌<◌, Bool, true, false, cond, ◌||◌, List, [], ◌∷◌, ◌++◌, refl, ap, sym, ◌∙◌, length, map, take, get_or, arith}
 use Rattle.std.specs.Prelude.{bytes_eq, flat_map, replicate, slice_index_or, slice_set}
 use Rattle.std.proofs.lemmas.List.{append-nil, length-map, map-append, take_more}
 use Rattle.std.proofs.lemmas.Grind.{flat_map-append}
 use Rattle.circuit.specs.declared.parts.NetId.{NetId}
-use Rattle.fm_base.specs.Names.{Name, distinct, has_repeat, is_one_of}
-use Rattle.fm_base.proofs.Distinct.{bytes_eq-sym, distinct-snoc, is_same, same_name}
-use Rattle.fm_base.proofs.Tests.{clash, false_of, or_false}
+use Rattle.fm_base.specs.Names.{Name, distinct, is_one_of}
+use Rattle.fm_base.proofs.Distinct.{distinct-snoc, is_same, same_name}
 use Rattle.net_names.specs.Nets.{net_id}
 use Rattle.net_names.proofs.Times.{one_of_both}
 use Rattle.fm_list.specs.declared.Seq.{Seq}
@@ -17,7 +16,7 @@ use Rattle.blif_walk.specs.declared.flat.NumberedAct.{NumberedAct}
 use Rattle.blif_walk.specs.declared.flat.NumberedAct.TheVariants as numbered
 use Rattle.blif_walk.specs.declared.flat.NumberedStep.{NumberedStep}
 use Rattle.blif_walk.specs.declared.flat.NameId.{NameId}
-use Rattle.blif_reader.proofs.FlatNets.{names-once}
+use Rattle.blif_walk.proofs.Marking.{mark_one, names_apart}
 use Rattle.blif_reader.proofs.NetNumbers.{by_number}
 
 -- ---- marks of names
@@ -36,32 +35,6 @@ marked_itself done x = one_of_both done (x ∷ []) x ∙ rw (is_same x) (whole (
     whole : (b : Bool) → (b || true) ≡ true
     whole true = refl
     whole false = refl
-
-marks_apart : (done names : List Name) (x : Name) → is_one_of names x ≡ false → map (is_one_of done) names ≡ map (is_one_of (done ++ x ∷ [])) names
-marks_apart done [] x e = refl
-marks_apart done (q ∷ names) x e =
-    let parts = or_false (bytes_eq x q) (is_one_of names x) e in
-    rw (marked_other done x q (bytes_eq-sym q x ∙ parts.0), marks_apart done names x parts.1) refl
-
-here : (names : List Name) (k : ℕ) → k < length names → is_one_of names (get_or names k []) ≡ true
-here [] k h = absurd (omega arith)
-here (y ∷ names) zero h = ap (λ b. b || is_one_of names y) (is_same y)
-here (y ∷ names) (suc k) h = later (bytes_eq (get_or names k []) y) _ (here names k (omega arith))
-  where
-    later : (a b : Bool) → b ≡ true → (a || b) ≡ true
-    later true b e = refl
-    later false b e = e
-
-marks_set : (done names : List Name) (k : ℕ) → has_repeat names ≡ false → k < length names → slice_set (map (is_one_of done) names) k true ≡ map (is_one_of (done ++ get_or names k [] ∷ [])) names
-marks_set done [] k apart h = absurd (omega arith)
-marks_set done (y ∷ names) zero apart h =
-    let parts = or_false (is_one_of names y) (has_repeat names) apart in
-    rw (marked_itself done y, marks_apart done names y parts.0) refl
-marks_set done (y ∷ names) (suc k) apart h =
-    let parts = or_false (is_one_of names y) (has_repeat names) apart in
-    let x : Name = get_or names k [] in
-    let other : bytes_eq y x ≡ false = false_of (bytes_eq y x) (λ s. clash (is_one_of names y) (ap (is_one_of names) (same_name y x s) ∙ here names k (omega arith)) parts.0) in
-    rw (marked_other done x y other, marks_set done names k parts.1 (omega arith)) refl
 
 -- ---- outputs
 
@@ -93,7 +66,7 @@ module _ (steps : List Step) (done : List Name) (seen : List Bool) (are : seen �
 
   -- a new one is marked, and goes to the end
   pub seen_first : slice_set seen k true ≡ map (is_one_of (done ++ name ∷ [])) (names_of steps)
-  seen_first = ap (λ (bs : List Bool). slice_set bs k true) are ∙ marks_set done (names_of steps) k (names-once steps) fits
+  seen_first = ap (λ (bs : List Bool). slice_set bs k true) are ∙ mark_one done (names_of steps) k (names_apart steps) fits
 
   pub ids_first : (b : Bool) (ids new : List NetId) (id : NetId) → b ≡ get_or seen k b → b ≡ false → id ≡ net_id (nets_of steps) name → new ≡ ids ++ id ∷ [] → ids ≡ map (net_id (nets_of steps)) (distinct done)
       → new ≡ map (net_id (nets_of steps)) (distinct (done ++ name ∷ []))

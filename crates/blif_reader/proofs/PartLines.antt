@@ -21,7 +21,7 @@ use Rattle.blif_walk.specs.declared.flat.NumberedStep.{NumberedStep}
 use Rattle.blif_walk.specs.declared.flat.NumberedTable.{NumberedTable}
 use Rattle.blif_walk.specs.declared.flat.NameId.{NameId}
 use Rattle.blif_reader.specs.declared.parts.NetParts.{NetParts}
-use Rattle.blif_reader.specs.Parts.{parts_of}
+use Rattle.blif_reader.specs.Parts.{net_parts}
 
 -- ---- inputs
 
@@ -75,10 +75,10 @@ module _ (steps done : List Step) (s : Step) where
 
   -- the parts with those of the line
   parts_with : (inputs : List NetId) (tables : List Table) (table_nets : List NetId) (latches : List Latch) (latch_nets : List NetId)
-      → inputs ≡ (parts_of steps done).inputs ++ ids (taken steps s.act) → tables ≡ (parts_of steps done).tables ++ option_to_list (table_of (nets_of steps) s.act)
-      → table_nets ≡ (parts_of steps done).table_nets ++ ids (table_net s.act) → latches ≡ (parts_of steps done).latches ++ option_to_list (latch_of (nets_of steps) s.act)
-      → latch_nets ≡ (parts_of steps done).latch_nets ++ ids (latch_net s.act)
-      → record { inputs = inputs; tables = tables; table_nets = table_nets; latches = latches; latch_nets = latch_nets } ≡ parts_of steps (done ++ s ∷ [])
+      → inputs ≡ (net_parts steps done).inputs ++ ids (taken steps s.act) → tables ≡ (net_parts steps done).tables ++ option_to_list (table_of (nets_of steps) s.act)
+      → table_nets ≡ (net_parts steps done).table_nets ++ ids (table_net s.act) → latches ≡ (net_parts steps done).latches ++ option_to_list (latch_of (nets_of steps) s.act)
+      → latch_nets ≡ (net_parts steps done).latch_nets ++ ids (latch_net s.act)
+      → record { inputs = inputs; tables = tables; table_nets = table_nets; latches = latches; latch_nets = latch_nets } ≡ net_parts steps (done ++ s ∷ [])
   parts_with inputs tables table_nets latches latch_nets i t tn l ln =
       rw (
         i,
@@ -96,12 +96,12 @@ module _ (steps done : List Step) (s : Step) where
   same : {X : Type 0} (xs : List X) → xs ≡ xs ++ []
   same xs = sym (append-nil xs)
 
-module _ (steps done : List Step) (line : ℕ) (old : NetParts) (was : old ≡ parts_of steps done) where
+module _ (steps done : List Step) (line : ℕ) (old : NetParts) (was : old ≡ net_parts steps done) where
   -- those of an `.inputs` line
   pub parts_inputs : (names : List Name) (inputs : List NetId) → inputs ≡ old.inputs ++ map (net_id (nets_of steps)) (unclocked steps names)
-      → record { inputs = inputs; tables = old.tables; table_nets = old.table_nets; latches = old.latches; latch_nets = old.latch_nets } ≡ parts_of steps (done ++ record { line = line; act = takes names } ∷ [])
+      → record { inputs = inputs; tables = old.tables; table_nets = old.table_nets; latches = old.latches; latch_nets = old.latch_nets } ≡ net_parts steps (done ++ record { line = line; act = takes names } ∷ [])
   parts_inputs names inputs e =
-      let p : NetParts = parts_of steps done in
+      let p : NetParts = net_parts steps done in
       parts_with steps done (record { line = line; act = takes names }) inputs old.tables old.table_nets old.latches old.latch_nets
       (e ∙ ap (λ (q : NetParts). q.inputs ++ map (net_id (nets_of steps)) (unclocked steps names)) was)
       (ap (λ (q : NetParts). q.tables) was ∙ sym (append-nil p.tables))
@@ -112,9 +112,9 @@ module _ (steps done : List Step) (line : ℕ) (old : NetParts) (was : old ≡ p
   -- those of a table
   pub parts_table : (ins : List Name) (out : Name) (rows : List (List Name)) (t : Table) (tables : List Table) (id : NetId) (table_nets : List NetId)
       → table_of (nets_of steps) (flat_table ins out rows) ≡ Some t → tables ≡ old.tables ++ t ∷ [] → id ≡ net_id (nets_of steps) out → table_nets ≡ old.table_nets ++ id ∷ []
-      → record { inputs = old.inputs; tables = tables; table_nets = table_nets; latches = old.latches; latch_nets = old.latch_nets } ≡ parts_of steps (done ++ record { line = line; act = flat_table ins out rows } ∷ [])
+      → record { inputs = old.inputs; tables = tables; table_nets = table_nets; latches = old.latches; latch_nets = old.latch_nets } ≡ net_parts steps (done ++ record { line = line; act = flat_table ins out rows } ∷ [])
   parts_table ins out rows t tables id table_nets made e f g =
-      let p : NetParts = parts_of steps done in
+      let p : NetParts = net_parts steps done in
       parts_with steps done (record { line = line; act = flat_table ins out rows }) old.inputs tables table_nets old.latches old.latch_nets
       (ap (λ (q : NetParts). q.inputs) was ∙ sym (append-nil p.inputs))
       (e ∙ ap (λ (q : NetParts). q.tables ++ t ∷ []) was ∙ ap (λ (o : Option Table). p.tables ++ option_to_list o) (sym made))
@@ -125,9 +125,9 @@ module _ (steps done : List Step) (line : ℕ) (old : NetParts) (was : old ≡ p
   -- those of a latch
   pub parts_latch : (s : FlatLatch) (l : Latch) (latches : List Latch) (id : NetId) (latch_nets : List NetId)
       → latch_of (nets_of steps) (flat_latch s) ≡ Some l → latches ≡ old.latches ++ l ∷ [] → id ≡ net_id (nets_of steps) s.to → latch_nets ≡ old.latch_nets ++ id ∷ []
-      → record { inputs = old.inputs; tables = old.tables; table_nets = old.table_nets; latches = latches; latch_nets = latch_nets } ≡ parts_of steps (done ++ record { line = line; act = flat_latch s } ∷ [])
+      → record { inputs = old.inputs; tables = old.tables; table_nets = old.table_nets; latches = latches; latch_nets = latch_nets } ≡ net_parts steps (done ++ record { line = line; act = flat_latch s } ∷ [])
   parts_latch s l latches id latch_nets made e f g =
-      let p : NetParts = parts_of steps done in
+      let p : NetParts = net_parts steps done in
       parts_with steps done (record { line = line; act = flat_latch s }) old.inputs old.tables old.table_nets latches latch_nets
       (ap (λ (q : NetParts). q.inputs) was ∙ sym (append-nil p.inputs))
       (ap (λ (q : NetParts). q.tables) was ∙ sym (append-nil p.tables))
@@ -137,9 +137,9 @@ module _ (steps done : List Step) (line : ℕ) (old : NetParts) (was : old ≡ p
 
   -- those of a line that gives none
   pub parts_none : (act : Act) → taken steps act ≡ [] → table_of (nets_of steps) act ≡ None → table_net act ≡ [] → latch_of (nets_of steps) act ≡ None → latch_net act ≡ []
-      → old ≡ parts_of steps (done ++ record { line = line; act = act } ∷ [])
+      → old ≡ net_parts steps (done ++ record { line = line; act = act } ∷ [])
   parts_none act i t tn l ln =
-      let p : NetParts = parts_of steps done in
+      let p : NetParts = net_parts steps done in
       parts_with steps done (record { line = line; act = act }) old.inputs old.tables old.table_nets old.latches old.latch_nets
       (ap (λ (q : NetParts). q.inputs) was ∙ sym (append-nil p.inputs) ∙ ap (λ (ns : List Name). p.inputs ++ map (net_id (nets_of steps)) ns) (sym i))
       (ap (λ (q : NetParts). q.tables) was ∙ sym (append-nil p.tables) ∙ ap (λ (o : Option Table). p.tables ++ option_to_list o) (sym t))
@@ -148,7 +148,7 @@ module _ (steps done : List Step) (line : ℕ) (old : NetParts) (was : old ≡ p
       (ap (λ (q : NetParts). q.latch_nets) was ∙ sym (append-nil p.latch_nets) ∙ ap (λ (ns : List Name). p.latch_nets ++ map (net_id (nets_of steps)) ns) (sym ln))
 
   pub parts_rest : (f : NameId → Name) (act : NumberedAct) → ((names : Seq NameId) → act ≡ numbered.Inputs names → ⊥) → ((t : NumberedTable) → act ≡ numbered.Table t → ⊥)
-      → ((l : NumberedLatch) → act ≡ numbered.Latch l → ⊥) → old ≡ parts_of steps (done ++ record { line = line; act = act_by f act } ∷ [])
+      → ((l : NumberedLatch) → act ≡ numbered.Latch l → ⊥) → old ≡ net_parts steps (done ++ record { line = line; act = act_by f act } ∷ [])
   parts_rest f (numbered.Inputs names) inputs table latch = absurd (inputs names refl)
   parts_rest f (numbered.Table t) inputs table latch = absurd (table t refl)
   parts_rest f (numbered.Latch l) inputs table latch = absurd (latch l refl)

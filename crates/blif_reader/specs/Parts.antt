@@ -9,8 +9,8 @@ use Rattle.blif_reader.specs.declared.outputs.OutputNets.{OutputNets}
 use Rattle.blif_reader.specs.declared.parts.NetParts.{NetParts}
 
 -- what the first lines of a walk give: inputs, tables beside their nets, and latches beside theirs
-abbrev pub parts_of : (steps done : List Step) → NetParts
-parts_of steps done = record {
+abbrev pub net_parts : (steps done : List Step) → NetParts
+net_parts steps done = record {
   inputs = map (net_id (nets_of steps)) (flat_map (λ s. taken steps s.act) done);
   tables = filter_map (λ s. table_of (nets_of steps) s.act) done;
   table_nets = map (net_id (nets_of steps)) (flat_map (λ s. table_net s.act) done);

@@ -6,7 +6,7 @@ ghost use Rattle.net_names.specs.Nets.{net_id};
 ghost use Rattle.blif_walk.specs.Flat.{AreBelow, act_by, ids_in, name_at, names_of, step_by};
 ghost use Rattle.blif_walk.specs.Flattened.{flat_steps};
 ghost use Rattle.blif_reader.specs.Numbers.{AreNetNumbers};
-ghost use Rattle.blif_reader.specs.Parts.{parts_of};
+ghost use Rattle.blif_reader.specs.Parts.{net_parts};
 ghost use Rattle.blif_walk.specs.declared.flat.NumberedAct.TheVariants as acts;
 
 use crate::numbers::NetNumbers;
@@ -85,7 +85,7 @@ fn put_table(
     table: &NumberedTable<'_, '_>,
 ) -> Result<(), AllocError>
     requires { AreBelow (length numbers.now.ids.items) (ids_in (acts.Table table.now)) }
-    ensures { OnOk result ((steps done : List Step) (line : ℕ) → AreNetNumbers steps numbers.now → parts.old ≡ parts_of steps done → parts.new ≡ parts_of steps (done ++ record { line = line; act = act_by (name_at (names_of steps)) (acts.Table table.now) } ∷ [])) }
+    ensures { OnOk result ((steps done : List Step) (line : ℕ) → AreNetNumbers steps numbers.now → parts.old ≡ net_parts steps done → parts.new ≡ net_parts steps (done ++ record { line = line; act = act_by (name_at (names_of steps)) (acts.Table table.now) } ∷ [])) }
 {
     let made = net_table(alloc, numbers, table)?;
     parts.tables.push(made)?;
@@ -99,7 +99,7 @@ fn put_latch(
     latch: &NumberedLatch<'_>,
 ) -> Result<(), AllocError>
     requires { AreBelow (length numbers.now.ids.items) (ids_in (acts.Latch latch.now)) }
-    ensures { OnOk result ((steps done : List Step) (line : ℕ) → AreNetNumbers steps numbers.now → parts.old ≡ parts_of steps done → parts.new ≡ parts_of steps (done ++ record { line = line; act = act_by (name_at (names_of steps)) (acts.Latch latch.now) } ∷ [])) }
+    ensures { OnOk result ((steps done : List Step) (line : ℕ) → AreNetNumbers steps numbers.now → parts.old ≡ net_parts steps done → parts.new ≡ net_parts steps (done ++ record { line = line; act = act_by (name_at (names_of steps)) (acts.Latch latch.now) } ∷ [])) }
 {
     parts.latches.push(net_latch(numbers, latch))?;
     parts.latch_nets.push(numbers.net(latch.to))
@@ -113,7 +113,7 @@ fn put_step(
     step: &NumberedStep<'_, '_>,
 ) -> Result<(), AllocError>
     requires { AreBelow (length numbers.now.ids.items) (ids_in step.now.act) }
-    ensures { OnOk result ((steps done : List Step) → AreNetNumbers steps numbers.now → parts.old ≡ parts_of steps done → parts.new ≡ parts_of steps (done ++ step_by (name_at (names_of steps)) step.now ∷ [])) }
+    ensures { OnOk result ((steps done : List Step) → AreNetNumbers steps numbers.now → parts.old ≡ net_parts steps done → parts.new ≡ net_parts steps (done ++ step_by (name_at (names_of steps)) step.now ∷ [])) }
 {
     match &step.act {
         NumberedAct::Inputs(names) => put_inputs(numbers, &mut parts.inputs, names.as_slice()),
@@ -130,7 +130,7 @@ pub fn take_parts(
     numbers: &NetNumbers,
 ) -> Result<NetParts, AllocError>
     requires { AreNetNumbers (flat_steps flat.now) numbers.now }
-    ensures { IfOk result (λ p. p ≡ parts_of (flat_steps flat.now) (flat_steps flat.now)) }
+    ensures { IfOk result (λ p. p ≡ net_parts (flat_steps flat.now) (flat_steps flat.now)) }
 {
     let mut parts = NetParts {
         inputs: Seq::new(alloc),

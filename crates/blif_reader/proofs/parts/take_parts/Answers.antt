@@ -5,7 +5,7 @@ use Rattle.net_names.specs.Nets.{net_id}
 use Rattle.blif_walk.specs.Flat.{steps_by}
 use Rattle.blif_walk.specs.Flattened.{flat_steps}
 use Rattle.blif_walk.specs.declared.flat.NumberedStep.{NumberedStep}
-use Rattle.blif_reader.specs.Parts.{parts_of}
+use Rattle.blif_reader.specs.Parts.{net_parts}
 use Rattle.blif_reader.proofs.PartLines.{line_within, lines_step}
 use Rattle.blif_reader.proofs.parts.take_parts.Goals as goal
 
@@ -26,10 +26,10 @@ loop-step-preserved c =
     let steps : List Step = flat_steps flat in
     let done : List Step = steps_by flat.names (take c.loop-step.step-index flat.steps.items) in
     c.in_ok-put_step.ensures steps done c.requires c.loop-step.invariant
-    ∙ ap (parts_of steps) (lines_step flat.names flat.steps.items flat.is_flat.first c.loop-step.step-index c.step-item.result h is)
+    ∙ ap (net_parts steps) (lines_step flat.names flat.steps.items flat.is_flat.first c.loop-step.step-index c.step-item.result h is)
 
 pub returns : goal.returns
 returns c =
     let flat = c.args.flat.now in
     let h = rw c.as_slice-step-items.ensures.value at c.loop-step-test.false in
-    c.loop-step.invariant ∙ ap (λ (lines : List NumberedStep). parts_of (flat_steps flat) (steps_by flat.names lines)) (take_all c.loop-step.step-index flat.steps.items h)
+    c.loop-step.invariant ∙ ap (λ (lines : List NumberedStep). net_parts (flat_steps flat) (steps_by flat.names lines)) (take_all c.loop-step.step-index flat.steps.items h)
