@@ -9,6 +9,7 @@ use Rattle.std.proofs.lemmas.List.Folds.{list_any-append}
 use Rattle.std.proofs.Math.Dec.{eqb-suc-suc, eqb-suc-zero, eqb-zero-suc}
 use Rattle.fm_base.specs.Names.{Name, is_one_of, has_repeat}
 use Rattle.fm_base.specs.Firsts.{first_where, given}
+use Rattle.fm_base.proofs.Tests.{or_second}
 use Rattle.fm_base.proofs.Distinct.{bytes_eq-sym, is_same}
 use Rattle.blif_text.specs.declared.NetlistKind.TheVariants.{TwoClocks}
 use Rattle.blif_text.specs.declared.NetlistFault.{NetlistFault}
@@ -28,17 +29,13 @@ use Rattle.blif_faults.proofs.Passing.{first_clock_fault}
 
 -- ---- the first clock name
 
-or_right : (a b : Bool) → b ≡ true → (a || b) ≡ true
-or_right true b e = refl
-or_right false b e = e
-
 first_passing : (test : Name → Bool) (some : List Step) → ((q : Name) → is_one_of (flat_map (λ (s : Step). clocked s.act) some) q ≡ true → test q ≡ true)
     → option_map (λ at. at.1) (first_named Clock test some) ≡ slice_get (flat_map (λ (s : Step). clocked s.act) some) 0
 unfolding first_where
 first_passing test [] all = refl
 first_passing test (s ∷ some) all =
     by_cases (clocked s.act) all
-    (first_passing test some (λ q e. all q (list_any-append (bytes_eq q) (clocked s.act) (flat_map (λ (x : Step). clocked x.act) some) ∙ or_right (is_one_of (clocked s.act) q) _ e)))
+    (first_passing test some (λ q e. all q (list_any-append (bytes_eq q) (clocked s.act) (flat_map (λ (x : Step). clocked x.act) some) ∙ or_second (is_one_of (clocked s.act) q) _ e)))
   where
     rest : List Name
     rest = flat_map (λ (x : Step). clocked x.act) some

@@ -22,7 +22,7 @@ use Rattle.blif_faults.specs.Found.{first_named, passes}
 use Rattle.blif_faults.specs.Passes.{driven_names, settled}
 use Rattle.blif_faults.proofs.Passing.{driven_alike}
 
-mapped_or : {X Y : Type 0} (f : X → Y) (a b : Option X) → option_map f (option_or a b) ≡ option_or (option_map f a) (option_map f b)
+mapped_or : (f : ℕ × Name → NetlistFault) (a b : Option (ℕ × Name)) → option_map f (option_or a b) ≡ option_or (option_map f a) (option_map f b)
 mapped_or f None b = refl
 mapped_or f (Some x) b = refl
 

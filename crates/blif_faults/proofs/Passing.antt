@@ -15,7 +15,7 @@ use Rattle.blif_model.specs.LineFault.{at_line}
 use Rattle.blif_model.specs.Walk.{Act, takes, gives, clocks, visits, flat_table, flat_latch, Step, Visit, clocked, clock_names, names_at, is_clock, unclocked, taken, table_net, latch_net, drives_of}
 use Rattle.blif_model.specs.WalkFault.{Mark, edge, control, differ, Marked, edge_of, marks_at, marks_of, two_clocks, has_visit, two_drivers}
 use Rattle.fm_base.proofs.Firsts.{first_after-append}
-use Rattle.std.proofs.Math.Bool.{or-false}
+use Rattle.std.proofs.Math.Bool.{or-false, or-true}
 use Rattle.blif_faults.specs.Passes.{is_other, kept_first, differs_from, driven_names}
 
 given_or : {X : Type 0} (a b : Bool) (x : X) → option_or (given a x) (given b x) ≡ given (a || b) x
@@ -271,11 +271,7 @@ module _ (steps : List Step) where
 
   clock_last : (a b c : Bool) → ((a || (b || false)) || c) ≡ ((a || c) || (b || false))
   clock_last true b c = refl
-  clock_last false true c = sym (or_true c)
-    where
-      or_true : (x : Bool) → (x || true) ≡ true
-      or_true true = refl
-      or_true false = refl
+  clock_last false true c = sym (or-true c)
   clock_last false false c = sym (or-false c)
 
   holds_more : (before : List Visit) (seen : List Name) (name : Name) (line : ℕ) → Holds before seen → Holds (before ++ record { name = name; line = line } ∷ []) (seen ++ name ∷ [])

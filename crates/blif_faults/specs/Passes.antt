@@ -58,5 +58,5 @@ drives_twice marks (id ∷ ids) = slice_index_or marks id.0 false || drives_twic
 abbrev pub settled : List Step → List Name
 settled steps = clock_names steps ++ flat_map (λ s. driven_names (clock_names steps) s.act) steps
 
-abbrev pub AreSettled : FlatModel → List Bool → Type 0
-AreSettled f marks = marks ≡ map (is_one_of (settled (flat_steps f))) (names_of (flat_steps f))
+abbrev pub AreSettledMarks : FlatModel → List Bool → Type 0
+AreSettledMarks f marks = marks ≡ map (is_one_of (settled (flat_steps f))) (names_of (flat_steps f))

@@ -9,7 +9,7 @@ ghost use Rattle.blif_walk.specs.declared.flat.NameId.{NameId};
 ghost use Rattle.blif_walk.specs.declared.sorts.Sort.TheVariants.{Clock};
 ghost use Rattle.blif_walk.specs.Flat.{act_by, AreBelow, ids_in, name_at};
 ghost use Rattle.blif_walk.specs.Flattened.{flat_steps};
-ghost use Rattle.blif_walk.specs.Marks.{AreMarks};
+ghost use Rattle.blif_walk.specs.Marks.{AreMarksOf};
 ghost use Rattle.blif_walk.specs.Sorts.{ids_of};
 ghost use Rattle.blif_faults.specs.Passes.{differs_from, is_other, is_other_id, kept_first};
 
@@ -89,7 +89,7 @@ fn differs(first: Option<NameId>, edge: Option<&[u8]>, act: &NumberedAct<'_, '_>
 
 /// The number of the first clock name.
 fn first_clock(flat: &FlatModel<'_, '_>, clocks: &[bool]) -> Option<NameId>
-    requires { AreMarks flat.now Clock clocks.now }
+    requires { AreMarksOf flat.now Clock clocks.now }
     ensures name { option_map (name_at flat.now.names) result ≡ slice_get (clock_names (flat_steps flat.now)) 0 }
     ensures within { AreBelow (length flat.now.names) (option_to_list result) }
 {
@@ -101,7 +101,7 @@ fn first_clock(flat: &FlatModel<'_, '_>, clocks: &[bool]) -> Option<NameId>
 
 /// TwoClocks: the first line with another type of latch or another clock name.
 pub fn two_clocks(flat: &FlatModel<'_, '_>, clocks: &[bool]) -> Option<NetlistFault>
-    requires { AreMarks flat.now Clock clocks.now }
+    requires { AreMarksOf flat.now Clock clocks.now }
     ensures { result ≡ two_clocks (flat_steps flat.now) }
 {
     let first = first_clock(flat, clocks);

@@ -4,8 +4,8 @@ ghost use Rattle.blif_model.specs.WalkFault.{two_drivers};
 ghost use Rattle.blif_walk.specs.declared.sorts.Sort.TheVariants.{Clock};
 ghost use Rattle.blif_walk.specs.Flat.{AreBelow, ids_in};
 ghost use Rattle.blif_walk.specs.Flattened.{flat_steps};
-ghost use Rattle.blif_walk.specs.Marks.{AreMarks, marked};
-ghost use Rattle.blif_faults.specs.Passes.{AreSettled, driven_ids, drives_twice};
+ghost use Rattle.blif_walk.specs.Marks.{AreMarksOf, marked};
+ghost use Rattle.blif_faults.specs.Passes.{AreSettledMarks, driven_ids, drives_twice};
 
 use blif_text::{NetlistFault, NetlistKind};
 use blif_walk::flat::{FlatModel, NameId, NumberedAct};
@@ -65,10 +65,10 @@ pub fn two_drivers(
     clocks: &[bool],
     driven: &mut Vec<bool>,
 ) -> Option<NetlistFault>
-    requires clocks { AreMarks flat.now Clock clocks.now }
+    requires clocks { AreMarksOf flat.now Clock clocks.now }
     requires driven { driven.old.items ≡ clocks.now }
     ensures fault { result ≡ two_drivers (flat_steps flat.now) }
-    ensures driven { result ≡ None → AreSettled flat.now driven.new.items }
+    ensures driven { result ≡ None → AreSettledMarks flat.now driven.new.items }
 {
     for step in flat.steps.as_slice() {
         if drive_act(clocks, driven, &step.act) {

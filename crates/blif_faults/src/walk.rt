@@ -3,8 +3,8 @@ ghost use Rattle.std.specs.Prelude.{◌≡◌, IfOk};
 ghost use Rattle.blif_model.specs.WalkFault.{bad_clock, clock_read, undriven, walk_fault};
 ghost use Rattle.blif_walk.specs.declared.sorts.Sort.TheVariants.{Clock};
 ghost use Rattle.blif_walk.specs.Flattened.{flat_steps};
-ghost use Rattle.blif_walk.specs.Marks.{AreMarks};
-ghost use Rattle.blif_faults.specs.Passes.{AreSettled};
+ghost use Rattle.blif_walk.specs.Marks.{AreMarksOf};
+ghost use Rattle.blif_faults.specs.Passes.{AreSettledMarks};
 
 use crate::clocks::two_clocks;
 use crate::drivers::two_drivers;
@@ -32,7 +32,7 @@ fn bad_clock(alloc: Global, flat: &FlatModel<'_, '_>) -> Result<Option<NetlistFa
 
 /// ClockRead: the first line that reads a clock name.
 fn clock_read(flat: &FlatModel<'_, '_>, clocks: &[bool]) -> Option<NetlistFault>
-    requires { AreMarks flat.now Clock clocks.now }
+    requires { AreMarksOf flat.now Clock clocks.now }
     ensures { result ≡ clock_read (flat_steps flat.now) }
 {
     match first_found(flat, Sort::Read, clocks, true) {
@@ -50,7 +50,7 @@ fn undriven(
     flat: &FlatModel<'_, '_>,
     driven: &[bool],
 ) -> Result<Option<NetlistFault>, AllocError>
-    requires { AreSettled flat.now driven.now }
+    requires { AreSettledMarks flat.now driven.now }
     ensures { IfOk result (λ o. o ≡ undriven (flat_steps flat.now)) }
 {
     match first_found(flat, Sort::Visited, driven, false) {
@@ -72,7 +72,7 @@ pub fn walk_fault(
     flat: &FlatModel<'_, '_>,
     clocks: &[bool],
 ) -> Result<Option<NetlistFault>, AllocError>
-    requires { AreMarks flat.now Clock clocks.now }
+    requires { AreMarksOf flat.now Clock clocks.now }
     ensures { IfOk result (λ o. o ≡ walk_fault (flat_steps flat.now)) }
 {
     let second = two_clocks(flat, clocks);

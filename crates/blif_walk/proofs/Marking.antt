@@ -5,7 +5,7 @@ use Rattle.std.proofs.lemmas.List.{append-nil, take_more, map-append}
 use Rattle.std.proofs.lemmas.List.Elements.{All-head, All-tail, All-get_or}
 use Rattle.std.proofs.lemmas.List.Folds.{list_any-append}
 use Rattle.std.proofs.lemmas.Grind.{flat_map-append}
-use Rattle.std.proofs.Math.Bool.{or-false}
+use Rattle.std.proofs.Math.Bool.{or-false, or-true}
 use Rattle.fm_base.specs.Names.{Name, is_one_of, has_repeat}
 use Rattle.fm_base.proofs.Distinct.{distinct-apart, is_same, bytes_eq-sym}
 use Rattle.blif_model.specs.Walk.{Step}
@@ -31,10 +31,6 @@ pub either_right : (a b : Bool) → (a || b) ≡ false → b ≡ false
 either_right true b e = cc
 either_right false b e = e
 
-or_true : (b : Bool) → (b || true) ≡ true
-or_true true = refl
-or_true false = refl
-
 -- one more name that isn't this one
 one_more : (xs : List Name) (x name : Name) → bytes_eq name x ≡ false → is_one_of xs name ≡ is_one_of (xs ++ x ∷ []) name
 one_more xs x name e = sym (list_any-append (bytes_eq name) xs (x ∷ []) ∙ rw e (or-false (is_one_of xs name)))
@@ -57,7 +53,7 @@ pub mark_one : (xs names : List Name) (k : ℕ) → has_repeat names ≡ false �
     → slice_set (map (is_one_of xs) names) k true ≡ map (is_one_of (xs ++ slice_index_or names k [] ∷ [])) names
 mark_one xs [] k apart lt = absurd (omega arith)
 mark_one xs (name ∷ names) zero apart lt =
-    let here : true ≡ is_one_of (xs ++ name ∷ []) name = sym (list_any-append (bytes_eq name) xs (name ∷ []) ∙ rw (is_same name) (or_true (is_one_of xs name))) in
+    let here : true ≡ is_one_of (xs ++ name ∷ []) name = sym (list_any-append (bytes_eq name) xs (name ∷ []) ∙ rw (is_same name) (or-true (is_one_of xs name))) in
     let rest = others_stay xs names name (either_left (is_one_of names name) (has_repeat names) apart) in
     ap (λ (b : Bool). b ∷ map (is_one_of xs) names) here ∙ ap (λ (bs : List Bool). is_one_of (xs ++ name ∷ []) name ∷ bs) rest
 mark_one xs (name ∷ names) (suc k) apart lt =

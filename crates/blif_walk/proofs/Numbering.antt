@@ -17,7 +17,7 @@ use Rattle.blif_walk.specs.declared.flat.NumberedAct.{NumberedAct}
 use Rattle.blif_walk.specs.declared.flat.NumberedAct.TheVariants.{Inputs, Outputs, Clocks, PortNets, Table, Latch}
 use Rattle.blif_walk.specs.declared.flat.NumberedStep.{NumberedStep}
 use Rattle.blif_walk.specs.Flat.{name_at, names_of, mentioned, AreBelow, act_by, step_by, steps_by, ids_in, IsFlat}
-use Rattle.blif_walk.specs.Numbering.{AreNumbered, IsNumbered}
+use Rattle.blif_walk.specs.Numbering.{HaveNumbers, IsNumbered}
 
 -- ---- names that grow
 
@@ -89,7 +89,7 @@ numbers_grown old new texts ids earlier e h =
     subst (λ (names : List Name). Numbers names ids earlier) (sym (e ∙ more.1)) (numbers_kept old more.0 ids earlier h)
 
 -- names, and names behind them
-pub numbered_both : (old mid new xs ys : List Name) (ids js : List NameId) → AreNumbered old mid xs ids → AreNumbered mid new ys js → AreNumbered old new (xs ++ ys) (ids ++ js)
+pub numbered_both : (old mid new xs ys : List Name) (ids js : List NameId) → HaveNumbers old mid xs ids → HaveNumbers mid new ys js → HaveNumbers old new (xs ++ ys) (ids ++ js)
 numbered_both old mid new xs ys ids js a b = record {
   names = b.names ∙ ap (λ (names : List Name). fold with_name names ys) a.names ∙ sym (fold-append with_name old xs ys);
   numbers =
@@ -99,7 +99,7 @@ numbered_both old mid new xs ys ids js a b = record {
       ∙ sym (map-append Some xs ys);
 }
 
-pub numbered_none : (names : List Name) → AreNumbered names names [] []
+pub numbered_none : (names : List Name) → HaveNumbers names names [] []
 numbered_none names = record { names = refl; numbers = refl }
 
 -- what numbers say: their names, and that they have one
@@ -120,14 +120,14 @@ are_below names (text ∷ texts) (id ∷ ids) e =
 
 -- the loop over names
 pub numbered_next : (old mid new texts : List Name) (i : ℕ) (text slice : Name) (ids pushed : List NameId) (id : NameId) → i < length texts → text ≡ get_or texts i text → slice ≡ text
-    → AreNumbered old mid (take i texts) ids → AreNumbered mid new (slice ∷ []) (id ∷ []) → pushed ≡ ids ++ id ∷ [] → AreNumbered old new (take (i + 1) texts) pushed
+    → HaveNumbers old mid (take i texts) ids → HaveNumbers mid new (slice ∷ []) (id ∷ []) → pushed ≡ ids ++ id ∷ [] → HaveNumbers old new (take (i + 1) texts) pushed
 numbered_next old mid new texts i text slice ids pushed id lt is same before one e =
     let front : take i texts ++ slice ∷ [] ≡ take (i + 1) texts = ap (λ (t : Name). take i texts ++ t ∷ []) (same ∙ is) ∙ sym (take_more texts i text lt) in
-    subst (λ (js : List NameId). AreNumbered old new (take (i + 1) texts) js) (sym e)
-    (subst (λ (ts : List Name). AreNumbered old new ts (ids ++ id ∷ [])) front (numbered_both old mid new (take i texts) (slice ∷ []) ids (id ∷ []) before one))
+    subst (λ (js : List NameId). HaveNumbers old new (take (i + 1) texts) js) (sym e)
+    (subst (λ (ts : List Name). HaveNumbers old new ts (ids ++ id ∷ [])) front (numbered_both old mid new (take i texts) (slice ∷ []) ids (id ∷ []) before one))
 
 -- a table's names
-pub numbered_table : (old mid new ins : List Name) (out : Name) (ids : List NameId) (id : NameId) (rows : List (List Name)) → AreNumbered old mid ins ids → AreNumbered mid new (out ∷ []) (id ∷ [])
+pub numbered_table : (old mid new ins : List Name) (out : Name) (ids : List NameId) (id : NameId) (rows : List (List Name)) → HaveNumbers old mid ins ids → HaveNumbers mid new (out ∷ []) (id ∷ [])
     → flat_table (map (name_at new) ids) (name_at new id) rows ≡ flat_table ins out rows
 numbered_table old mid new ins out ids id rows a b =
     let all = names_are new ins ids (numbers_grown mid new (out ∷ []) ids ins b.names a.numbers) in
@@ -135,18 +135,18 @@ numbered_table old mid new ins out ids id rows a b =
     rw (all, one) refl
 
 -- a line whose names are those of its numbers
-pub numbered_line : (old new : List Name) (act : Act) (numbered : NumberedAct) → AreNumbered old new (mentioned act) (ids_in numbered) → act_by (name_at new) numbered ≡ act → IsNumbered old new act numbered
+pub numbered_line : (old new : List Name) (act : Act) (numbered : NumberedAct) → HaveNumbers old new (mentioned act) (ids_in numbered) → act_by (name_at new) numbered ≡ act → IsNumbered old new act numbered
 numbered_line old new act numbered a same = record { names = a.names; same = same; within = are_below new (mentioned act) (ids_in numbered) a.numbers }
 
-pub numbered_alone : (old new texts : List Name) (ids : List NameId) → AreNumbered old new texts ids → AreNumbered old new (texts ++ []) ids
-numbered_alone old new texts ids a = subst (λ (ts : List Name). AreNumbered old new ts ids) (sym (append-nil texts)) a
+pub numbered_alone : (old new texts : List Name) (ids : List NameId) → HaveNumbers old new texts ids → HaveNumbers old new (texts ++ []) ids
+numbered_alone old new texts ids a = subst (λ (ts : List Name). HaveNumbers old new ts ids) (sym (append-nil texts)) a
 
 -- a line of ports
-pub numbered_ports : (old new texts : List Name) (ids : List NameId) (own : List Name → Act) (numbered : NumberedAct) → AreNumbered old new texts ids → mentioned (own texts) ≡ texts ++ [] → ids_in numbered ≡ ids
+pub numbered_ports : (old new texts : List Name) (ids : List NameId) (own : List Name → Act) (numbered : NumberedAct) → HaveNumbers old new texts ids → mentioned (own texts) ≡ texts ++ [] → ids_in numbered ≡ ids
     → act_by (name_at new) numbered ≡ own (map (name_at new) ids) → IsNumbered old new (own texts) numbered
 numbered_ports old new texts ids own numbered a brings is act =
-    let at : AreNumbered old new (mentioned (own texts)) (ids_in numbered) =
-    subst (λ (ts : List Name). AreNumbered old new ts (ids_in numbered)) (sym (brings ∙ append-nil texts)) (subst (λ (js : List NameId). AreNumbered old new texts js) (sym is) a) in
+    let at : HaveNumbers old new (mentioned (own texts)) (ids_in numbered) =
+    subst (λ (ts : List Name). HaveNumbers old new ts (ids_in numbered)) (sym (brings ∙ append-nil texts)) (subst (λ (js : List NameId). HaveNumbers old new texts js) (sym is) a) in
     numbered_line old new (own texts) numbered at (act ∙ ap own (names_are new texts ids a.numbers))
 
 -- ---- lines that were numbered before

@@ -9,8 +9,8 @@ use Rattle.blif_walk.specs.Flattened.{flat_steps}
 use Rattle.blif_walk.specs.Sorts.{names_by}
 
 -- whether each name is one of the names of this sort
-abbrev pub AreMarks : FlatModel → Sort → List Bool → Type 0
-AreMarks f sort marks = marks ≡ map (is_one_of (names_by sort (flat_steps f))) (names_of (flat_steps f))
+abbrev pub AreMarksOf : FlatModel → Sort → List Bool → Type 0
+AreMarksOf f sort marks = marks ≡ map (is_one_of (names_by sort (flat_steps f))) (names_of (flat_steps f))
 
 -- these numbers are marked
 abbrev pub marked : List Bool → List NameId → List Bool

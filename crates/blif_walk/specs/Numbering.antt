@@ -8,7 +8,7 @@ use Rattle.blif_walk.specs.declared.flat.NumberedAct.{NumberedAct}
 use Rattle.blif_walk.specs.Flat.{act_by, AreBelow, ids_in, mentioned, name_at}
 
 -- names went to those that were there, where they are new, and each number is that of its name
-pub record AreNumbered (old new : List Name) (texts : List Name) (ids : List NameId) : Type 0 where
+pub record HaveNumbers (old new : List Name) (texts : List Name) (ids : List NameId) : Type 0 where
   pub names : new ≡ fold with_name old texts
   pub numbers : map (λ id. slice_get new id.0) ids ≡ map Some texts
 

@@ -6,7 +6,7 @@ ghost use Rattle.blif_model.specs.Walk.{flat_table, walk};
 ghost use Rattle.blif_says.specs.Grouped.{all_said};
 ghost use Rattle.blif_walk.specs.Flat.{latch_by, name_at, names_of, table_by};
 ghost use Rattle.blif_walk.specs.Flattened.{flat_steps};
-ghost use Rattle.blif_walk.specs.Numbering.{AreNumbered, IsNumbered};
+ghost use Rattle.blif_walk.specs.Numbering.{HaveNumbers, IsNumbered};
 ghost use Rattle.blif_walk.specs.Seen.{act_at, latch_at};
 
 use crate::flat::{FlatModel, NameId, NumberedAct, NumberedLatch, NumberedStep, NumberedTable};
@@ -19,7 +19,7 @@ use std::alloc::{AllocError, Global};
 
 /// The number of a name. There is no room for more than 2^32 names.
 fn number_name(names: &mut NameIndex, name: &[u8]) -> Result<NameId, AllocError>
-    ensures { IfOk result (λ id. AreNumbered names.old names.new (name.now ∷ []) (id ∷ [])) }
+    ensures { IfOk result (λ id. HaveNumbers names.old names.new (name.now ∷ []) (id ∷ [])) }
 {
     let number = names.enter(name)?;
     if number > u32::MAX as usize {
@@ -33,7 +33,7 @@ fn number_names(
     names: &mut NameIndex,
     texts: &[Name],
 ) -> Result<Seq<NameId>, AllocError>
-    ensures { IfOk result (λ ids. AreNumbered names.old names.new texts.now ids) }
+    ensures { IfOk result (λ ids. HaveNumbers names.old names.new texts.now ids) }
 {
     let mut ids = Seq::new(alloc);
     for text in texts {
@@ -48,7 +48,7 @@ fn number_table<'m, 'a>(
     table: TableNets<'m, 'a>,
 ) -> Result<NumberedTable<'m, 'a>, AllocError>
     ensures same { IfOk result (λ t. table_by (name_at names.new) t ≡ flat_table table.entry.ins table.entry.out (rows_below (all_said table.entry.below.now))) }
-    ensures names { IfOk result (λ t. AreNumbered names.old names.new (table.entry.ins ++ table.entry.out ∷ []) (t.ins ++ t.out ∷ [])) }
+    ensures names { IfOk result (λ t. HaveNumbers names.old names.new (table.entry.ins ++ table.entry.out ∷ []) (t.ins ++ t.out ∷ [])) }
 {
     let ins = number_names(alloc, names, table.ins.as_slice())?;
     let out = number_name(names, table.out.as_slice())?;
@@ -63,7 +63,7 @@ fn number_control(
     names: &mut NameIndex,
     control: &Option<Name>,
 ) -> Result<Option<NameId>, AllocError>
-    ensures { IfOk result (λ o. AreNumbered names.old names.new (option_to_list control.now) (option_to_list o)) }
+    ensures { IfOk result (λ o. HaveNumbers names.old names.new (option_to_list control.now) (option_to_list o)) }
 {
     match control {
         Some(name) => Ok(Some(number_name(names, name.as_slice())?)),
@@ -76,7 +76,7 @@ fn number_latch<'a>(
     latch: LatchNets<'a>,
 ) -> Result<NumberedLatch<'a>, AllocError>
     ensures same { IfOk result (λ l. latch_by (name_at names.new) l ≡ latch_at latch.entry) }
-    ensures names { IfOk result (λ l. AreNumbered names.old names.new (latch.entry.from ∷ latch.entry.to ∷ option_to_list latch.entry.control) (l.from ∷ l.to ∷ option_to_list l.control)) }
+    ensures names { IfOk result (λ l. HaveNumbers names.old names.new (latch.entry.from ∷ latch.entry.to ∷ option_to_list latch.entry.control) (l.from ∷ l.to ∷ option_to_list l.control)) }
 {
     let from = number_name(names, latch.from.as_slice())?;
     let to = number_name(names, latch.to.as_slice())?;

@@ -2,7 +2,7 @@
 ghost use Rattle.std.specs.Prelude.{◌≡◌, IfOk, length};
 ghost use Rattle.std.specs.Option.{option_to_list};
 ghost use Rattle.blif_walk.specs.Flat.{AreBelow};
-ghost use Rattle.blif_walk.specs.Marks.{AreMarks, marked};
+ghost use Rattle.blif_walk.specs.Marks.{AreMarksOf, marked};
 ghost use Rattle.blif_walk.specs.Sorts.{ids_of};
 
 use crate::flat::{FlatModel, NameId};
@@ -45,7 +45,7 @@ pub fn marks_of(
     flat: &FlatModel<'_, '_>,
     sort: Sort,
 ) -> Result<Vec<bool>, AllocError>
-    ensures { IfOk result (λ marks. AreMarks flat.now sort marks.items) }
+    ensures { IfOk result (λ marks. AreMarksOf flat.now sort marks.items) }
 {
     let mut marks = Vec::from_elem(alloc, false, flat.names.len())?;
     for step in flat.steps.as_slice() {
