@@ -31,7 +31,8 @@ impl MemorySink {
     /// A sink with room for `capacity` bytes. The calls of the given numbers, from 1, fail, and so does a write past the room.
     /// No later call takes memory.
     pub fn new(alloc: Global, capacity: u64, failing: Calls) -> Result<Self, AllocError>
-        ensures { IfOk result (λ s. (s.bytes.items ≡ []) × (s.capacity ≡ capacity) × (s.failing ≡ failing) × (s.calls ≡ 0) × (s.failures ≡ 0)) }
+        ensures seen { IfOk result (λ s. ⟦<MemorySink as Sink>⟧.seen s ≡ record { written = Some []; faults = 0 }) }
+        ensures made { IfOk result (λ s. (s.capacity ≡ capacity) × (s.failing ≡ failing) × (s.calls ≡ 0)) }
     {
         Ok(MemorySink {
             bytes: Vec::with_capacity(alloc, capacity as usize)?,
@@ -335,6 +336,7 @@ pub struct MemoryShelf {
 }
 
 impl MemoryShelf {
+    ghost use Rattle.fm_shelf.specs.Entries.{only_files};
     ghost use Rattle.fm_shelf.specs.Starts.{IsFresh};
 
     /// A shelf with these files. The calls of the given numbers, from 1, fail and change nothing that is held.
@@ -348,7 +350,8 @@ impl MemoryShelf {
         capacity: u64,
         failing: Calls,
     ) -> Result<Self, AllocError>
-        ensures { IfOk result (λ m. IsFresh files capacity failing 0 m) }
+        ensures seen { IfOk result (λ m. ⟦<MemoryShelf as Shelf>⟧.seen m ≡ only_files (given_files files)) }
+        ensures made { IfOk result (λ m. IsFresh capacity failing 0 m) }
     {
         MemoryShelf::tearing(alloc, files, capacity, failing, 0)
     }
@@ -362,7 +365,8 @@ impl MemoryShelf {
         failing: Calls,
         taken: u64,
     ) -> Result<Self, AllocError>
-        ensures { IfOk result (λ m. IsFresh files capacity failing taken m) }
+        ensures seen { IfOk result (λ m. ⟦<MemoryShelf as Shelf>⟧.seen m ≡ only_files (given_files files)) }
+        ensures made { IfOk result (λ m. IsFresh capacity failing taken m) }
     {
         let entries = entries_of(alloc, files.as_slice(), capacity)?;
         let mut spares = Vec::with_capacity(alloc, SPARES)?;

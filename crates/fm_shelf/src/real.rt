@@ -1,5 +1,6 @@
 // The shelf over the system's files, and the sink over its standard output.
 ghost use Rattle.std.specs.Prelude.{◌≡◌, ◌≤◌, List, ℕ, [], false, None, length, IfOk};
+ghost use Rattle.fm_shelf.specs.Entries.{known_files};
 
 use crate::shelf::{Failed, Shelf, Sink};
 use std::fs::{OpenFile, OpenOptions};
@@ -49,7 +50,7 @@ pub struct FileShelf<'a, R: Files + Sync> {
 impl<'a, R: Files + Sync> FileShelf<'a, R> {
     /// The files that this runtime opens. Nothing is opened before the first call.
     pub fn new(rt: &'a R) -> Self
-        ensures { (result.failed_reads ≡ 0) × (result.failed_writes ≡ 0) }
+        ensures { ⟦<FileShelf<'a, R> as Shelf>⟧.seen result ≡ known_files [] }
     {
         FileShelf {
             rt,
@@ -106,7 +107,7 @@ pub struct OutSink<'a, R: Print> {
 impl<'a, R: Print> OutSink<'a, R> {
     /// The standard output of this runtime.
     pub fn new(rt: &'a R) -> Self
-        ensures { result.failures ≡ 0 }
+        ensures { ⟦<OutSink<'a, R> as Sink>⟧.seen result ≡ record { written = None; faults = 0 } }
     {
         OutSink { rt, failures: 0 }
     }

@@ -69,7 +69,9 @@ pub struct SureSink {}
 
 impl SureSink {
     /// Such a sink.
-    pub fn new() -> Self {
+    pub fn new() -> Self
+        ensures { ⟦<SureSink as Sink>⟧.seen result ≡ record { written = None; faults = 0 } }
+    {
         SureSink {}
     }
 }
