@@ -16,9 +16,9 @@ use Rattle.alarm_points.proofs.Settled.{some_below-same, some_below-suc, some_be
 use Rattle.fm_base.specs.Lists.{some_below}
 use Rattle.fm_base.specs.Planes.{bit}
 use Rattle.campaign_plan.specs.Danger.{differs, is_raised}
-use Rattle.classifier.specs.Seen.{HasSeen, HaveSeen, goal_at}
+use Rattle.classifier.specs.Seen.{HasSeen, HaveSeen, HaveSeenRun, goal_at}
 use Rattle.classifier.proofs.WindowCounts.{window_count}
-use Rattle.classifier.proofs.Views.{sees_all}
+use Rattle.classifier.proofs.Views.{sees_all, still_lane}
 
 -- where there is something for each number below n, some function gives it
 choose : {X : Type 0} (n : ℕ) (none : X) (P : ℕ → X → Type 0) → ((g : ℕ) → g < n → (x : X) × P g x) → (f : ℕ → X) × ((g : ℕ) → g < n → P g (f g))
@@ -65,12 +65,12 @@ interval_at points ws g made lt within =
 
 -- what goes unalarmed in a lane for some goal
 pub end_says : (c : Circuit) (points : Points) (run : Run) (faults : ℕ → List Fault) (ws : Watches) (noticed plane k : ℕ) → k < 64 → is_mission run.kind ≡ true
-    → HaveSeen c points run faults (cycles_of run) ws noticed
+    → HaveSeenRun c points run faults ws noticed
     → ((pairs : ℕ → List Pair) (j : ℕ) → ((g : ℕ) → g < length ws.windows → IsAfterPairs (pairs g) (window_at ws g)) → j < 64
     → bit plane j ≡ some_below (length ws.windows) (λ g. lane_goes_unalarmed (window_at ws g).ftti (pairs g) j))
     → bit plane k ≡ list_any (λ (goal : Goal). goes_unalarmed (interval_of ws.ftti goal) (cycles_of run)
     (differs c goal (faults k) run) (is_raised c points (faults k) run)) points.goals
-end_says c points run faults ws noticed plane k lane mission seen says =
+end_says c points run faults ws noticed plane k lane mission done says =
     says pairs.0 k (λ g lt. (pairs.1 g lt).0) lane
     ∙ some_below-same (length ws.windows) _ (λ g. unalarmed (goal_at points.goals g))
     (λ g lt. (pairs.1 g lt).1 (window_at ws g).ftti k lane
@@ -79,6 +79,9 @@ end_says c points run faults ws noticed plane k lane mission seen says =
     ∙ ap (λ n. some_below n (λ g. unalarmed (goal_at points.goals g))) count
     ∙ some_item unalarmed points.goals (goal_at [] 0)
   where
+    seen : HaveSeen c points run faults done.n ws noticed
+    seen = done.seen
+
     unalarmed : Goal → Bool
     unalarmed goal = goes_unalarmed (interval_of ws.ftti goal) (cycles_of run) (differs c goal (faults k) run) (is_raised c points (faults k) run)
 
@@ -95,8 +98,15 @@ end_says c points run faults ws noticed plane k lane mission seen says =
 
     each : (g : ℕ) → g < length ws.windows → (pairs : List Pair) × Says g pairs
     each g lt =
-        let own : HasSeen c points run faults (goal_at points.goals g) (cycles_of run) (window_at ws g) = seen.seen g (within g lt) in
-        (own.pairs, (own.after, λ f j small. sees_all c points run faults (goal_at points.goals g) (window_at ws g) f j small mission own))
+        let own : HasSeen c points run faults (goal_at points.goals g) done.n (window_at ws g) = seen.seen g (within g lt) in (
+          own.pairs,
+          (
+            own.after,
+            λ f j small.
+                sees_all c points run faults (goal_at points.goals g) done.n (window_at ws g) f j small mission done.within own
+                (λ none. still_lane c points run (faults j) g done.n (within g lt) done.within (λ t from late. done.still j t small none from late)),
+          ),
+        )
 
     pairs : (f : ℕ → List Pair) × ((g : ℕ) → g < length ws.windows → Says g (f g))
     pairs = choose (length ws.windows) [] Says each

@@ -5,3 +5,4 @@ pub mod EachWord
 pub mod PlaneBits
 pub mod Ends
 pub mod RunByRun
+pub mod Stillness

@@ -1,7 +1,7 @@
 -- A window that sees one cycle more of a run, and what it says at the end of the run.
-use Rattle.std.proofs.Common.{◌≡◌, ℕ, suc, ◌+◌, ◌<◌, ◌≤◌, ◌⊎◌, inl, inr, Bool, true, false, ◌&&◌, ◌||◌, List, [], ◌∷◌, ◌++◌, length, refl, ap, ap₂, sym, ◌∙◌, subst, arith}
+use Rattle.std.proofs.Common.{◌≡◌, ℕ, zero, suc, ◌+◌, ◌-◌, ◌<◌, ◌≤◌, ◌⊎◌, inl, inr, Bool, true, false, ◌&&◌, ◌||◌, List, [], ◌∷◌, ◌++◌, length, refl, ap, ap₂, sym, ◌∙◌, subst, arith}
 use Rattle.std.proofs.lemmas.Bool.{cases_Bool, cases_lt, false_from_ne_true, or_cases, or_left, or_parts, or_right, true≢false}
-use Rattle.std.proofs.lemmas.List.{length_push}
+use Rattle.std.proofs.lemmas.List.{get_or_past, length_push}
 use Rattle.std.proofs.Math.Bool.{or-false}
 use Rattle.circuit.specs.declared.parts.Fault.{Fault}
 use Rattle.circuit.specs.Circuit.{Circuit}
@@ -20,9 +20,10 @@ use Rattle.fm_base.proofs.Below.{some_below-true}
 use Rattle.fm_base.specs.Lists.{some_below}
 use Rattle.fm_base.specs.Planes.{bit}
 use Rattle.campaign_plan.specs.Danger.{differs, is_raised, is_silenced}
-use Rattle.fault_dropping.specs.Dropped.{AreRaisedAt}
+use Rattle.fault_dropping.specs.Dropped.{AreRaisedAt, IsStillFrom}
 use Rattle.fault_dropping.proofs.Raised.{goes_unalarmed-dropped}
-use Rattle.classifier.specs.Seen.{AreShown, AreShownToAlarm, HasSeen, HaveSeen, goal_at, is_noticed_by}
+use Rattle.fault_dropping.proofs.Still.{goes_unalarmed-still, some_below-still}
+use Rattle.classifier.specs.Seen.{AreShown, AreShownToAlarm, HasSeen, HaveSeen, IsStill, goal_at, is_noticed_by}
 use Rattle.classifier.proofs.WindowCounts.{window_count}
 
 -- a fact of each pair so far, and of one more
@@ -172,27 +173,72 @@ sees_none c points run faults goal w after = record {
   early = λ k lane some mission. absurd (true≢false (sym some ∙ noticed_none c points (faults k) run));
 }
 
--- after the last cycle of a mission
-pub sees_all : (c : Circuit) (points : Points) (run : Run) (faults : ℕ → List Fault) (goal : Goal) (w : Watch) (ftti k : ℕ) → k < 64 → is_mission run.kind ≡ true
-    → (seen : HasSeen c points run faults goal (cycles_of run) w)
+-- behind the pairs that were seen there are none
+unseen_pair : (pairs : List Pair) (t : ℕ) → length pairs ≤ t → pair_at pairs t ≡ record { differs = 0; raised = 0 }
+unseen_pair pairs t past = get_or_past pairs t (record { differs = 0; raised = 0 }) past
+
+-- a run is still in a lane where it isn't noticed
+pub still_lane : (c : Circuit) (points : Points) (run : Run) (x : List Fault) (g n : ℕ) → g < length points.goals → n ≤ cycles_of run
+    → ((t : ℕ) → n ≤ t → t < cycles_of run → IsStill c points run x t)
+    → IsStillFrom n (cycles_of run) (differs c (goal_at points.goals g) x run) (is_raised c points x run)
+still_lane c points run x g n lt le still = record {
+  within = le;
+  differ = λ t from late. (still t from late).differ g lt;
+  raise = λ t from late. (still t from late).raise;
+}
+
+-- notice over the whole run is that of the cycles that were seen
+pub noticed_still : (c : Circuit) (points : Points) (run : Run) (x : List Fault) (n : ℕ) → n ≤ cycles_of run
+    → (is_noticed_by c points x run n ≡ false → (t : ℕ) → n ≤ t → t < cycles_of run → IsStill c points run x t)
+    → is_noticed_by c points x run n ≡ is_noticed_by c points x run (cycles_of run)
+noticed_still c points run x n le still = by_cases (cases_Bool (is_noticed_by c points x run n))
+  where
+    more : (j : ℕ) → is_noticed_by c points x run n ≡ true → is_noticed_by c points x run (n + j) ≡ true
+    more zero some = let here : n + 0 ≡ n = omega arith in ap (is_noticed_by c points x run) here ∙ some
+    more (suc j) some =
+        let next : n + suc j ≡ n + j + 1 = omega arith in
+        ap (is_noticed_by c points x run) next ∙ noticed_more c points x run (n + j) ∙ or_left _ _ (more j some)
+
+    by_cases : (is_noticed_by c points x run n ≡ true) ⊎ (is_noticed_by c points x run n ≡ false)
+        → is_noticed_by c points x run n ≡ is_noticed_by c points x run (cycles_of run)
+    by_cases (inl some) =
+        let last : n + (cycles_of run - n) ≡ cycles_of run = omega (arith, le) in
+        some ∙ sym (ap (is_noticed_by c points x run) (sym last) ∙ more (cycles_of run - n) some)
+    by_cases (inr none) =
+        ap₂ (λ a b. a || (is_test run.kind && b))
+        (some_below-still n (cycles_of run) (is_raised c points x run) le (λ t from late. (still none t from late).raise))
+        (some_below-still n (cycles_of run) (is_silenced c points x run) le (λ t from late. (still none t from late).silence))
+
+-- after the last cycle of a mission, or after one from which on the run is still in each lane that isn't noticed
+pub sees_all : (c : Circuit) (points : Points) (run : Run) (faults : ℕ → List Fault) (goal : Goal) (n : ℕ) (w : Watch) (ftti k : ℕ) → k < 64 → is_mission run.kind ≡ true
+    → n ≤ cycles_of run
+    → (seen : HasSeen c points run faults goal n w)
+    → (is_noticed_by c points (faults k) run n ≡ false → IsStillFrom n (cycles_of run) (differs c goal (faults k) run) (is_raised c points (faults k) run))
     → lane_goes_unalarmed ftti seen.pairs k
     ≡ goes_unalarmed ftti (cycles_of run) (differs c goal (faults k) run) (is_raised c points (faults k) run)
-sees_all c points run faults goal w ftti k lane mission seen =
-    ap (λ n. goes_unalarmed ftti n (differs_in seen.pairs k) (raised_in seen.pairs k)) seen.count
-    ∙ by_cases (cases_Bool (is_noticed_by c points (faults k) run (cycles_of run)))
+sees_all c points run faults goal n w ftti k lane mission le seen still =
+    ap (λ m. goes_unalarmed ftti m (differs_in seen.pairs k) (raised_in seen.pairs k)) seen.count
+    ∙ by_cases (cases_Bool (is_noticed_by c points (faults k) run n))
   where
-    by_cases : (is_noticed_by c points (faults k) run (cycles_of run) ≡ true) ⊎ (is_noticed_by c points (faults k) run (cycles_of run) ≡ false)
-        → goes_unalarmed ftti (cycles_of run) (differs_in seen.pairs k) (raised_in seen.pairs k)
+    by_cases : (is_noticed_by c points (faults k) run n ≡ true) ⊎ (is_noticed_by c points (faults k) run n ≡ false)
+        → goes_unalarmed ftti n (differs_in seen.pairs k) (raised_in seen.pairs k)
         ≡ goes_unalarmed ftti (cycles_of run) (differs c goal (faults k) run) (is_raised c points (faults k) run)
     by_cases (inr none) =
-        let shown : AreShown c points run (faults k) goal seen.pairs k (cycles_of run) = seen.whole k lane none in
-        goes_unalarmed-same ftti (cycles_of run) (differs_in seen.pairs k) (differs c goal (faults k) run) (raised_in seen.pairs k)
+        let shown : AreShown c points run (faults k) goal seen.pairs k n = seen.whole k lane none in
+        goes_unalarmed-same ftti n (differs_in seen.pairs k) (differs c goal (faults k) run) (raised_in seen.pairs k)
         (is_raised c points (faults k) run) shown.differ shown.raise
+        ∙ goes_unalarmed-still ftti n (cycles_of run) (differs c goal (faults k) run) (is_raised c points (faults k) run) (still none)
     by_cases (inl some) =
-        let early : AreShownToAlarm c points run (faults k) goal seen.pairs k (cycles_of run) = seen.early k lane some mission in
-        goes_unalarmed-dropped ftti early.u (cycles_of run) (differs_in seen.pairs k) (raised_in seen.pairs k) (differs c goal (faults k) run) (is_raised c points (faults k) run)
+        let early : AreShownToAlarm c points run (faults k) goal seen.pairs k n = seen.early k lane some mission in
+        goes_unalarmed-still ftti n (cycles_of run) (differs_in seen.pairs k) (raised_in seen.pairs k)
         (record {
-          within = early.within;
+          within = le;
+          differ = λ t from late. ap (λ (p : Pair). bit p.differs k) (unseen_pair seen.pairs t (omega (arith, seen.count, from))) ∙ bit_of_none k;
+          raise = λ t from late. ap (λ (p : Pair). bit p.raised k) (unseen_pair seen.pairs t (omega (arith, seen.count, from))) ∙ bit_of_none k;
+        })
+        ∙ goes_unalarmed-dropped ftti early.u (cycles_of run) (differs_in seen.pairs k) (raised_in seen.pairs k) (differs c goal (faults k) run) (is_raised c points (faults k) run)
+        (record {
+          within = omega (arith, early.within, le);
           alarm = early.shown.raise early.u (omega arith) ∙ early.alarm;
           alarm' = early.alarm;
           differ = λ t lt. early.shown.differ t (omega (arith, lt));

@@ -1,9 +1,9 @@
 -- What was seen of a run.
-use Rattle.std.specs.Prelude.{◌≡◌, ℕ, ◌+◌, ◌<◌, ◌&&◌, ◌||◌, Bool, true, false, List, [], length, None, Option, slice_index_or}
+use Rattle.std.specs.Prelude.{◌≡◌, ℕ, ◌+◌, ◌<◌, ◌≤◌, ◌&&◌, ◌||◌, Bool, true, false, List, [], length, None, Option, slice_index_or}
 use Rattle.circuit.specs.declared.parts.Fault.{Fault}
 use Rattle.circuit.specs.Circuit.{Circuit}
 use Rattle.workload.specs.declared.run.Run.{Run}
-use Rattle.workload.specs.Runs.{is_mission, is_test}
+use Rattle.workload.specs.Runs.{cycles_of, is_mission, is_test}
 use Rattle.alarm_points.specs.declared.Goal.{Goal}
 use Rattle.alarm_points.specs.declared.Points.{Points}
 use Rattle.alarm_points.specs.FourWatches.{windows_at}
@@ -48,6 +48,19 @@ pub record HaveSeen (c : Circuit) (points : Points) (run : Run) (faults : ℕ �
   pub seen : (g : ℕ) → g < length points.goals → HasSeen c points run faults (goal_at points.goals g) n (window_at windows g)
   pub noticed_is : (k : ℕ) → k < 64 → bit noticed k ≡ is_noticed_by c points (faults k) run n
 
+-- with these faults no point differs in this cycle
+pub record IsStill (c : Circuit) (points : Points) (run : Run) (x : List Fault) (t : ℕ) : Type 0 where
+  pub differ : (g : ℕ) → g < length points.goals → differs c (goal_at points.goals g) x run t ≡ false
+  pub raise : is_raised c points x run t ≡ false
+  pub silence : is_silenced c points x run t ≡ false
+
+-- the run has been seen, up to a cycle from which on no point differs in any lane that isn't noticed
+pub record HaveSeenRun (c : Circuit) (points : Points) (run : Run) (faults : ℕ → List Fault) (windows : Watches) (noticed : ℕ) : Type 0 where
+  pub n : ℕ
+  pub within : n ≤ cycles_of run
+  pub seen : HaveSeen c points run faults n windows noticed
+  pub still : (k t : ℕ) → k < 64 → is_noticed_by c points (faults k) run n ≡ false → n ≤ t → t < cycles_of run → IsStill c points run (faults k) t
+
 -- the faults of each lane that wasn't noticed are in force
 abbrev pub AreFollowed : Load → List (List (Option Fault)) → ℕ → ℕ → Type 0
 AreFollowed load in_force word noticed = (k : ℕ) → k < 64 → bit noticed k ≡ false → in_lane in_force word k ≡ lane_faults load word k
@@ -60,6 +73,10 @@ noticed_at noticed word = slice_index_or noticed word 0
 abbrev pub HaveAllSeen : Circuit → Points → Run → Load → ℕ → List Watches → List ℕ → Type 0
 HaveAllSeen c points run load n windows noticed =
     (word : ℕ) → word < length windows → HaveSeen c points run (lane_faults load word) n (windows_at windows word) (noticed_at noticed word)
+
+abbrev pub HaveAllSeenRun : Circuit → Points → Run → Load → List Watches → List ℕ → Type 0
+HaveAllSeenRun c points run load windows noticed =
+    (word : ℕ) → word < length windows → HaveSeenRun c points run (lane_faults load word) (windows_at windows word) (noticed_at noticed word)
 
 -- the faults of each lane that wasn't noticed are in force, in each word
 abbrev pub AreAllFollowed : ℕ → Load → List (List (Option Fault)) → List ℕ → Type 0

@@ -3,7 +3,7 @@ ghost use Rattle.std.specs.Prelude.{◌≡◌, ◌<◌, ◌≤◌, ◌+◌, ◌*
 ghost use Rattle.circuit.specs.declared.parts.Fault.{Fault};
 ghost use Rattle.circuit.specs.Circuit.{Circuit};
 ghost use Rattle.workload.specs.declared.run.Run.{Run};
-ghost use Rattle.workload.specs.Runs.{all_cycles, cycles_of};
+ghost use Rattle.workload.specs.Runs.{all_cycles};
 ghost use Rattle.alarm_points.specs.declared.Points.{Points as PointsValue};
 ghost use Rattle.alarm_points.specs.Watch.{AreMadeFor};
 ghost use Rattle.alarm_points.specs.PointsKept.{ArePointsFor};
@@ -14,7 +14,7 @@ ghost use Rattle.lane_kernel.specs.Loads.{faults_of};
 ghost use Rattle.classifier.specs.Load.{IsLoadFor, Load, lane_faults, load_of};
 ghost use Rattle.classifier.specs.Planes.{HasPlanes, outcome_at, planes_of};
 ghost use Rattle.alarm_points.specs.FourWatches.{AreAllMadeFor, AreFourMadeFor, windows_at};
-ghost use Rattle.classifier.specs.Seen.{HaveAllSeen, HaveSeen, KeepSettings};
+ghost use Rattle.classifier.specs.Seen.{HaveAllSeenRun, HaveSeenRun, KeepSettings};
 
 use crate::points::either_lanes;
 use crate::run::watch_run;
@@ -43,10 +43,10 @@ pub const NOTHING: Outcome = Outcome {
 // What a run of a kind shows in a word: the lanes that go unalarmed are in danger in the mission alone.
 fn run_outcome(kind: Kind, windows: &Windows, noticed: u64) -> Outcome
     ensures danger { (c : Circuit) (points : PointsValue) (run : Run) (faults : ℕ → List Fault) (k : ℕ) → run.kind ≡ kind
-        → HaveSeen c points run faults (cycles_of run) windows.now noticed → k < 64
+        → HaveSeenRun c points run faults windows.now noticed → k < 64
         → bit result.danger k ≡ is_dangerous_in c points windows.now.ftti (faults k) run }
     ensures noticed { (c : Circuit) (points : PointsValue) (run : Run) (faults : ℕ → List Fault) (k : ℕ) → run.kind ≡ kind
-        → HaveSeen c points run faults (cycles_of run) windows.now noticed → k < 64
+        → HaveSeenRun c points run faults windows.now noticed → k < 64
         → bit result.noticed k ≡ is_noticed_in c points (faults k) run }
 {
     match kind {
@@ -74,7 +74,7 @@ fn add_run(kind: Kind, windows: &[Windows], noticed: &[u64], outcomes: &mut [Out
     requires windows { length windows.now ≡ length outcomes.old }
     requires noticed { length noticed.now ≡ length outcomes.old }
     ensures { (c : Circuit) (points : PointsValue) (runs : List Run) (run : Run) (load : Load) (word : ℕ) → run.kind ≡ kind
-        → HaveAllSeen c points run load (cycles_of run) windows.now noticed.now → word < length outcomes.old
+        → HaveAllSeenRun c points run load windows.now noticed.now → word < length outcomes.old
         → HasPlanes c points (windows_at windows.now word).ftti runs (lane_faults load word) (outcome_at outcomes.old word)
         → HasPlanes c points (windows_at windows.now word).ftti (runs ++ run ∷ []) (lane_faults load word) (outcome_at outcomes.new word) }
 {

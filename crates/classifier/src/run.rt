@@ -1,14 +1,14 @@
 // One run in all lanes.
-ghost use Rattle.std.specs.Prelude.{◌≡◌, ◌≢◌, ◌<◌, ◌≤◌, ◌+◌, ◌*◌, ◌⊎◌, ℕ, Bool, List, false, length, take};
+ghost use Rattle.std.specs.Prelude.{◌≡◌, ◌≢◌, ◌<◌, ◌≤◌, ◌+◌, ◌*◌, ◌⊎◌, ℕ, Bool, List, true, false, length, take};
 ghost use Rattle.circuit.specs.Circuit.{Circuit};
 ghost use Rattle.workload.specs.declared.run.Run.{Run};
 ghost use Rattle.workload.specs.Runs.{cycles_of, run_at};
 ghost use Rattle.alarm_points.specs.PointsKept.{ArePointsFor};
 ghost use Rattle.fm_base.specs.Planes.{bit};
-ghost use Rattle.golden_difference.specs.Beside.{IsGoldenRow};
+ghost use Rattle.golden_difference.specs.Beside.{IsGoldenRow, IsOver};
 ghost use Rattle.classifier.specs.Load.{IsLoadFor, Load, in_lane};
 ghost use Rattle.alarm_points.specs.FourWatches.{AreAllMadeFor};
-ghost use Rattle.classifier.specs.Seen.{AreAllFollowed, HaveAllSeen, KeepSettings};
+ghost use Rattle.classifier.specs.Seen.{AreAllFollowed, HaveAllSeen, HaveAllSeenRun, KeepSettings};
 
 use crate::see::see_cycle;
 use crate::words::LaneWords;
@@ -128,9 +128,18 @@ fn run_cycle<B: LaneWords, L: Ledger>(
     see_words(points, work.kind(run), row, lanes, windows, noticed);
 }
 
+// Whether a run of so many cycles goes on in cycle t: there is one, and the run isn't over.
+fn goes_on<B: LaneWords>(lanes: &B, t: u32, cycles: u32) -> bool
+    ensures more { result ≡ true → t < cycles }
+    ensures over { (vectors : List (List Bool)) (word k : ℕ) → result ≡ false → t < cycles → B.IsAfter lanes.now vectors → word < B.words → k < 64
+        → IsOver (B.load lanes.now).circuit (in_lane (B.in_force lanes.now) word k) vectors 65536 }
+{
+    if t < cycles { !lanes.is_over() } else { false }
+}
+
 /// Simulates a run from its start in all lanes, and shows each cycle to the windows of each word. `noticed` are then the lanes of
-/// each word that the run gives notice of; such a lane is dropped once it is noticed. It takes at most one step for each table and
-/// cycle. What lanes, windows and `noticed` held before is no matter.
+/// each word that the run gives notice of; such a lane is dropped once it is noticed. The run is left where it is over in all lanes. It takes at
+/// most one step for each table and cycle. What lanes, windows and `noticed` held before is no matter.
 pub fn watch_run<B: LaneWords, L: Ledger>(
     net: &Netlist,
     order: &Order,
@@ -151,15 +160,17 @@ pub fn watch_run<B: LaneWords, L: Ledger>(
     requires noticed { length noticed.old ≡ B.words }
     requires windows_made { AreAllMadeFor points.now windows.old }
     ensures load { B.load lanes.new ≡ B.load lanes.old }
-    ensures seen { HaveAllSeen net.now points.now (run_at work.now run) (B.load lanes.old) (cycles_of (run_at work.now run)) windows.new noticed.new }
+    ensures seen { HaveAllSeenRun net.now points.now (run_at work.now run) (B.load lanes.old) windows.new noticed.new }
     ensures ftti { KeepSettings windows.old windows.new }
     ensures cost { steps.new ≤ steps.old + cycles_of (run_at work.now run) * length net.now.tables }
 {
     lanes.restart();
     start_windows(points, windows, noticed);
-    for t in 0..work.cycles(run) {
+    let mut t = 0;
+    'clock: while goes_on(lanes, t, work.cycles(run)) {
         run_cycle(
             net, order, work, points, golden, run, t, lanes, windows, noticed, steps,
         );
+        t += 1;
     }
 }

@@ -2,7 +2,7 @@
 ghost use Rattle.std.specs.Prelude.{◌≡◌, ◌≢◌, ◌<◌, ◌≤◌, ◌+◌, ◌*◌, ◌++◌, ◌∷◌, ◌⊎◌, [], ℕ, Bool, true, false, List, Option, length};
 ghost use Rattle.circuit.specs.declared.parts.Fault.{Fault as FaultValue};
 ghost use Rattle.fm_base.specs.Planes.{bit};
-ghost use Rattle.golden_difference.specs.Beside.{AreBeside, IsGoldenRow, trace_differs};
+ghost use Rattle.golden_difference.specs.Beside.{AreBeside, IsGoldenRow, IsOver, trace_differs};
 ghost use Rattle.golden_difference.specs.Lanes.{bank_of};
 ghost use Rattle.lane_kernel.specs.Bits.{quad_bit};
 ghost use Rattle.lane_kernel.specs.Loads.{faults_of};
@@ -84,6 +84,11 @@ pub trait LaneWords: Drop {
         ensures others { (other k : ℕ) → other < words → k < 64 → (other ≢ word) ⊎ (bit out k ≡ false)
             → in_lane (in_force self.new) other k ≡ in_lane (in_force self.old) other k };
 
+    /// Whether the run is over: no latch differs, and no fault in force changes anything any more.
+    fn is_over(&self) -> bool
+        ensures { (vectors : List (List Bool)) (word k : ℕ) → result ≡ true → IsAfter self.now vectors → word < words → k < 64
+            → IsOver (load self.now).circuit (in_lane (in_force self.now) word k) vectors 65536 };
+
     /// The lanes of a word in which a net has another value than in the golden run, in the last cycle.
     fn differs(&self, net: NetId, word: u32) -> u64
         requires { word < words }
@@ -130,6 +135,10 @@ impl LaneWords for DifferentialLanes {
         self.drop_lanes(out);
     }
 
+    fn is_over(&self) -> bool {
+        self.is_over()
+    }
+
     fn differs(&self, net: NetId, _word: u32) -> u64 {
         self.differs(net)
     }
@@ -171,6 +180,10 @@ impl LaneWords for DifferentialLanes4 {
 
     fn drop_lanes(&mut self, word: u32, out: u64) {
         self.drop_lanes(word, out);
+    }
+
+    fn is_over(&self) -> bool {
+        self.is_over()
     }
 
     fn differs(&self, net: NetId, word: u32) -> u64 {

@@ -3,7 +3,7 @@ use Rattle.std.specs.Prelude.{◌≡◌, ℕ, ◌<◌, ◌&&◌, ◌==◌, false
 use Rattle.std.specs.List.{list_any}
 use Rattle.circuit.specs.declared.parts.Fault.{Fault}
 use Rattle.circuit.specs.declared.parts.Fault.TheVariants.{Stuck, Flip, Pulse}
-use Rattle.circuit.specs.Effects.{affected}
+use Rattle.circuit.specs.Effects.{affected, is_permanent}
 use Rattle.lane_kernel.specs.Bits.{either}
 use Rattle.lane_kernel.specs.Loads.{faults_of, has_pulses, named, names, somes}
 use Rattle.place_set.specs.Places.{Places, has}
@@ -58,6 +58,10 @@ acts faults t = list_any (is_act_in t) (somes faults)
 -- some fault of some lane is
 abbrev pub has_acts : List (List (Option Fault)) → ℕ → Bool
 has_acts loads t = list_any (λ faults. acts faults t) loads
+
+-- some fault of some lane is stuck-at
+abbrev pub has_stuck : List (List (Option Fault)) → Bool
+has_stuck loads = list_any (λ faults. list_any is_permanent (somes faults)) loads
 
 -- the set has the cycles in which flips or pulses act, and no others
 abbrev pub AreActs : List (List (Option Fault)) → Places → Type 0

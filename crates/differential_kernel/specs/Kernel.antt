@@ -7,7 +7,7 @@ use Rattle.lane_kernel.specs.Bank.{Bank}
 use Rattle.lane_kernel.specs.Gates.{AreOps, IsProgram}
 use Rattle.differential_kernel.specs.declared.kernel.Kernel.{Kernel}
 use Rattle.differential_kernel.specs.Differences.{AreSameOff}
-use Rattle.differential_kernel.specs.Forces.{AreActs, AreIdle, AreIdleOff, AreNamed, AreSteady}
+use Rattle.differential_kernel.specs.Forces.{AreActs, AreIdle, AreIdleOff, AreNamed, AreSteady, has_stuck}
 use Rattle.differential_kernel.specs.Places.{ArePlaces}
 
 -- the simulations as they stand: words and raw hold what differs from the golden run, and the loads are the faults in force
@@ -45,6 +45,7 @@ pub record IsKernel {W : Type 0} (lanes : ℕ) (bit : W → ℕ → Bool) (s : K
   pub loads : length s.in_force.items ≡ lanes
   pub acts_bound : s.acts.bound ≡ 65536
   pub acts : s.noted ≡ true → AreActs s.in_force.items s.acts
+  pub stuck : s.noted ≡ true → s.stuck ≡ has_stuck s.in_force.items
   pub named_bound : s.named.bound ≡ length s.circuit.value.drivers
   pub forces : length s.forces.items ≡ length s.circuit.value.drivers
   pub off : AreIdleOff lanes bit s.named s.forces.items

@@ -4,10 +4,11 @@ ghost use Rattle.circuit.specs.declared.parts.Fault.{Fault as FaultValue};
 ghost use Rattle.circuit.specs.Order.{IsOrder};
 ghost use Rattle.circuit.specs.Sound.{IsNetlist};
 ghost use Rattle.circuit.specs.Value.{bit_at};
-ghost use Rattle.golden_difference.specs.Beside.{AreBeside, IsGoldenRow};
+ghost use Rattle.golden_difference.specs.Beside.{AreBeside, DoNothing, IsGoldenRow, IsOver};
 ghost use Rattle.golden_difference.specs.Lanes.{IsMadeFor, KeepsLoads};
 ghost use Rattle.lane_kernel.specs.Gates.{plane};
 ghost use Rattle.lane_kernel.specs.Loads.{faults_of};
+ghost use Rattle.place_set.specs.Places.{has};
 ghost use Rattle.differential_kernel.specs.Differences.{IsSame, read_in};
 ghost use Rattle.differential_kernel.specs.Kernel.{IsKernel, bank_of, lanes_of};
 ghost use Rattle.differential_kernel.specs.Places.{ArePlaces};
@@ -19,7 +20,7 @@ use crate::drop::{keep_lanes, unload};
 use crate::flip::flip;
 use crate::force::{Force, idle_forces};
 use crate::lane_word::LaneWord;
-use crate::note::prepare;
+use crate::note::{has_some_stuck, prepare};
 use crate::sources::clear;
 use circuit::netlist::Netlist;
 use circuit::parts::{Fault, NetId};
@@ -55,6 +56,8 @@ pub struct Kernel<W> {
     noted: bool,
     named: PlaceSet,
     acts: PlaceSet,
+    // Whether one of them is stuck-at, where they are noted.
+    stuck: bool,
     forces: Vec<Force<W>>,
     stale: bool,
     cycle: u32,
@@ -84,6 +87,16 @@ fn places_of(
         places[net.0 as usize] = Some(place as u32);
     }
     Ok(places)
+}
+
+// Whether a set has no place from a place on.
+fn is_empty_from(set: &PlaceSet, from: usize) -> bool
+    ensures { result ≡ true → (p : ℕ) → from ≤ p → has set.now p ≡ false }
+{
+    match set.next_from(from) {
+        Some(_) => false,
+        None => true,
+    }
 }
 
 impl<W: LaneWord> Kernel<W> {
@@ -121,6 +134,7 @@ impl<W: LaneWord> Kernel<W> {
             noted: false,
             named,
             acts,
+            stuck: false,
             forces,
             stale: true,
             cycle: 0,
@@ -218,6 +232,7 @@ impl<W: LaneWord> Kernel<W> {
             → AreBeside W.lanes W.lane_bit (vectors ++ inputs ∷ []) (bank_of self.new) }
         ensures cost { steps.new ≤ steps.old + length netlist.now.tables }
     {
+        self.stuck = has_some_stuck(&self.in_force, self.noted, self.stuck);
         self.stale = prepare(
             &self.in_force,
             self.noted,
@@ -254,6 +269,24 @@ impl<W: LaneWord> Kernel<W> {
             steps,
         );
         self.cycle += 1;
+    }
+
+    // Whether no fault in force acts in this cycle or in a later one.
+    fn is_calm(&self) -> bool
+        requires { IsKernel W.lanes W.lane_bit self.now }
+        ensures { (k t : ℕ) → result ≡ true → self.now.cycle ≤ t → t < 65536 → DoNothing (faults_of self.now.in_force.items k) t }
+    {
+        self.noted && !self.stuck && is_empty_from(&self.acts, self.cycle as usize)
+    }
+
+    /// Whether no net differs in any later cycle, of the first 65,536: no latch does, and no fault in force acts any more. It may be so
+    /// where the answer is no.
+    pub fn is_over(&self) -> bool
+        requires { IsKernel W.lanes W.lane_bit self.now }
+        ensures { (vectors : List (List Bool)) (k : ℕ) → result ≡ true → AreBeside W.lanes W.lane_bit vectors (bank_of self.now) → k < W.lanes
+            → IsOver self.now.circuit.value (faults_of self.now.in_force.items k) vectors 65536 }
+    {
+        self.is_calm() && is_empty_from(&self.live, 0)
     }
 
     /// The values of a net in the last cycle, where `row` has the golden ones.

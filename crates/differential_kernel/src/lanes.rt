@@ -3,7 +3,7 @@ ghost use Rattle.std.specs.Prelude.{◌≡◌, ◌≢◌, ◌<◌, ◌≤◌, �
 ghost use Rattle.circuit.specs.Order.{IsOrder};
 ghost use Rattle.circuit.specs.Trace.{trace};
 ghost use Rattle.fm_base.specs.Planes.{bit};
-ghost use Rattle.golden_difference.specs.Beside.{AreBeside, IsGoldenRow, trace_differs};
+ghost use Rattle.golden_difference.specs.Beside.{AreBeside, IsGoldenRow, IsOver, trace_differs};
 ghost use Rattle.golden_difference.specs.Lanes.{IsMadeFor, KeepsLoads, bank_of};
 ghost use Rattle.lane_kernel.specs.Bits.{quad_bit};
 ghost use Rattle.lane_kernel.specs.Loads.{faults_of};
@@ -103,6 +103,16 @@ impl DifferentialLanes {
         ensures cost { steps.new ≤ steps.old + length netlist.now.tables }
     {
         self.kernel.cycle(netlist, order, fanout, row, steps);
+    }
+
+    /// Whether the run is over: no latch differs, and no fault in force changes anything any more. It may be so where the answer is
+    /// no.
+    pub fn is_over(&self) -> bool
+        // After cycles with these vectors: in no later cycle does a net differ, in any lane.
+        ensures { (vectors : List (List Bool)) (k : ℕ) → result ≡ true → AreBeside 64 bit vectors (bank_of self.now) → k < 64
+            → IsOver self.now.circuit (faults_of self.now.in_force k) vectors 65536 }
+    {
+        self.kernel.is_over()
     }
 
     /// The value of a net in the cycle that was simulated last, in each lane, where `row` has the golden values of that cycle.
@@ -231,6 +241,16 @@ impl DifferentialLanes4 {
         ensures cost { steps.new ≤ steps.old + length netlist.now.tables }
     {
         self.kernel.cycle(netlist, order, fanout, row, steps);
+    }
+
+    /// Whether the run is over: no latch differs, and no fault in force changes anything any more. It may be so where the answer is
+    /// no.
+    pub fn is_over(&self) -> bool
+        // After cycles with these vectors: in no later cycle does a net differ, in any lane of any word.
+        ensures { (vectors : List (List Bool)) (k : ℕ) → result ≡ true → AreBeside 256 quad_bit vectors (bank_of self.now) → k < 256
+            → IsOver self.now.circuit (faults_of self.now.in_force k) vectors 65536 }
+    {
+        self.kernel.is_over()
     }
 
     /// The value of a net in the cycle that was simulated last, in each lane of a word, where `row` has the golden values of that

@@ -1,9 +1,11 @@
 // The nets that faults name, the cycles in which they act, and the forces.
 ghost use Rattle.std.specs.Prelude.{◌≡◌, ◌<◌, ◌≤◌, ◌||◌, ◌==◌, ℕ, Bool, true, false, length, if◌then◌else◌};
-ghost use Rattle.lane_kernel.specs.Loads.{named, names};
+ghost use Rattle.std.specs.List.{list_any};
+ghost use Rattle.circuit.specs.Effects.{is_permanent};
+ghost use Rattle.lane_kernel.specs.Loads.{named, names, somes};
 ghost use Rattle.place_set.specs.Places.{has};
 ghost use Rattle.differential_kernel.specs.Differences.{IsEmptySet};
-ghost use Rattle.differential_kernel.specs.Forces.{AreActs, AreAllIdle, AreArmed, AreIdle, AreIdleOff, AreNamed, AreSteady, acts, has_acts};
+ghost use Rattle.differential_kernel.specs.Forces.{AreActs, AreAllIdle, AreArmed, AreIdle, AreIdleOff, AreNamed, AreSteady, acts, has_acts, has_stuck};
 
 use crate::arm::arm_for;
 use crate::force::{Force, idle};
@@ -119,6 +121,29 @@ pub fn note_cycles(loads: &[[Option<Fault>; 2]], set: &mut PlaceSet)
 {
     forget_cycles(set);
     note_acts(loads, set);
+}
+
+fn is_stuck(faults: &[Option<Fault>]) -> bool
+    ensures { result ≡ list_any is_permanent (somes faults.now) }
+{
+    for fault in faults {
+        if let Some(Fault::Stuck(_, _)) = fault {
+            return true;
+        }
+    }
+    false
+}
+
+/// Whether a stuck-at fault is in force; `before` tells it where the faults are noted.
+pub fn has_some_stuck(loads: &[[Option<Fault>; 2]], noted: bool, before: bool) -> bool
+    requires { noted ≡ true → before ≡ has_stuck loads.now }
+    ensures { result ≡ has_stuck loads.now }
+{
+    if noted {
+        before
+    } else {
+        loads.iter().any(|faults| is_stuck(faults))
+    }
 }
 
 // Names the nets of the faults and the cycles in which they act, and leaves all nets as they are, unless that was done.

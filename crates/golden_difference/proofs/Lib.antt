@@ -3,3 +3,4 @@ pub mod Apart
 pub mod Walked
 pub mod NextCycle
 pub mod Sources
+pub mod Over

@@ -72,6 +72,13 @@ at_flipped faults t from (b ∷ bits) (suc l) lt =
     let same : (from + 1) + l ≡ from + suc l = omega arith in
     at_flipped faults t (from + 1) bits l (omega arith) ∙ ap (λ n. inverted (has_flip faults n t) (bit_at bits l)) same
 
+-- each latch has a bit
+pub state_length : (c : Circuit) (faults : List Fault) (vectors : List (List Bool)) (t : ℕ) → length (raw_state c faults vectors t) ≡ length c.latches
+state_length c faults vectors zero = ap (λ (bits : List Bool). length bits) (raw_state-zero c faults vectors) ∙ length-map c.latches (λ (latch : Latch). latch.start)
+state_length c faults vectors (suc t) =
+    ap (λ (bits : List Bool). length bits) (raw_state-suc c faults vectors t)
+    ∙ length-map c.latches (λ (latch : Latch). net_value (cycle_at c faults vectors t) latch.from.0)
+
 -- what latches differ in at the start of the next cycle, after faults have flipped some
 pub flipped_differs : (c : Circuit) (faults : List Fault) (vectors : List (List Bool)) (inputs : List Bool) (held : List Bool) (l : ℕ)
     → length held ≡ length c.latches → l < length c.latches
@@ -89,11 +96,5 @@ flipped_differs c faults vectors inputs held l size lt differs =
 
     state_is : (fs : List Fault) → inverted (has_flip fs (0 + l) n) (bit_at (raw_state c fs vectors n) l) ≡ bit_at (cycle_at c fs (vectors ++ inputs ∷ []) n).state l
     state_is fs =
-        sym (at_flipped fs n 0 (raw_state c fs vectors n) l (omega (arith, lt, long fs n)))
+        sym (at_flipped fs n 0 (raw_state c fs vectors n) l (omega (arith, lt, state_length c fs vectors n)))
         ∙ ap (λ raw. bit_at (flipped fs n raw) l) (sym (raw_state-append c fs vectors (inputs ∷ []) n (omega arith)))
-      where
-        long : (fs : List Fault) (t : ℕ) → length (raw_state c fs vectors t) ≡ length c.latches
-        long fs zero = ap (λ (bits : List Bool). length bits) (raw_state-zero c fs vectors) ∙ length-map c.latches (λ (latch : Latch). latch.start)
-        long fs (suc t) =
-            ap (λ (bits : List Bool). length bits) (raw_state-suc c fs vectors t)
-            ∙ length-map c.latches (λ (latch : Latch). net_value (cycle_at c fs vectors t) latch.from.0)

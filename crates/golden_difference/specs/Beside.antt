@@ -1,12 +1,13 @@
 -- Simulations of one circuit that stand between two cycles, beside the golden run, which is the run without faults: of each latch
 -- and each net they hold only whether it differs. Source: concurrent and differential fault simulation.
-use Rattle.std.specs.Prelude.{◌≡◌, ℕ, ◌+◌, ◌<◌, Bool, false, List, [], length}
+use Rattle.std.specs.Prelude.{◌≡◌, ℕ, ◌+◌, ◌<◌, ◌≤◌, ◌++◌, Bool, false, List, [], length}
 use Rattle.circuit.specs.declared.parts.Driver.{Driver}
 use Rattle.circuit.specs.declared.parts.Driver.TheVariants.{Input, Table as FromTable, Latch as FromLatch}
 use Rattle.circuit.specs.declared.parts.Fault.{Fault}
 use Rattle.circuit.specs.After.{Moment}
 use Rattle.circuit.specs.Circuit.{Circuit}
-use Rattle.circuit.specs.Trace.{raw_state, trace}
+use Rattle.circuit.specs.Effects.{affected}
+use Rattle.circuit.specs.Trace.{flipped, raw_state, trace}
 use Rattle.circuit.specs.Value.{bit_at}
 use Rattle.lane_kernel.specs.Bank.{Bank, lane_of}
 use Rattle.lane_kernel.specs.Bits.{either}
@@ -32,6 +33,16 @@ pub record IsBeside (c : Circuit) (faults : List Fault) (vectors : List (List Bo
 -- the same in each lane, with its own faults alone
 abbrev pub AreBeside : {W : Type 0} → ℕ → (W → ℕ → Bool) → List (List Bool) → Bank W → Type 0
 AreBeside lanes bit vectors bank = (k : ℕ) → k < lanes → IsBeside bank.circuit (faults_of bank.loads k) vectors (lane_of bit k bank)
+
+-- in cycle t the faults change no net and flip no latch
+pub record DoNothing (faults : List Fault) (t : ℕ) : Type 0 where
+  pub nets : (net : ℕ) (own : Bool) → affected faults t net own ≡ own
+  pub latches : (bits : List Bool) → flipped faults t bits ≡ bits
+
+-- a run that begins with these vectors is over after them: whatever follows, in no later cycle of the first `most` does a net differ
+abbrev pub IsOver : Circuit → List Fault → List (List Bool) → ℕ → Type 0
+IsOver c faults vectors most =
+    (more : List (List Bool)) (t net : ℕ) → length vectors ≤ t → t < most → net < length c.drivers → trace_differs c faults (vectors ++ more) t net ≡ false
 
 -- a bit for each net, 64 to a word: its golden value in cycle t
 abbrev pub IsGoldenRow : Circuit → List (List Bool) → ℕ → List ℕ → Type 0

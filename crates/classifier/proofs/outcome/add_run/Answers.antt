@@ -1,13 +1,12 @@
 use Rattle.std.proofs.Common.{◌≡◌, ◌≢◌, ◌<◌, ◌++◌, ◌∷◌, ℕ, [], length, ap, sym, ◌∙◌, subst, arith, get_or-set_other}
 use Rattle.std.proofs.lemmas.List.{get_or_default}
-use Rattle.workload.specs.Runs.{cycles_of}
 use Rattle.alarm_points.specs.Watch.{Watches}
 use Rattle.campaign_plan.specs.declared.Outcome.{Outcome}
 use Rattle.campaign_plan.specs.Danger.{is_dangerous_in}
 use Rattle.classifier.specs.Load.{lane_faults}
 use Rattle.classifier.specs.Planes.{HasPlanes, outcome_at}
 use Rattle.alarm_points.specs.FourWatches.{windows_at}
-use Rattle.classifier.specs.Seen.{HaveSeen, noticed_at}
+use Rattle.classifier.specs.Seen.{HaveSeenRun, noticed_at}
 use Rattle.classifier.proofs.EachWord.{each_set_one}
 use Rattle.classifier.proofs.RunByRun.{planes_more}
 use Rattle.classifier.proofs.outcome.add_run.Goals as goal
@@ -29,8 +28,8 @@ loop-word-preserved c =
       done = λ circuit points runs run load word kind seen lt planes.
           let more = λ (j : ℕ) (o : Outcome). HasPlanes circuit points (windows_at ws j).ftti (runs ++ run ∷ []) (lane_faults load j) o in
           let before = λ (j : ℕ) (o : Outcome). HasPlanes circuit points (windows_at ws j).ftti runs (lane_faults load j) o in
-          let sees : HaveSeen circuit points run (lane_faults load i) (cycles_of run) c.index-windows-word.result (noticed_at c.args.noticed.now i) =
-          subst (λ (w : Watches). HaveSeen circuit points run (lane_faults load i) (cycles_of run) w (noticed_at c.args.noticed.now i)) same (seen i within) in
+          let sees : HaveSeenRun circuit points run (lane_faults load i) c.index-windows-word.result (noticed_at c.args.noticed.now i) =
+          subst (λ (w : Watches). HaveSeenRun circuit points run (lane_faults load i) w (noticed_at c.args.noticed.now i)) same (seen i within) in
           each_set_one (λ j o. before j (outcome_at c.args.outcomes.now j) → more j o) outcomes i new none inside
           (λ old.
           planes_more circuit points (windows_at ws i).ftti runs run (lane_faults load i) (outcome_at outcomes i) own.result new

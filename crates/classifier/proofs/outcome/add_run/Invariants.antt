@@ -1,19 +1,18 @@
 use Rattle.std.proofs.Common.{◌≡◌, ◌<◌, ◌≤◌, ◌++◌, ◌∷◌, [], ℕ, List}
 use Rattle.circuit.specs.Circuit.{Circuit}
 use Rattle.workload.specs.declared.run.Run.{Run}
-use Rattle.workload.specs.Runs.{cycles_of}
 use Rattle.alarm_points.specs.declared.Points.{Points}
 use Rattle.classifier.specs.Load.{Load, lane_faults}
 use Rattle.classifier.specs.Planes.{HasPlanes, outcome_at}
 use Rattle.alarm_points.specs.FourWatches.{windows_at}
-use Rattle.classifier.specs.Seen.{HaveAllSeen}
+use Rattle.classifier.specs.Seen.{HaveAllSeenRun}
 use Rattle.classifier.proofs.outcome.add_run.Given as goal
 
 -- the run is added in the words so far, and the others are as they were
 abbrev pub invariant-loop-word : goal.invariant-loop-word
 invariant-loop-word l = record {
   done : (c : Circuit) (points : Points) (runs : List Run) (run : Run) (load : Load) (word : ℕ) → run.kind ≡ l.kind
-      → HaveAllSeen c points run load (cycles_of run) l.windows l.noticed → word < l.word
+      → HaveAllSeenRun c points run load l.windows l.noticed → word < l.word
       → HasPlanes c points (windows_at l.windows word).ftti runs (lane_faults load word) (outcome_at l.initial.outcomes word)
       → HasPlanes c points (windows_at l.windows word).ftti (runs ++ run ∷ []) (lane_faults load word) (outcome_at l.outcomes word);
   left : (word : ℕ) → l.word ≤ word → outcome_at l.outcomes word ≡ outcome_at l.initial.outcomes word;

@@ -56,7 +56,7 @@ loop-run-preserved g c =
     let none : Run = record { kind = Mission; vectors = [] } in
     record {
       load = watched.load ∙ inv.load;
-      made = λ word lt. (watched.seen word lt).made;
+      made = λ word lt. (watched.seen word lt).seen.made;
       ftti = λ word. watched.ftti word ∙ inv.ftti word;
       planes = λ word lt.
           let ftti = (windows_at c.args.windows.now word).ftti in

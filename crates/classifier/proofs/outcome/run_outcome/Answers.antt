@@ -1,4 +1,4 @@
-use Rattle.std.proofs.Common.{ℕ, Bool, List, ap, sym, ◌∙◌}
+use Rattle.std.proofs.Common.{◌≡◌, ◌<◌, ℕ, Bool, List, ap, sym, ◌∙◌}
 use Rattle.circuit.specs.declared.parts.Fault.{Fault}
 use Rattle.circuit.specs.Circuit.{Circuit}
 use Rattle.workload.specs.declared.run.Run.{Run}
@@ -7,12 +7,27 @@ use Rattle.alarm_points.specs.declared.Goal.{Goal}
 use Rattle.alarm_points.specs.declared.Points.{Points}
 use Rattle.alarm_points.specs.Interval.{goes_unalarmed, interval_of}
 use Rattle.alarm_points.proofs.Planes.{bit_of_none}
-use Rattle.campaign_plan.specs.Danger.{differs, is_raised}
+use Rattle.campaign_plan.specs.Danger.{differs, is_noticed_in, is_raised}
+use Rattle.alarm_points.specs.Watch.{Watches}
+use Rattle.fm_base.specs.Planes.{bit}
+use Rattle.classifier.specs.Seen.{HaveSeenRun}
+use Rattle.classifier.proofs.Views.{noticed_still}
 use Rattle.classifier.proofs.Ends.{end_says, list_any_nowhere, list_any_where}
 use Rattle.classifier.proofs.outcome.run_outcome.Goals as goal
 
 abbrev unalarmed : Circuit → Points → ℕ → List Fault → Run → Goal → Bool
 unalarmed c points ftti x run goal = goes_unalarmed (interval_of ftti goal) (cycles_of run) (differs c goal x run) (is_raised c points x run)
+
+notice : (c : Circuit) (points : Points) (run : Run) (faults : ℕ → List Fault) (windows : Watches) (noticed k : ℕ) → k < 64
+    → HaveSeenRun c points run faults windows noticed → bit noticed k ≡ is_noticed_in c points (faults k) run
+notice c points run faults windows noticed k lane done =
+    done.seen.noticed_is k lane ∙ noticed_still c points run (faults k) done.n done.within (λ none t from late. done.still k t lane none from late)
+
+pub returns-in-Mission-clause-noticed : goal.returns-in-Mission-clause-noticed
+returns-in-Mission-clause-noticed c = λ circuit points run faults k kind seen lane. notice circuit points run faults c.args.windows.now c.args.noticed k lane seen
+
+pub returns-in-Test-clause-noticed : goal.returns-in-Test-clause-noticed
+returns-in-Test-clause-noticed c = λ circuit points run faults k kind seen lane. notice circuit points run faults c.args.windows.now c.args.noticed k lane seen
 
 pub returns-in-Mission-clause-danger : goal.returns-in-Mission-clause-danger
 returns-in-Mission-clause-danger c = λ circuit points run faults k kind seen lane.

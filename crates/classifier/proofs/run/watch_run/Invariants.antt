@@ -1,11 +1,12 @@
-use Rattle.std.proofs.Common.{◌≡◌, ◌≤◌, ◌+◌, ◌*◌, length, take}
-use Rattle.workload.specs.Runs.{run_at}
+use Rattle.std.proofs.Common.{◌≡◌, ◌≤◌, ◌+◌, ◌-◌, ◌*◌, length, take}
+use Rattle.workload.specs.Runs.{cycles_of, run_at}
 use Rattle.classifier.specs.Seen.{AreAllFollowed, HaveAllSeen, KeepSettings}
 use Rattle.classifier.proofs.run.watch_run.Given as goal
 
 -- the cycles so far are simulated, and the windows have seen them
-abbrev pub invariant-loop-t : goal.invariant-loop-t
-invariant-loop-t g l = record {
+abbrev pub invariant-clock : goal.invariant-clock
+invariant-clock g l = record {
+  within : l.t ≤ cycles_of (run_at l.work l.run);
   load : g.B.LaneWords.load l.lanes ≡ g.B.LaneWords.load l.initial.lanes;
   cycles : g.B.LaneWords.cycles l.lanes ≡ l.t;
   after : g.B.LaneWords.IsAfter l.lanes (take l.t (run_at l.work l.run).vectors);
@@ -14,3 +15,7 @@ invariant-loop-t g l = record {
   ftti : KeepSettings l.initial.windows l.windows;
   cost : l.steps ≤ l.initial.steps + l.t * length l.net.tables;
 }
+
+-- the number of cycles that are left
+abbrev pub decreases-clock : goal.decreases-clock
+decreases-clock g l = cycles_of (run_at l.work l.run) - l.t

@@ -13,7 +13,7 @@ use Rattle.lane_kernel.specs.Gates.{latch_at, plane}
 use Rattle.lane_kernel.specs.Loads.{faults_of}
 use Rattle.lane_kernel.proofs.Sources.{length_plane}
 use Rattle.differential_kernel.specs.Differences.{AreSameOff}
-use Rattle.differential_kernel.specs.Forces.{AreActs, AreIdle, AreIdleOff, AreNamed, AreSteady}
+use Rattle.differential_kernel.specs.Forces.{AreActs, AreIdle, AreIdleOff, AreNamed, AreSteady, has_stuck}
 use Rattle.differential_kernel.specs.Kernel.{bank_of}
 use Rattle.differential_kernel.specs.Walk.{AreForces, IsPair}
 use Rattle.differential_kernel.proofs.Stepped.{stepped}
@@ -26,7 +26,7 @@ advance-requires-clause-held g c =
 
 pub advance-requires-clause-idle : goal.advance-requires-clause-idle
 advance-requires-clause-idle g c =
-    let forces : c.deref-6.result.now ≡ c.prepare-self.new.forces = grind (arith, common_steps) in
+    let forces : c.deref-7.result.now ≡ c.prepare-self.new.forces = grind (arith, common_steps) in
     subst (AreIdleOff g.W.Word.lanes g.W.Word.lane_bit c.prepare-self.new.set) (sym forces) c.prepare-self.ensures.off
 
 pub advance-requires-clause-same : goal.advance-requires-clause-same
@@ -59,19 +59,20 @@ returns-clause-kernel g c =
       whole = kept.whole;
       loads = kept.loads;
       acts_bound = c.prepare-self.ensures.cycles ∙ kept.acts_bound;
-      acts = λ noted. subst (λ (ls : List (List (Option Fault))). AreActs ls c.prepare-self.new.cycles) c.deref.ensures.value c.prepare-self.ensures.acts;
+      acts = λ noted. subst (λ (ls : List (List (Option Fault))). AreActs ls c.prepare-self.new.cycles) c.deref-2.ensures.value c.prepare-self.ensures.acts;
+      stuck = λ noted. c.has_some_stuck-self.ensures ∙ ap has_stuck c.deref.ensures.value;
       named_bound = c.prepare-self.ensures.bound ∙ kept.named_bound;
       forces = ap length forces ∙ c.prepare-self.auto.forces ∙ size;
       off = subst (AreIdleOff lanes bit c.prepare-self.new.set) (sym forces) c.prepare-self.ensures.off;
       named = λ noted.
-          subst (λ (ls : List (List (Option Fault))). AreNamed ls (length s.circuit.value.drivers) c.prepare-self.new.set) c.deref.ensures.value
-          (subst (λ n. AreNamed c.deref.result.now n c.prepare-self.new.set) size c.prepare-self.ensures.named);
+          subst (λ (ls : List (List (Option Fault))). AreNamed ls (length s.circuit.value.drivers) c.prepare-self.new.set) c.deref-2.ensures.value
+          (subst (λ n. AreNamed c.deref-2.result.now n c.prepare-self.new.set) size c.prepare-self.ensures.named);
       idle = λ noted.
           subst (AreIdle lanes bit s.in_force.items) (sym forces)
-          (subst (λ (ls : List (List (Option Fault))). AreIdle lanes bit ls c.prepare-self.new.forces) c.deref.ensures.value c.prepare-self.ensures.idle);
+          (subst (λ (ls : List (List (Option Fault))). AreIdle lanes bit ls c.prepare-self.new.forces) c.deref-2.ensures.value c.prepare-self.ensures.idle);
       steady = λ noted fresh.
           subst (AreSteady lanes bit s.in_force.items) (sym forces)
-          (subst (λ (ls : List (List (Option Fault))). AreSteady lanes bit ls c.prepare-self.new.forces) c.deref.ensures.value (c.prepare-self.ensures.steady fresh));
+          (subst (λ (ls : List (List (Option Fault))). AreSteady lanes bit ls c.prepare-self.new.forces) c.deref-2.ensures.value (c.prepare-self.ensures.steady fresh));
       raw = latches ∙ kept.raw;
       words = nets ∙ kept.words;
       live_bound = c.advance.ensures.live_bound ∙ c.flip.ensures.latches ∙ kept.live_bound ∙ sym latches;
@@ -89,7 +90,7 @@ returns-clause-step g c = λ vectors inputs beside golden k lt.
     let faults = faults_of s.in_force.items k in
     let row = c.args.row.now in
     let made : circuit ≡ c.args.netlist.now = c.requires.made.circuit in
-    let forces : c.deref-6.result.now ≡ c.prepare-self.new.forces = grind (arith, common_steps) in
+    let forces : c.deref-7.result.now ≡ c.prepare-self.new.forces = grind (arith, common_steps) in
     let flips : c.deref_mut-3.result.now ≡ c.flip.new.raw = grind (arith, common_steps) in
     let raw : (with_items (with_items s.raw c.flip.new.raw) c.advance.new.raw).items ≡ c.advance.new.raw = grind (arith, common_steps) in
     let words : (with_items s.words c.advance.new.words).items ≡ c.advance.new.words = grind (arith, common_steps) in
@@ -103,12 +104,12 @@ returns-clause-step g c = λ vectors inputs beside golden k lt.
     (subst (λ fs. AreForces bit k fs x) (sym forces)
     (λ n d own within.
     c.prepare-self.ensures.armed k n d own lt within
-    ∙ ap₂ (λ fs t. affected fs t n own) (ap (λ (ls : List (List (Option Fault))). faults_of ls k) c.deref.ensures.value ∙ sym faults_are) (sym number_is)))
+    ∙ ap₂ (λ fs t. affected fs t n own) (ap (λ (ls : List (List (Option Fault))). faults_of ls k) c.deref-2.ensures.value ∙ sym faults_are) (sym number_is)))
     (λ l within.
     ap (λ ws. bit_at (plane bit k ws) l) flips
     ∙ ap (λ (bits : List Bool). bit_at bits l)
     (c.flip.ensures.flipped k lt
-    ∙ ap₂ (λ (ls : List (List (Option Fault))) ws. flipped (faults_of ls k) s.cycle (plane bit k ws)) c.deref-2.ensures.value c.deref_mut-2.ensures.value)
+    ∙ ap₂ (λ (ls : List (List (Option Fault))) ws. flipped (faults_of ls k) s.cycle (plane bit k ws)) c.deref-3.ensures.value c.deref_mut-2.ensures.value)
     ∙ holds l (subst (λ (e : Circuit). l < length e.latches) (sym made) within))
     m (subst (λ (e : Circuit). m < length e.drivers) made net))
     (λ l within.

@@ -40,6 +40,7 @@ returns-clause-kernel g c =
           ∙ kept.loads;
       acts_bound = kept.acts_bound;
       acts = λ noted. absurd (false≢true noted);
+      stuck = λ noted. absurd (false≢true noted);
       named_bound = kept.named_bound;
       forces = kept.forces;
       off = kept.off;

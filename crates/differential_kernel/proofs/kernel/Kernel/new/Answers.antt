@@ -38,6 +38,7 @@ returns-clause-kernel g c =
       loads = omega (arith, c.in_ok-in_force.in_force.ok.0, c.in_ok-in_force.ensures.len, c.count-2.ensures);
       acts_bound = c.in_ok-acts.ensures.bound;
       acts = λ noted. absurd (false≢true noted);
+      stuck = λ noted. absurd (false≢true noted);
       named_bound = c.in_ok-named.ensures.bound ∙ nets;
       forces = c.in_ok-forces.ensures.count ∙ nets;
       off = λ n lt none. c.in_ok-forces.ensures.idle n lt;
