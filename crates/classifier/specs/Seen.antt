@@ -2,6 +2,8 @@
 use Rattle.std.specs.Prelude.{◌≡◌, ℕ, ◌+◌, ◌<◌, ◌≤◌, ◌&&◌, ◌||◌, Bool, true, false, List, [], length, None, Option, slice_index_or}
 use Rattle.circuit.specs.declared.parts.Fault.{Fault}
 use Rattle.circuit.specs.Circuit.{Circuit}
+use Rattle.workload.specs.declared.run.Kind.{Kind}
+use Rattle.workload.specs.declared.run.Kind.TheVariants.{Mission, Test}
 use Rattle.workload.specs.declared.run.Run.{Run}
 use Rattle.workload.specs.Runs.{cycles_of, is_mission, is_test}
 use Rattle.alarm_points.specs.declared.Goal.{Goal}
@@ -11,7 +13,9 @@ use Rattle.alarm_points.specs.Watch.{AreMadeFor, IsAfterPairs, Pair, Watch, Watc
 use Rattle.fm_base.specs.Lists.{some_below}
 use Rattle.fm_base.specs.Planes.{bit}
 use Rattle.campaign_plan.specs.Danger.{differs, is_raised, is_silenced}
+use Rattle.campaign_plan.specs.declared.Outcome.{Outcome}
 use Rattle.classifier.specs.Load.{Load, in_lane, lane_faults}
+use Rattle.classifier.specs.Planes.{outcome_at}
 
 -- the goal of a number
 abbrev pub goal_at : List Goal → ℕ → Goal
@@ -62,25 +66,35 @@ pub record HaveSeenRun (c : Circuit) (points : Points) (run : Run) (faults : ℕ
   pub still : (k t : ℕ) → k < 64 → is_noticed_by c points (faults k) run n ≡ false → n ≤ t → t < cycles_of run → IsStill c points run (faults k) t
 
 -- the faults of each lane that wasn't noticed are in force
-abbrev pub AreFollowed : Load → List (List (Option Fault)) → ℕ → ℕ → Type 0
-AreFollowed load in_force word noticed = (k : ℕ) → k < 64 → bit noticed k ≡ false → in_lane in_force word k ≡ lane_faults load word k
+abbrev pub AreFollowed : (ℕ → List Fault) → List (List (Option Fault)) → ℕ → ℕ → Type 0
+AreFollowed faults in_force word noticed = (k : ℕ) → k < 64 → bit noticed k ≡ false → in_lane in_force word k ≡ faults k
 
 -- the lanes that are noticed, in a word
 abbrev pub noticed_at : List ℕ → ℕ → ℕ
 noticed_at noticed word = slice_index_or noticed word 0
 
 -- so in each word
-abbrev pub HaveAllSeen : Circuit → Points → Run → Load → ℕ → List Watches → List ℕ → Type 0
-HaveAllSeen c points run load n windows noticed =
-    (word : ℕ) → word < length windows → HaveSeen c points run (lane_faults load word) n (windows_at windows word) (noticed_at noticed word)
+abbrev pub HaveAllSeen : Circuit → Points → Run → List (List (Option Fault)) → ℕ → List Watches → List ℕ → Type 0
+HaveAllSeen c points run faults n windows noticed =
+    (word : ℕ) → word < length windows → HaveSeen c points run (in_lane faults word) n (windows_at windows word) (noticed_at noticed word)
 
-abbrev pub HaveAllSeenRun : Circuit → Points → Run → Load → List Watches → List ℕ → Type 0
-HaveAllSeenRun c points run load windows noticed =
-    (word : ℕ) → word < length windows → HaveSeenRun c points run (lane_faults load word) (windows_at windows word) (noticed_at noticed word)
+abbrev pub HaveAllSeenRun : Circuit → Points → Run → List (List (Option Fault)) → List Watches → List ℕ → Type 0
+HaveAllSeenRun c points run faults windows noticed =
+    (word : ℕ) → word < length windows → HaveSeenRun c points run (in_lane faults word) (windows_at windows word) (noticed_at noticed word)
+
+-- earlier runs have decided the lane for a run of this kind: it is noticed, and before a mission dangerous too
+abbrev pub is_decided : Kind → Outcome → ℕ → Bool
+is_decided Mission outcome k = bit outcome.danger k && bit outcome.noticed k
+is_decided Test outcome k = bit outcome.noticed k
+
+-- the lanes of each word that aren't decided have the faults that they were loaded with
+abbrev pub AreUndecided : Kind → ℕ → Load → List Outcome → List (List (Option Fault)) → Type 0
+AreUndecided kind words load outcomes faults =
+    (word k : ℕ) → word < words → k < 64 → is_decided kind (outcome_at outcomes word) k ≡ false → in_lane faults word k ≡ lane_faults load word k
 
 -- the faults of each lane that wasn't noticed are in force, in each word
-abbrev pub AreAllFollowed : ℕ → Load → List (List (Option Fault)) → List ℕ → Type 0
-AreAllFollowed words load in_force noticed = (word : ℕ) → word < words → AreFollowed load in_force word (noticed_at noticed word)
+abbrev pub AreAllFollowed : ℕ → List (List (Option Fault)) → List (List (Option Fault)) → List ℕ → Type 0
+AreAllFollowed words faults in_force noticed = (word : ℕ) → word < words → AreFollowed (in_lane faults word) in_force word (noticed_at noticed word)
 
 -- the windows of each word keep the interval of the settings
 abbrev pub KeepSettings : List Watches → List Watches → Type 0

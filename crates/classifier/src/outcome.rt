@@ -1,5 +1,5 @@
 // What the faults in the lanes are found to be, over all runs.
-ghost use Rattle.std.specs.Prelude.{◌≡◌, ◌<◌, ◌≤◌, ◌+◌, ◌*◌, ◌++◌, ◌∷◌, [], ◌||◌, ℕ, List, length};
+ghost use Rattle.std.specs.Prelude.{◌≡◌, ◌<◌, ◌≤◌, ◌+◌, ◌*◌, ◌++◌, ◌∷◌, [], ◌||◌, ℕ, List, Option, length};
 ghost use Rattle.circuit.specs.declared.parts.Fault.{Fault};
 ghost use Rattle.circuit.specs.Circuit.{Circuit};
 ghost use Rattle.workload.specs.declared.run.Run.{Run};
@@ -14,7 +14,7 @@ ghost use Rattle.lane_kernel.specs.Loads.{faults_of};
 ghost use Rattle.classifier.specs.Load.{IsLoadFor, Load, lane_faults, load_of};
 ghost use Rattle.classifier.specs.Planes.{HasPlanes, outcome_at, planes_of};
 ghost use Rattle.alarm_points.specs.FourWatches.{AreAllMadeFor, AreFourMadeFor, windows_at};
-ghost use Rattle.classifier.specs.Seen.{HaveAllSeenRun, HaveSeenRun, KeepSettings};
+ghost use Rattle.classifier.specs.Seen.{AreUndecided, HaveAllSeenRun, HaveSeenRun, KeepSettings};
 
 use crate::points::either_lanes;
 use crate::run::watch_run;
@@ -73,8 +73,9 @@ fn either(a: Outcome, b: Outcome) -> Outcome
 fn add_run(kind: Kind, windows: &[Windows], noticed: &[u64], outcomes: &mut [Outcome])
     requires windows { length windows.now ≡ length outcomes.old }
     requires noticed { length noticed.now ≡ length outcomes.old }
-    ensures { (c : Circuit) (points : PointsValue) (runs : List Run) (run : Run) (load : Load) (word : ℕ) → run.kind ≡ kind
-        → HaveAllSeenRun c points run load windows.now noticed.now → word < length outcomes.old
+    ensures { (c : Circuit) (points : PointsValue) (runs : List Run) (run : Run) (load : Load) (faults : List (List (Option Fault))) (word : ℕ) → run.kind ≡ kind
+        → AreUndecided kind (length outcomes.old) load outcomes.old faults
+        → HaveAllSeenRun c points run faults windows.now noticed.now → word < length outcomes.old
         → HasPlanes c points (windows_at windows.now word).ftti runs (lane_faults load word) (outcome_at outcomes.old word)
         → HasPlanes c points (windows_at windows.now word).ftti (runs ++ run ∷ []) (lane_faults load word) (outcome_at outcomes.new word) }
 {
@@ -114,7 +115,7 @@ fn judge_runs<B: LaneWords, L: Ledger>(
 {
     for run in 0..work.runs() {
         watch_run(
-            net, order, work, points, golden, run, lanes, windows, noticed, steps,
+            net, order, work, points, golden, run, lanes, windows, noticed, outcomes, steps,
         );
         add_run(work.kind(run), windows, noticed, outcomes);
     }

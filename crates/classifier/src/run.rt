@@ -1,19 +1,22 @@
 // One run in all lanes.
-ghost use Rattle.std.specs.Prelude.{◌≡◌, ◌≢◌, ◌<◌, ◌≤◌, ◌+◌, ◌*◌, ◌⊎◌, ℕ, Bool, List, true, false, length, take};
+ghost use Rattle.std.specs.Prelude.{◌≡◌, ◌≢◌, ◌<◌, ◌≤◌, ◌+◌, ◌*◌, ◌⊎◌, ℕ, Bool, List, Option, true, false, length, take};
+ghost use Rattle.circuit.specs.declared.parts.Fault.{Fault};
 ghost use Rattle.circuit.specs.Circuit.{Circuit};
 ghost use Rattle.workload.specs.declared.run.Run.{Run};
 ghost use Rattle.workload.specs.Runs.{cycles_of, run_at};
 ghost use Rattle.alarm_points.specs.PointsKept.{ArePointsFor};
 ghost use Rattle.fm_base.specs.Planes.{bit};
 ghost use Rattle.golden_difference.specs.Beside.{IsGoldenRow, IsOver};
-ghost use Rattle.classifier.specs.Load.{IsLoadFor, Load, in_lane};
+ghost use Rattle.classifier.specs.Load.{IsLoadFor, in_lane};
+ghost use Rattle.classifier.specs.Planes.{outcome_at};
 ghost use Rattle.alarm_points.specs.FourWatches.{AreAllMadeFor};
-ghost use Rattle.classifier.specs.Seen.{AreAllFollowed, HaveAllSeen, HaveAllSeenRun, KeepSettings};
+ghost use Rattle.classifier.specs.Seen.{AreAllFollowed, AreUndecided, HaveAllSeen, HaveAllSeenRun, KeepSettings, is_decided};
 
 use crate::see::see_cycle;
 use crate::words::LaneWords;
 use alarm_points::Points;
 use alarm_points::windows::Windows;
+use campaign_plan::Outcome;
 use circuit::netlist::Netlist;
 use fm_base::Steps;
 use golden_run::Golden;
@@ -25,7 +28,7 @@ use workload::run::{Kind, Workload};
 fn start_windows(points: &Points, windows: &mut [Windows], noticed: &mut [u64])
     requires noticed { length noticed.old ≡ length windows.old }
     requires made { AreAllMadeFor points.now windows.old }
-    ensures seen { (c : Circuit) (run : Run) (load : Load) → HaveAllSeen c points.now run load 0 windows.new noticed.new }
+    ensures seen { (c : Circuit) (run : Run) (faults : List (List (Option Fault))) → HaveAllSeen c points.now run faults 0 windows.new noticed.new }
     ensures ftti { KeepSettings windows.old windows.new }
 {
     for word in 0..windows.len() {
@@ -34,17 +37,17 @@ fn start_windows(points: &Points, windows: &mut [Windows], noticed: &mut [u64])
     }
 }
 
-// Drops the lanes of a word that are noticed, where there are more than before.
-fn drop_noticed<B: LaneWords>(lanes: &mut B, word: u32, before: u64, noticed: u64)
+// Drops some lanes of a word, where there are more than before.
+fn drop_more<B: LaneWords>(lanes: &mut B, word: u32, before: u64, out: u64)
     requires { word < B.words }
     ensures load { B.load lanes.new ≡ B.load lanes.old }
     ensures cycles { B.cycles lanes.new ≡ B.cycles lanes.old }
     ensures after { (vectors : List (List Bool)) → B.IsAfter lanes.old vectors → B.IsAfter lanes.new vectors }
-    ensures others { (other k : ℕ) → other < B.words → k < 64 → (other ≢ word) ⊎ (bit noticed k ≡ false)
+    ensures others { (other k : ℕ) → other < B.words → k < 64 → (other ≢ word) ⊎ (bit out k ≡ false)
         → in_lane (B.in_force lanes.new) other k ≡ in_lane (B.in_force lanes.old) other k }
 {
-    if noticed != before {
-        lanes.drop_lanes(word, noticed);
+    if out != before {
+        lanes.drop_lanes(word, out);
     }
 }
 
@@ -64,13 +67,14 @@ fn see_words<B: LaneWords>(
     requires made { AreAllMadeFor points.now windows.old }
     ensures load { B.load lanes.new ≡ B.load lanes.old }
     ensures cycles { B.cycles lanes.new ≡ B.cycles lanes.old }
-    ensures seen { (run : Run) (t : ℕ) → run.kind ≡ kind → t < cycles_of run → B.IsAfter lanes.old (take (t + 1) run.vectors)
+    ensures made { AreAllMadeFor points.now windows.new }
+    ensures seen { (run : Run) (faults : List (List (Option Fault))) (t : ℕ) → run.kind ≡ kind → t < cycles_of run → B.IsAfter lanes.old (take (t + 1) run.vectors)
         → IsGoldenRow (B.load lanes.old).circuit run.vectors t row.now
-        → AreAllFollowed B.words (B.load lanes.old) (B.in_force lanes.old) noticed.old
-        → HaveAllSeen (B.load lanes.old).circuit points.now run (B.load lanes.old) t windows.old noticed.old
+        → AreAllFollowed B.words faults (B.in_force lanes.old) noticed.old
+        → HaveAllSeen (B.load lanes.old).circuit points.now run faults t windows.old noticed.old
         → B.IsAfter lanes.new (take (t + 1) run.vectors)
-        × AreAllFollowed B.words (B.load lanes.old) (B.in_force lanes.new) noticed.new
-        × HaveAllSeen (B.load lanes.old).circuit points.now run (B.load lanes.old) (t + 1) windows.new noticed.new }
+        × AreAllFollowed B.words faults (B.in_force lanes.new) noticed.new
+        × HaveAllSeen (B.load lanes.old).circuit points.now run faults (t + 1) windows.new noticed.new }
     ensures ftti { KeepSettings windows.old windows.new }
 {
     for word in 0..B::count() {
@@ -85,7 +89,7 @@ fn see_words<B: LaneWords>(
             &mut windows[at],
             &mut noticed[at],
         );
-        drop_noticed(lanes, word, before, noticed[at]);
+        drop_more(lanes, word, before, noticed[at]);
     }
 }
 
@@ -113,19 +117,46 @@ fn run_cycle<B: LaneWords, L: Ledger>(
     requires after { B.IsAfter lanes.old (take t (run_at work.now run).vectors) }
     requires windows { length windows.old ≡ B.words }
     requires noticed { length noticed.old ≡ B.words }
-    requires followed { AreAllFollowed B.words (B.load lanes.old) (B.in_force lanes.old) noticed.old }
-    requires seen { HaveAllSeen net.now points.now (run_at work.now run) (B.load lanes.old) t windows.old noticed.old }
+    requires windows_made { AreAllMadeFor points.now windows.old }
     ensures load { B.load lanes.new ≡ B.load lanes.old }
     ensures cycles { B.cycles lanes.new ≡ t + 1 }
-    ensures after { B.IsAfter lanes.new (take (t + 1) (run_at work.now run).vectors) }
-    ensures followed { AreAllFollowed B.words (B.load lanes.old) (B.in_force lanes.new) noticed.new }
-    ensures seen { HaveAllSeen net.now points.now (run_at work.now run) (B.load lanes.old) (t + 1) windows.new noticed.new }
+    ensures windows_made { AreAllMadeFor points.now windows.new }
+    ensures seen { (faults : List (List (Option Fault))) → AreAllFollowed B.words faults (B.in_force lanes.old) noticed.old
+        → HaveAllSeen net.now points.now (run_at work.now run) faults t windows.old noticed.old
+        → B.IsAfter lanes.new (take (t + 1) (run_at work.now run).vectors)
+        × AreAllFollowed B.words faults (B.in_force lanes.new) noticed.new
+        × HaveAllSeen net.now points.now (run_at work.now run) faults (t + 1) windows.new noticed.new }
     ensures ftti { KeepSettings windows.old windows.new }
     ensures cost { steps.new ≤ steps.old + length net.now.tables }
 {
     let row = golden.row(run, t);
     lanes.advance(net, order, golden.fanout(), row, steps);
     see_words(points, work.kind(run), row, lanes, windows, noticed);
+}
+
+// The lanes that earlier runs have decided for a run of this kind.
+fn decided(kind: Kind, outcome: Outcome) -> u64
+    ensures { (k : ℕ) → bit result k ≡ is_decided kind outcome k }
+{
+    match kind {
+        Kind::Mission => outcome.danger & outcome.noticed,
+        Kind::Test => outcome.noticed,
+    }
+}
+
+// Drops the lanes that earlier runs have decided.
+fn drop_decided<B: LaneWords>(kind: Kind, outcomes: &[Outcome], lanes: &mut B)
+    requires { length outcomes.now ≡ B.words }
+    ensures load { B.load lanes.new ≡ B.load lanes.old }
+    ensures cycles { B.cycles lanes.new ≡ B.cycles lanes.old }
+    ensures after { (vectors : List (List Bool)) → B.IsAfter lanes.old vectors → B.IsAfter lanes.new vectors }
+    ensures others { (word k : ℕ) → word < B.words → k < 64 → is_decided kind (outcome_at outcomes.now word) k ≡ false
+        → in_lane (B.in_force lanes.new) word k ≡ in_lane (B.in_force lanes.old) word k }
+{
+    for word in 0..B::count() {
+        let out = decided(kind, outcomes[word as usize]);
+        drop_more(lanes, word, 0, out);
+    }
 }
 
 // Whether a run of so many cycles goes on in cycle t: there is one, and the run isn't over.
@@ -137,9 +168,10 @@ fn goes_on<B: LaneWords>(lanes: &B, t: u32, cycles: u32) -> bool
     if t < cycles { !lanes.is_over() } else { false }
 }
 
-/// Simulates a run from its start in all lanes, and shows each cycle to the windows of each word. `noticed` are then the lanes of
-/// each word that the run gives notice of; such a lane is dropped once it is noticed. The run is left where it is over in all lanes. It takes at
-/// most one step for each table and cycle. What lanes, windows and `noticed` held before is no matter.
+/// Simulates a run from its start in all lanes that earlier runs haven't decided, whose planes are `outcomes`, and shows each cycle
+/// to the windows of each word. `noticed` are then the lanes of each word that the run gives notice of; such a lane is dropped once
+/// it is noticed. The run is left where it is over in all lanes. It takes at most one step for each table and cycle. What lanes,
+/// windows and `noticed` held before is no matter.
 pub fn watch_run<B: LaneWords, L: Ledger>(
     net: &Netlist,
     order: &Order,
@@ -150,22 +182,27 @@ pub fn watch_run<B: LaneWords, L: Ledger>(
     lanes: &mut B,
     windows: &mut [Windows],
     noticed: &mut [u64],
+    outcomes: &[Outcome],
     steps: &mut Steps<L>,
 )
     requires golden { golden.now ≡ record { circuit = net.now; order = order.now; runs = work.now } }
     requires points { ArePointsFor net.now points.now }
     requires run { run < length work.now }
+    requires outcomes { length outcomes.now ≡ B.words }
     requires made { IsLoadFor net.now order.now (B.load lanes.old) }
     requires windows { length windows.old ≡ B.words }
     requires noticed { length noticed.old ≡ B.words }
     requires windows_made { AreAllMadeFor points.now windows.old }
     ensures load { B.load lanes.new ≡ B.load lanes.old }
-    ensures seen { HaveAllSeenRun net.now points.now (run_at work.now run) (B.load lanes.old) windows.new noticed.new }
+    ensures seen { (faults : List (List (Option Fault)))
+        × AreUndecided (run_at work.now run).kind B.words (B.load lanes.old) outcomes.now faults
+        × HaveAllSeenRun net.now points.now (run_at work.now run) faults windows.new noticed.new }
     ensures ftti { KeepSettings windows.old windows.new }
     ensures cost { steps.new ≤ steps.old + cycles_of (run_at work.now run) * length net.now.tables }
 {
     lanes.restart();
     start_windows(points, windows, noticed);
+    drop_decided(work.kind(run), outcomes, lanes);
     let mut t = 0;
     'clock: while goes_on(lanes, t, work.cycles(run)) {
         run_cycle(

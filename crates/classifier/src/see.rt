@@ -1,5 +1,6 @@
 // One word of lanes sees a cycle.
-ghost use Rattle.std.specs.Prelude.{◌≡◌, ◌<◌, ◌≤◌, ◌+◌, ◌||◌, ◌&&◌, ℕ, All, false, length, take};
+ghost use Rattle.std.specs.Prelude.{◌≡◌, ◌<◌, ◌≤◌, ◌+◌, ◌||◌, ◌&&◌, ℕ, List, All, false, length, take};
+ghost use Rattle.circuit.specs.declared.parts.Fault.{Fault};
 ghost use Rattle.circuit.specs.Sound.{IsNet};
 ghost use Rattle.workload.specs.declared.run.Run.{Run};
 ghost use Rattle.workload.specs.Runs.{cycles_of, is_test};
@@ -9,7 +10,7 @@ ghost use Rattle.alarm_points.specs.declared.Points.{Points as PointsValue};
 ghost use Rattle.campaign_plan.specs.Danger.{is_raised};
 ghost use Rattle.fm_base.specs.Planes.{bit};
 ghost use Rattle.golden_difference.specs.Beside.{IsGoldenRow};
-ghost use Rattle.classifier.specs.Load.{in_lane, lane_faults};
+ghost use Rattle.classifier.specs.Load.{in_lane};
 ghost use Rattle.classifier.specs.Seen.{AreFollowed, HasSeen, HaveSeen, goal_at, is_noticed_by};
 
 use crate::noise::Noise;
@@ -27,12 +28,12 @@ fn see_goals<B: LaneWords>(lanes: &B, word: u32, goals: &[Goal], raised: u64, wi
     requires windows { length windows.old.windows ≡ length goals.now }
     ensures keeps { KeepsIntervals windows.old windows.new }
     ensures count { length windows.new.windows ≡ length goals.now }
-    ensures step { (points : PointsValue) (run : Run) (t g : ℕ) → t < cycles_of run → g < length goals.now → B.IsAfter lanes.now (take (t + 1) run.vectors)
-        → ((k : ℕ) → k < 64 → is_noticed_by (B.load lanes.now).circuit points (lane_faults (B.load lanes.now) word k) run t ≡ false
-        → (in_lane (B.in_force lanes.now) word k ≡ lane_faults (B.load lanes.now) word k)
-        × (bit raised k ≡ is_raised (B.load lanes.now).circuit points (lane_faults (B.load lanes.now) word k) run t))
-        → HasSeen (B.load lanes.now).circuit points run (lane_faults (B.load lanes.now) word) (goal_at goals.now g) t (window_at windows.old g)
-        → HasSeen (B.load lanes.now).circuit points run (lane_faults (B.load lanes.now) word) (goal_at goals.now g) (t + 1) (window_at windows.new g) }
+    ensures step { (points : PointsValue) (run : Run) (faults : ℕ → List Fault) (t g : ℕ) → t < cycles_of run → g < length goals.now → B.IsAfter lanes.now (take (t + 1) run.vectors)
+        → ((k : ℕ) → k < 64 → is_noticed_by (B.load lanes.now).circuit points (faults k) run t ≡ false
+        → (in_lane (B.in_force lanes.now) word k ≡ faults k)
+        × (bit raised k ≡ is_raised (B.load lanes.now).circuit points (faults k) run t))
+        → HasSeen (B.load lanes.now).circuit points run faults (goal_at goals.now g) t (window_at windows.old g)
+        → HasSeen (B.load lanes.now).circuit points run faults (goal_at goals.now g) (t + 1) (window_at windows.new g) }
 {
     for (g, goal) in goals.iter().enumerate() {
         let differs = differing(lanes, word, goal.observe.as_slice());
@@ -64,11 +65,11 @@ pub fn see_cycle<B: LaneWords>(
     requires word { word < B.words }
     requires points { ArePointsFor (B.load lanes.now).circuit points.now }
     requires windows { length windows.old.windows ≡ length points.now.goals }
-    ensures seen { (run : Run) (t : ℕ) → run.kind ≡ kind → t < cycles_of run → B.IsAfter lanes.now (take (t + 1) run.vectors)
+    ensures seen { (run : Run) (faults : ℕ → List Fault) (t : ℕ) → run.kind ≡ kind → t < cycles_of run → B.IsAfter lanes.now (take (t + 1) run.vectors)
         → IsGoldenRow (B.load lanes.now).circuit run.vectors t row.now
-        → AreFollowed (B.load lanes.now) (B.in_force lanes.now) word noticed.old
-        → HaveSeen (B.load lanes.now).circuit points.now run (lane_faults (B.load lanes.now) word) t windows.old noticed.old
-        → HaveSeen (B.load lanes.now).circuit points.now run (lane_faults (B.load lanes.now) word) (t + 1) windows.new noticed.new }
+        → AreFollowed faults (B.in_force lanes.now) word noticed.old
+        → HaveSeen (B.load lanes.now).circuit points.now run faults t windows.old noticed.old
+        → HaveSeen (B.load lanes.now).circuit points.now run faults (t + 1) windows.new noticed.new }
     ensures keeps { KeepsIntervals windows.old windows.new }
     ensures grows { (k : ℕ) → bit noticed.new k ≡ false → bit noticed.old k ≡ false }
 {

@@ -3,10 +3,10 @@ use Rattle.std.proofs.lemmas.List.{get_or_default}
 use Rattle.alarm_points.specs.Watch.{Watches}
 use Rattle.campaign_plan.specs.declared.Outcome.{Outcome}
 use Rattle.campaign_plan.specs.Danger.{is_dangerous_in}
-use Rattle.classifier.specs.Load.{lane_faults}
+use Rattle.classifier.specs.Load.{in_lane, lane_faults}
 use Rattle.classifier.specs.Planes.{HasPlanes, outcome_at}
 use Rattle.alarm_points.specs.FourWatches.{windows_at}
-use Rattle.classifier.specs.Seen.{HaveSeenRun, noticed_at}
+use Rattle.classifier.specs.Seen.{HaveSeenRun, is_decided, noticed_at}
 use Rattle.classifier.proofs.EachWord.{each_set_one}
 use Rattle.classifier.proofs.RunByRun.{planes_more}
 use Rattle.classifier.proofs.outcome.add_run.Goals as goal
@@ -25,22 +25,25 @@ loop-word-preserved c =
     let same : windows_at ws i ≡ c.index-windows-word.result =
     sym (c.index-windows-word.is ∙ get_or_default ws i c.index-windows-word.result (windows_at [] 0) within) in
     record {
-      done = λ circuit points runs run load word kind seen lt planes.
+      done = λ circuit points runs run load faults word kind undecided seen lt planes.
           let more = λ (j : ℕ) (o : Outcome). HasPlanes circuit points (windows_at ws j).ftti (runs ++ run ∷ []) (lane_faults load j) o in
           let before = λ (j : ℕ) (o : Outcome). HasPlanes circuit points (windows_at ws j).ftti runs (lane_faults load j) o in
-          let sees : HaveSeenRun circuit points run (lane_faults load i) c.index-windows-word.result (noticed_at c.args.noticed.now i) =
-          subst (λ (w : Watches). HaveSeenRun circuit points run (lane_faults load i) w (noticed_at c.args.noticed.now i)) same (seen i within) in
+          let sees : HaveSeenRun circuit points run (in_lane faults i) c.index-windows-word.result (noticed_at c.args.noticed.now i) =
+          subst (λ (w : Watches). HaveSeenRun circuit points run (in_lane faults i) w (noticed_at c.args.noticed.now i)) same (seen i within) in
           each_set_one (λ j o. before j (outcome_at c.args.outcomes.now j) → more j o) outcomes i new none inside
           (λ old.
-          planes_more circuit points (windows_at ws i).ftti runs run (lane_faults load i) (outcome_at outcomes i) own.result new
+          planes_more circuit points (windows_at ws i).ftti runs run (lane_faults load i) (in_lane faults i) (outcome_at outcomes i) own.result new
           (subst (before i) (sym (inv.left i (omega arith))) old)
+          (λ k lane free.
+          undecided i k (omega (arith, inside, c.loop-word.auto.outcomes)) lane
+          (ap (λ (o : Outcome). is_decided c.args.kind o k) (sym (inv.left i (omega arith))) ∙ ap (λ kd. is_decided kd (outcome_at outcomes i) k) (sym kind) ∙ free))
           (λ k lane.
-          own.ensures.danger circuit points run (lane_faults load i) k kind sees lane
-          ∙ ap (λ (w : Watches). is_dangerous_in circuit points w.ftti (lane_faults load i k) run) (sym same))
-          (λ k lane. own.ensures.noticed circuit points run (lane_faults load i) k kind sees lane)
+          own.ensures.danger circuit points run (in_lane faults i) k kind sees lane
+          ∙ ap (λ (w : Watches). is_dangerous_in circuit points w.ftti (in_lane faults i k) run) (sym same))
+          (λ k lane. own.ensures.noticed circuit points run (in_lane faults i) k kind sees lane)
           c.either.ensures.danger c.either.ensures.noticed (omega (arith, c.either.type_inv), omega (arith, c.either.type_inv)))
           word
-          (λ apart old. let early : word < i = omega (arith, apart, lt) in inv.done circuit points runs run load word kind seen early old)
+          (λ apart old. let early : word < i = omega (arith, apart, lt) in inv.done circuit points runs run load faults word kind undecided seen early old)
           planes;
       left = λ word le.
           let apart : word ≢ i = omega (arith, le) in
@@ -48,6 +51,6 @@ loop-word-preserved c =
     }
 
 pub returns : goal.returns
-returns c = λ circuit points runs run load word kind seen lt planes.
+returns c = λ circuit points runs run load faults word kind undecided seen lt planes.
     let done : word < c.loop-word.word = omega (arith, lt, c.loop-word-test.false) in
-    c.loop-word.invariant.done circuit points runs run load word kind seen done planes
+    c.loop-word.invariant.done circuit points runs run load faults word kind undecided seen done planes

@@ -9,6 +9,7 @@ use Rattle.campaign_plan.specs.declared.Outcome.{Outcome}
 use Rattle.classifier.specs.Load.{Load, lane_faults}
 use Rattle.classifier.specs.Planes.{HasPlanes, outcome_at}
 use Rattle.alarm_points.specs.FourWatches.{windows_at}
+use Rattle.classifier.specs.Seen.{is_decided}
 use Rattle.classifier.proofs.RunByRun.{planes_none}
 use Rattle.classifier.proofs.outcome.judge_runs.Goals as goal
 
@@ -56,7 +57,7 @@ loop-run-preserved g c =
     let none : Run = record { kind = Mission; vectors = [] } in
     record {
       load = watched.load ∙ inv.load;
-      made = λ word lt. (watched.seen word lt).seen.made;
+      made = λ word lt. (watched.seen.2 word lt).seen.made;
       ftti = λ word. watched.ftti word ∙ inv.ftti word;
       planes = λ word lt.
           let ftti = (windows_at c.args.windows.now word).ftti in
@@ -65,7 +66,11 @@ loop-run-preserved g c =
           subst (λ f. HasPlanes net points f (take (n + 1) runs) (lane_faults load word) (outcome_at outcomes word)) same
           (subst (λ (rs : List Run). HasPlanes net points (windows_at c.watch_run.new.windows word).ftti rs (lane_faults load word) (outcome_at outcomes word)) (sym (take_more runs n none within))
           (subst (λ (l : Load). HasPlanes net points (windows_at c.watch_run.new.windows word).ftti (take n runs ++ run ∷ []) (lane_faults l word) (outcome_at outcomes word)) inv.load
-          (c.add_run.ensures net points (take n runs) run before word (sym c.kind.ensures) watched.seen inside
+          (c.add_run.ensures net points (take n runs) run before watched.seen.0 word (sym c.kind.ensures)
+          (λ w k lt lane free.
+          watched.seen.1 w k (omega (arith, lt, c.requires.outcomes, c.loop-run.auto.outcomes)) lane
+          (ap (λ kd. is_decided kd (outcome_at c.loop-run.outcomes w) k) (sym c.kind.ensures) ∙ free))
+          watched.seen.2 inside
           (subst (λ (l : Load). HasPlanes net points (windows_at c.watch_run.new.windows word).ftti (take n runs) (lane_faults l word) (outcome_at c.loop-run.outcomes word)) (sym inv.load)
           (subst (λ f. HasPlanes net points f (take n runs) (lane_faults load word) (outcome_at c.loop-run.outcomes word)) (sym same) (inv.planes word lt))))));
       cost = cost_more _ _ _ _ _ (length net.tables) _ inv.cost (more_cycles runs n within) watched.cost;

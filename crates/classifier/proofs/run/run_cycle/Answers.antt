@@ -22,16 +22,12 @@ pub see_words-requires-clause-points : goal.see_words-requires-clause-points
 see_words-requires-clause-points g c =
     subst (λ (m : Circuit). ArePointsFor m c.args.points.now) (sym (ap (λ (l : Load). l.circuit) c.advance.ensures.keeps ∙ c.requires.made.circuit)) c.requires.points
 
-pub see_words-requires-clause-made : goal.see_words-requires-clause-made
-see_words-requires-clause-made g c = λ word lt. (c.requires.seen word lt).made
-
 pub returns : goal.returns
 returns g c =
     let net = c.args.net.now in
     let points = c.args.points.now in
     let run = run_at c.args.work.now c.args.run in
     let t = c.args.t in
-    let load = g.B.LaneWords.load c.args.lanes.now in
     let row = c.row-row.result.now in
     let lt = c.requires.cycle in
     let keeps = c.advance.ensures.keeps in
@@ -47,20 +43,21 @@ returns g c =
     λ n within. golden n within ∙ sym (trace_taken net [] run.vectors t n lt) ∙ ap₂ (λ (vs : List (List Bool)) m. trace net [] vs m n) (sym joined) (sym size) in
     let after : g.B.LaneWords.IsAfter c.advance.new.self (take (t + 1) run.vectors) =
     subst (λ (vs : List (List Bool)). g.B.LaneWords.IsAfter c.advance.new.self vs) joined (c.advance.ensures.step (take t run.vectors) (vector_at run.vectors t) c.requires.after here) in
-    let all = c.see_words.ensures.seen run t (sym c.kind.ensures) lt after
-    (subst (λ (l : Load). IsGoldenRow l.circuit run.vectors t row) (sym keeps) (subst (λ (m : Circuit). IsGoldenRow m run.vectors t row) (sym made) golden))
-    (subst (λ (fs : List (List (Option Fault))). AreAllFollowed words (g.B.LaneWords.load c.advance.new.self) fs noticed) (sym c.advance.ensures.in_force)
-    (subst (λ (l : Load). AreAllFollowed words l (g.B.LaneWords.in_force c.args.lanes.now) noticed) (sym keeps) c.requires.followed))
-    (subst (λ (l : Load). HaveAllSeen l.circuit points run l t windows noticed) (sym keeps)
-    (subst (λ (m : Circuit). HaveAllSeen m points run load t windows noticed) (sym made) c.requires.seen)) in
     record {
       load = c.see_words.ensures.load ∙ keeps;
       cycles = c.see_words.ensures.cycles ∙ c.advance.ensures.cycles ∙ ap (λ n. n + 1) c.requires.cycles;
-      after = all.0;
-      followed = subst (λ (l : Load). AreAllFollowed words l (g.B.LaneWords.in_force c.see_words.new.lanes) c.see_words.new.noticed) keeps all.1;
-      seen =
-          subst (λ (m : Circuit). HaveAllSeen m points run load (t + 1) c.see_words.new.windows c.see_words.new.noticed) made
-          (subst (λ (l : Load). HaveAllSeen l.circuit points run l (t + 1) c.see_words.new.windows c.see_words.new.noticed) keeps all.2);
+      windows_made = c.see_words.ensures.made;
+      seen = λ faults followed seen.
+          let all = c.see_words.ensures.seen run faults t (sym c.kind.ensures) lt after
+          (subst (λ (l : Load). IsGoldenRow l.circuit run.vectors t row) (sym keeps) (subst (λ (m : Circuit). IsGoldenRow m run.vectors t row) (sym made) golden))
+          (subst (λ (fs : List (List (Option Fault))). AreAllFollowed words faults fs noticed) (sym c.advance.ensures.in_force) followed)
+          (subst (λ (l : Load). HaveAllSeen l.circuit points run faults t windows noticed) (sym keeps)
+          (subst (λ (m : Circuit). HaveAllSeen m points run faults t windows noticed) (sym made) seen)) in (
+            all.0,
+            all.1,
+            subst (λ (m : Circuit). HaveAllSeen m points run faults (t + 1) c.see_words.new.windows c.see_words.new.noticed) made
+                (subst (λ (l : Load). HaveAllSeen l.circuit points run faults (t + 1) c.see_words.new.windows c.see_words.new.noticed) keeps all.2),
+          );
       ftti = c.see_words.ensures.ftti;
       cost = c.advance.ensures.cost;
     }

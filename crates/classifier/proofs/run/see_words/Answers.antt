@@ -7,8 +7,8 @@ use Rattle.alarm_points.specs.Interval.{interval_of}
 use Rattle.alarm_points.specs.PointsKept.{ArePointsFor}
 use Rattle.alarm_points.specs.Watch.{AreMadeFor, Watches}
 use Rattle.golden_difference.specs.Beside.{IsGoldenRow}
-use Rattle.classifier.specs.Load.{Load, in_lane, lane_faults}
-use Rattle.classifier.specs.Seen.{AreFollowed, HaveSeen, noticed_at}
+use Rattle.classifier.specs.Load.{Load, in_lane}
+use Rattle.classifier.specs.Seen.{HaveSeen, noticed_at}
 use Rattle.fm_base.specs.Planes.{bit}
 use Rattle.classifier.proofs.EachWord.{each_set, each_set_one}
 use Rattle.classifier.proofs.WindowCounts.{window_count}
@@ -45,37 +45,37 @@ loop-word-preserved g c =
     c.see_cycle.ensures.keeps.intervals ∙ subst (λ (w : Watches). AreMadeFor points w) (sym old) (inv.made i inside)
     ∙ ap (λ f. map (interval_of f) points.goals) (sym c.see_cycle.ensures.keeps.ftti) in
     record {
-      load = c.drop_noticed.ensures.load ∙ inv.load;
-      cycles = c.drop_noticed.ensures.cycles ∙ inv.cycles;
+      load = c.drop_more.ensures.load ∙ inv.load;
+      cycles = c.drop_more.ensures.cycles ∙ inv.cycles;
       made = λ word lt.
           each_set_one (λ j w. AreMadeFor points w) ws i new.windows none inside made word (λ apart. inv.made word (subst (λ n. word < n) (length-set ws i new.windows) lt));
-      seen = λ run t kind lt at row followed seen.
-          let before = inv.seen run t kind lt at row followed seen in
-          let own : HaveSeen held.circuit points run (lane_faults held i) (t + 1) new.windows new.noticed =
-          c.see_cycle.ensures.seen run t kind lt before.0
+      seen = λ run faults t kind lt at row followed seen.
+          let before = inv.seen run faults t kind lt at row followed seen in
+          let own : HaveSeen held.circuit points run (in_lane faults i) (t + 1) new.windows new.noticed =
+          c.see_cycle.ensures.seen run (in_lane faults i) t kind lt before.0
           (subst (λ (l : Load). IsGoldenRow l.circuit run.vectors t c.args.row.now) (sym inv.load) row)
-          (subst (λ (l : Load). AreFollowed l (g.B.LaneWords.in_force c.loop-word.lanes) i (noticed_at ns i)) (sym inv.load) (before.1 i word_of))
-          (subst (λ (l : Load). HaveSeen l.circuit points run (lane_faults l i) t (get_or ws i c.index-windows-at.result) (noticed_at ns i)) (sym inv.load)
-          (subst (λ (w : Watches). HaveSeen load.circuit points run (lane_faults load i) t w (noticed_at ns i)) (sym old) (before.3 i (omega arith) inside))) in
-          let here : HaveSeen load.circuit points run (lane_faults load i) (t + 1) new.windows new.noticed =
-          subst (λ (l : Load). HaveSeen l.circuit points run (lane_faults l i) (t + 1) new.windows new.noticed) inv.load own in (
-            c.drop_noticed.ensures.after (take (t + 1) run.vectors) before.0,
-            λ word within k lane quiet. elim (cases_eq word i) as (λ _. in_lane (g.B.LaneWords.in_force c.drop_noticed.new.lanes) word k ≡ lane_faults load word k) [
+          (before.1 i word_of)
+          (subst (λ (l : Load). HaveSeen l.circuit points run (in_lane faults i) t (get_or ws i c.index-windows-at.result) (noticed_at ns i)) (sym inv.load)
+          (subst (λ (w : Watches). HaveSeen load.circuit points run (in_lane faults i) t w (noticed_at ns i)) (sym old) (before.3 i (omega arith) inside))) in
+          let here : HaveSeen load.circuit points run (in_lane faults i) (t + 1) new.windows new.noticed =
+          subst (λ (l : Load). HaveSeen l.circuit points run (in_lane faults i) (t + 1) new.windows new.noticed) inv.load own in (
+            c.drop_more.ensures.after (take (t + 1) run.vectors) before.0,
+            λ word within k lane quiet. elim (cases_eq word i) as (λ _. in_lane (g.B.LaneWords.in_force c.drop_more.new.lanes) word k ≡ in_lane faults word k) [
               | inl same ↦
                   (let at_i : bit (noticed_at (set ns i new.noticed) i) k ≡ false = ap (λ j. bit (noticed_at (set ns i new.noticed) j) k) (sym same) ∙ quiet in
                   let now : bit new.noticed k ≡ false = ap (λ n. bit n k) (sym (get_or-set_same ns i new.noticed 0 also)) ∙ at_i in
-                  c.drop_noticed.ensures.others word k within lane (inr at_i)
+                  c.drop_more.ensures.others word k within lane (inr at_i)
                   ∙ before.1 word within k lane (ap (λ j. bit (noticed_at ns j) k) same ∙ c.see_cycle.ensures.grows k now))
               | inr apart ↦
-                  c.drop_noticed.ensures.others word k within lane (inl apart)
+                  c.drop_more.ensures.others word k within lane (inl apart)
                   ∙ before.1 word within k lane (ap (λ n. bit n k) (sym (get_or-set_other ns i word new.noticed 0 apart)) ∙ quiet)
             ],
             λ word less.
-                each_set (λ j w n. HaveSeen load.circuit points run (lane_faults load j) (t + 1) w n) ws ns i new.windows none new.noticed 0 inside also here word
+                each_set (λ j w n. HaveSeen load.circuit points run (in_lane faults j) (t + 1) w n) ws ns i new.windows none new.noticed 0 inside also here word
                 (λ apart. let early : word < i = omega (arith, apart, less) in before.2 word early),
             λ word le within.
                 let apart : word ≢ i = omega (arith, le) in
-                each_set (λ j w n. j ≢ i → HaveSeen load.circuit points run (lane_faults load j) t w n) ws ns i new.windows none new.noticed 0 inside also
+                each_set (λ j w n. j ≢ i → HaveSeen load.circuit points run (in_lane faults j) t w n) ws ns i new.windows none new.noticed 0 inside also
                 (λ same. absurd (same refl)) word
                 (λ other away. before.3 word (omega (arith, le)) (subst (λ n. word < n) (length-set ws i new.windows) within)) apart,
           );
@@ -83,3 +83,13 @@ loop-word-preserved g c =
           each_set_one (λ j w. w.ftti ≡ (windows_at c.args.windows.now j).ftti) ws i new.windows none inside
           (c.see_cycle.ensures.keeps.ftti ∙ ap (λ (w : Watches). w.ftti) old ∙ inv.ftti i) word (λ apart. inv.ftti word);
     }
+
+pub returns-clause-seen : goal.returns-clause-seen
+returns-clause-seen g c = λ run faults t kind lt at row followed seen.
+    let all = c.loop-word.invariant.seen run faults t kind lt at row followed seen in (
+      all.0,
+      all.1,
+      λ word within.
+          let before : word < c.loop-word.word = omega (arith, within, c.loop-word-test.false, c.count-word-end.ensures.count, c.loop-word.auto.windows, c.requires.windows) in
+          all.2 word before,
+    )

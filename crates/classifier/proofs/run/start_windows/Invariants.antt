@@ -1,7 +1,9 @@
-use Rattle.std.proofs.Common.{◌<◌, ℕ}
+use Rattle.std.proofs.Common.{◌<◌, ℕ, List}
+use Rattle.std.specs.Prelude.{Option}
+use Rattle.circuit.specs.declared.parts.Fault.{Fault}
 use Rattle.circuit.specs.Circuit.{Circuit}
 use Rattle.workload.specs.declared.run.Run.{Run}
-use Rattle.classifier.specs.Load.{Load, lane_faults}
+use Rattle.classifier.specs.Load.{in_lane}
 use Rattle.alarm_points.specs.FourWatches.{AreAllMadeFor, windows_at}
 use Rattle.classifier.specs.Seen.{HaveSeen, KeepSettings, noticed_at}
 use Rattle.classifier.proofs.run.start_windows.Given as goal
@@ -10,7 +12,7 @@ use Rattle.classifier.proofs.run.start_windows.Given as goal
 abbrev pub invariant-loop-word : goal.invariant-loop-word
 invariant-loop-word l = record {
   made : AreAllMadeFor l.points l.windows;
-  seen : (c : Circuit) (run : Run) (load : Load) (word : ℕ) → word < l.word
-      → HaveSeen c l.points run (lane_faults load word) 0 (windows_at l.windows word) (noticed_at l.noticed word);
+  seen : (c : Circuit) (run : Run) (faults : List (List (Option Fault))) (word : ℕ) → word < l.word
+      → HaveSeen c l.points run (in_lane faults word) 0 (windows_at l.windows word) (noticed_at l.noticed word);
   ftti : KeepSettings l.initial.windows l.windows;
 }

@@ -1,5 +1,6 @@
 use Rattle.std.proofs.Common.{◌≡◌, ◌≤◌, ◌+◌, ◌-◌, ◌*◌, length, take}
 use Rattle.workload.specs.Runs.{cycles_of, run_at}
+use Rattle.alarm_points.specs.FourWatches.{AreAllMadeFor}
 use Rattle.classifier.specs.Seen.{AreAllFollowed, HaveAllSeen, KeepSettings}
 use Rattle.classifier.proofs.run.watch_run.Given as goal
 
@@ -10,8 +11,9 @@ invariant-clock g l = record {
   load : g.B.LaneWords.load l.lanes ≡ g.B.LaneWords.load l.initial.lanes;
   cycles : g.B.LaneWords.cycles l.lanes ≡ l.t;
   after : g.B.LaneWords.IsAfter l.lanes (take l.t (run_at l.work l.run).vectors);
-  seen : HaveAllSeen l.net l.points (run_at l.work l.run) (g.B.LaneWords.load l.initial.lanes) l.t l.windows l.noticed;
-  followed : AreAllFollowed g.B.LaneWords.words (g.B.LaneWords.load l.initial.lanes) (g.B.LaneWords.in_force l.lanes) l.noticed;
+  made : AreAllMadeFor l.points l.windows;
+  seen : HaveAllSeen l.net l.points (run_at l.work l.run) (g.B.LaneWords.in_force l.initial.lanes) l.t l.windows l.noticed;
+  followed : AreAllFollowed g.B.LaneWords.words (g.B.LaneWords.in_force l.initial.lanes) (g.B.LaneWords.in_force l.lanes) l.noticed;
   ftti : KeepSettings l.initial.windows l.windows;
   cost : l.steps ≤ l.initial.steps + l.t * length l.net.tables;
 }

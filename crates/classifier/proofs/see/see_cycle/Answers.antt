@@ -11,7 +11,7 @@ use Rattle.alarm_points.specs.Interval.{interval_of}
 use Rattle.alarm_points.specs.Watch.{window_at}
 use Rattle.campaign_plan.specs.Danger.{golden, is_raised, is_silenced, with_faults}
 use Rattle.fm_base.specs.Planes.{bit}
-use Rattle.classifier.specs.Load.{in_lane, lane_faults}
+use Rattle.classifier.specs.Load.{in_lane}
 use Rattle.classifier.specs.Seen.{HasSeen, goal_at, is_noticed_by}
 use Rattle.classifier.proofs.Views.{noticed_more, notice_after}
 use Rattle.classifier.proofs.see.see_cycle.Goals as goal
@@ -27,10 +27,9 @@ see_goals-requires-clause-nets g c = λ h lt.
     (c.requires.points.goals h (goal_at [] 0) (subst (λ (gs : List Goal). h < length gs) goals lt)).nets
 
 pub returns-clause-seen : goal.returns-clause-seen
-returns-clause-seen g c = λ run t kind within at row followed seen.
+returns-clause-seen g c = λ run faults t kind within at row followed seen.
     let load = g.B.LaneWords.load c.args.lanes.now in
     let points = c.args.points.now in
-    let faults = lane_faults load c.args.word in
     let goals : c.as_slice-2.result.now ≡ points.goals = c.as_slice-2.ensures in
     let old = c.args.noticed.now in
     let found = c.noise_in-found.result in
@@ -53,7 +52,7 @@ returns-clause-seen g c = λ run t kind within at row followed seen.
           ∙ ap (λ f. map (interval_of f) points.goals) (sym c.see_goals.ensures.keeps.ftti);
       seen = λ h lt.
           subst (λ (gs : List Goal). HasSeen load.circuit points run faults (goal_at gs h) (t + 1) (window_at c.see_goals.new.windows h)) goals
-          (c.see_goals.ensures.step points run t h within (subst (λ (gs : List Goal). h < length gs) (sym goals) lt) at
+          (c.see_goals.ensures.step points run faults t h within (subst (λ (gs : List Goal). h < length gs) (sym goals) lt) at
           (λ k lane none. (follows k lane none, loud k lane none))
           (subst (λ (gs : List Goal). HasSeen load.circuit points run faults (goal_at gs h) t (window_at c.args.windows.now h)) (sym goals) (seen.seen h lt)));
       noticed_is = λ k lane.

@@ -8,7 +8,6 @@ use Rattle.alarm_points.specs.declared.Goal.{Goal}
 use Rattle.alarm_points.specs.Watch.{window_at}
 use Rattle.campaign_plan.specs.Danger.{differs, golden, with_faults}
 use Rattle.fm_base.specs.Lists.{same_bit}
-use Rattle.classifier.specs.Load.{lane_faults}
 use Rattle.classifier.specs.Seen.{HasSeen, goal_at}
 use Rattle.classifier.proofs.WindowCounts.{same_count}
 use Rattle.classifier.proofs.Views.{sees_more}
@@ -31,7 +30,6 @@ loop-g-preserved o c =
     let inv = c.loop-g.invariant in
     let new = c.see.new.self in
     let net = (o.B.LaneWords.load c.args.lanes.now).circuit in
-    let faults = lane_faults (o.B.LaneWords.load c.args.lanes.now) c.args.word in
     let nets : c.as_slice.result.now ≡ (goal_at goals g).observe =
     c.as_slice.ensures ∙ ap (λ (o : Goal). o.observe) (c.index-goals-g.is ∙ get_or_default goals g own _ c.loop-g-test.true) in
     record {
@@ -40,13 +38,13 @@ loop-g-preserved o c =
         intervals = c.see.ensures.keeps.intervals ∙ inv.keeps.intervals;
       };
       count = same_count c.loop-g.windows new c.see.ensures.keeps ∙ inv.count;
-      done = λ points run t h within lt at follows seen.
+      done = λ points run faults t h within lt at follows seen.
           below_more (λ (m : ℕ).
           HasSeen net points run faults (goal_at goals m) t (window_at c.args.windows.now m)
           → HasSeen net points run faults (goal_at goals m) (t + 1) (window_at new m)) g
           (λ m early before.
           let other : m ≢ g = omega (arith, early) in
-          subst (HasSeen net points run faults (goal_at goals m) (t + 1)) (sym (c.see.ensures.others m other)) (inv.done points run t m within early at follows before))
+          subst (HasSeen net points run faults (goal_at goals m) (t + 1)) (sym (c.see.ensures.others m other)) (inv.done points run faults t m within early at follows before))
           (λ before.
           sees_more net points run faults (goal_at goals g) t (window_at c.loop-g.windows g) (window_at new g) c.differing-differs.result c.args.raised
           (subst (HasSeen net points run faults (goal_at goals g) t) (sym (inv.left g (omega arith))) before)

@@ -1,11 +1,12 @@
-use Rattle.std.proofs.Common.{◌≡◌, ◌+◌, ◌<◌, ◌≤◌, ℕ, false, length, take}
+use Rattle.std.proofs.Common.{◌≡◌, ◌+◌, ◌<◌, ◌≤◌, ℕ, List, false, length, take}
+use Rattle.circuit.specs.declared.parts.Fault.{Fault}
 use Rattle.workload.specs.declared.run.Run.{Run}
 use Rattle.workload.specs.Runs.{cycles_of}
 use Rattle.alarm_points.specs.declared.Points.{Points}
 use Rattle.alarm_points.specs.Watch.{KeepsIntervals, window_at}
 use Rattle.campaign_plan.specs.Danger.{is_raised}
 use Rattle.fm_base.specs.Planes.{bit}
-use Rattle.classifier.specs.Load.{in_lane, lane_faults}
+use Rattle.classifier.specs.Load.{in_lane}
 use Rattle.classifier.specs.Seen.{HasSeen, goal_at, is_noticed_by}
 use Rattle.classifier.proofs.see.see_goals.Given as goal
 
@@ -14,11 +15,11 @@ abbrev pub invariant-loop-g : goal.invariant-loop-g
 invariant-loop-g o l = record {
   keeps : KeepsIntervals l.initial.windows l.windows;
   count : length l.windows.windows ≡ length l.goals;
-  done : (points : Points) (run : Run) (t h : ℕ) → t < cycles_of run → h < l.g → o.B.LaneWords.IsAfter l.lanes (take (t + 1) run.vectors)
-      → ((k : ℕ) → k < 64 → is_noticed_by (o.B.LaneWords.load l.lanes).circuit points (lane_faults (o.B.LaneWords.load l.lanes) l.word k) run t ≡ false
-      → (in_lane (o.B.LaneWords.in_force l.lanes) l.word k ≡ lane_faults (o.B.LaneWords.load l.lanes) l.word k)
-      × (bit l.raised k ≡ is_raised (o.B.LaneWords.load l.lanes).circuit points (lane_faults (o.B.LaneWords.load l.lanes) l.word k) run t))
-      → HasSeen (o.B.LaneWords.load l.lanes).circuit points run (lane_faults (o.B.LaneWords.load l.lanes) l.word) (goal_at l.goals h) t (window_at l.initial.windows h)
-      → HasSeen (o.B.LaneWords.load l.lanes).circuit points run (lane_faults (o.B.LaneWords.load l.lanes) l.word) (goal_at l.goals h) (t + 1) (window_at l.windows h);
+  done : (points : Points) (run : Run) (faults : ℕ → List Fault) (t h : ℕ) → t < cycles_of run → h < l.g → o.B.LaneWords.IsAfter l.lanes (take (t + 1) run.vectors)
+      → ((k : ℕ) → k < 64 → is_noticed_by (o.B.LaneWords.load l.lanes).circuit points (faults k) run t ≡ false
+      → (in_lane (o.B.LaneWords.in_force l.lanes) l.word k ≡ faults k)
+      × (bit l.raised k ≡ is_raised (o.B.LaneWords.load l.lanes).circuit points (faults k) run t))
+      → HasSeen (o.B.LaneWords.load l.lanes).circuit points run faults (goal_at l.goals h) t (window_at l.initial.windows h)
+      → HasSeen (o.B.LaneWords.load l.lanes).circuit points run faults (goal_at l.goals h) (t + 1) (window_at l.windows h);
   left : (h : ℕ) → l.g ≤ h → window_at l.windows h ≡ window_at l.initial.windows h;
 }
