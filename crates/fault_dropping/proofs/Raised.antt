@@ -1,5 +1,5 @@
 -- After a raised alarm nothing that comes later decides danger, nor notice by raised alarms.
-use Rattle.std.proofs.Common.{◌≡◌, ℕ, ◌+◌, ◌<◌, Bool, true, false, sym, ◌∙◌, inl, inr, arith}
+use Rattle.std.proofs.Common.{◌≡◌, ℕ, ◌+◌, ◌<◌, Bool, sym, ◌∙◌, inl, inr, arith}
 use Rattle.std.proofs.lemmas.Bool.{cases_lt, true≢false}
 use Rattle.fm_base.specs.Lists.{some_below}
 use Rattle.fm_base.proofs.Below.{some_below-at}

@@ -1,5 +1,5 @@
 -- After the last difference nothing is noticed that wasn't, and danger is what was met by then.
-use Rattle.std.proofs.Common.{◌≡◌, ℕ, ◌+◌, ◌<◌, ◌≤◌, ◌⊎◌, Bool, true, false, inl, inr, sym, ◌∙◌, arith}
+use Rattle.std.proofs.Common.{◌≡◌, ℕ, ◌<◌, ◌≤◌, Bool, true, false, inl, inr, sym, ◌∙◌, arith}
 use Rattle.std.proofs.lemmas.Bool.{cases_lt, true≢false}
 use Rattle.fm_base.specs.Lists.{some_below}
 use Rattle.fm_base.proofs.Below.{some_below-at, some_below-true}

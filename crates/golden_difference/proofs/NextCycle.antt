@@ -1,14 +1,14 @@
 -- A simulation beside the golden run goes on by one cycle.
-use Rattle.std.proofs.Common.{◌≡◌, ℕ, zero, suc, ◌+◌, ◌<◌, ◌≤◌, Bool, false, List, [], ◌∷◌, ◌++◌, length, get_or, ap, ap₂, sym, ◌∙◌, add-one, arith}
-use Rattle.std.proofs.lemmas.List.{get_or_append_left, get_or-map, length-map, length_push}
+use Rattle.std.proofs.Common.{◌≡◌, ℕ, zero, suc, ◌+◌, ◌<◌, Bool, false, List, [], ◌∷◌, ◌++◌, length, get_or, ap, ap₂, sym, ◌∙◌, add-one, arith}
+use Rattle.std.proofs.lemmas.List.{get_or-map, length-map, length_push}
 use Rattle.circuit.specs.declared.parts.Fault.{Fault}
 use Rattle.circuit.specs.declared.parts.Latch.{Latch}
 use Rattle.circuit.specs.After.{Moment}
 use Rattle.circuit.specs.Circuit.{Circuit}
 use Rattle.circuit.specs.Effects.{has_flip, inverted}
 use Rattle.circuit.specs.Sound.{IsNetlist}
-use Rattle.circuit.specs.Trace.{cycle_at, cycle_from, first_state, flipped, flipped_from, next_state, raw_state, trace}
-use Rattle.circuit.specs.Value.{bit_at, cycle_of, net_value}
+use Rattle.circuit.specs.Trace.{cycle_at, first_state, flipped, flipped_from, raw_state, trace}
+use Rattle.circuit.specs.Value.{bit_at, net_value}
 use Rattle.circuit.proofs.Steps.{raw_state-suc, raw_state-zero}
 use Rattle.lane_kernel.specs.Bits.{either}
 use Rattle.golden_difference.specs.Beside.{IsBeside, state_differs, trace_differs}

@@ -4,9 +4,8 @@ use Rattle.std.proofs.lemmas.List.{ext_get_or}
 use Rattle.circuit.specs.declared.parts.Fault.{Fault}
 use Rattle.circuit.specs.declared.parts.Latch.{Latch}
 use Rattle.circuit.specs.Circuit.{Circuit}
-use Rattle.circuit.specs.Effects.{affected}
-use Rattle.circuit.specs.Trace.{cycle_at, flipped, next_state, raw_state, trace, vector_at}
-use Rattle.circuit.specs.Value.{Cycle, bit_at, cycle_of, driven, driver_at, net_value, table_at, table_gives, val}
+use Rattle.circuit.specs.Trace.{cycle_at, raw_state, trace, vector_at}
+use Rattle.circuit.specs.Value.{cycle_of, driven, driver_at, net_value, table_at, table_gives, val}
 use Rattle.circuit.proofs.Cycles.{raw_state-append}
 use Rattle.circuit.proofs.Steps.{raw_state-suc, val-suc, val-zero}
 use Rattle.circuit.proofs.Walks.{driven_same, map_same}
