@@ -1,5 +1,5 @@
 -- What the bits of a difference say of a point.
-use Rattle.std.proofs.Common.{◌≡◌, ◌&&◌, ◌||◌, Bool, true, false, not, refl}
+use Rattle.std.proofs.Common.{◌≡◌, ◌&&◌, Bool, true, false, not, refl}
 use Rattle.fm_base.specs.Lists.{same_bit}
 use Rattle.lane_kernel.specs.Bits.{either}
 

@@ -1,6 +1,6 @@
 -- A window that sees one cycle more of a run, and what it says at the end of the run.
 use Rattle.std.proofs.Common.{◌≡◌, ℕ, zero, suc, ◌+◌, ◌-◌, ◌<◌, ◌≤◌, ◌⊎◌, inl, inr, Bool, true, false, ◌&&◌, ◌||◌, List, [], ◌∷◌, ◌++◌, length, refl, ap, ap₂, sym, ◌∙◌, subst, arith}
-use Rattle.std.proofs.lemmas.Bool.{cases_Bool, cases_lt, false_from_ne_true, or_cases, or_left, or_parts, or_right, true≢false}
+use Rattle.std.proofs.lemmas.Bool.{cases_Bool, cases_lt, or_left, or_parts, or_right, true≢false}
 use Rattle.std.proofs.lemmas.List.{get_or_past, length_push}
 use Rattle.std.proofs.Math.Bool.{or-false}
 use Rattle.circuit.specs.declared.parts.Fault.{Fault}
@@ -20,7 +20,7 @@ use Rattle.fm_base.proofs.Below.{some_below-true}
 use Rattle.fm_base.specs.Lists.{some_below}
 use Rattle.fm_base.specs.Planes.{bit}
 use Rattle.campaign_plan.specs.Danger.{differs, is_raised, is_silenced}
-use Rattle.fault_dropping.specs.Dropped.{AreRaisedAt, IsStillFrom}
+use Rattle.fault_dropping.specs.Dropped.{IsStillFrom}
 use Rattle.fault_dropping.proofs.Raised.{goes_unalarmed-dropped}
 use Rattle.fault_dropping.proofs.Still.{goes_unalarmed-still, some_below-still}
 use Rattle.classifier.specs.Seen.{AreShown, AreShownToAlarm, HasSeen, HaveSeen, IsStill, goal_at, is_noticed_by}

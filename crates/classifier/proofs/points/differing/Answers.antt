@@ -1,4 +1,4 @@
-use Rattle.std.proofs.Common.{◌≡◌, ◌<◌, ◌≤◌, ◌||◌, List, length, not, get_or, ap, ap₂, sym, ◌∙◌, arith, take_all}
+use Rattle.std.proofs.Common.{◌<◌, ◌≤◌, ◌||◌, List, length, not, get_or, ap, ap₂, sym, ◌∙◌, arith, take_all}
 use Rattle.std.specs.List.{list_any}
 use Rattle.std.proofs.lemmas.List.Folds.{list_any_more}
 use Rattle.circuit.specs.declared.parts.NetId.{NetId}

@@ -1,6 +1,5 @@
-use Rattle.std.proofs.Common.{◌≡◌, ℕ, ap, sym, ◌∙◌}
+use Rattle.std.proofs.Common.{ap, sym, ◌∙◌}
 use Rattle.fm_base.proofs.Bits.{bit_of_and}
-use Rattle.workload.specs.declared.run.Kind.{Kind}
 use Rattle.classifier.specs.Seen.{is_decided}
 use Rattle.classifier.proofs.run.decided.Goals as goal
 

@@ -1,7 +1,6 @@
-use Rattle.std.proofs.Common.{◌≡◌, ◌≢◌, ◌+◌, ◌<◌, inl, inr, ℕ, false, List, [], length, map, take, get_or, refl, ap, sym, ◌∙◌, set, subst, arith, get_or-set_other, get_or-set_same, length-set}
+use Rattle.std.proofs.Common.{◌≡◌, ◌≢◌, ◌+◌, ◌<◌, inl, inr, false, [], length, map, take, get_or, refl, ap, sym, ◌∙◌, set, subst, arith, get_or-set_other, get_or-set_same, length-set}
 use Rattle.std.proofs.lemmas.Bool.{cases_eq}
 use Rattle.std.proofs.lemmas.List.{get_or_default}
-use Rattle.circuit.specs.Circuit.{Circuit}
 use Rattle.alarm_points.specs.FourWatches.{windows_at}
 use Rattle.alarm_points.specs.Interval.{interval_of}
 use Rattle.alarm_points.specs.PointsKept.{ArePointsFor}

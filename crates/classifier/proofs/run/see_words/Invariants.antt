@@ -6,7 +6,7 @@ use Rattle.workload.specs.Runs.{cycles_of}
 use Rattle.alarm_points.specs.FourWatches.{AreAllMadeFor, windows_at}
 use Rattle.golden_difference.specs.Beside.{IsGoldenRow}
 use Rattle.classifier.specs.Load.{in_lane}
-use Rattle.classifier.specs.Seen.{AreAllFollowed, AreFollowed, HaveAllSeen, HaveSeen, KeepSettings, noticed_at}
+use Rattle.classifier.specs.Seen.{AreAllFollowed, HaveAllSeen, HaveSeen, KeepSettings, noticed_at}
 use Rattle.classifier.proofs.run.see_words.Given as goal
 
 -- the words so far have seen the cycle, and the others are as they were

@@ -4,7 +4,7 @@ use Rattle.alarm_points.specs.Interval.{interval_of}
 use Rattle.alarm_points.specs.Watch.{AreMadeFor, Watches}
 use Rattle.classifier.specs.Load.{in_lane}
 use Rattle.alarm_points.specs.FourWatches.{windows_at}
-use Rattle.classifier.specs.Seen.{HaveSeen, noticed_at}
+use Rattle.classifier.specs.Seen.{HaveSeen}
 use Rattle.classifier.proofs.EachWord.{each_set, each_set_one}
 use Rattle.classifier.proofs.Views.{unseen}
 use Rattle.classifier.proofs.run.start_windows.Goals as goal

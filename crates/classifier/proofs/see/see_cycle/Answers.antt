@@ -1,6 +1,6 @@
-use Rattle.std.proofs.Common.{◌≡◌, ◌+◌, ◌<◌, ◌&&◌, ◌||◌, ℕ, Bool, true, false, List, [], length, map, not, ap, ap₂, sym, ◌∙◌, subst, arith}
+use Rattle.std.proofs.Common.{◌≡◌, ◌+◌, ◌<◌, ◌&&◌, ◌||◌, ℕ, false, List, [], length, map, not, ap, ap₂, sym, ◌∙◌, subst}
 use Rattle.std.specs.List.{All, list_any}
-use Rattle.std.proofs.lemmas.Bool.{cases_Bool, or_left, or_parts}
+use Rattle.std.proofs.lemmas.Bool.{or_parts}
 use Rattle.circuit.specs.declared.parts.Fault.{Fault}
 use Rattle.circuit.specs.declared.parts.NetId.{NetId}
 use Rattle.circuit.specs.Sound.{IsNet}
@@ -13,7 +13,7 @@ use Rattle.campaign_plan.specs.Danger.{golden, is_raised, is_silenced, with_faul
 use Rattle.fm_base.specs.Planes.{bit}
 use Rattle.classifier.specs.Load.{in_lane}
 use Rattle.classifier.specs.Seen.{HasSeen, goal_at, is_noticed_by}
-use Rattle.classifier.proofs.Views.{noticed_more, notice_after}
+use Rattle.classifier.proofs.Views.{notice_after}
 use Rattle.classifier.proofs.see.see_cycle.Goals as goal
 
 pub noise_in-found-requires-clause-nets : goal.noise_in-found-requires-clause-nets

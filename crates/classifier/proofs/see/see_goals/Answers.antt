@@ -1,4 +1,4 @@
-use Rattle.std.proofs.Common.{◌≡◌, ◌≢◌, ◌+◌, ◌<◌, ℕ, List, length, ap, sym, ◌∙◌, subst, below_more, not, arith}
+use Rattle.std.proofs.Common.{◌≡◌, ◌≢◌, ◌+◌, ℕ, List, ap, sym, ◌∙◌, subst, below_more, not, arith}
 use Rattle.std.specs.List.{All, list_any}
 use Rattle.std.proofs.lemmas.List.{get_or_default}
 use Rattle.circuit.specs.declared.parts.Fault.{Fault}
@@ -6,7 +6,7 @@ use Rattle.circuit.specs.declared.parts.NetId.{NetId}
 use Rattle.circuit.specs.Sound.{IsNet}
 use Rattle.alarm_points.specs.declared.Goal.{Goal}
 use Rattle.alarm_points.specs.Watch.{window_at}
-use Rattle.campaign_plan.specs.Danger.{differs, golden, with_faults}
+use Rattle.campaign_plan.specs.Danger.{golden, with_faults}
 use Rattle.fm_base.specs.Lists.{same_bit}
 use Rattle.classifier.specs.Seen.{HasSeen, goal_at}
 use Rattle.classifier.proofs.WindowCounts.{same_count}

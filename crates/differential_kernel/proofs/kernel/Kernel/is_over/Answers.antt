@@ -1,4 +1,4 @@
-use Rattle.std.proofs.Common.{◌≡◌, ℕ, ◌≤◌, ◌<◌, true, false, not, ap, sym, ◌∙◌, subst, arith}
+use Rattle.std.proofs.Common.{sym, ◌∙◌, arith}
 use Rattle.golden_difference.proofs.Over.{is_over_after}
 use Rattle.lane_kernel.specs.Loads.{faults_of}
 use Rattle.differential_kernel.proofs.kernel.Kernel.is_over.Goals as goal

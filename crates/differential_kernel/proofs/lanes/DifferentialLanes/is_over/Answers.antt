@@ -1,4 +1,4 @@
-use Rattle.std.proofs.Common.{◌≡◌, ◌<◌, ℕ, true, sym, subst}
+use Rattle.std.proofs.Common.{ℕ, sym, subst}
 use Rattle.fm_base.specs.Planes.{bit}
 use Rattle.golden_difference.specs.Beside.{AreBeside, IsOver}
 use Rattle.golden_difference.specs.Lanes.{Lanes, bank_of}

@@ -1,4 +1,4 @@
-use Rattle.std.proofs.Common.{◌≡◌, ◌<◌, ℕ, List, true, sym, subst}
+use Rattle.std.proofs.Common.{ℕ, List, sym, subst}
 use Rattle.golden_difference.specs.Beside.{AreBeside, IsOver}
 use Rattle.golden_difference.specs.Lanes.{Lanes, bank_of}
 use Rattle.lane_kernel.specs.Bits.{quad_bit}
