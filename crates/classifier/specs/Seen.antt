@@ -73,11 +73,12 @@ AreFollowed faults in_force word noticed = (k : ℕ) → k < 64 → bit noticed 
 abbrev pub noticed_at : List ℕ → ℕ → ℕ
 noticed_at noticed word = slice_index_or noticed word 0
 
--- so in each word
+-- the first n cycles have been seen in each word, where these faults are followed
 abbrev pub HaveAllSeen : Circuit → Points → Run → List (List (Option Fault)) → ℕ → List Watches → List ℕ → Type 0
 HaveAllSeen c points run faults n windows noticed =
     (word : ℕ) → word < length windows → HaveSeen c points run (in_lane faults word) n (windows_at windows word) (noticed_at noticed word)
 
+-- the run has been seen in each word
 abbrev pub HaveAllSeenRun : Circuit → Points → Run → List (List (Option Fault)) → List Watches → List ℕ → Type 0
 HaveAllSeenRun c points run faults windows noticed =
     (word : ℕ) → word < length windows → HaveSeenRun c points run (in_lane faults word) (windows_at windows word) (noticed_at noticed word)
