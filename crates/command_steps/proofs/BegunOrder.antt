@@ -1,11 +1,12 @@
 -- The order of the checks of a campaign that was begun: those of its plan, and then those of its result file.
-use Rattle.std.proofs.Common.{◌≡◌, ◌∙◌, ap, sym, refl, subst, List, [], Ok, Err, inl, inr}
+use Rattle.std.proofs.Common.{◌≡◌, ◌∙◌, ap, sym, refl, List, [], length, Ok, Err, inl, inr}
 use Rattle.std.specs.Prelude.{Option, Some, None, Result, ◌⊎◌}
 use Rattle.fm_base.specs.Names.{Bytes}
-use Rattle.fm_shelf.specs.Shelf.{ShelfState, CountRose}
+use Rattle.fm_shelf.specs.Shelf.{ShelfState, OnlyReadsAny}
 use Rattle.circuit.specs.declared.parts.NetId.{NetId}
 use Rattle.campaign_plan.specs.declared.Settings.{Settings}
 use Rattle.campaign_plan.specs.Analysis.{Analysis}
+use Rattle.campaign_plan.specs.Kept.{IsPlan}
 use Rattle.result_file.specs.declared.KeptRows.{KeptRows}
 use Rattle.result_file.specs.declared.ResultRefusal.{ResultRefusal}
 use Rattle.result_file.specs.declared.ResultRefusal.TheVariants as back
@@ -23,9 +24,10 @@ use Rattle.command_steps.specs.Held.{name_in}
 use Rattle.command_steps.specs.Steps.{StepAs}
 use Rattle.refusal_text.specs.Refusals.{IsPlain}
 use Rattle.command_steps.specs.PlanSteps.{PlanRefused, PlannedAs, bytes_of}
-use Rattle.command_steps.specs.BegunSteps.{KeptRefused}
+use Rattle.command_steps.specs.BegunSteps.{KeptRefused, BegunAs}
+use Rattle.command_steps.proofs.Keeping.{had_if_known}
 use Rattle.command_steps.proofs.Taken.{Begins, SaysMore, no_read_fault, step_plain, told_plain, told_given, step_value}
-use Rattle.command_steps.proofs.InOrder.{some_fit}
+use Rattle.command_steps.proofs.InOrder.{some_fit, step_since, rose_of}
 use Rattle.command_steps.proofs.PlanOrder.{plan_is}
 
 -- ---- RESULT
@@ -58,6 +60,11 @@ rows_plain file own p name before after ended refused =
 pub rows_kept : (file : Which) (own : Bytes) (p : Analysis) (bytes : Bytes) (k : KeptRows) → back_step file own p (Some bytes) ≡ Ok k → kept own p bytes ≡ Ok k
 rows_kept file own p bytes k is =
     told_given status_of_back (kept own p bytes) k (step_value file (back_step file own p) (rows_next own p) bytes k (rows_begin file own p) is)
+
+-- the header of a plan with these settings
+pub header_of : (made : Planned) (set : Settings) (own : Bytes) → own ≡ own_header made.plan.settings (bytes_of made.files) made.plan → made.plan.settings ≡ set
+    → own ≡ own_header set (bytes_of made.files) made.plan
+header_of made set own is same = is ∙ ap (λ s. own_header s (bytes_of made.files) made.plan) same
 
 -- ---- the steps
 
@@ -165,21 +172,29 @@ module _ (inputs : Inputs) (name : Bytes) (set : Settings) (before after : Shelf
         fault = refused.fault name [] [];
       })
 
-  module _ (made : Planned) (planned : PlannedAs before after inputs set (Ok made)) (own : Bytes) (own_is : own ≡ own_header set (bytes_of made.files) made.plan) where
+  module _ (made : Planned) (mid : ShelfState) (own : Bytes) (planned : PlannedAs before after inputs set (Ok made)) (own_is : own ≡ own_header set (bytes_of made.files) made.plan)
+      (first : OnlyReadsAny before mid) where
     abbrev files : Files
     files = bytes_of made.files
 
     -- the result file was refused
-    pub begun_rows : (ended : Status) → StepAs which.Result (result_step own made.plan) name before after (Err ended) → Answer ended
-    begun_rows ended (inl memory) = inl memory
-    begun_rows ended (inr (got, fits, is, fault)) = inr (record {
-      reads = record (all_read files []) { result = got };
-      fit = record { netlist = planned.0.netlist; workload = planned.0.workload; rates = planned.0.rates; points = planned.0.points };
-      result = fits;
-      walk = None;
-      loops = planned.3;
-      refused = kept_made inputs.netlist set files made.plan own got planned.1 own_is ∙ is;
-      fault = λ other e.
-          let f = fault other e in
-          subst (λ w. CountRose (before.read_faults (name_in inputs name w)) (after.read_faults (name_in inputs name w))) (sym f.0) f.1;
-    })
+    pub begun_rows : (ended : Status) → StepAs which.Result (result_step own made.plan) name mid after (Err ended) → Answer ended × IsPlain ended
+    begun_rows ended refused = (by_step (step_since which.Result (result_step own made.plan) name after ended first refused), rows_plain which.Result own made.plan name mid after ended refused)
+      where
+        by_step : StepAs which.Result (result_step own made.plan) name before after (Err ended) → Answer ended
+        by_step (inl memory) = inl memory
+        by_step (inr (got, fits, is, fault)) = inr (record {
+          reads = record (all_read files []) { result = got };
+          fit = record { netlist = planned.0.netlist; workload = planned.0.workload; rates = planned.0.rates; points = planned.0.points };
+          result = fits;
+          walk = None;
+          loops = planned.3;
+          refused = kept_made inputs.netlist set files made.plan own got planned.1 own_is ∙ is;
+          fault = rose_of (name_in inputs name) which.Result before after ended fault;
+        })
+
+    -- nothing was refused
+    pub begun_made : (sound : IsPlan made.plan) (len : length own ≡ 89) (k : KeptRows) → StepAs which.Result (result_step own made.plan) name mid after (Ok k)
+        → BegunAs before after inputs name set (Ok (record { planned = made; own = own; kept = k }))
+    begun_made sound len k (bytes, held, rows) =
+        (planned, record { sound = sound; own = own_is; header = len; bytes = bytes; held = had_if_known name bytes first held; rows = rows })

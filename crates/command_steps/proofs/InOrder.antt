@@ -8,54 +8,54 @@ use Rattle.circuit.specs.declared.parts.NetId.{NetId}
 use Rattle.circuit.specs.Circuit.{Circuit}
 use Rattle.circuit.specs.Loop.{HasNoLoop}
 use Rattle.workload.specs.declared.run.Run.{Run}
+use Rattle.alarm_points.specs.declared.Points.{Points}
 use Rattle.command_line.specs.Commands.{Classes}
 use Rattle.refusal_text.specs.declared.status.Status.{Status}
 use Rattle.refusal_text.specs.declared.status.Status.TheVariants as status
 use Rattle.refusal_text.specs.declared.status.Which.{Which}
 use Rattle.refusal_text.specs.declared.status.Which.TheVariants as which
 use Rattle.refusal_text.specs.declared.status.What.TheVariants as what
+use Rattle.refusal_text.specs.Refusals.{IsPlain}
+use Rattle.command_steps.specs.declared.input.Taken.{Taken}
+use Rattle.command_steps.specs.declared.netlist.Ordered.{Ordered}
 use Rattle.command_steps.specs.Files.{Files, Reads, all_read}
 use Rattle.command_steps.specs.FirstRefusal.{unless, workload_step, outputs_step, netlist_step, classes_plan_of, first_refusal, refusal_in, IsLoopAnswer, ◌>>=◌, classes_plan}
 use Rattle.campaign_plan.specs.Analysis.{Analysis}
 use Rattle.command_steps.specs.Held.{name_of}
-use Rattle.command_steps.specs.Checked.{ReadFits, NameFits, Checked}
-use Rattle.command_steps.specs.Steps.{StepAs, NetlistAs, RefusedInOrder, IsClassesPlan}
+use Rattle.command_steps.specs.Checked.{ReadFits, NameFits, FaultsRose, Checked}
+use Rattle.command_steps.specs.Steps.{FaultRose, StepAs, TakenAs, NetlistAs, OrderedAs, OutputsAs, RefusedInOrder, ObservedAs}
 use Rattle.command_steps.proofs.Keeping.{had_if_known}
-use Rattle.command_steps.proofs.Taken.{netlist_begin, netlist_next}
+use Rattle.command_steps.proofs.Taken.{netlist_begin, netlist_next, outputs_plain, runs_plain}
 use Rattle.refusal_text.proofs.Refusals.{ok_same}
 
+-- ---- calls that only read, and what is behind them
+
 -- counts that rose in a call rose in a longer one
-pub rose_from : (b0 b a a1 : ℕ) → b0 ≤ b → a ≤ a1 → CountRose b a → CountRose b0 a1
-rose_from b0 b a a1 le le1 rose = λ below. let r : b < a = rose (omega (arith, below, le1)) in omega (arith, le, le1, r)
+rose_from : (b0 b a : ℕ) → b0 ≤ b → CountRose b a → CountRose b0 a
+rose_from b0 b a le rose = λ below. let r : b < a = rose (omega (arith, below)) in omega (arith, le, r)
 
-pub rose_since : (name : Bytes) (b0 b a a1 : ShelfState) → OnlyReadsAny b0 b → OnlyReadsAny a a1 → CountRose (b.read_faults name) (a.read_faults name)
-    → CountRose (b0.read_faults name) (a1.read_faults name)
-rose_since name b0 b a a1 first last rose =
-    rose_from (b0.read_faults name) (b.read_faults name) (a.read_faults name) (a1.read_faults name) (first.counts name) (last.counts name) rose
+pub rose_since : {b0 b : ShelfState} (name : Bytes) (a : ShelfState) → OnlyReadsAny b0 b → CountRose (b.read_faults name) (a.read_faults name)
+    → CountRose (b0.read_faults name) (a.read_faults name)
+rose_since {b0} {b} name a first rose = rose_from (b0.read_faults name) (b.read_faults name) (a.read_faults name) (first.counts name) rose
 
--- what fits a call that only reads fits a longer one
-pub fits_since : (name : Bytes) (b0 b a a1 : ShelfState) (got : Option Bytes) → OnlyReadsAny b0 b → OnlyReadsAny a a1
-    → NameFits b a name got → NameFits b0 a1 name got
-fits_since name b0 b a a1 None first last (inl absent) = inl (sym (ap (λ content. content name) first.content) ∙ absent)
-fits_since name b0 b a a1 None first last (inr rose) = inr (rose_since name b0 b a a1 first last rose)
-fits_since name b0 b a a1 (Some bytes) first last fits = had_if_known b0 b name bytes first fits
+-- what fits a call fits a longer one that only read before
+pub fits_since : {b0 b : ShelfState} (name : Bytes) (a : ShelfState) (got : Option Bytes) → OnlyReadsAny b0 b → NameFits b a name got → NameFits b0 a name got
+fits_since name a None first (inl absent) = inl (sym (ap (λ content. content name) first.content) ∙ absent)
+fits_since name a None first (inr rose) = inr (rose_since name a first rose)
+fits_since name a (Some bytes) first fits = had_if_known name bytes first fits
 
 -- a refusal in a call is one in a longer call
-pub step_since : {A : Type 0} (own : Which) (step : Option Bytes → Result A Status) (name : Bytes) (b0 b a a1 : ShelfState) (ended : Status)
-    → OnlyReadsAny b0 b → OnlyReadsAny a a1 → StepAs own step name b a (Err ended) → StepAs own step name b0 a1 (Err ended)
-step_since own step name b0 b a a1 ended first last (inl memory) = inl memory
-step_since own step name b0 b a a1 ended first last (inr (got, fits, is, fault)) =
-    inr (got, fits_since name b0 b a a1 got first last fits, is, λ other e. let f = fault other e in (f.0, rose_since name b0 b a a1 first last f.1))
+pub step_since : {A : Type 0} {b0 b : ShelfState} (own : Which) (step : Option Bytes → Result A Status) (name : Bytes) (a : ShelfState) (ended : Status)
+    → OnlyReadsAny b0 b → StepAs own step name b a (Err ended) → StepAs own step name b0 a (Err ended)
+step_since own step name a ended first (inl memory) = inl memory
+step_since own step name a ended first (inr (got, fits, is, fault)) =
+    inr (got, fits_since name a got first fits, is, λ other e. let f = fault other e in (f.0, rose_since name a first f.1))
 
-pub netlist_since : (name : Bytes) (b0 b a a1 : ShelfState) (ended : Status) → OnlyReadsAny b0 b → OnlyReadsAny a a1
-    → NetlistAs name b a (Err ended) → NetlistAs name b0 a1 (Err ended)
-netlist_since name b0 b a a1 ended first last (inl memory) = inl memory
-netlist_since name b0 b a a1 ended first last (inr (got, walk, fits, loops, is, fault)) =
-    inr (got, walk, fits_since name b0 b a a1 got first last fits, loops, is, λ other e. let f = fault other e in (f.0, rose_since name b0 b a a1 first last f.1))
-
-pub memory_or : {X : Type 0} (a b : Status) → a ≡ b → (a ≡ status.Memory) ⊎ X → (b ≡ status.Memory) ⊎ X
-memory_or a b e (inl memory) = inl (sym e ∙ memory)
-memory_or a b e (inr x) = inr x
+-- a fault of one file, where each file has a name
+pub rose_of : (name : Which → Bytes) (own : Which) (before after : ShelfState) (ended : Status)
+    → FaultRose own (before.read_faults (name own)) (after.read_faults (name own)) ended → FaultsRose name before after ended
+rose_of name own before after ended fault = λ which e.
+    let f = fault which e in subst (λ w. CountRose (before.read_faults (name w)) (after.read_faults (name w))) (sym f.0) f.1
 
 -- something fits what is known of a file
 pub some_fit : (before after : ShelfState) (name : Bytes) → (got : Option Bytes) × NameFits before after name got
@@ -82,8 +82,11 @@ held_is content held bytes has is = subst (λ c. HasIfKnown c bytes) is has
 abbrev reads_of : (netlist workload : Option Bytes) → Reads
 reads_of netlist workload = record { netlist = netlist; workload = workload; rates = None; points = None; result = None; first = None; second = None }
 
+abbrev after_outputs : Option Bytes → Circuit → Result Analysis Status
+after_outputs workload c = workload_step c workload >>= (λ runs. Ok (classes_plan c runs))
+
 abbrev after_netlist : Option Bytes → Circuit → Result Analysis Status
-after_netlist workload c = outputs_step c >>= (λ counted. workload_step counted workload >>= (λ runs. Ok (classes_plan counted runs)))
+after_netlist workload c = outputs_step c >>= after_outputs workload
 
 classes_is : (n : Bytes) (walk : Option (List NetId)) (reads : Reads) → classes_plan_of n walk reads ≡ (netlist_step n walk reads.netlist >>= after_netlist reads.workload)
 unfolding classes_plan_of
@@ -92,14 +95,6 @@ classes_is n walk reads = refl
 first_is : (walk : Option (List NetId)) (n w : Bytes) (reads : Reads) → first_refusal walk (Classes n w) reads ≡ refusal_in (classes_plan_of n walk reads)
 unfolding first_refusal
 first_is walk n w reads = refl
-
--- the plan of a netlist and runs
-classes_made : (n : Bytes) (walk : Option (List NetId)) (reads : Reads) (c : Circuit) (runs : List Run) → netlist_step n walk reads.netlist ≡ Ok c → outputs_step c ≡ Ok c
-    → workload_step c reads.workload ≡ Ok runs → classes_plan_of n walk reads ≡ Ok (classes_plan c runs)
-classes_made n walk reads c runs netlist outputs work =
-    classes_is n walk reads ∙ ap (λ r. r >>= after_netlist reads.workload) netlist
-    ∙ ap (λ r. r >>= (λ counted. workload_step counted reads.workload >>= (λ runs. Ok (classes_plan counted runs)))) outputs
-    ∙ ap (λ r. r >>= (λ runs. Ok (classes_plan c runs))) work
 
 module _ (n w : Bytes) (before after : ShelfState) where
   abbrev Answer : Status → Type 0
@@ -119,67 +114,64 @@ module _ (n w : Bytes) (before after : ShelfState) where
           loops = loops;
           first = first_is walk n w reads ∙ ap refusal_in (classes_is n walk reads ∙ ap (λ r. r >>= after_netlist other.0) is);
         };
-        fault = λ which e.
-            let f = fault which e in
-            subst (λ own. CountRose (before.read_faults (name_of (Classes n w) own)) (after.read_faults (name_of (Classes n w) own))) (sym f.0) f.1;
+        fault = rose_of (name_of (Classes n w)) which.Netlist before after ended fault;
       })
 
-  module _ (c : Circuit) (netlist : NetlistAs n before after (Ok c)) where
-    -- there are too many outputs
-    pub classes_outputs : (ended : Status) → (ended ≡ status.Memory) ⊎ ((ended ≡ status.TooLarge what.Outputs) × (outputs_step c ≡ Err ended))
-        → Answer ended
-    classes_outputs ended (inl memory) = inl memory
-    classes_outputs ended (inr (large, refused)) =
-        let other = some_fit before after w in
-        let reads : Reads = reads_of (Some netlist.0) other.0 in
-        inr (record {
-          checked = record {
-            reads = reads;
-            fit = (netlist.1, other.1);
-            walk = None;
-            loops = loops_none n netlist.0 c netlist.2 netlist.3;
-            first = first_is None n w reads ∙ ap refusal_in (classes_is n None reads ∙ ap (λ r. r >>= after_netlist other.0) netlist.2
-                ∙ ap (λ r. r >>= (λ counted. workload_step counted other.0 >>= (λ runs. Ok (classes_plan counted runs)))) refused);
-          };
-          fault = λ which e. let bad : status.TooLarge what.Outputs ≡ status.ReadFault which = sym large ∙ e in cc bad;
-        })
+  module _ (made : Ordered) (net : OrderedAs n before after (Ok made)) where
+    abbrev c : Circuit
+    c = made.net
 
-    module _ (outputs : outputs_step c ≡ Ok c) where
-      -- the workload was refused
-      pub classes_runs : (ended : Status) → StepAs which.Workload (workload_step c) w before after (Err ended) → Answer ended
-      classes_runs ended (inl memory) = inl memory
-      classes_runs ended (inr (got, fits, refused, fault)) =
-          let reads : Reads = reads_of (Some netlist.0) got in
+    -- the plan of this netlist and what comes of the outputs
+    after_net : (reads : Reads) → reads.netlist ≡ Some made.bytes → classes_plan_of n None reads ≡ after_netlist reads.workload c
+    after_net reads is = classes_is n None reads ∙ ap (λ r. r >>= after_netlist reads.workload) (ap (netlist_step n None) is ∙ net.1)
+
+    -- over this netlist and what was read of the workload, this is the first refusal, or there is none
+    by_reads : (got : Option Bytes) (refusal : Option Status) → NameFits before after w got → refusal_in (after_netlist got c) ≡ refusal
+        → Checked (Classes n w) before after refusal
+    by_reads got refusal fits is = record {
+      reads = reads_of (Some made.bytes) got;
+      fit = (net.0, fits);
+      walk = None;
+      loops = loops_none n made.bytes c net.1 net.2;
+      first = first_is None n w (reads_of (Some made.bytes) got) ∙ ap refusal_in (after_net (reads_of (Some made.bytes) got) refl) ∙ is;
+    }
+
+    -- there are too many outputs
+    pub classes_outputs : (ended : Status) → OutputsAs c (Err ended) → Answer ended × IsPlain ended
+    classes_outputs ended (inl memory) = (inl memory, outputs_plain c ended (inl memory))
+    classes_outputs ended (inr (large, refused)) =
+        let other = some_fit before after w in (
           inr (record {
-            checked = record {
-              reads = reads;
-              fit = (netlist.1, fits);
-              walk = None;
-              loops = loops_none n netlist.0 c netlist.2 netlist.3;
-              first = first_is None n w reads ∙ ap refusal_in (classes_is n None reads ∙ ap (λ r. r >>= after_netlist got) netlist.2
-                  ∙ ap (λ r. r >>= (λ counted. workload_step counted got >>= (λ runs. Ok (classes_plan counted runs)))) outputs
-                  ∙ ap (λ r. r >>= (λ runs. Ok (classes_plan c runs))) refused);
-            };
-            fault = λ which e.
-                let f = fault which e in
-                subst (λ own. CountRose (before.read_faults (name_of (Classes n w) own)) (after.read_faults (name_of (Classes n w) own))) (sym f.0) f.1;
+            checked = by_reads other.0 (Some ended) other.1 (ap (λ r. refusal_in (r >>= after_outputs other.0)) refused);
+            fault = λ which e. let bad : status.TooLarge what.Outputs ≡ status.ReadFault which = sym large ∙ e in cc bad;
+          }),
+          outputs_plain c ended (inr (large, refused)),
+        )
+
+    module _ (points : Points) (outputs : OutputsAs c (Ok points)) (mid : ShelfState) (first : OnlyReadsAny before mid) where
+      -- the workload was refused
+      pub classes_runs : (ended : Status) → StepAs which.Workload (workload_step c) w mid after (Err ended) → Answer ended × IsPlain ended
+      classes_runs ended refused = (by_step (step_since which.Workload (workload_step c) w after ended first refused), runs_plain c w mid after ended refused)
+        where
+          by_step : StepAs which.Workload (workload_step c) w before after (Err ended) → Answer ended
+          by_step (inl memory) = inl memory
+          by_step (inr (got, fits, is, fault)) = inr (record {
+            checked = by_reads got (Some ended) fits (ap (λ r. refusal_in (r >>= after_outputs got)) outputs.2 ∙ ap (λ r. refusal_in (r >>= (λ runs. Ok (classes_plan c runs)))) is);
+            fault = rose_of (name_of (Classes n w)) which.Workload before after ended fault;
           })
 
-      module _ (runs : List Run) (work : StepAs which.Workload (workload_step c) w before after (Ok runs)) where
-        -- nothing was refused
-        pub classes_checked : Checked (Classes n w) before after None
-        classes_checked =
-            let reads : Reads = reads_of (Some netlist.0) (Some work.0) in
-            record {
-              reads = reads;
-              fit = (netlist.1, work.1);
-              walk = None;
-              loops = loops_none n netlist.0 c netlist.2 netlist.3;
-              first = first_is None n w reads ∙ ap refusal_in (classes_made n None reads c runs netlist.2 outputs work.2);
-            }
-
-        -- the files stand for the plan
-        pub classes_plan_is : IsClassesPlan before n w (classes_plan c runs)
-        classes_plan_is =
-            let files : Files = record { netlist = netlist.0; workload = work.0; rates = []; points = [] } in
-            (files, netlist.1, work.1, classes_made n None (all_read files []) c runs netlist.2 outputs work.2)
+      -- nothing was refused
+      pub classes_made : (work : Taken (List Run)) → TakenAs which.Workload (workload_step c) w mid after (Ok work)
+          → ObservedAs before after n w (Ok (record { ordered = made; points = points; work = work.value }))
+      classes_made work (held, is) =
+          let read = had_if_known w work.bytes first held in
+          let files : Files = record { netlist = made.bytes; workload = work.bytes; rates = []; points = [] } in
+          let plan : after_netlist (Some work.bytes) c ≡ Ok (classes_plan c work.value) =
+          ap (λ r. r >>= after_outputs (Some work.bytes)) outputs.2 ∙ ap (λ r. r >>= (λ runs. Ok (classes_plan c runs))) is in (
+            (files, net.0, read, after_net (all_read files []) refl ∙ plan),
+            net.2,
+            net.3,
+            outputs.0,
+            outputs.1,
+            by_reads (Some work.bytes) None read (ap refusal_in plan),
+          )

@@ -1,12 +1,12 @@
 -- The order of the checks of `merge`: those of its plan, then those of FIRST and of SECOND, and then the batches that stand in both.
-use Rattle.std.proofs.Common.{◌≡◌, ◌∙◌, ap, sym, refl, subst, List, [], Ok, Err, inl, inr}
+use Rattle.std.proofs.Common.{◌≡◌, ◌∙◌, ap, sym, refl, subst, List, [], length, Ok, Err, inl, inr}
 use Rattle.std.specs.Prelude.{Option, Some, None, Result, ◌⊎◌}
 use Rattle.fm_base.specs.Names.{Bytes}
-use Rattle.fm_shelf.specs.Content.{HasIfKnown}
-use Rattle.fm_shelf.specs.Shelf.{ShelfState, CountRose}
+use Rattle.fm_shelf.specs.Shelf.{ShelfState, OnlyReadsAny}
 use Rattle.circuit.specs.declared.parts.NetId.{NetId}
 use Rattle.campaign_plan.specs.declared.Settings.{Settings}
 use Rattle.campaign_plan.specs.Analysis.{Analysis}
+use Rattle.campaign_plan.specs.Kept.{IsPlan}
 use Rattle.result_file.specs.declared.KeptRows.{KeptRows}
 use Rattle.result_file.specs.declared.Row.{Row}
 use Rattle.result_merge.specs.declared.merge.MergeRefusal.{MergeRefusal}
@@ -19,24 +19,25 @@ use Rattle.refusal_text.specs.declared.status.Which.{Which}
 use Rattle.refusal_text.specs.declared.status.Which.TheVariants as which
 use Rattle.refusal_text.specs.Refusals.{IsPlain}
 use Rattle.command_steps.specs.declared.planned.Planned.{Planned}
-use Rattle.command_steps.specs.Files.{Files, Reads, all_read, files_of}
+use Rattle.command_steps.specs.Files.{Files, Reads, all_read, both_read, files_of}
 use Rattle.command_steps.specs.FirstRefusal.{plan_of, back_step, merge_step, merged_of, own_header, status_of_merge, IsPlanOf, ◌>>=◌}
 use Rattle.command_steps.specs.Held.{name_with}
-use Rattle.command_steps.specs.Checked.{FaultRose}
-use Rattle.command_steps.specs.Steps.{StepAs, AnswersAs}
+use Rattle.command_steps.specs.Checked.{FaultsRose}
+use Rattle.command_steps.specs.Steps.{FaultRose, StepAs, AnswersAs}
 use Rattle.command_steps.specs.PlanSteps.{PlanRefused, PlannedAs, bytes_of}
-use Rattle.command_steps.specs.MergeSteps.{MergeRefused}
+use Rattle.command_steps.specs.MergeSteps.{MergeRefused, AreMerged, BothRead, BothRefused, BothAs, both_step}
+use Rattle.command_steps.proofs.Keeping.{had_if_known}
 use Rattle.command_steps.proofs.Taken.{no_read_fault, told_plain}
-use Rattle.command_steps.proofs.InOrder.{some_fit}
+use Rattle.command_steps.proofs.InOrder.{some_fit, step_since, fits_since, rose_since, rose_of}
 use Rattle.command_steps.proofs.PlanOrder.{plan_is}
-use Rattle.command_steps.proofs.BegunOrder.{why_refused}
+use Rattle.command_steps.proofs.BegunOrder.{why_refused, rows_plain}
 
 -- ---- the batches that stand in both
 
 differs_plain : (fault : MergeRefusal) → IsPlain (status_of_merge fault)
 differs_plain (Differs batch first second) = tt
 
-pub merge_plain : (p : Analysis) (one two : KeptRows) (ended : Status) → AnswersAs (merge_step p one two) (Err ended) → IsPlain ended
+merge_plain : (p : Analysis) (one two : KeptRows) (ended : Status) → AnswersAs (merge_step p one two) (Err ended) → IsPlain ended
 merge_plain p one two ended (inl memory) = subst IsPlain (sym memory) tt
 merge_plain p one two ended (inr is) = told_plain status_of_merge (merged p one.rows two.rows) ended differs_plain is
 
@@ -46,14 +47,80 @@ differs_never other (Differs batch first second) e = let bad : status.Differs ba
 merge_never : (p : Analysis) (one two : KeptRows) (other : Which) → merge_step p one two ≡ Err (status.ReadFault other) → ⊥
 merge_never p one two other e = no_read_fault status_of_merge (merged p one.rows two.rows) other (differs_never other) e
 
--- ---- the steps
+-- ---- the two files
 
--- FIRST, and what is behind it
-abbrev from_first : (own : Bytes) → Analysis → (first second : Option Bytes) → Result (List Row) Status
-from_first own p first second = back_step which.First own p first >>= (λ one. back_step which.Second own p second >>= (λ two. merge_step p one two))
+-- what is behind FIRST
+abbrev from_second : (own : Bytes) → Analysis → (second : Option Bytes) → KeptRows → Result (List Row) Status
+from_second own p second k = back_step which.Second own p second >>= (λ l. merge_step p k l)
+
+module _ (own : Bytes) (p : Analysis) (one two : Bytes) (before after : ShelfState) where
+  abbrev Refused : Status → Type 0
+  Refused ended = (ended ≡ status.Memory) ⊎ BothRefused own p one two before after ended
+
+  -- FIRST was refused
+  pub both_first : (ended : Status) → StepAs which.First (back_step which.First own p) one before after (Err ended) → BothAs own p one two before after (Err ended)
+  both_first ended refused = (by_step refused, rows_plain which.First own p one before after ended refused)
+    where
+      by_step : StepAs which.First (back_step which.First own p) one before after (Err ended) → Refused ended
+      by_step (inl memory) = inl memory
+      by_step (inr (got, fits, is, fault)) =
+          let other = some_fit before after two in
+          inr (record {
+            first = got;
+            second = other.0;
+            first_fits = fits;
+            second_fits = other.1;
+            refused = ap (λ r. r >>= from_second own p other.0) is;
+            fault = inl fault;
+          })
+
+  module _ (k : KeptRows) (mid : ShelfState) (first : StepAs which.First (back_step which.First own p) one before after (Ok k)) (reads : OnlyReadsAny before mid) where
+    -- SECOND was refused
+    pub both_second : (ended : Status) → StepAs which.Second (back_step which.Second own p) two mid after (Err ended) → BothAs own p one two before after (Err ended)
+    both_second ended refused = (by_step (step_since which.Second (back_step which.Second own p) two after ended reads refused), rows_plain which.Second own p two mid after ended refused)
+      where
+        by_step : StepAs which.Second (back_step which.Second own p) two before after (Err ended) → Refused ended
+        by_step (inl memory) = inl memory
+        by_step (inr (got, fits, is, fault)) = inr (record {
+          first = Some first.0;
+          second = got;
+          first_fits = first.1;
+          second_fits = fits;
+          refused = ap (λ r. r >>= from_second own p got) first.2 ∙ ap (λ r. r >>= (λ l. merge_step p k l)) is;
+          fault = inr fault;
+        })
+
+    module _ (l : KeptRows) (second : StepAs which.Second (back_step which.Second own p) two mid after (Ok l)) where
+      -- the rows of both
+      pub both_rows : (r : Result (List Row) Status) → AnswersAs (merge_step p k l) r → BothAs own p one two before after r
+      both_rows (Ok rows) is = record {
+        first_bytes = first.0;
+        second_bytes = second.0;
+        first_held = first.1;
+        second_held = had_if_known two second.0 reads second.1;
+        first = k;
+        second = l;
+        first_kept = first.2;
+        second_kept = second.2;
+        merge = is;
+      }
+      both_rows (Err ended) answer = (by_answer answer, merge_plain p k l ended answer)
+        where
+          by_answer : AnswersAs (merge_step p k l) (Err ended) → Refused ended
+          by_answer (inl memory) = inl memory
+          by_answer (inr is) = inr (record {
+            first = Some first.0;
+            second = Some second.0;
+            first_fits = first.1;
+            second_fits = had_if_known two second.0 reads second.1;
+            refused = ap (λ r. r >>= from_second own p (Some second.0)) first.2 ∙ ap (λ r. r >>= (λ l. merge_step p k l)) second.2 ∙ is;
+            fault = inl (λ other e. absurd (merge_never p k l other (is ∙ ap (λ s. Err s) e)));
+          })
+
+-- ---- behind the plan
 
 abbrev both_of : Settings → Reads → Analysis → Result (List Row) Status
-both_of set reads p = from_first (own_header set (files_of reads) p) p reads.first reads.second
+both_of set reads p = both_step (own_header set (files_of reads) p) p reads.first reads.second
 
 merged_is : (file : Bytes) (walk : Option (List NetId)) (set : Settings) (reads : Reads) → merged_of file walk set reads ≡ (plan_of file walk set reads >>= both_of set reads)
 unfolding merged_of
@@ -68,25 +135,22 @@ plan_only : (file : Bytes) (walk : Option (List NetId)) (set : Settings) (reads 
 plan_only file walk set reads first second = plan_is file walk set (reads_with reads first second) ∙ sym (plan_is file walk set reads)
 
 -- the rows of both files of a plan that was made
-pub merged_made : (file : Bytes) (set : Settings) (files : Files) (p : Analysis) (own : Bytes) (first second : Option Bytes) → IsPlanOf file set files p → own ≡ own_header set files p
-    → merged_of file None set (reads_with (all_read files []) first second) ≡ from_first own p first second
+merged_made : (file : Bytes) (set : Settings) (files : Files) (p : Analysis) (own : Bytes) (first second : Option Bytes) → IsPlanOf file set files p → own ≡ own_header set files p
+    → merged_of file None set (reads_with (all_read files []) first second) ≡ both_step own p first second
 merged_made file set files p own first second plan own_is =
     let reads : Reads = reads_with (all_read files []) first second in
     merged_is file None set reads ∙ ap (λ r. r >>= both_of set reads) (plan_only file None set (all_read files []) first second ∙ plan.plan)
-    ∙ ap (λ o. from_first o p first second) (sym own_is)
+    ∙ ap (λ o. both_step o p first second) (sym own_is)
+
+pub merged_both : {p : Analysis} {own first second : Bytes} {shelf : ShelfState} {rows : List Row} (file : Bytes) (set : Settings) (files : Files) → IsPlanOf file set files p
+    → own ≡ own_header set files p → (both : BothRead own p first second shelf rows) → merged_of file None set (both_read files both.first_bytes both.second_bytes) ≡ Ok rows
+merged_both {p} {own} file set files plan own_is both =
+    merged_made file set files p own (Some both.first_bytes) (Some both.second_bytes) plan own_is
+    ∙ ap (λ r. r >>= from_second own p (Some both.second_bytes)) both.first_kept ∙ ap (λ r. r >>= (λ l. merge_step p both.first l)) both.second_kept ∙ both.merge
 
 module _ (inputs : Inputs) (first second : Bytes) (set : Settings) (before after : ShelfState) where
   abbrev Answer : Status → Type 0
   Answer ended = (ended ≡ status.Memory) ⊎ MergeRefused inputs first second set before after ended
-
-  abbrev name : Bytes → Which → Bytes
-  name result = name_with inputs result first second
-
-  rose_of : (result : Bytes) (own : Which) (ended : Status) → FaultRose own (before.read_faults (name result own)) (after.read_faults (name result own)) ended
-      → (other : Which) → ended ≡ status.ReadFault other → CountRose (before.read_faults (name result other)) (after.read_faults (name result other))
-  rose_of result own ended fault = λ other e.
-      let f = fault other e in
-      subst (λ w. CountRose (before.read_faults (name result w)) (after.read_faults (name result w))) (sym f.0) f.1
 
   -- the plan was refused
   pub merge_planned : (ended : Status) → (ended ≡ status.Memory) ⊎ PlanRefused inputs set before after ended → Answer ended
@@ -108,66 +172,46 @@ module _ (inputs : Inputs) (first second : Bytes) (set : Settings) (before after
         fault = λ result. refused.fault result first second;
       })
 
-  module _ (made : Planned) (planned : PlannedAs before after inputs set (Ok made)) (own : Bytes) (own_is : own ≡ own_header set (bytes_of made.files) made.plan) where
-    abbrev files : Files
-    files = bytes_of made.files
+  -- one of the two files was refused
+  pub merge_both : (made : Planned) (mid : ShelfState) (own : Bytes) → PlannedAs before after inputs set (Ok made) → own ≡ own_header set (bytes_of made.files) made.plan
+      → OnlyReadsAny before mid → (ended : Status) → BothAs own made.plan first second mid after (Err ended) → Answer ended × IsPlain ended
+  merge_both made mid own planned own_is only ended (inl memory, plain) = (inl memory, plain)
+  merge_both made mid own planned own_is only ended (inr both, plain) = (
+    inr (record {
+      reads = reads_with (all_read (bytes_of made.files) []) both.first both.second;
+      fit = record { netlist = planned.0.netlist; workload = planned.0.workload; rates = planned.0.rates; points = planned.0.points };
+      one = fits_since first after both.first only both.first_fits;
+      two = fits_since second after both.second only both.second_fits;
+      walk = None;
+      loops = planned.3;
+      refused = merged_made inputs.netlist set (bytes_of made.files) made.plan own both.first both.second planned.1 own_is ∙ both.refused;
+      fault = λ result which e. by_file result both.fault which e;
+    }),
+    plain,
+  )
+    where
+      by_file : (result : Bytes) → FaultRose which.First (mid.read_faults first) (after.read_faults first) ended ⊎ FaultRose which.Second (mid.read_faults second) (after.read_faults second) ended
+          → FaultsRose (name_with inputs result first second) before after ended
+      by_file result (inl fault) = rose_of (name_with inputs result first second) which.First before after ended (λ own e. let f = fault own e in (f.0, rose_since first after only f.1))
+      by_file result (inr fault) = rose_of (name_with inputs result first second) which.Second before after ended (λ own e. let f = fault own e in (f.0, rose_since second after only f.1))
 
-    -- FIRST was refused
-    pub merge_first : (ended : Status) → StepAs which.First (back_step which.First own made.plan) first before after (Err ended) → Answer ended
-    merge_first ended (inl memory) = inl memory
-    merge_first ended (inr (got, fits, is, fault)) =
-        let two = some_fit before after second in
-        inr (record {
-          reads = reads_with (all_read files []) got two.0;
-          fit = record { netlist = planned.0.netlist; workload = planned.0.workload; rates = planned.0.rates; points = planned.0.points };
-          one = fits;
-          two = two.1;
-          walk = None;
-          loops = planned.3;
-          refused = merged_made inputs.netlist set files made.plan own got two.0 planned.1 own_is
-              ∙ ap (λ r. r >>= (λ k. back_step which.Second own made.plan two.0 >>= (λ l. merge_step made.plan k l))) is;
-          fault = λ result. rose_of result which.First ended fault;
-        })
-
-    module _ (one : Bytes) (one_held : HasIfKnown (before.content first) one) (k : KeptRows) (one_kept : back_step which.First own made.plan (Some one) ≡ Ok k) where
-      -- what is behind FIRST
-      after_first : (two : Option Bytes) → from_first own made.plan (Some one) two ≡ (back_step which.Second own made.plan two >>= (λ l. merge_step made.plan k l))
-      after_first two = ap (λ r. r >>= (λ k. back_step which.Second own made.plan two >>= (λ l. merge_step made.plan k l))) one_kept
-
-      -- SECOND was refused
-      pub merge_second : (ended : Status) → StepAs which.Second (back_step which.Second own made.plan) second before after (Err ended) → Answer ended
-      merge_second ended (inl memory) = inl memory
-      merge_second ended (inr (got, fits, is, fault)) =
-          inr (record {
-            reads = reads_with (all_read files []) (Some one) got;
-            fit = record { netlist = planned.0.netlist; workload = planned.0.workload; rates = planned.0.rates; points = planned.0.points };
-            one = one_held;
-            two = fits;
-            walk = None;
-            loops = planned.3;
-            refused = merged_made inputs.netlist set files made.plan own (Some one) got planned.1 own_is ∙ after_first got
-                ∙ ap (λ r. r >>= (λ l. merge_step made.plan k l)) is;
-            fault = λ result. rose_of result which.Second ended fault;
-          })
-
-      module _ (two : Bytes) (two_held : HasIfKnown (before.content second) two) (l : KeptRows) (two_kept : back_step which.Second own made.plan (Some two) ≡ Ok l) where
-        -- what is behind both
-        pub merged_both : merged_of inputs.netlist None set (reads_with (all_read files []) (Some one) (Some two)) ≡ merge_step made.plan k l
-        merged_both =
-            merged_made inputs.netlist set files made.plan own (Some one) (Some two) planned.1 own_is ∙ after_first (Some two)
-            ∙ ap (λ r. r >>= (λ l. merge_step made.plan k l)) two_kept
-
-        -- some batch stands in both with other planes
-        pub merge_differs : (ended : Status) → AnswersAs (merge_step made.plan k l) (Err ended) → Answer ended
-        merge_differs ended (inl memory) = inl memory
-        merge_differs ended (inr is) =
-            inr (record {
-              reads = reads_with (all_read files []) (Some one) (Some two);
-              fit = record { netlist = planned.0.netlist; workload = planned.0.workload; rates = planned.0.rates; points = planned.0.points };
-              one = one_held;
-              two = two_held;
-              walk = None;
-              loops = planned.3;
-              refused = merged_both ∙ is;
-              fault = λ result other e. absurd (merge_never made.plan k l other (is ∙ ap (λ s. Err s) e));
-            })
+-- the rows of both files, with the plan's header
+pub merge_made : (first second : Bytes) (set : Settings) {before mid : ShelfState} (made : Planned) (own : Bytes) (rows : List Row) → IsPlan made.plan
+    → own ≡ own_header set (bytes_of made.files) made.plan → length own ≡ 89 → OnlyReadsAny before mid → BothRead own made.plan first second mid rows
+    → AreMerged before first second set (record { planned = made; own = own; rows = rows })
+merge_made first second set made own rows sound own_is len only both = record {
+  sound = sound;
+  own = own_is;
+  header = len;
+  both = record {
+    first_bytes = both.first_bytes;
+    second_bytes = both.second_bytes;
+    first_held = had_if_known first both.first_bytes only both.first_held;
+    second_held = had_if_known second both.second_bytes only both.second_held;
+    first = both.first;
+    second = both.second;
+    first_kept = both.first_kept;
+    second_kept = both.second_kept;
+    merge = both.merge;
+  };
+}

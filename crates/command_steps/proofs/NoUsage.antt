@@ -1,6 +1,6 @@
 -- No check refuses by Usage.
 use Rattle.std.proofs.Common.{◌≡◌, ◌≢◌, ◌^◌, ℕ, Bool, true, false, List, [], length}
-use Rattle.std.specs.Prelude.{Option, Some, None, Result, Ok, Err, find, if◌then◌else◌, nat_lt}
+use Rattle.std.specs.Prelude.{Option, Some, None, Result, Ok, Err, find, option_map, if◌then◌else◌, nat_lt}
 use Rattle.fm_base.specs.Names.{Bytes}
 use Rattle.circuit.specs.declared.parts.NetId.{NetId}
 use Rattle.circuit.specs.Circuit.{Circuit}
@@ -35,7 +35,7 @@ use Rattle.refusal_text.specs.declared.status.Which.{Which}
 use Rattle.refusal_text.specs.declared.status.Which.TheVariants as which
 use Rattle.refusal_text.specs.declared.status.What.TheVariants as what
 use Rattle.command_steps.specs.Files.{Reads, all_read, files_of}
-use Rattle.command_steps.specs.FirstRefusal.{at_most, no_name, unless, netlist_step, outputs_step, workload_step, rates_step, points_step, plan_for, plan_of, classes_plan_of, rated_of, loop_refusal, refusal_of_plan, status_of_back, result_step, own_header, is_wrong, disagreement, audit_step, kept_of, audited_of, refusal_in, generated, generated_settings, first_refusal, ◌>>=◌, back_step, status_of_merge, merge_step, merged_of, refusal_of_pairs, paired_of}
+use Rattle.command_steps.specs.FirstRefusal.{at_most, no_name, unless, netlist_step, outputs_step, workload_step, rates_step, points_step, plan_for, plan_of, classes_plan_of, rated_of, status_of_plan, status_of_back, result_step, own_header, is_wrong, disagreement, audit_step, kept_of, audited_of, refusal_in, generated, generated_settings, first_refusal, ◌>>=◌, back_step, status_of_merge, merge_step, merged_of, status_of_pairs, paired_of}
 
 -- ---- no check answers Usage
 
@@ -66,7 +66,7 @@ file_spares : {A E : Type 0} (own : Which) (got : Option Bytes) (told : E → St
 file_spares own got told answer other =
     then_spares (at_most own got) (λ whole. or_refuse told (answer whole)) (read_spares own got) (λ whole. told_spares told (answer whole) other)
 
-loop_spares : (walk : Option (List NetId)) (c : Circuit) → Spares (unless (loop_refusal walk) c)
+loop_spares : (walk : Option (List NetId)) (c : Circuit) → Spares (unless (option_map status.Loop walk) c)
 loop_spares None c = tt
 loop_spares (Some nets) c = λ e. let bad : status.Loop nets ≡ status.Usage = e in cc bad
 
@@ -81,8 +81,8 @@ form_spares name bytes = by_form (is_bench name)
 netlist_spares : (name : Bytes) (walk : Option (List NetId)) (got : Option Bytes) → Spares (netlist_step name walk got)
 unfolding netlist_step
 netlist_spares name walk got =
-    then_spares (at_most which.Netlist got) (λ whole. netlist_in name whole >>= (λ c. unless (loop_refusal walk) c)) (read_spares which.Netlist got)
-    (λ whole. then_spares (netlist_in name whole) (λ c. unless (loop_refusal walk) c) (form_spares name whole) (loop_spares walk))
+    then_spares (at_most which.Netlist got) (λ whole. netlist_in name whole >>= (λ c. unless (option_map status.Loop walk) c)) (read_spares which.Netlist got)
+    (λ whole. then_spares (netlist_in name whole) (λ c. unless (option_map status.Loop walk) c) (form_spares name whole) (loop_spares walk))
 
 workload_spares : (c : Circuit) (got : Option Bytes) → Spares (workload_step c got)
 unfolding workload_step
@@ -96,7 +96,7 @@ points_spares : (c : Circuit) (got : Option Bytes) → Spares (points_step c got
 unfolding points_step
 points_spares c got = file_spares which.Points got status.Points (points_of c) (λ f e. let bad : status.Points f ≡ status.Usage = e in cc bad)
 
-refused_spares : (refusal : Option PlanRefusal) (p : Analysis) → Spares (unless (refusal_of_plan refusal) p)
+refused_spares : (refusal : Option PlanRefusal) (p : Analysis) → Spares (unless (option_map status_of_plan refusal) p)
 refused_spares None p = tt
 refused_spares (Some plan.TooManyFaults) p = λ e. let bad : status.TooLarge what.Faults ≡ status.Usage = e in cc bad
 refused_spares (Some (plan.MissingRate net name)) p = λ e. let bad : status.MissingRate net name ≡ status.Usage = e in cc bad
@@ -143,7 +143,7 @@ back_spares file own p got = file_spares file got status_of_back (kept own p) ba
 result_spares : (own : Bytes) (p : Analysis) (got : Option Bytes) → Spares (result_step own p got)
 result_spares own p got = back_spares which.Result own p got
 
-row_spares : (planes : ℕ → Outcome) (k : KeptRows) (wrong : Option Row) → Spares (unless (disagreement planes wrong) k)
+row_spares : (planes : ℕ → Outcome) (k : KeptRows) (wrong : Option Row) → Spares (unless (option_map (disagreement planes) wrong) k)
 row_spares planes k None = tt
 row_spares planes k (Some row) = λ e. cc
 
@@ -177,7 +177,7 @@ merged_spares netlist walk set reads =
     (λ first. then_spares (back_step which.Second (own_header set (files_of reads) p) p reads.second) _ (back_spares which.Second (own_header set (files_of reads) p) p reads.second)
     (λ second. merge_spares p first second)))
 
-pairs_spares : (k : KeptRows) (why : Option PairRefusal) → Spares (unless (refusal_of_pairs why) k)
+pairs_spares : (k : KeptRows) (why : Option PairRefusal) → Spares (unless (option_map status_of_pairs why) k)
 pairs_spares k None = tt
 pairs_spares k (Some (Incomplete have batches)) = λ e. let bad : status.Incomplete have batches ≡ status.Usage = e in cc bad
 pairs_spares k (Some TooMany) = λ e. let bad : status.TooLarge what.Pairs ≡ status.Usage = e in cc bad

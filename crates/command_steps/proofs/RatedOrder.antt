@@ -1,8 +1,8 @@
 -- The order of the checks of `parts`.
-use Rattle.std.proofs.Common.{◌≡◌, ◌∙◌, ap, sym, refl, subst, List, [], inl, inr}
+use Rattle.std.proofs.Common.{◌≡◌, ◌∙◌, ap, refl, List, [], inl, inr}
 use Rattle.std.specs.Prelude.{Option, Some, None, Result, Ok, Err, ◌⊎◌}
 use Rattle.fm_base.specs.Names.{Bytes}
-use Rattle.fm_shelf.specs.Shelf.{ShelfState, CountRose}
+use Rattle.fm_shelf.specs.Shelf.{ShelfState, OnlyReadsAny}
 use Rattle.circuit.specs.declared.parts.NetId.{NetId}
 use Rattle.circuit.specs.Circuit.{Circuit}
 use Rattle.rate_table.specs.Table.{RateTable}
@@ -10,12 +10,17 @@ use Rattle.command_line.specs.Commands.{Parts}
 use Rattle.refusal_text.specs.declared.status.Status.{Status}
 use Rattle.refusal_text.specs.declared.status.Status.TheVariants as status
 use Rattle.refusal_text.specs.declared.status.Which.TheVariants as which
+use Rattle.refusal_text.specs.Refusals.{IsPlain}
+use Rattle.command_steps.specs.declared.input.Taken.{Taken}
+use Rattle.command_steps.specs.declared.netlist.Ordered.{Ordered}
 use Rattle.command_steps.specs.Files.{Files, Reads, all_read}
 use Rattle.command_steps.specs.FirstRefusal.{netlist_step, rates_step, rated_of, refusal_in, first_refusal, ◌>>=◌}
 use Rattle.command_steps.specs.Held.{name_of}
-use Rattle.command_steps.specs.Checked.{Checked}
-use Rattle.command_steps.specs.Steps.{StepAs, NetlistAs, RefusedInOrder, AreRated}
-use Rattle.command_steps.proofs.InOrder.{some_fit, loops_none, held_is}
+use Rattle.command_steps.specs.Checked.{NameFits, Checked}
+use Rattle.command_steps.specs.Steps.{StepAs, TakenAs, NetlistAs, OrderedAs, RefusedInOrder, RatedAs}
+use Rattle.command_steps.proofs.Keeping.{had_if_known}
+use Rattle.command_steps.proofs.Taken.{rates_plain}
+use Rattle.command_steps.proofs.InOrder.{some_fit, loops_none, step_since, rose_of}
 
 -- what was read of its two files
 abbrev reads_of : (netlist rates : Option Bytes) → Reads
@@ -31,12 +36,6 @@ rated_is n walk reads = refl
 first_is : (walk : Option (List NetId)) (n r : Bytes) (reads : Reads) → first_refusal walk (Parts n r) reads ≡ refusal_in (rated_of n walk reads)
 unfolding first_refusal
 first_is walk n r reads = refl
-
--- a netlist and its rates
-rated_made : (n : Bytes) (walk : Option (List NetId)) (reads : Reads) (c : Circuit) (table : RateTable) → netlist_step n walk reads.netlist ≡ Ok c
-    → rates_step reads.rates ≡ Ok table → rated_of n walk reads ≡ Ok (c, table)
-rated_made n walk reads c table netlist rates =
-    rated_is n walk reads ∙ ap (λ r. r >>= after_netlist reads.rates) netlist ∙ ap (λ r. r >>= (λ t. Ok (c, t))) rates
 
 module _ (n r : Bytes) (before after : ShelfState) where
   abbrev Answer : Status → Type 0
@@ -56,46 +55,44 @@ module _ (n r : Bytes) (before after : ShelfState) where
           loops = loops;
           first = first_is walk n r reads ∙ ap refusal_in (rated_is n walk reads ∙ ap (λ s. s >>= after_netlist other.0) is);
         };
-        fault = λ which e.
-            let f = fault which e in
-            subst (λ own. CountRose (before.read_faults (name_of (Parts n r) own)) (after.read_faults (name_of (Parts n r) own))) (sym f.0) f.1;
+        fault = rose_of (name_of (Parts n r)) which.Netlist before after ended fault;
       })
 
-  module _ (c : Circuit) (netlist : NetlistAs n before after (Ok c)) where
+  module _ (made : Ordered) (net : OrderedAs n before after (Ok made)) (mid : ShelfState) (first : OnlyReadsAny before mid) where
+    -- the rates behind this netlist
+    after_net : (reads : Reads) → reads.netlist ≡ Some made.bytes → rated_of n None reads ≡ after_netlist reads.rates made.net
+    after_net reads is = rated_is n None reads ∙ ap (λ s. s >>= after_netlist reads.rates) (ap (netlist_step n None) is ∙ net.1)
+
+    -- over this netlist and what was read of the rates, this is the first refusal, or there is none
+    by_reads : (got : Option Bytes) (refusal : Option Status) → NameFits before after r got → refusal_in (after_netlist got made.net) ≡ refusal
+        → Checked (Parts n r) before after refusal
+    by_reads got refusal fits is = record {
+      reads = reads_of (Some made.bytes) got;
+      fit = (net.0, fits);
+      walk = None;
+      loops = loops_none n made.bytes made.net net.1 net.2;
+      first = first_is None n r (reads_of (Some made.bytes) got) ∙ ap refusal_in (after_net (reads_of (Some made.bytes) got) refl) ∙ is;
+    }
+
     -- the rates were refused
-    pub rated_rates : (ended : Status) → StepAs which.Rates rates_step r before after (Err ended) → Answer ended
-    rated_rates ended (inl memory) = inl memory
-    rated_rates ended (inr (got, fits, refused, fault)) =
-        let reads : Reads = reads_of (Some netlist.0) got in
-        inr (record {
-          checked = record {
-            reads = reads;
-            fit = (netlist.1, fits);
-            walk = None;
-            loops = loops_none n netlist.0 c netlist.2 netlist.3;
-            first = first_is None n r reads ∙ ap refusal_in (rated_is n None reads ∙ ap (λ s. s >>= after_netlist got) netlist.2
-                ∙ ap (λ s. s >>= (λ t. Ok (c, t))) refused);
-          };
-          fault = λ which e.
-              let f = fault which e in
-              subst (λ own. CountRose (before.read_faults (name_of (Parts n r) own)) (after.read_faults (name_of (Parts n r) own))) (sym f.0) f.1;
+    pub rated_rates : (ended : Status) → StepAs which.Rates rates_step r mid after (Err ended) → Answer ended × IsPlain ended
+    rated_rates ended refused = (by_step (step_since which.Rates rates_step r after ended first refused), rates_plain r mid after ended refused)
+      where
+        by_step : StepAs which.Rates rates_step r before after (Err ended) → Answer ended
+        by_step (inl memory) = inl memory
+        by_step (inr (got, fits, is, fault)) = inr (record {
+          checked = by_reads got (Some ended) fits (ap (λ s. refusal_in {A = Circuit × RateTable} (s >>= (λ t. Ok (made.net, t)))) is);
+          fault = rose_of (name_of (Parts n r)) which.Rates before after ended fault;
         })
 
-    module _ (table : RateTable) (rates : StepAs which.Rates rates_step r before after (Ok table)) where
-      -- nothing was refused
-      pub rated_checked : Checked (Parts n r) before after None
-      rated_checked =
-          let reads : Reads = reads_of (Some netlist.0) (Some rates.0) in
-          record {
-            reads = reads;
-            fit = (netlist.1, rates.1);
-            walk = None;
-            loops = loops_none n netlist.0 c netlist.2 netlist.3;
-            first = first_is None n r reads ∙ ap refusal_in (rated_made n None reads c table netlist.2 rates.2);
-          }
-
-      -- the files stand for the netlist and its rates
-      pub are_rated : AreRated before n r c table
-      are_rated =
-          let files : Files = record { netlist = netlist.0; workload = []; rates = rates.0; points = [] } in
-          (files, netlist.1, rates.1, rated_made n None (all_read files []) c table netlist.2 rates.2)
+    -- nothing was refused
+    pub rated_made : (rates : Taken RateTable) → TakenAs which.Rates rates_step r mid after (Ok rates)
+        → RatedAs before after n r (Ok (record { ordered = made; rates = rates.value }))
+    rated_made rates (held, is) =
+        let read = had_if_known r rates.bytes first held in
+        let files : Files = record { netlist = made.bytes; workload = []; rates = rates.bytes; points = [] } in
+        let made_of : after_netlist (Some rates.bytes) made.net ≡ Ok (made.net, rates.value) = ap (λ s. s >>= (λ t. Ok (made.net, t))) is in (
+          (files, net.0, read, after_net (all_read files []) refl ∙ made_of),
+          net.2,
+          by_reads (Some rates.bytes) None read (ap refusal_in made_of),
+        )

@@ -8,7 +8,7 @@ use Rattle.refusal_text.specs.declared.status.Status.{Status}
 use Rattle.refusal_text.specs.declared.status.Status.TheVariants as status
 use Rattle.refusal_text.specs.declared.status.Which.{Which}
 use Rattle.refusal_text.specs.declared.status.Which.TheVariants as which
-use Rattle.command_line.specs.Commands.{Command, Classes, Check, Run, Resume, Audit, Gen, Report, Shard, Merge, Pairs, Parts, Faults, Progress}
+use Rattle.command_line.specs.Commands.{Command, Classes, Check, Run, Resume, Audit, Gen, Report, Shard, Merge, Pairs, Parts, Faults, Progress, Inputs}
 use Rattle.command_steps.specs.Files.{Reads, all_read}
 use Rattle.command_steps.specs.FirstRefusal.{IsLoopAnswer, first_refusal, generated}
 use Rattle.command_steps.specs.Held.{name_of}
@@ -20,45 +20,37 @@ abbrev pub ReadFits : Content → (before after : ℕ) → Option Bytes → Type
 ReadFits held before after None = (held ≡ Absent) ⊎ CountRose before after
 ReadFits held before after (Some bytes) = HasIfKnown held bytes
 
--- the answer that a file can't be read is of this file, and comes only where a read of its name has failed
-abbrev pub FaultRose : Which → (before after : ℕ) → Status → Type 0
-FaultRose own before after ended = (which : Which) → ended ≡ status.ReadFault which → (which ≡ own) × CountRose before after
-
 -- what was read fits the file of this name
 abbrev pub NameFits : (before after : ShelfState) → (name : Bytes) → Option Bytes → Type 0
 NameFits before after name got = ReadFits (before.content name) (before.read_faults name) (after.read_faults name) got
 
--- the same of the four inputs, each by its name
-pub record InputsFit (before after : ShelfState) (name : Which → Bytes) (reads : Reads) : Type 0 where
-  pub netlist : NameFits before after (name which.Netlist) reads.netlist
-  pub workload : NameFits before after (name which.Workload) reads.workload
-  pub rates : NameFits before after (name which.Rates) reads.rates
-  pub points : NameFits before after (name which.Points) reads.points
+-- a file can't be read only where a read of its name has failed
+abbrev pub FaultsRose : (name : Which → Bytes) → (before after : ShelfState) → Status → Type 0
+FaultsRose name before after ended = (which : Which) → ended ≡ status.ReadFault which → CountRose (before.read_faults (name which)) (after.read_faults (name which))
+
+-- what was read of the four inputs fits them
+pub record InputsFit (before after : ShelfState) (inputs : Inputs) (reads : Reads) : Type 0 where
+  pub netlist : NameFits before after inputs.netlist reads.netlist
+  pub workload : NameFits before after inputs.workload reads.workload
+  pub rates : NameFits before after inputs.rates reads.rates
+  pub points : NameFits before after inputs.points reads.points
 
 -- the same of each file that a command reads; `gen` has the generated texts in their place
 abbrev pub ReadsFit : (before after : ShelfState) → Command → Reads → Type 0
-ReadsFit before after (Classes netlist workload) reads =
-    NameFits before after netlist reads.netlist × NameFits before after workload reads.workload
-ReadsFit before after (Check inputs flips pulses) reads = InputsFit before after (name_of (Check inputs flips pulses)) reads
-ReadsFit before after (Run inputs name set workers) reads = InputsFit before after (name_of (Run inputs name set workers)) reads
-ReadsFit before after (Resume inputs name set workers) reads =
-    InputsFit before after (name_of (Resume inputs name set workers)) reads × NameFits before after name reads.result
-ReadsFit before after (Audit inputs name set) reads =
-    InputsFit before after (name_of (Audit inputs name set)) reads × NameFits before after name reads.result
+ReadsFit before after (Classes netlist workload) reads = NameFits before after netlist reads.netlist × NameFits before after workload reads.workload
+ReadsFit before after (Check inputs flips pulses) reads = InputsFit before after inputs reads
+ReadsFit before after (Run inputs name set workers) reads = InputsFit before after inputs reads
+ReadsFit before after (Resume inputs name set workers) reads = InputsFit before after inputs reads × NameFits before after name reads.result
+ReadsFit before after (Audit inputs name set) reads = InputsFit before after inputs reads × NameFits before after name reads.result
 ReadsFit before after (Gen n name workers) reads = reads ≡ all_read (generated n) []
-ReadsFit before after (Report inputs set) reads = InputsFit before after (name_of (Report inputs set)) reads
-ReadsFit before after (Shard inputs name set part parts) reads = InputsFit before after (name_of (Shard inputs name set part parts)) reads
+ReadsFit before after (Report inputs set) reads = InputsFit before after inputs reads
+ReadsFit before after (Shard inputs name set part parts) reads = InputsFit before after inputs reads
 ReadsFit before after (Merge inputs name first second set) reads =
-    InputsFit before after (name_of (Merge inputs name first second set)) reads
-    × NameFits before after first reads.first × NameFits before after second reads.second
-ReadsFit before after (Pairs inputs name set workers) reads =
-    InputsFit before after (name_of (Pairs inputs name set workers)) reads × NameFits before after name reads.result
-ReadsFit before after (Parts netlist rates) reads =
-    NameFits before after netlist reads.netlist × NameFits before after rates reads.rates
-ReadsFit before after (Faults inputs name set) reads =
-    InputsFit before after (name_of (Faults inputs name set)) reads × NameFits before after name reads.result
-ReadsFit before after (Progress inputs name set) reads =
-    InputsFit before after (name_of (Progress inputs name set)) reads × NameFits before after name reads.result
+    InputsFit before after inputs reads × NameFits before after first reads.first × NameFits before after second reads.second
+ReadsFit before after (Pairs inputs name set workers) reads = InputsFit before after inputs reads × NameFits before after name reads.result
+ReadsFit before after (Parts netlist rates) reads = NameFits before after netlist reads.netlist × NameFits before after rates reads.rates
+ReadsFit before after (Faults inputs name set) reads = InputsFit before after inputs reads × NameFits before after name reads.result
+ReadsFit before after (Progress inputs name set) reads = InputsFit before after inputs reads × NameFits before after name reads.result
 
 -- THE ORDER OF THE CHECKS: over what the call has read, this is the first refusal, or there is none
 pub record Checked (command : Command) (before after : ShelfState) (refusal : Option Status) : Type 0 where

@@ -1,5 +1,5 @@
 -- The order of the checks. Each step gives what it reads, or the refusal; a line is reached only where no line above it refuses.
-use Rattle.std.specs.Prelude.{◌≡◌, ℕ, ◌^◌, Bool, not, ◌&&◌, List, [], ◌∷◌, length, Option, Some, None, Result, Ok, Err, find, if◌then◌else◌, nat_lt, ◌==◌, true, false, codes}
+use Rattle.std.specs.Prelude.{◌≡◌, ℕ, ◌^◌, Bool, not, ◌&&◌, List, [], ◌∷◌, length, Option, Some, None, Result, Ok, Err, find, option_map, if◌then◌else◌, nat_lt, ◌==◌, true, false, codes}
 use Rattle.circuit.specs.declared.parts.NetId.{NetId}
 use Rattle.circuit.specs.Circuit.{Circuit}
 use Rattle.circuit.specs.Loop.{HasNoLoop, AnswersLoops}
@@ -67,17 +67,12 @@ abbrev pub at_most : Which → Option Bytes → Result Bytes Status
 at_most which None = Err (status.ReadFault which)
 at_most which (Some bytes) = unless (if nat_lt (2 ^ 26) (length bytes) then Some (status.TooLarge (what.File which)) else None) bytes
 
--- a circuit without a loop, where `walk` is what is answered of loops
-abbrev pub loop_refusal : Option (List NetId) → Option Status
-loop_refusal None = None
-loop_refusal (Some walk) = Some (status.Loop walk)
-
--- NETLIST, a file of this name
+-- NETLIST, a file of this name, and then its loops, of which `walk` is answered
 unfoldable pub netlist_step : Bytes → Option (List NetId) → Option Bytes → Result Circuit Status
 netlist_step netlist walk bytes = do
   whole ← at_most which.Netlist bytes
   c ← netlist_in netlist whole
-  unless (loop_refusal walk) c
+  unless (option_map status.Loop walk) c
 
 -- at most 1,024 outputs, in `classes`
 abbrev pub outputs_step : Circuit → Result Circuit Status
@@ -108,14 +103,9 @@ status_of_plan (plan.MissingRate net name) = status.MissingRate net name
 status_of_plan (plan.IdleRate part permanent) = status.IdleRate part permanent
 status_of_plan plan.Memory = status.Memory
 
--- too many faults, a missing rate, an idle rate
-abbrev pub refusal_of_plan : Option PlanRefusal → Option Status
-refusal_of_plan None = None
-refusal_of_plan (Some refusal) = Some (status_of_plan refusal)
-
 -- TOO MANY FAULTS, A MISSING RATE, AN IDLE RATE
 abbrev pub plan_step : Analysis → Result Analysis Status
-plan_step p = unless (refusal_of_plan (plan_refusal p)) p
+plan_step p = unless (option_map status_of_plan (plan_refusal p)) p
 
 -- the plan of a netlist and three more files, or the first refusal
 unfoldable pub plan_for : Circuit → Settings → Reads → Result Analysis Status
@@ -170,14 +160,12 @@ abbrev pub is_wrong : (ℕ → Outcome) → Row → Bool
 is_wrong planes row = not ((row.danger == (planes row.batch).danger) && (row.noticed == (planes row.batch).noticed))
 
 -- the status of such a row
-abbrev pub disagreement : (ℕ → Outcome) → Option Row → Option Status
-disagreement planes None = None
-disagreement planes (Some row) =
-    Some (status.Disagrees row.batch (record { danger = row.danger; noticed = row.noticed }) (planes row.batch))
+abbrev pub disagreement : (ℕ → Outcome) → Row → Status
+disagreement planes row = status.Disagrees row.batch (record { danger = row.danger; noticed = row.noticed }) (planes row.batch)
 
 -- AUDIT: the first row whose planes aren't those that its batch truly has
 unfoldable pub audit_step : Analysis → KeptRows → Result KeptRows Status
-audit_step p k = unless (disagreement (true_planes p) (find (is_wrong (true_planes p)) k.rows)) k
+audit_step p k = unless (option_map (disagreement (true_planes p)) (find (is_wrong (true_planes p)) k.rows)) k
 
 -- the refusal of steps, if they refuse
 abbrev pub refusal_in : {A : Type 0} → Result A Status → Option Status
@@ -218,14 +206,9 @@ abbrev pub status_of_pairs : PairRefusal → Status
 status_of_pairs (Incomplete have batches) = status.Incomplete have batches
 status_of_pairs TooMany = status.TooLarge what.Pairs
 
--- rows that lack a batch, or too many pairs
-abbrev pub refusal_of_pairs : Option PairRefusal → Option Status
-refusal_of_pairs None = None
-refusal_of_pairs (Some refusal) = Some (status_of_pairs refusal)
-
 -- PAIRS: each batch has a row, and there aren't too many pairs
 abbrev pub pairs_step : Analysis → KeptRows → Result KeptRows Status
-pairs_step p k = unless (refusal_of_pairs (pair_refusal p k.rows)) k
+pairs_step p k = unless (option_map status_of_pairs (pair_refusal p k.rows)) k
 
 -- the rows by which `pairs` pairs the faults
 unfoldable pub paired_of : Bytes → Option (List NetId) → Settings → Reads → Result KeptRows Status

@@ -1,13 +1,13 @@
 // Two result files of one plan, merged.
-ghost use Rattle.std.specs.Prelude.{◌≡◌, ◌≤◌, ℕ, List, map};
+ghost use Rattle.std.specs.Prelude.{◌≡◌, ◌≤◌, ℕ, List, length, map};
 ghost use Rattle.fm_shelf.specs.Shelf.{OnlyReadsAny};
 ghost use Rattle.campaign_plan.specs.Batches.{AreDistinct};
 ghost use Rattle.campaign_plan.specs.Kept.{AreSettings};
-ghost use Rattle.result_file.specs.KeptRows.{entry_of};
+ghost use Rattle.result_file.specs.KeptRows.{entry_of, header_len};
 ghost use Rattle.command_steps.specs.FirstRefusal.{merge_step};
 ghost use Rattle.command_steps.specs.Steps.{AnswersAs};
 ghost use Rattle.command_steps.specs.PlanSteps.{names_of};
-ghost use Rattle.command_steps.specs.MergeSteps.{MergedAs};
+ghost use Rattle.command_steps.specs.MergeSteps.{BothAs, MergedAs};
 
 use crate::begun::read_rows;
 use crate::own::own_line;
@@ -60,6 +60,24 @@ fn rows_of_both(
     }
 }
 
+// The rows of two result files of a plan, the first read whole before the second.
+fn read_both<F: Shelf>(
+    alloc: Global,
+    shelf: &mut F,
+    first: &str,
+    second: &str,
+    plan: &Plan,
+    own: &Line,
+) -> Result<RowList, Status>
+    requires own { length own.now ≡ header_len }
+    ensures read { BothAs own.now plan.now first.now second.now (F.seen shelf.old) (F.seen shelf.new) result }
+    ensures rest { OnlyReadsAny (F.seen shelf.old) (F.seen shelf.new) }
+{
+    let one = read_rows(alloc, shelf, Which::First, first, plan, own)?;
+    let two = read_rows(alloc, shelf, Which::Second, second, plan, own)?;
+    rows_of_both(alloc, plan, &one, &two)
+}
+
 /// Reads the four files of a command in their order, makes its plan, and reads two result files of it, the first whole before
 /// the second: the rows of both, or why they aren't merged. No file is changed.
 pub fn read_merged<F: Shelf>(
@@ -76,9 +94,6 @@ pub fn read_merged<F: Shelf>(
 {
     let planned = read_plan(alloc, shelf, inputs, set)?;
     let own = own_line(&planned);
-    let plan = &planned.plan;
-    let one = read_rows(alloc, shelf, Which::First, first, plan, &own)?;
-    let two = read_rows(alloc, shelf, Which::Second, second, plan, &own)?;
-    let rows = rows_of_both(alloc, plan, &one, &two)?;
+    let rows = read_both(alloc, shelf, first, second, &planned.plan, &own)?;
     Ok(Merged { planned, own, rows })
 }
