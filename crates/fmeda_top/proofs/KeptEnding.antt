@@ -40,33 +40,24 @@ use Rattle.fmeda_top.proofs.Ending.{text_ends}
 -- a command is one over the rows that are kept: its checks, its files, and what it is for
 pub record IsOfKept (command : Command) (text : Analysis → List Entry → Bytes) (inputs : Inputs) (name : Bytes) (set : Settings) : Type 0 where
   pub first : (walk : Option (List NetId)) (reads : Reads) → first_refusal walk command reads ≡ refusal_in (kept_of inputs.netlist walk set reads)
-  pub fits : (before after : ShelfState) (reads : Reads) → InputsFit before after (name_in inputs name) reads
+  pub fits : (before after : ShelfState) (reads : Reads) → InputsFit before after inputs reads
       → NameFits before after name reads.result → ReadsFit before after command reads
   pub names : name_of command ≡ name_in inputs name
   pub netlist : (shelf : ShelfState) → netlist_of command shelf ≡ shelf.content inputs.netlist
   pub done : (before after : Outside) → KeepsAll before.shelf after.shelf
       → OfCampaign before.shelf inputs name (λ files bytes. ToldOfKept inputs.netlist files set bytes text before.out after.out) → DoneAs command before after
 
-first_of_faults : (inputs : Inputs) (name : Bytes) (set : Settings) (walk : Option (List NetId)) (reads : Reads)
-    → first_refusal walk (Faults inputs name set) reads ≡ refusal_in (kept_of inputs.netlist walk set reads)
-unfolding first_refusal
-first_of_faults inputs name set walk reads = refl
-
-first_of_progress : (inputs : Inputs) (name : Bytes) (set : Settings) (walk : Option (List NetId)) (reads : Reads)
-    → first_refusal walk (Progress inputs name set) reads ≡ refusal_in (kept_of inputs.netlist walk set reads)
-unfolding first_refusal
-first_of_progress inputs name set walk reads = refl
-
 is_of_kept : (own : KeptText) (inputs : Inputs) (name : Bytes) (set : Settings) → IsOfKept (command_of own inputs name set) (text_of own) inputs name set
+unfolding first_refusal
 is_of_kept FaultTable inputs name set = record {
-  first = first_of_faults inputs name set;
+  first = λ walk reads. refl;
   fits = λ before after reads fit result. (fit, result);
   names = refl;
   netlist = λ shelf. refl;
   done = λ before after keeps told. (keeps, told);
 }
 is_of_kept Bounds inputs name set = record {
-  first = first_of_progress inputs name set;
+  first = λ walk reads. refl;
   fits = λ before after reads fit result. (fit, result);
   names = refl;
   netlist = λ shelf. refl;

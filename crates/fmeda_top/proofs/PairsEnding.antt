@@ -1,6 +1,6 @@
 -- How `pairs` ends.
 use Rattle.std.proofs.Common.{◌≡◌, ◌∙◌, ap, ap₂, sym, refl, subst, ℕ, ◌+◌, ◌<◌, Bool, true, false, not, List, [], ◌∷◌, map, Ok, Err, inl, inr, arith, suc}
-use Rattle.std.specs.Prelude.{◌⊎◌, ◌==◌, Option, Some, None, Result, All, Contains}
+use Rattle.std.specs.Prelude.{◌⊎◌, ◌==◌, Option, Some, None, option_map, Result, All, Contains}
 use Rattle.std.specs.List.{list_any}
 use Rattle.std.proofs.lemmas.Bool.Decides.{nat_tests}
 use Rattle.std.proofs.lemmas.List.Elements.{All-filter}
@@ -39,7 +39,7 @@ use Rattle.refusal_text.specs.declared.refused.Refused.{Refused}
 use Rattle.refusal_text.specs.Refusals.{IsPlain}
 use Rattle.command_steps.specs.declared.begun.Begun.{Begun}
 use Rattle.command_steps.specs.Files.{Files, all_read}
-use Rattle.command_steps.specs.FirstRefusal.{first_refusal, refusal_in, paired_of, pairs_step, refusal_of_pairs, status_of_pairs, unless, IsPlanOf}
+use Rattle.command_steps.specs.FirstRefusal.{first_refusal, refusal_in, paired_of, pairs_step, status_of_pairs, unless, IsPlanOf}
 use Rattle.command_steps.specs.Held.{KeepsAll}
 use Rattle.command_steps.specs.Checked.{Checked}
 use Rattle.command_steps.specs.Steps.{RefusedInOrder}
@@ -62,7 +62,7 @@ chosen_ok p k c is = by_why (pair_refusal p k.rows) refl is
   where
     by_why : (o : Option PairRefusal) → pair_refusal p k.rows ≡ o → pairs_unless o p k.rows ≡ Ok c → ChoosesAs p k (Ok c)
     by_why (Some refusal) e h = absurd (cc)
-    by_why None e h = (ap (λ o. unless (refusal_of_pairs o) k) e, cc)
+    by_why None e h = (ap (λ o. unless (option_map status_of_pairs o) k) e, cc)
 
 pub chosen_err : (p : Analysis) (k : KeptRows) (refusal : PairRefusal) → pairs_by_rows p k.rows ≡ Err refusal → ChoosesAs p k (Err (status_of_pairs refusal))
 chosen_err p k refusal is = by_why (pair_refusal p k.rows) refl is
@@ -70,7 +70,7 @@ chosen_err p k refusal is = by_why (pair_refusal p k.rows) refl is
     by_why : (o : Option PairRefusal) → pair_refusal p k.rows ≡ o → pairs_unless o p k.rows ≡ Err refusal → ChoosesAs p k (Err (status_of_pairs refusal))
     by_why (Some other) e h =
         let same : other ≡ refusal = cc in
-        inr (ap (λ o. unless (refusal_of_pairs o) k) (e ∙ ap (λ r. Some r) same))
+        inr (ap (λ o. unless (option_map status_of_pairs o) k) (e ∙ ap (λ r. Some r) same))
     by_why None e h = absurd (cc)
 
 -- those that pair are faults of the plan
@@ -118,14 +118,14 @@ each_batch p rows none batch lt = by_row (has_row rows batch) refl
 pub pairs_hold : (p : Analysis) (k : KeptRows) → AreDistinct p (map entry_of k.rows) → pairs_step p k ≡ Ok k → HoldEachOnce p k.rows
 pairs_hold p k distinct is = by_why (pair_refusal p k.rows) refl is
   where
-    by_why : (o : Option PairRefusal) → pair_refusal p k.rows ≡ o → unless (refusal_of_pairs o) k ≡ Ok k → HoldEachOnce p k.rows
+    by_why : (o : Option PairRefusal) → pair_refusal p k.rows ≡ o → unless (option_map status_of_pairs o) k ≡ Ok k → HoldEachOnce p k.rows
     by_why (Some refusal) e h = absurd (cc)
     by_why None e h = record { distinct = distinct; each = each_batch p k.rows e }
 
 -- ---- the order of the checks
 
 -- why there are no pairs is a plain refusal, and says nothing of a read
-step_refusal : (k : KeptRows) (o : Option PairRefusal) (ended : Status) → unless (refusal_of_pairs o) k ≡ Err ended
+step_refusal : (k : KeptRows) (o : Option PairRefusal) (ended : Status) → unless (option_map status_of_pairs o) k ≡ Err ended
     → IsPlain ended × ((which : Which) → ended ≡ status.ReadFault which → ⊥)
 step_refusal k None ended e = let bad : Ok k ≡ Err ended = e in cc bad
 step_refusal k (Some (Incomplete have many)) ended e =
@@ -135,11 +135,6 @@ step_refusal k (Some TooMany) ended e =
     subst (λ s. IsPlain s × ((which : Which) → s ≡ status.ReadFault which → ⊥)) (ap (why {A = KeptRows}) e)
     (tt, λ which is. let bad : status.TooLarge what.Pairs ≡ status.ReadFault which = is in cc bad)
 
-first_of_pairs : (walk : _) (inputs : Inputs) (name : Bytes) (set : Settings) (workers : ℕ) (reads : _)
-    → first_refusal walk (Pairs inputs name set workers) reads ≡ refusal_in (paired_of inputs.netlist walk set reads)
-unfolding first_refusal
-first_of_pairs walk inputs name set workers reads = refl
-
 module _ (inputs : Inputs) (name : Bytes) (set : Settings) (workers : ℕ) where
   abbrev command : Command
   command = Pairs inputs name set workers
@@ -147,6 +142,7 @@ module _ (inputs : Inputs) (name : Bytes) (set : Settings) (workers : ℕ) where
   -- refused before the pairs were chosen
   pub pairs_refused : (before after : ShelfState) (ended : Status)
       → (ended ≡ status.Memory) ⊎ KeptRefused inputs name set before after ended → (ended ≡ status.Memory) ⊎ RefusedInOrder command before after ended
+  unfolding first_refusal
   pairs_refused before after ended (inl memory) = inl memory
   pairs_refused before after ended (inr r) = inr (record {
     checked = record {
@@ -154,7 +150,7 @@ module _ (inputs : Inputs) (name : Bytes) (set : Settings) (workers : ℕ) where
       fit = (r.fit, r.result);
       walk = r.walk;
       loops = r.loops;
-      first = first_of_pairs r.walk inputs name set workers r.reads ∙ ap refusal_in (paired_refused inputs.netlist r.walk set r.reads ended r.refused);
+      first = ap refusal_in (paired_refused inputs.netlist r.walk set r.reads ended r.refused);
     };
     fault = r.fault;
   })
@@ -172,6 +168,7 @@ module _ (inputs : Inputs) (name : Bytes) (set : Settings) (workers : ℕ) where
 
     -- the first refusal is that of the pairs
     by_pairs : (refusal : Option Status) → refusal_in (pairs_step p made.kept) ≡ refusal → Checked command before after refusal
+    unfolding first_refusal
     by_pairs refusal is =
         let read = begun.0.0 in
         record {
@@ -179,8 +176,7 @@ module _ (inputs : Inputs) (name : Bytes) (set : Settings) (workers : ℕ) where
           fit = (record { netlist = read.netlist; workload = read.workload; rates = read.rates; points = read.points }, begun.1.held);
           walk = None;
           loops = begun.0.3;
-          first = first_of_pairs None inputs name set workers (all_read found begun.1.bytes)
-              ∙ ap refusal_in (paired_made inputs.netlist set found p made.own (Some begun.1.bytes) made.kept begun.0.1 begun.1.own begun.1.rows) ∙ is;
+          first = ap refusal_in (paired_made inputs.netlist set found p made.own (Some begun.1.bytes) made.kept begun.0.1 begun.1.own begun.1.rows) ∙ is;
         }
 
     -- there are no pairs

@@ -23,10 +23,6 @@ use Rattle.fmeda_top.specs.Tried.{TextAs, PlanTextAs}
 use Rattle.fmeda_top.proofs.Ending.{text_ends}
 use Rattle.fmeda_top.proofs.PlanEnding.{plan_told}
 
-first_of_report : (walk : _) (inputs : Inputs) (set : Settings) (reads : _) → first_refusal walk (Report inputs set) reads ≡ refusal_in (plan_of inputs.netlist walk set reads)
-unfolding first_refusal
-first_of_report walk inputs set reads = refl
-
 -- a plan's report, after its files were read
 pub report_told : (before after : ShelfState) (out now : SinkState) (inputs : Inputs) (set : Settings) (made : Planned) → PlannedAs before after inputs set (Ok made)
     → (r : Result Status Refused) → TextAs out now (true_report made.plan) r → PlanTextAs (outside before out) (outside after now) inputs set true_report r
@@ -36,13 +32,9 @@ report_told before after out now inputs set made planned (Err refused) (memory, 
 
 report_checked : (inputs : Inputs) (set : Settings) (before after : ShelfState) (refusal : Option Status)
     → PlanChecked inputs set before after refusal → Checked (Report inputs set) before after refusal
-report_checked inputs set before after refusal checked = record {
-  reads = checked.reads;
-  fit = checked.fit;
-  walk = checked.walk;
-  loops = checked.loops;
-  first = first_of_report checked.walk inputs set checked.reads ∙ checked.first;
-}
+unfolding first_refusal
+report_checked inputs set before after refusal checked =
+    record { reads = checked.reads; fit = checked.fit; walk = checked.walk; loops = checked.loops; first = checked.first }
 
 pub report_refused : (inputs : Inputs) (set : Settings) (before after : ShelfState) (ended : Status) → PlanRefused inputs set before after ended
     → RefusedInOrder (Report inputs set) before after ended

@@ -29,14 +29,9 @@ use Rattle.fmeda_top.specs.Campaigns.{EndSaid, HasEnded}
 use Rattle.fmeda_top.specs.Promises.{CommandEnds, result_of}
 use Rattle.refusal_text.specs.declared.status.Which.{Which}
 use Rattle.refusal_text.specs.declared.status.Which.TheVariants as which
-use Rattle.fmeda_top.proofs.PlanEnding.{inputs_names}
+use Rattle.fmeda_top.proofs.Naming.{same_names}
 use Rattle.fmeda_top.proofs.CampaignEnding.{file_ends}
 use Rattle.fmeda_top.specs.Ends.{DoneAs, FaultAs, StoppedCampaign}
-
-first_of_shard : (walk : _) (inputs : Inputs) (name : Bytes) (set : Settings) (part parts : ℕ) (reads : _)
-    → first_refusal walk (Shard inputs name set part parts) reads ≡ refusal_in (plan_of inputs.netlist walk set reads)
-unfolding first_refusal
-first_of_shard walk inputs name set part parts reads = refl
 
 -- how a part may leave a file that it couldn't write
 abbrev pub PartLeft : PartCampaign → (before after : ShelfState) → Type 0
@@ -61,7 +56,7 @@ pub part_ends : (command : Command) (inputs : Inputs) (c : PartCampaign) → nam
     → CommandEnds command ended before (outside after.shelf out)
 part_ends command inputs c names named before mid after out file reads checked done left how ended ran said netlist workload rates points result first second =
     file_ends command c.name (IsPartTold c (outside mid before.out)) (PartLeft c mid after.shelf) before mid after out file reads
-    (inputs_names file inputs c.name netlist workload rates points result first second ∙ sym names) named checked done left how ended
+    (same_names file (name_in inputs c.name) netlist workload rates points result first second ∙ sym names) named checked done left how ended
     (part_ended how c (outside mid before.out) after ran) said
 
 module _ (inputs : Inputs) (name : Bytes) (set : Settings) (part parts : ℕ) where
@@ -71,13 +66,9 @@ module _ (inputs : Inputs) (name : Bytes) (set : Settings) (part parts : ℕ) wh
   -- the order of the checks of `shard` is that of its plan
   shard_checked : (before after : ShelfState) (refusal : Option Status) → PlanChecked inputs set before after refusal
       → Checked command before after refusal
-  shard_checked before after refusal checked = record {
-    reads = checked.reads;
-    fit = record { netlist = checked.fit.netlist; workload = checked.fit.workload; rates = checked.fit.rates; points = checked.fit.points };
-    walk = checked.walk;
-    loops = checked.loops;
-    first = first_of_shard checked.walk inputs name set part parts checked.reads ∙ checked.first;
-  }
+  unfolding first_refusal
+  shard_checked before after refusal checked =
+      record { reads = checked.reads; fit = checked.fit; walk = checked.walk; loops = checked.loops; first = checked.first }
 
   pub shard_refused : (before after : ShelfState) (ended : Status) → PlanRefused inputs set before after ended → RefusedInOrder command before after ended
   shard_refused before after ended refused = record { checked = shard_checked before after (Some ended) refused.checked; fault = refused.fault name [] [] }
@@ -122,5 +113,5 @@ module _ (inputs : Inputs) (name : Bytes) (set : Settings) (part parts : ℕ) wh
         by_left (inr prefix) = inr (record {
           p = made.plan;
           plan = planned.1;
-          left = subst (λ o. LeftPrefix o made.plan (true_planes made.plan) (after.content name)) own_is prefix;
+          stopped = subst (λ o. LeftPrefix o made.plan (true_planes made.plan) (after.content name)) own_is prefix;
         })

@@ -33,12 +33,11 @@ use Rattle.command_text.specs.Texts.{classes_text, check_text, audit_text, shard
 use Rattle.command_steps.specs.FirstRefusal.{IsPlanOf, audited_of, own_header, generated, generated_settings, no_name, merged_of, paired_of}
 use Rattle.fm_base.specs.Names.{Bytes}
 use Rattle.campaign_run.specs.Outside.{KeepsOthers, had_written}
-use Rattle.campaign_run.specs.Found.{IsPart, kept_or_true}
+use Rattle.campaign_run.specs.Found.{kept_or_true}
 use Rattle.campaign_run.specs.Reported.{HasReported, ResumedAs}
 use Rattle.campaign_run.specs.Left.{IsPrefixOf, LeftPrefix, BeginsAs}
 use Rattle.command_steps.specs.Held.{KeepsAll, name_of}
-use Rattle.command_steps.specs.PlanSteps.{AreRead}
-use Rattle.command_steps.specs.Steps.{IsClassesPlan, AreRated}
+use Rattle.command_steps.specs.WasRead.{AreRead, AreRated, IsClassesPlan}
 use Rattle.refusal_text.specs.Refusals.{IsCircuitOf}
 
 -- a campaign over these bytes, where the netlist's file has this name
@@ -55,17 +54,14 @@ pub record Resumed (netlist : Bytes) (files : Files) (set : Settings) (bytes nam
   pub kept_rows : kept (own_header set files p) p bytes ≡ Ok k
   pub resumed : ResumedAs (own_header set files p) (report p (kept_or_true p k)) p (kept_or_true p k) bytes name before after
 
--- the file held a byte prefix of a result file of the plan: a campaign over the same inputs was stopped at any byte
-pub record IsStopped (files : Files) (set : Settings) (p : Analysis) (bytes : Bytes) : Type 0 where
-  pub entries : List Entry
-  pub part : IsPart p (true_planes p) entries
-  pub length_left : ℕ
-  pub left : bytes ≡ take length_left (result_text (own_header set files p) p entries)
+-- what is known of a file is a byte prefix of a result file of the plan: a campaign over these inputs was stopped at any byte
+abbrev pub IsStopped : Files → Settings → Analysis → Content → Type 0
+IsStopped files set p held = LeftPrefix (own_header set files p) p (true_planes p) held
 
 -- EVERY PREFIX RESUMES: `resume` on a campaign that was stopped at any byte has written the campaign's report
 abbrev pub ResumesStopped : Bytes → Files → Settings → (bytes name : Bytes) → (before after : Outside) → Type 0
 ResumesStopped netlist files set bytes name before after =
-    (p : Analysis) → IsPlanOf netlist set files p → IsStopped files set p bytes
+    (p : Analysis) → IsPlanOf netlist set files p → IsStopped files set p (Held bytes)
     → ResumedAs (own_header set files p) (true_report p) p (true_planes p) bytes name before after
 
 -- A PART OF A CAMPAIGN: the file holds a row for each batch of the part, once, with the planes that it truly has; the line tells how many
@@ -101,7 +97,7 @@ pub record MergedFiles (netlist : Bytes) (files : Files) (set : Settings) (one t
   pub merged : Merged netlist files set one two
   pub result : HasIfKnown (after.shelf.content name) (text_of merged)
   pub wrote : Wrote before.out after.out (merge_text (length (entries_of merged)) merged.p)
-  pub stopped : AreTrue merged.p (kept_entries merged.first) → AreTrue merged.p (kept_entries merged.second) → IsStopped files set merged.p (text_of merged)
+  pub stopped : AreTrue merged.p (kept_entries merged.first) → AreTrue merged.p (kept_entries merged.second) → IsStopped files set merged.p (Held (text_of merged))
 
 -- PAIRING: the text is that of the pairs by the kept planes.
 -- truly: where these are true, it is that of the true planes
@@ -181,11 +177,11 @@ DoneAs (Progress inputs name set) before after =
     KeepsAll before.shelf after.shelf
     × OfCampaign before.shelf inputs name (λ files bytes. ToldOfKept inputs.netlist files set bytes progress before.out after.out)
 
--- a campaign was stopped: its file is a byte prefix of a result file of the plan
+-- a campaign was stopped
 pub record StoppedCampaign (netlist : Bytes) (files : Files) (set : Settings) (after : Content) : Type 0 where
   pub p : Analysis
   pub plan : IsPlanOf netlist set files p
-  pub left : LeftPrefix (own_header set files p) p (true_planes p) after
+  pub stopped : IsStopped files set p after
 
 -- the same of a campaign that was resumed: it still begins with the bytes that were kept of it
 pub record StoppedResuming (netlist : Bytes) (files : Files) (set : Settings) (bytes : Bytes) (before after : Content) : Type 0 where

@@ -9,7 +9,7 @@ use Rattle.command_line.specs.Commands.{Command, Inputs}
 use Rattle.command_line.specs.Words.{IsCommand, IsNoCommand}
 use Rattle.command_steps.specs.Files.{Files}
 use Rattle.command_steps.specs.Held.{HoldsInputs}
-use Rattle.command_steps.specs.PlanSteps.{AreRead}
+use Rattle.command_steps.specs.WasRead.{AreRead}
 use Rattle.fmeda_top.specs.Promises.{CommandEnds, Promises}
 
 -- OF THE COMMAND: who knows which command the words are has what is promised of it, or memory has run out

@@ -6,13 +6,12 @@ use Rattle.fm_shelf.specs.Shelf.{CountRose}
 use Rattle.fm_shelf.specs.Outside.{Outside}
 use Rattle.refusal_text.specs.declared.status.Status.{Status}
 use Rattle.refusal_text.specs.declared.status.Status.TheVariants as status
-use Rattle.refusal_text.specs.declared.status.Which.{Which}
 use Rattle.refusal_text.specs.declared.status.WriteTo.TheVariants as to
 use Rattle.refusal_text.specs.Named.{no_names}
 use Rattle.command_line.specs.Commands.{Command, Run, Resume, Gen, Shard, Merge}
 use Rattle.command_line.specs.Words.{IsAlone, IsCommand, IsNoCommand}
 use Rattle.command_steps.specs.Held.{name_of}
-use Rattle.command_steps.specs.Checked.{Checked}
+use Rattle.command_steps.specs.Checked.{Checked, FaultsRose}
 use Rattle.fmeda_top.specs.Ends.{IsRefusal, DoneAs, netlist_of, RefusedAs, FaultAs, FaultSaid, OutFaultAs}
 
 -- the result file that a command writes
@@ -42,8 +41,7 @@ pub record EndsInOrder (command : Command) (ended : Status) (before after : Outs
   pub refusal : Option Status
   pub checked : Checked command before.shelf after.shelf refusal
   pub ends : EndsBy refusal command ended before after
-  pub fault : (which : Which) → ended ≡ status.ReadFault which
-      → CountRose (before.shelf.read_faults (name_of command which)) (after.shelf.read_faults (name_of command which))
+  pub fault : FaultsRose (name_of command) before.shelf after.shelf ended
 
 -- WHAT IS PROMISED OF A COMMAND: why it ended so, where memory may run out at any time; and what it has done at Done, after a refusal,
 -- after a fault of writing RESULT, and after one of writing its text

@@ -27,7 +27,8 @@ use Rattle.part_table.specs.PartTable.{part_table}
 use Rattle.fmeda_report.specs.Rows.{HoldEachOnce, planes_in}
 use Rattle.pair_list.specs.Chosen.{Chosen, chosen}
 use Rattle.pair_campaign.specs.PairText.{pairs_text}
-use Rattle.command_steps.specs.Steps.{RefusedInOrder, AreRated, IsClassesPlan}
+use Rattle.command_steps.specs.WasRead.{AreRated, IsClassesPlan}
+use Rattle.command_steps.specs.Steps.{RefusedInOrder}
 use Rattle.command_steps.specs.BegunSteps.{KeptChecked, KeptRefused}
 use Rattle.command_steps.specs.PlanSteps.{PlanChecked, PlanRefused}
 use Rattle.fmeda_top.specs.Ends.{OfInputs, OfCampaign}

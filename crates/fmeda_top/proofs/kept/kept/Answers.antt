@@ -1,11 +1,11 @@
-use Rattle.std.proofs.Common.{refl}
 use Rattle.fm_shelf.specs.Outside.{outside}
-use Rattle.std.proofs.Common.{◌∙◌, sym}
+use Rattle.std.proofs.Common.{◌∙◌, refl, sym}
+use Rattle.command_steps.specs.Held.{name_in}
 use Rattle.command_steps.specs.PlanSteps.{names_of}
 use Rattle.command_steps.specs.BegunSteps.{KeptRefused}
 use Rattle.fmeda_top.specs.Kept.{command_of}
 use Rattle.fmeda_top.proofs.Ending.{tried_ends}
-use Rattle.fmeda_top.proofs.PlanEnding.{inputs_names}
+use Rattle.fmeda_top.proofs.Naming.{same_names}
 use Rattle.fmeda_top.proofs.KeptEnding.{kept_end, kept_names, kept_netlist, kept_refused}
 use Rattle.fmeda_top.proofs.kept.kept.Goals as goal
 
@@ -23,4 +23,4 @@ returns-in-Err g c =
     (tried_ends (command_of c.args.text (names_of c.args.inputs.now) c.args.rows.now c.args.settings) c.args.inputs.now.netlist.now c.in-Err.refused _ before mid (g.O.Sink.seen c.say_refused.new.out)
     (KeptRefused (names_of c.args.inputs.now) c.args.rows.now c.args.settings before.shelf mid.shelf) c.in-Err.ensures.tried (kept_refused c.args.text (names_of c.args.inputs.now) c.args.rows.now c.args.settings before.shelf mid.shelf)
     c.in-Err.ensures.rest.content (kept_netlist c.args.text (names_of c.args.inputs.now) c.args.rows.now c.args.settings before.shelf)
-    (inputs_names _ (names_of c.args.inputs.now) c.args.rows.now refl refl refl refl refl refl refl ∙ sym (kept_names c.args.text (names_of c.args.inputs.now) c.args.rows.now c.args.settings)) c.say_refused.ensures.said)
+    (same_names _ (name_in (names_of c.args.inputs.now) c.args.rows.now) refl refl refl refl refl refl refl ∙ sym (kept_names c.args.text (names_of c.args.inputs.now) c.args.rows.now c.args.settings)) c.say_refused.ensures.said)

@@ -9,7 +9,8 @@ use Rattle.command_steps.specs.MergeSteps.{MergeRefused}
 use Rattle.command_text.specs.Texts.{merge_text}
 use Rattle.fmeda_top.specs.Written.{rows_file}
 use Rattle.fmeda_top.proofs.Ending.{tried_ends}
-use Rattle.fmeda_top.proofs.MergeEnding.{merge_none, merge_done, merge_left, merge_refused, sources_ended, sources_names}
+use Rattle.fmeda_top.proofs.MergeEnding.{merge_none, merge_done, merge_left, merge_refused, sources_ended}
+use Rattle.fmeda_top.proofs.Naming.{same_names}
 use Rattle.fmeda_top.proofs.merge.merge.Goals as goal
 
 pub returns-in-Ok : goal.returns-in-Ok
@@ -38,4 +39,4 @@ returns-in-Err g c =
     (tried_ends (Merge (names_of c.args.inputs.now) c.args.rows.now c.args.first.now c.args.second.now c.args.settings) c.args.inputs.now.netlist.now c.in-Err.refused _ before mid (g.O.Sink.seen c.say_refused.new.out)
     (MergeRefused (names_of c.args.inputs.now) c.args.first.now c.args.second.now c.args.settings before.shelf mid.shelf) (c.in-Err.ensures.read.0, c.in-Err.ensures.read.1, refl) (merge_refused (names_of c.args.inputs.now) c.args.rows.now c.args.first.now c.args.second.now c.args.settings before.shelf mid.shelf)
     c.in-Err.ensures.rest.content refl
-    (sources_names _ (names_of c.args.inputs.now) c.args.rows.now c.args.first.now c.args.second.now refl refl refl refl refl refl refl) c.say_refused.ensures.said)
+    (same_names _ _ refl refl refl refl refl refl refl) c.say_refused.ensures.said)

@@ -4,7 +4,7 @@ use Rattle.command_line.specs.Commands.{Pairs}
 use Rattle.command_steps.specs.Steps.{RefusedInOrder}
 use Rattle.command_steps.specs.PlanSteps.{names_of}
 use Rattle.fmeda_top.proofs.Ending.{tried_ends}
-use Rattle.fmeda_top.proofs.PlanEnding.{inputs_names}
+use Rattle.fmeda_top.proofs.Naming.{same_names}
 use Rattle.fmeda_top.proofs.PairsEnding.{pairs_end}
 use Rattle.fmeda_top.proofs.pairs.pairs.Goals as goal
 
@@ -22,4 +22,4 @@ returns-in-Err g c =
     (tried_ends (Pairs (names_of c.args.inputs.now) c.args.rows.now c.args.settings c.args.workers) c.args.inputs.now.netlist.now c.in-Err.refused _ before mid (g.O.Sink.seen c.say_refused.new.out)
     (RefusedInOrder (Pairs (names_of c.args.inputs.now) c.args.rows.now c.args.settings c.args.workers) before.shelf mid.shelf) c.in-Err.ensures.tried (λ ended refused. refused)
     c.in-Err.ensures.rest.content refl
-    (inputs_names _ (names_of c.args.inputs.now) c.args.rows.now refl refl refl refl refl refl refl) c.say_refused.ensures.said)
+    (same_names _ _ refl refl refl refl refl refl refl) c.say_refused.ensures.said)

@@ -3,7 +3,7 @@ use Rattle.fm_shelf.specs.Outside.{outside}
 use Rattle.command_line.specs.Commands.{Parts}
 use Rattle.command_steps.specs.Steps.{RefusedInOrder}
 use Rattle.fmeda_top.proofs.Ending.{tried_ends}
-use Rattle.fmeda_top.proofs.PlanEnding.{inputs_names}
+use Rattle.fmeda_top.proofs.Naming.{same_names}
 use Rattle.fmeda_top.proofs.PartsEnding.{parts_end}
 use Rattle.fmeda_top.proofs.parts.parts.Goals as goal
 
@@ -21,4 +21,4 @@ returns-in-Err g c =
     (tried_ends (Parts c.args.netlist.now c.args.rates.now) c.args.netlist.now c.in-Err.refused _ before mid (g.O.Sink.seen c.say_refused.new.out)
     (RefusedInOrder (Parts c.args.netlist.now c.args.rates.now) before.shelf mid.shelf) c.in-Err.ensures.tried (λ ended refused. refused)
     c.in-Err.ensures.rest.content refl
-    (inputs_names _ (record { netlist = c.args.netlist.now; workload = []; rates = c.args.rates.now; points = [] }) [] refl refl refl refl refl refl refl) c.say_refused.ensures.said)
+    (same_names _ _ refl refl refl refl refl refl refl) c.say_refused.ensures.said)

@@ -3,7 +3,7 @@ use Rattle.fm_shelf.specs.Outside.{outside}
 use Rattle.command_line.specs.Commands.{Report}
 use Rattle.command_steps.specs.PlanSteps.{PlanRefused, names_of}
 use Rattle.fmeda_top.proofs.Ending.{tried_ends}
-use Rattle.fmeda_top.proofs.PlanEnding.{inputs_names}
+use Rattle.fmeda_top.proofs.Naming.{same_names}
 use Rattle.fmeda_top.proofs.ReportEnding.{report_end, report_refused}
 use Rattle.fmeda_top.proofs.report.report.Goals as goal
 
@@ -21,4 +21,4 @@ returns-in-Err g c =
     (tried_ends (Report (names_of c.args.inputs.now) c.args.settings) c.args.inputs.now.netlist.now c.in-Err.refused _ before mid (g.O.Sink.seen c.say_refused.new.out)
     (PlanRefused (names_of c.args.inputs.now) c.args.settings before.shelf mid.shelf) c.in-Err.ensures.tried (report_refused (names_of c.args.inputs.now) c.args.settings before.shelf mid.shelf)
     c.in-Err.ensures.rest.content refl
-    (inputs_names _ (names_of c.args.inputs.now) [] refl refl refl refl refl refl refl) c.say_refused.ensures.said)
+    (same_names _ _ refl refl refl refl refl refl refl) c.say_refused.ensures.said)

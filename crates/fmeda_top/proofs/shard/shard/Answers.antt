@@ -4,7 +4,7 @@ use Rattle.command_line.specs.Commands.{Shard}
 use Rattle.command_steps.specs.FirstRefusal.{own_header}
 use Rattle.command_steps.specs.PlanSteps.{PlanRefused, names_of, bytes_of}
 use Rattle.fmeda_top.proofs.Ending.{tried_ends}
-use Rattle.fmeda_top.proofs.PlanEnding.{inputs_names}
+use Rattle.fmeda_top.proofs.Naming.{same_names}
 use Rattle.fmeda_top.proofs.ShardEnding.{part_ends, part_of, shard_none, shard_done, shard_left, shard_refused}
 use Rattle.fmeda_top.proofs.shard.shard.Goals as goal
 
@@ -32,4 +32,4 @@ returns-in-Err g c =
     (tried_ends (Shard (names_of c.args.inputs.now) c.args.rows.now c.args.settings c.args.part.part c.args.part.parts) c.args.inputs.now.netlist.now c.in-Err.refused _ before mid (g.O.Sink.seen c.say_refused.new.out)
     (PlanRefused (names_of c.args.inputs.now) c.args.settings before.shelf mid.shelf) (c.in-Err.ensures.read.0, c.in-Err.ensures.read.1, refl) (shard_refused (names_of c.args.inputs.now) c.args.rows.now c.args.settings c.args.part.part c.args.part.parts before.shelf mid.shelf)
     c.in-Err.ensures.rest.content refl
-    (inputs_names _ (names_of c.args.inputs.now) c.args.rows.now refl refl refl refl refl refl refl) c.say_refused.ensures.said)
+    (same_names _ _ refl refl refl refl refl refl refl) c.say_refused.ensures.said)
