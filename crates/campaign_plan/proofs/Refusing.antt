@@ -6,7 +6,8 @@ use Rattle.std.specs.Option.{option_or}
 use Rattle.campaign_plan.specs.declared.PlanRefusal.{PlanRefusal}
 use Rattle.campaign_plan.specs.declared.PlanRefusal.TheVariants.{TooManyFaults, MissingRate, IdleRate, Memory}
 use Rattle.campaign_plan.specs.Analysis.{Analysis, fault_count}
-use Rattle.campaign_plan.specs.Making.{HasCause, AnswersPlan}
+use Rattle.campaign_plan.specs.declared.tables.FaultTables.{FaultTables}
+use Rattle.campaign_plan.specs.Making.{HasCause, TablesGive}
 use Rattle.campaign_plan.specs.PlanFaults.{plan_refusal, missing_rate, idle_rate}
 
 pub refused_many : (p : Analysis) → 2 ^ 20 < fault_count p → plan_refusal p ≡ Some TooManyFaults
@@ -36,8 +37,8 @@ cause_missing p Memory le cause = tt
 pub cause_idle : (p : Analysis) (r : PlanRefusal) → fault_count p ≤ 2 ^ 20 → missing_rate p ≡ None → HasCause (idle_rate p) r → HasCause (plan_refusal p) r
 cause_idle p r le none cause = subst (λ o. HasCause o r) (sym (rates_whole p le none)) cause
 
--- an answer that passes a refusal on
-pub passed_on : (p : Analysis) (result : Result Analysis PlanRefusal) (e : PlanRefusal) → HasCause (plan_refusal p) e
-    → IsErr result → IsErrAnd result (λ r. r ≡ e) → AnswersPlan p result
-passed_on p (Ok plan) e cause is same = absurd (cc)
+-- tables that pass a refusal on
+pub passed_on : (p : Analysis) (result : Result FaultTables PlanRefusal) (e : PlanRefusal) → HasCause (plan_refusal p) e
+    → IsErr result → IsErrAnd result (λ r. r ≡ e) → TablesGive p result
+passed_on p (Ok tables) e cause is same = absurd (cc)
 passed_on p (Err r) e cause is same = subst (HasCause (plan_refusal p)) (sym same) cause

@@ -5,8 +5,10 @@ use Rattle.fm_base.specs.Lists.{below}
 use Rattle.campaign_plan.specs.declared.PlanRefusal.{PlanRefusal}
 use Rattle.campaign_plan.specs.declared.PlanRefusal.TheVariants.{TooManyFaults, MissingRate, IdleRate, Memory}
 use Rattle.campaign_plan.specs.declared.numbers.Inputs.{Inputs}
-use Rattle.campaign_plan.specs.Analysis.{Analysis, all_faults, fault_count, part_count, part_of_net}
+use Rattle.campaign_plan.specs.declared.tables.FaultTables.{FaultTables}
+use Rattle.campaign_plan.specs.Analysis.{Analysis, all_faults, fault_count, part_count, part_of, part_of_net}
 use Rattle.campaign_plan.specs.PlanFaults.{missing_rate, plan_refusal}
+use Rattle.campaign_plan.specs.Weights.{weight}
 
 -- a refusal has its cause; want of memory is free
 abbrev pub HasCause : Option PlanRefusal → PlanRefusal → Type 0
@@ -42,3 +44,15 @@ NetsGive p (Err refusal) = HasCause (missing_rate p) refusal
 abbrev pub FaultsGive : Analysis → Result (List Fault) PlanRefusal → Type 0
 FaultsGive p (Ok faults) = (faults ≡ all_faults p) × (fault_count p ≤ 2 ^ 20)
 FaultsGive p (Err refusal) = HasCause (plan_refusal p) refusal
+
+-- the faults of a plan, and the number of the part and the weight of each
+pub record AreTables (p : Analysis) (t : FaultTables) : Type 0 where
+  pub listed : t.faults ≡ all_faults p
+  pub numbered : t.part_numbers.items ≡ map (part_of p) (all_faults p)
+  pub within : All (λ number. number < part_count p) t.part_numbers.items
+  pub weighed : t.weights.items ≡ map (weight p) (below (fault_count p))
+
+-- these tables, where nothing refuses the plan
+abbrev pub TablesGive : Analysis → Result FaultTables PlanRefusal → Type 0
+TablesGive p (Ok t) = (plan_refusal p ≡ None) × AreTables p t
+TablesGive p (Err refusal) = HasCause (plan_refusal p) refusal

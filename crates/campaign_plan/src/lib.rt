@@ -7,7 +7,7 @@ ghost use Rattle.circuit.specs.Loop.{HasNoLoop};
 ghost use Rattle.workload.specs.RunsKept.{AreRunsFor};
 ghost use Rattle.alarm_points.specs.PointsKept.{ArePointsFor};
 ghost use Rattle.campaign_plan.specs.Kept.{AreSettings, IsPlan};
-ghost use Rattle.campaign_plan.specs.Making.{analysis, AnswersPlan};
+ghost use Rattle.campaign_plan.specs.Making.{analysis, AnswersPlan, AreTables};
 ghost use Rattle.campaign_plan.specs.Weights.{weight};
 ghost use Rattle.campaign_plan.specs.declared.PlanRefusal.TheVariants.{Memory};
 
@@ -15,6 +15,7 @@ mod batch;
 mod law;
 mod numbers;
 mod shares;
+mod tables;
 
 use alarm_points::Points;
 pub use batch::{class_with, has_bit, own_sums};
@@ -23,11 +24,11 @@ use circuit::parts::{Name, NetId};
 use fault_list::{FaultList, Flips};
 pub use law::{faults_are_alone, sums_are_consistent, weights_sum_to_rates};
 use metric_sums::Asil;
-use numbers::{Inputs, kept, list_faults, parts_of_faults, parts_of_nets};
+use numbers::{Inputs, kept};
 use rate_table::{Part, Rates};
-use shares::weigh;
 use std::alloc::{AllocError, Global};
 use std::marker::Model;
+use tables::{FaultTables, fault_tables};
 use workload::run::Workload;
 
 /// The fault tolerant time interval of goals without one of their own, in cycles; the cycles of flips and of pulses; the ASIL.
@@ -119,10 +120,16 @@ impl Plan {
         ensures { AnswersPlan (analysis p) result }
     {
         kept(&p);
-        let faults = list_faults(alloc, &p)?;
-        let parts = parts_of_nets(alloc, &p)?;
-        let part_numbers = parts_of_faults(alloc, &p, &faults, parts.as_slice())?;
-        let weights = weigh(alloc, &p, &faults, &part_numbers)?;
+        let tables = fault_tables(alloc, &p)?;
+        Ok(Plan::with_tables(p, tables))
+    }
+
+    // The plan of its inputs and of the tables of its faults.
+    fn with_tables(p: Inputs, tables: FaultTables) -> Plan
+        requires plan { IsPlan (analysis p) }
+        requires tables { AreTables (analysis p) tables }
+        ensures { result ≡ analysis p }
+    {
         let Inputs {
             net,
             work,
@@ -130,7 +137,12 @@ impl Plan {
             points,
             set,
         } = p;
-        Ok(Plan {
+        let FaultTables {
+            faults,
+            part_numbers,
+            weights,
+        } = tables;
+        Plan {
             net,
             work,
             rates,
@@ -139,7 +151,7 @@ impl Plan {
             faults,
             part_numbers,
             weights,
-        })
+        }
     }
 
     /// The netlist.
