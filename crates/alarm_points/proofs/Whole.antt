@@ -1,18 +1,22 @@
 -- From the rows of a points file to its answer.
 use Rattle.std.proofs.Common.{◌≡◌, ◌∙◌, ℕ, ◌+◌, ◌<◌, ◌≤◌, ◌^◌, Bool, true, false, not, List, [], ◌∷◌, ◌++◌, length, sym, refl, ap, subst, arith, append_assoc, length-append}
-use Rattle.std.specs.Prelude.{Option, Some, None, Err, option_map, position, is_none, nat_le, bytes_eq, ◌==◌, ◌||◌}
+use Rattle.std.specs.Prelude.{Option, Some, None, Result, Ok, Err, option_map, position, is_none, nat_le, bytes_eq, ◌==◌, ◌||◌}
 use Rattle.std.specs.List.{list_any}
 use Rattle.std.proofs.lemmas.List.{append-nil}
 use Rattle.circuit.specs.Circuit.{Circuit}
 use Rattle.csv_rows.specs.Rows.{Fields, rows_of}
+use Rattle.fm_base.specs.declared.refusal.Refusal.{Refusal}
+use Rattle.fm_base.specs.Answers.{Gives}
 use Rattle.fm_base.specs.Firsts.{first_after, first_fault, numbered_fault}
 use Rattle.fm_base.specs.Names.{Bytes, Name}
 use Rattle.fm_base.proofs.OnePass.{first_fault-later, first_fault-here}
+use Rattle.alarm_points.specs.declared.Points.{Points}
+use Rattle.alarm_points.specs.declared.PointsFault.{PointsFault}
 use Rattle.alarm_points.specs.declared.PointsKind.{PointsKind}
 use Rattle.alarm_points.specs.declared.PointsKind.TheVariants.{BadCsv}
 use Rattle.alarm_points.specs.declared.header.Header.{Header}
 use Rattle.alarm_points.specs.declared.listed.Listed.{Listed}
-use Rattle.alarm_points.specs.Listed.{IsAdded, IsHalfway, Lists, fault_by, first_of, goals_with}
+use Rattle.alarm_points.specs.Listed.{IsAdded, IsHalfway, IsHeaderRead, Lists, fault_by, first_of, goals_with}
 use Rattle.alarm_points.specs.PointsFile.{goals_named, header_of, is_alarm, is_bad_goal, is_bad_interval, is_observe, net_in, points_from, points_of, points_of_rows, points_under, points_unless, row_fault, same_point, width_of}
 use Rattle.alarm_points.proofs.Listing.{goals_step}
 
@@ -92,18 +96,33 @@ halfway_step c bytes l l2 row old left w e none added =
 
 -- ---- the answers
 
-pub no_rows : (c : Circuit) (bytes : Bytes) → rows_of bytes ≡ [] → points_of c bytes ≡ Err (record { row = 1; kind = BadCsv })
+pub no_rows : (c : Circuit) (rows : List Fields) → rows ≡ [] → points_of_rows c rows ≡ Err (record { row = 1; kind = BadCsv })
 unfolding points_of_rows
-no_rows c bytes e = ap (points_of_rows c) e
+no_rows c rows e = ap (points_of_rows c) e
 
 headed : (c : Circuit) (bytes : Bytes) (first : Fields) (left : List Fields) (found : Option Header) → rows_of bytes ≡ first ∷ left → header_of first ≡ found
     → points_of c bytes ≡ points_under found c left
 unfolding points_of_rows
 headed c bytes first left found e f = ap (points_of_rows c) e ∙ ap (λ o. points_under o c left) f
 
-pub no_header : (c : Circuit) (bytes : Bytes) (first : Fields) (left : List Fields) → rows_of bytes ≡ first ∷ left → header_of first ≡ None
-    → points_of c bytes ≡ Err (record { row = 1; kind = BadCsv })
-no_header c bytes first left e f = headed c bytes first left None e f
+pub no_header : (c : Circuit) (rows : List Fields) (first : Fields) (left : List Fields) → rows ≡ first ∷ left → header_of first ≡ None
+    → points_of_rows c rows ≡ Err (record { row = 1; kind = BadCsv })
+unfolding points_of_rows
+no_header c rows first left e f = ap (points_of_rows c) e ∙ ap (λ o. points_under o c left) f
+
+-- below the header
+pub begun : (c : Circuit) (bytes : Bytes) (h : Header) (l : Listed) (rows left : List Fields) → rows ≡ rows_of bytes → IsHeaderRead rows left (Ok h)
+    → Lists c h [] l → IsHalfway c bytes l left
+begun c bytes h l rows left e w listed = record {
+  first = w.0;
+  h = h;
+  before = [];
+  heads = w.2;
+  listed = listed;
+  few = grind arith;
+  whole = sym e ∙ w.1;
+  faultless = refl;
+}
 
 answer_is : (c : Circuit) (bytes : Bytes) (l : Listed) (left : List Fields) (w : IsHalfway c bytes l left) (found : Option (ℕ × PointsKind))
     → first_after (numbered_fault (row_fault c w.h)) w.before left ≡ found
@@ -134,3 +153,22 @@ gives_points c bytes l left w e =
     let rows : w.before ++ left ≡ l.rows = ap (λ more. w.before ++ more) e ∙ append-nil w.before ∙ sym w.listed.rows_are in
     answer_is c bytes l left w None (ap (first_after (numbered_fault (row_fault c w.h)) w.before) e ∙ none_after c w.h w.before)
     ∙ (λ t. points_unless None (list_any (is_observe (sym w.listed.header t)) (rows t)) (points_from c (sym w.listed.header t) (rows t)))
+
+-- ---- a refusal that is passed on
+
+pub passed_on : (expected : Result Points PointsFault) (e : Refusal PointsFault) (result : Result Points (Refusal PointsFault)) → Gives {T = Points} expected (Err e)
+    → result ≡ Err e → Gives expected result
+passed_on expected e result w same = subst (Gives expected) (sym same) w
+
+pub header_refused : (c : Circuit) (bytes : Bytes) (rows left : List Fields) (e : Refusal PointsFault) (result : Result Points (Refusal PointsFault))
+    → rows ≡ rows_of bytes → IsHeaderRead rows left (Err e) → result ≡ Err e → Gives (points_of c bytes) result
+header_refused c bytes rows left e result is w same =
+    passed_on (points_of c bytes) e result (subst (λ (r : List Fields). Gives {T = Points} (points_of_rows c r) (Err e)) is (w c)) same
+
+-- ---- the rows that are kept
+
+pub room : (l l2 : Listed) (row : Fields) → fault_by l row ≡ None → IsAdded l l2 row → length l2.rows ≤ 1024
+room l l2 row none added =
+    let p = first_of-none _ _ _ _ _ _ _ none in
+    let short : length l.rows < 1024 = few_step (length l.rows) p.3 in
+    omega (arith, ap length added.rows, length-append l.rows (row ∷ []), short)

@@ -1,16 +1,19 @@
 -- What the reader of a points file keeps of the rows that it has read.
-use Rattle.std.specs.Prelude.{◌≡◌, ◌≤◌, ◌^◌, Bool, not, ◌&&◌, ◌||◌, ◌==◌, List, [], ◌∷◌, ◌++◌, length, Option, Some, position, is_none, if◌then◌else◌, nat_le, bytes_eq}
+use Rattle.std.specs.Prelude.{◌≡◌, ◌≤◌, ◌^◌, Bool, not, ◌&&◌, ◌||◌, ◌==◌, List, [], ◌∷◌, ◌++◌, length, Option, Some, Result, Ok, Err, position, is_none, if◌then◌else◌, nat_le, bytes_eq}
 use Rattle.std.specs.List.{list_any}
 use Rattle.circuit.specs.Circuit.{Circuit}
+use Rattle.fm_base.specs.declared.refusal.Refusal.{Refusal}
+use Rattle.fm_base.specs.Answers.{Gives}
 use Rattle.fm_base.specs.Firsts.{given, first_answer, first_after, first_fault, numbered_fault}
 use Rattle.fm_base.specs.Names.{Bytes, Name, is_one_of}
 use Rattle.name_index.specs.Index.{with_name}
 use Rattle.csv_rows.specs.Rows.{Fields, rows_of}
+use Rattle.alarm_points.specs.declared.PointsFault.{PointsFault}
 use Rattle.alarm_points.specs.declared.PointsKind.{PointsKind}
 use Rattle.alarm_points.specs.declared.PointsKind.TheVariants.{BadCsv, BadKind, UnknownNet, Twice, TooLarge, BadGoal, BadInterval}
 use Rattle.alarm_points.specs.declared.header.Header.{Header}
 use Rattle.alarm_points.specs.declared.listed.Listed.{Listed}
-use Rattle.alarm_points.specs.PointsFile.{goal_in, goals_named, header_of, is_alarm, is_bad_goal, is_bad_interval, is_observe, net_in, row_fault, same_point, width_of}
+use Rattle.alarm_points.specs.PointsFile.{goal_in, goals_named, header_of, is_alarm, is_bad_goal, is_bad_interval, is_observe, net_in, points_of, points_of_rows, row_fault, same_point, width_of}
 
 -- the first of a row's checks that fails
 abbrev pub first_of : Bool → Bool → Bool → Bool → Bool → Bool → Bool → Option PointsKind
@@ -57,3 +60,13 @@ pub record IsHalfway (c : Circuit) (bytes : Bytes) (l : Listed) (left : List Fie
   pub few : length before ≤ 1024
   pub whole : rows_of bytes ≡ first ∷ (before ++ left)
   pub faultless : first_fault (row_fault c h) (before ++ left) ≡ first_after (numbered_fault (row_fault c h)) before left
+
+-- the first row is the header; or the file is refused for it
+abbrev pub IsHeaderRead : (rows left : List Fields) → Result Header (Refusal PointsFault) → Type 0
+IsHeaderRead rows left (Ok h) = (first : Fields) × (rows ≡ first ∷ left) × (header_of first ≡ Some h)
+IsHeaderRead rows left (Err refusal) = (c : Circuit) → Gives (points_of_rows c rows) (Err refusal)
+
+-- all rows were read, and none has a fault; or the file is refused for one that has
+abbrev pub AreListed : Circuit → Bytes → Listed → Result (Unit {0}) (Refusal PointsFault) → Type 0
+AreListed c bytes l (Ok done) = IsHalfway c bytes l []
+AreListed c bytes l (Err refusal) = Gives (points_of c bytes) (Err refusal)

@@ -1,51 +1,51 @@
-use Rattle.std.proofs.Common.{◌≡◌, ◌∙◌, [], ◌∷◌, sym, subst}
-use Rattle.std.specs.Prelude.{Result}
+use Rattle.std.proofs.Common.{◌≡◌, ◌∙◌, [], ◌≤◌, ◌^◌, length, sym, subst, refl, ap, arith}
+use Rattle.std.specs.Prelude.{Result, Err}
+use Rattle.std.proofs.lemmas.Result.{err_from_is_err_and}
 use Rattle.fm_base.specs.Answers.{Gives}
 use Rattle.alarm_points.specs.declared.Points.{Points}
 use Rattle.alarm_points.specs.declared.PointsFault.{PointsFault}
 use Rattle.alarm_points.proofs.Fits.{answer_fits}
-use Rattle.alarm_points.proofs.Whole.{gives_points, halfway_step, no_header, no_rows, row_refused}
+use Rattle.alarm_points.proofs.Whole.{begun, gives_points, header_refused, passed_on}
+use Rattle.alarm_points.specs.PointsFile.{points_of}
 use Rattle.alarm_points.proofs.file.read_points.Goals as goal
 
--- there is no row
-pub returns-in_default-clause-answers : goal.returns-in_default-clause-answers
-returns-in_default-clause-answers c =
-    let read : (c.new-rows.result ≡ []) × (c.next.new.self ≡ []) = rw c.in_default.is at c.in_ok-first.ensures.row in
-    rw c.refusal.ensures (no_rows c.args.net.now c.args.bytes.now (sym c.new-rows.ensures ∙ read.0))
+-- the header is refused
+pub returns-in_err-header-clause-answers : goal.returns-in_err-header-clause-answers
+returns-in_err-header-clause-answers c =
+    let p = err_from_is_err_and c.from_residual.result c.from_residual.ensures.1 in
+    header_refused c.args.net.now c.args.bytes.now c.new-rows.result c.read_header.new.rows c.in_err-header.field-0.0 c.from_residual.result c.new-rows.ensures c.in_err-header.ensures
+    (p.1 ∙ ap Err p.2)
 
--- the first row is no header
-pub returns-in_default-of-clause-answers : goal.returns-in_default-of-clause-answers
-returns-in_default-of-clause-answers c =
-    let read : c.new-rows.result ≡ c.in-Some.first ∷ c.next.new.self = rw c.in-Some.is at c.in_ok-first.ensures.row in
-    rw c.refusal-in_default-of.ensures
-    (no_header c.args.net.now c.args.bytes.now c.in-Some.first c.next.new.self (sym c.new-rows.ensures ∙ read) (sym c.in_default-of.ensures))
+-- a row is refused
+pub returns-in_err-list_rows-clause-answers : goal.returns-in_err-list_rows-clause-answers
+returns-in_err-list_rows-clause-answers c =
+    let p = err_from_is_err_and c.from_residual-in_err-list_rows.result c.from_residual-in_err-list_rows.ensures.1 in
+    let halfway = begun c.args.net.now c.args.bytes.now c.in_ok-header.header c.in_ok-listed.listed c.new-rows.result c.read_header.new.rows c.new-rows.ensures c.in_ok-header.ensures
+    c.in_ok-listed.ensures.lists in
+    passed_on (points_of c.args.net.now c.args.bytes.now) c.in_err-list_rows.field-0.0 c.from_residual-in_err-list_rows.result
+    (c.in_err-list_rows.ensures c.args.net.now c.args.bytes.now halfway) (p.1 ∙ ap Err p.2)
 
--- a row has a fault
-pub returns-in-Some-fault-clause-answers : goal.returns-in-Some-fault-clause-answers
-returns-in-Some-fault-clause-answers c =
-    let read : c.each.rows ≡ c.in-Some-2.row ∷ c.next-in-each.new.self = rw c.in-Some-2.is at c.in_ok-row.ensures.row in
-    rw (c.refusal-in-Some-fault.ensures, c.len.ensures)
-    (row_refused c.args.net.now c.args.bytes.now c.each.listed c.in-Some-2.row c.each.rows c.next-in-each.new.self c.in-Some-fault.kind c.each.invariant read (sym c.in-Some-fault.ensures))
+pub list_rows-requires-clause-nets : goal.list_rows-requires-clause-nets
+list_rows-requires-clause-nets c = c.in_ok-listed.ensures.lists.few_nets
 
--- it has none
-pub each-preserved : goal.each-preserved
-each-preserved c =
-    let read : c.each.rows ≡ c.in-Some-2.row ∷ c.next-in-each.new.self = rw c.in-Some-2.is at c.in_ok-row.ensures.row in
-    halfway_step c.args.net.now c.args.bytes.now c.each.listed c.add.new.self c.in-Some-2.row c.each.rows c.next-in-each.new.self c.each.invariant read
-    (sym c.in_default-fault.ensures) c.in_ok-add.ensures
+pub list_rows-requires-clause-rows : goal.list_rows-requires-clause-rows
+list_rows-requires-clause-rows c = omega (arith, ap length c.in_ok-listed.ensures.lists.rows_are)
 
--- there is no further row
+pub finish-requires : goal.finish-requires
+finish-requires c =
+    let halfway = begun c.args.net.now c.args.bytes.now c.in_ok-header.header c.in_ok-listed.listed c.new-rows.result c.read_header.new.rows c.new-rows.ensures c.in_ok-header.ensures
+    c.in_ok-listed.ensures.lists in
+    (c.in_ok-list_rows.ensures c.args.net.now c.args.bytes.now halfway).listed.few_nets
+
+-- no row is left
 pub returns-clause-answers : goal.returns-clause-answers
 returns-clause-answers c =
-    let read : (c.each.rows ≡ []) × (c.next-in-each.new.self ≡ []) = rw c.in_default-2.is at c.in_ok-row.ensures.row in
+    let halfway = begun c.args.net.now c.args.bytes.now c.in_ok-header.header c.in_ok-listed.listed c.new-rows.result c.read_header.new.rows c.new-rows.ensures c.in_ok-header.ensures
+    c.in_ok-listed.ensures.lists in
+    let whole = c.in_ok-list_rows.ensures c.args.net.now c.args.bytes.now halfway in
     let given = λ (expected : Result Points PointsFault). Gives expected c.finish.result in
-    subst given (sym (gives_points c.args.net.now c.args.bytes.now c.each.listed c.each.rows c.each.invariant read.0))
-    (c.finish.ensures c.args.net.now c.each.invariant.listed.nets)
+    subst given (sym (gives_points c.args.net.now c.args.bytes.now c.list_rows.new.listed [] whole refl)) (c.finish.ensures c.args.net.now whole.listed.nets)
 
 pub returns-clause-sound : goal.returns-clause-sound
 returns-clause-sound c =
-    let read : (c.each.rows ≡ []) × (c.next-in-each.new.self ≡ []) = rw c.in_default-2.is at c.in_ok-row.ensures.row in
-    let given = λ (expected : Result Points PointsFault). Gives expected c.finish.result in
-    answer_fits c.args.net.now c.args.bytes.now c.finish.result c.in_ok-listed.ensures.sound
-    (subst given (sym (gives_points c.args.net.now c.args.bytes.now c.each.listed c.each.rows c.each.invariant read.0))
-    (c.finish.ensures c.args.net.now c.each.invariant.listed.nets))
+    answer_fits c.args.net.now c.args.bytes.now c.finish.result c.in_ok-listed.ensures.sound (returns-clause-answers c)
