@@ -1,9 +1,9 @@
 -- The bits of what an operation on planes gives.
-use Rattle.std.proofs.Common.{◌≡◌, ℕ, zero, suc, ◌-◌, ◌^◌, ◌<◌, ◌==◌, max, min, false, not, ◌&&◌, ◌||◌, bit_and, bit_or, refl, ap, ◌∙◌, w64, arith}
+use Rattle.std.proofs.Common.{◌≡◌, ℕ, zero, suc, ◌-◌, ◌^◌, ◌<◌, ◌==◌, max, false, not, ◌&&◌, ◌||◌, bit_and, bit_or, refl, ap, ◌∙◌, w64, arith}
 use Rattle.std.specs.Int.{bit_at}
-use Rattle.std.proofs.lemmas.Nat.Bits.{bit_at_and, bit_at_or, bit_at_not, bit_at-lt, bit_at-zero}
+use Rattle.std.proofs.lemmas.Nat.Bits.{bit_at_or, bit_at_not, bit_at-lt, bit_at-zero}
 use Rattle.fm_base.specs.Planes.{bit}
-use Rattle.fm_base.proofs.Bits.{min_bits, bit_of_and}
+use Rattle.fm_base.proofs.Bits.{bit_of_and}
 
 max_bits : (x y : ℕ) → x < 2 → y < 2 → (max x y == 1) ≡ ((x == 1) || (y == 1))
 max_bits zero zero p q = refl

@@ -3,7 +3,7 @@ ghost use Rattle.std.specs.Prelude.{◌≡◌, ◌<◌, IfOk, length, map};
 ghost use Rattle.circuit.specs.Order.{IsOrder};
 ghost use Rattle.campaign_plan.specs.Analysis.{batch_count};
 ghost use Rattle.campaign_plan.specs.Batches.{AreTrue};
-ghost use Rattle.fault_collapse.specs.Outcomes.{all_planes};
+ghost use Rattle.fault_collapse.specs.Outcomes.{all_planes, collapsed_of};
 ghost use Rattle.fmeda_report.specs.Rows.{HoldEachOnce};
 ghost use Rattle.result_file.specs.KeptRows.{entry_of};
 ghost use Rattle.collapsed_rows.specs.TrueRows.{true_entries};
@@ -23,7 +23,35 @@ use std::alloc::{AllocError, Global};
 use std::marker::Brand;
 use std::sync::ledger::{Blank, Ledger};
 
-// The planes of all batches, with a counter of steps that nobody reads.
+// The planes of all batches, simulated in lanes and windows that are made here.
+fn simulated_outcomes<L: Ledger>(
+    alloc: Global,
+    plan: &Plan,
+    order: &Order,
+    collapse: &Collapse,
+    golden: &Golden,
+    steps: &mut Steps<L>,
+) -> Result<OutcomeList, AllocError>
+    requires order { IsOrder plan.now.circuit order.now }
+    requires collapse { collapse.now ≡ collapsed_of plan.now }
+    requires golden { golden.now ≡ record { circuit = plan.now.circuit; order = order.now; runs = plan.now.runs } }
+    ensures { IfOk result (λ list. list ≡ all_planes plan.now) }
+{
+    let mut lanes = DifferentialLanes4::new(alloc, plan.net(), order)?;
+    let mut windows = Windows4::new(alloc, plan.points(), plan.settings().ftti)?;
+    collapsed_quads(
+        alloc,
+        plan,
+        order,
+        collapse,
+        golden,
+        &mut lanes,
+        &mut windows,
+        steps,
+    )
+}
+
+// The same, with a counter of steps that nobody reads.
 fn counted_outcomes<L: Ledger>(
     alloc: Global,
     blank: Blank,
@@ -39,19 +67,8 @@ fn counted_outcomes<L: Ledger>(
     let (net, points) = (plan.net(), plan.points());
     let collapse = Collapse::new(alloc, net, order, plan.faults(), points)?;
     let golden = Golden::new(alloc, net, order, plan.work())?;
-    let mut lanes = DifferentialLanes4::new(alloc, net, order)?;
-    let mut windows = Windows4::new(alloc, points, plan.settings().ftti)?;
     let mut steps: Steps<L> = Steps::fresh(blank);
-    collapsed_quads(
-        alloc,
-        plan,
-        order,
-        &collapse,
-        &golden,
-        &mut lanes,
-        &mut windows,
-        &mut steps,
-    )
+    simulated_outcomes(alloc, plan, order, &collapse, &golden, &mut steps)
 }
 
 // The row of a batch with these planes; its sums aren't counted.

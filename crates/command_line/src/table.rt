@@ -85,11 +85,10 @@ fn with_inputs<'a>(alloc: Global, command: Command<'a>) -> Result<Command<'a>, A
     ensures app { IfOk result (λ c. app_of c ≡ with_rules (app_of command.entry) input_rules) }
     ensures local { IfOk result (λ c. (out-Command c).has_globals ≡ false) }
 {
-    let netlist = named_arg(alloc, "netlist");
-    let workload = named_arg(alloc, "workload");
-    let rates = named_arg(alloc, "rates");
-    let points = named_arg(alloc, "points");
-    command.arg(netlist)?.arg(workload)?.arg(rates)?.arg(points)
+    let command = command.arg(named_arg(alloc, "netlist"))?;
+    let command = command.arg(named_arg(alloc, "workload"))?;
+    let command = command.arg(named_arg(alloc, "rates"))?;
+    command.arg(named_arg(alloc, "points"))
 }
 
 // The lists of cycles.
@@ -207,20 +206,13 @@ fn progress_command<'a>(alloc: Global) -> Result<Command<'a>, AllocError>
 fn campaign_program<'a>(alloc: Global) -> Result<Command<'a>, AllocError>
     ensures { IfOk result (λ c. app_of c ≡ program_with campaign_rows) }
 {
-    let classes = classes_command(alloc)?;
-    let check = check_command(alloc)?;
-    let run = campaign_command(alloc, "run")?;
-    let resume = campaign_command(alloc, "resume")?;
-    let audit = plan_command(alloc, "audit")?;
-    let generated = gen_command(alloc)?;
-    Command::new(alloc, "fmeda")
-        .subcommand_required(true)
-        .subcommand(classes)?
-        .subcommand(check)?
-        .subcommand(run)?
-        .subcommand(resume)?
-        .subcommand(audit)?
-        .subcommand(generated)
+    let program = Command::new(alloc, "fmeda").subcommand_required(true);
+    let program = program.subcommand(classes_command(alloc)?)?;
+    let program = program.subcommand(check_command(alloc)?)?;
+    let program = program.subcommand(campaign_command(alloc, "run")?)?;
+    let program = program.subcommand(campaign_command(alloc, "resume")?)?;
+    let program = program.subcommand(plan_command(alloc, "audit")?)?;
+    program.subcommand(gen_command(alloc)?)
 }
 
 // The same with those of a campaign in parts, of pairs, and of the report alone.
@@ -228,15 +220,10 @@ fn shared_program<'a>(alloc: Global) -> Result<Command<'a>, AllocError>
     ensures { IfOk result (λ c. app_of c ≡ program_with shared_rows) }
 {
     let program = campaign_program(alloc)?;
-    let report = report_command(alloc)?;
-    let shard = shard_command(alloc)?;
-    let merge = merge_command(alloc)?;
-    let pairs = pairs_command(alloc)?;
-    program
-        .subcommand(report)?
-        .subcommand(shard)?
-        .subcommand(merge)?
-        .subcommand(pairs)
+    let program = program.subcommand(report_command(alloc)?)?;
+    let program = program.subcommand(shard_command(alloc)?)?;
+    let program = program.subcommand(merge_command(alloc)?)?;
+    program.subcommand(pairs_command(alloc)?)
 }
 
 /// The program with all its commands.
@@ -244,11 +231,7 @@ pub(crate) fn fmeda_command<'a>(alloc: Global) -> Result<Command<'a>, AllocError
     ensures { IfOk result (λ c. app_of c ≡ fmeda_app) }
 {
     let program = shared_program(alloc)?;
-    let parts = parts_command(alloc)?;
-    let faults = plan_command(alloc, "faults")?;
-    let progress = progress_command(alloc)?;
-    program
-        .subcommand(parts)?
-        .subcommand(faults)?
-        .subcommand(progress)
+    let program = program.subcommand(parts_command(alloc)?)?;
+    let program = program.subcommand(plan_command(alloc, "faults")?)?;
+    program.subcommand(progress_command(alloc)?)
 }

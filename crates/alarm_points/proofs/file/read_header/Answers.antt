@@ -1,4 +1,4 @@
-use Rattle.std.proofs.Common.{◌≡◌, ◌∙◌, [], ◌∷◌, sym}
+use Rattle.std.proofs.Common.{◌≡◌, [], ◌∷◌, sym}
 use Rattle.alarm_points.proofs.Whole.{no_rows, no_header}
 use Rattle.alarm_points.proofs.file.read_header.Goals as goal
 

@@ -1,4 +1,4 @@
-use Rattle.std.proofs.Common.{◌≡◌, ◌∙◌, [], ◌≤◌, ◌^◌, length, sym, subst, refl, ap, arith}
+use Rattle.std.proofs.Common.{◌∙◌, [], length, sym, subst, refl, ap, arith}
 use Rattle.std.specs.Prelude.{Result, Err}
 use Rattle.std.proofs.lemmas.Result.{err_from_is_err_and}
 use Rattle.fm_base.specs.Answers.{Gives}

@@ -8,15 +8,15 @@ use Rattle.command_line.proofs.table.campaign_program.Goals as goal
 pub returns : goal.returns
 returns c =
     let named = with_required (new_app (codes "fmeda")) in
-    let program = ap app_of_fields c.subcommand_required.ensures ∙ ap with_required c.new.ensures.app in
+    let program = ap app_of_fields c.subcommand_required-program.ensures ∙ ap with_required c.new.ensures.app in
     let one = with_subcommand named classes_app.top in
     let two = with_subcommand one check_app.top in
     let three = with_subcommand two run_app.top in
     let four = with_subcommand three resume_app.top in
     let five = with_subcommand four audit_app.top in
-    let classes = added classes_app named _ _ _ c.in_ok-subcommand.ensures c.in_ok-classes.ensures.app c.in_ok-classes.ensures.local program in
-    let check = added check_app one _ _ _ c.in_ok-subcommand-2.ensures c.in_ok-check.ensures.app c.in_ok-check.ensures.local classes in
-    let run = added run_app two _ _ _ c.in_ok-subcommand-3.ensures c.in_ok-run.ensures.app c.in_ok-run.ensures.local check in
-    let resume = added resume_app three _ _ _ c.in_ok-subcommand-4.ensures c.in_ok-resume.ensures.app c.in_ok-resume.ensures.local run in
-    let audit = added audit_app four _ _ _ c.in_ok-subcommand-5.ensures c.in_ok-audit.ensures.app c.in_ok-audit.ensures.local resume in
-    last_added gen_app five _ _ c.subcommand-6.result c.subcommand-6.ensures c.in_ok-generated.ensures.app c.in_ok-generated.ensures.local audit
+    let classes = added classes_app named _ _ _ c.in_ok-program.ensures c.in_ok-classes_command.ensures.app c.in_ok-classes_command.ensures.local program in
+    let check = added check_app one _ _ _ c.in_ok-program-2.ensures c.in_ok-check_command.ensures.app c.in_ok-check_command.ensures.local classes in
+    let run = added run_app two _ _ _ c.in_ok-program-3.ensures c.in_ok-campaign_command.ensures.app c.in_ok-campaign_command.ensures.local check in
+    let resume = added resume_app three _ _ _ c.in_ok-program-4.ensures c.in_ok-campaign_command-2.ensures.app c.in_ok-campaign_command-2.ensures.local run in
+    let audit = added audit_app four _ _ _ c.in_ok-program-5.ensures c.in_ok-plan_command.ensures.app c.in_ok-plan_command.ensures.local resume in
+    last_added gen_app five _ _ c.subcommand-6.result c.subcommand-6.ensures c.in_ok-gen_command.ensures.app c.in_ok-gen_command.ensures.local audit

@@ -8,6 +8,6 @@ returns c =
     let ten = program_with shared_rows in
     let eleven = with_subcommand ten parts_app.top in
     let twelve = with_subcommand eleven faults_app.top in
-    let parts = added parts_app ten _ _ _ c.in_ok-subcommand.ensures c.in_ok-parts.ensures.app c.in_ok-parts.ensures.local c.in_ok-program.ensures in
-    let faults = added faults_app eleven _ _ _ c.in_ok-subcommand-2.ensures c.in_ok-faults.ensures.app c.in_ok-faults.ensures.local parts in
-    last_added progress_app twelve _ _ c.subcommand-3.result c.subcommand-3.ensures c.in_ok-progress.ensures.app c.in_ok-progress.ensures.local faults
+    let parts = added parts_app ten _ _ _ c.in_ok-program-2.ensures c.in_ok-parts_command.ensures.app c.in_ok-parts_command.ensures.local c.in_ok-program.ensures in
+    let faults = added faults_app eleven _ _ _ c.in_ok-program-3.ensures c.in_ok-plan_command.ensures.app c.in_ok-plan_command.ensures.local parts in
+    last_added progress_app twelve _ _ c.subcommand-3.result c.subcommand-3.ensures c.in_ok-progress_command.ensures.app c.in_ok-progress_command.ensures.local faults

@@ -10,14 +10,14 @@ returns-clause-app c =
     let one = with_rule before (named (codes "netlist")) in
     let two = with_rule one (named (codes "workload")) in
     let three = with_rule two (named (codes "rates")) in
-    let netlist = argued before (named (codes "netlist")) _ _ _ c.in_ok-arg.ensures c.named_arg-netlist.ensures.rule c.named_arg-netlist.ensures.local refl in
-    let workload = argued one (named (codes "workload")) _ _ _ c.in_ok-arg-2.ensures c.named_arg-workload.ensures.rule c.named_arg-workload.ensures.local netlist in
-    let rates = argued two (named (codes "rates")) _ _ _ c.in_ok-arg-3.ensures c.named_arg-rates.ensures.rule c.named_arg-rates.ensures.local workload in
-    last_argued three (named (codes "points")) _ _ c.arg-4.result c.arg-4.ensures c.named_arg-points.ensures.rule c.named_arg-points.ensures.local rates
+    let netlist = argued before (named (codes "netlist")) _ _ _ c.in_ok-command.ensures c.named_arg.ensures.rule c.named_arg.ensures.local refl in
+    let workload = argued one (named (codes "workload")) _ _ _ c.in_ok-command-2.ensures c.named_arg-2.ensures.rule c.named_arg-2.ensures.local netlist in
+    let rates = argued two (named (codes "rates")) _ _ _ c.in_ok-command-3.ensures c.named_arg-3.ensures.rule c.named_arg-3.ensures.local workload in
+    last_argued three (named (codes "points")) _ _ c.arg-4.result c.arg-4.ensures c.named_arg-4.ensures.rule c.named_arg-4.ensures.local rates
 
 pub returns-clause-local : goal.returns-clause-local
 returns-clause-local c =
-    let netlist = kept_local _ _ _ c.in_ok-arg.ensures c.named_arg-netlist.ensures.local c.requires in
-    let workload = kept_local _ _ _ c.in_ok-arg-2.ensures c.named_arg-workload.ensures.local netlist in
-    let rates = kept_local _ _ _ c.in_ok-arg-3.ensures c.named_arg-rates.ensures.local workload in
-    last_local _ _ c.arg-4.result c.arg-4.ensures c.named_arg-points.ensures.local rates
+    let netlist = kept_local _ _ _ c.in_ok-command.ensures c.named_arg.ensures.local c.requires in
+    let workload = kept_local _ _ _ c.in_ok-command-2.ensures c.named_arg-2.ensures.local netlist in
+    let rates = kept_local _ _ _ c.in_ok-command-3.ensures c.named_arg-3.ensures.local workload in
+    last_local _ _ c.arg-4.result c.arg-4.ensures c.named_arg-4.ensures.local rates
