@@ -67,6 +67,11 @@ ChecksAs p k (Ok done) = audit_step p k ≡ Ok k
 ChecksAs p k (Err (By ended)) = (ended ≡ status.Memory) ⊎ (audit_step p k ≡ Err ended)
 ChecksAs p k (Err (Looped walk net)) = ⊥
 
+-- the rows of what is kept were told to agree: the line went out, or a prefix of it; or the first that doesn't is refused, and nothing went out
+abbrev pub AuditTold : Analysis → KeptRows → (before after : SinkState) → Result Status Refused → Type 0
+AuditTold p k before after (Ok ended) = (audit_step p k ≡ Ok k) × TextAs before after (audit_text (length k.rows) p) (Ok ended)
+AuditTold p k before after (Err refused) = ChecksAs p k (Err refused) × (after ≡ before)
+
 -- the files of `audit` stand for this plan, and these rows of it were found right
 abbrev pub AreAudited : ShelfState → Inputs → Bytes → Settings → Analysis → KeptRows → Type 0
 AreAudited shelf inputs name set p k =

@@ -87,7 +87,9 @@ fn try_kept<F: Shelf, O: Sink>(
     ensures rest { OnlyReadsAny (F.seen shelf.old) (F.seen shelf.new) }
 {
     let begun = read_begun(alloc, shelf, inputs, rows, settings)?;
-    tell_kept(alloc, text, &begun, out)
+    let told = tell_kept(alloc, text, &begun, out);
+    drop(begun);
+    told
 }
 
 /// Writes a text of the whole rows of a result file, or the line of the refusal. No file is changed, also where another process

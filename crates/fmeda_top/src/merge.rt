@@ -104,6 +104,7 @@ pub fn merge<F: Shelf, O: Sink>(
     match read_merged(alloc, shelf, inputs, first, second, settings) {
         Ok(merged) => {
             let end = write_rows(alloc, shelf, out, &merged, rows);
+            drop(merged);
             say_end(out, &names, end)
         }
         Err(refused) => say_refused(out, &names, refused),

@@ -81,7 +81,9 @@ fn try_pairs<R: Threads + Wait + Sync, F: Shelf, O: Sink>(
     ensures rest { OnlyReadsAny (F.seen shelf.old) (F.seen shelf.new) }
 {
     let begun = read_begun(alloc, shelf, inputs, rows, settings)?;
-    tell_pairs(rt, alloc, &begun, out, workers)
+    let told = tell_pairs(rt, alloc, &begun, out, workers);
+    drop(begun);
+    told
 }
 
 /// Judges each pair of a latent and a detected fault by the rows of a result file, with 1 to 32 workers, and writes which are

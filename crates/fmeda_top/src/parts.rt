@@ -38,7 +38,9 @@ fn try_parts<F: Shelf, O: Sink>(
     ensures rest { OnlyReadsAny (F.seen shelf.old) (F.seen shelf.new) }
 {
     let rated = read_rated(alloc, shelf, netlist, rates)?;
-    tell_parts(alloc, &rated, out)
+    let told = tell_parts(alloc, &rated, out);
+    drop(rated);
+    told
 }
 
 /// Writes for each row of a rates file which nets and latches of a netlist it takes, and how many nets no row takes; or the line

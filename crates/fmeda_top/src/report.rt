@@ -48,7 +48,9 @@ fn try_report<F: Shelf, O: Sink>(
     ensures rest { OnlyReadsAny (F.seen shelf.old) (F.seen shelf.new) }
 {
     let planned = read_plan(alloc, shelf, inputs, settings)?;
-    tell_report(alloc, &planned, out)
+    let told = tell_report(alloc, &planned, out);
+    drop(planned);
+    told
 }
 
 /// Writes the report of a campaign over four files that keeps no result file, or the line of the refusal: the bytes that `run`

@@ -52,6 +52,7 @@ pub fn shard<R: Wait, F: Shelf + Drop, O: Sink>(
             let (plan, order) = (&planned.plan, &planned.order);
             let campaign = PartCampaign::new(plan, order, rows, &own, part);
             let ran = run_part(rt, alloc, campaign, shelf, out);
+            drop(planned);
             let status = say_end(out, &names, ran.end);
             Ended {
                 status,

@@ -4,8 +4,8 @@ use Rattle.command_steps.specs.PlanSteps.{names_of}
 use Rattle.fmeda_top.proofs.KeptEnding.{kept_once, kept_told}
 use Rattle.fmeda_top.proofs.kept.try_kept.Goals as goal
 
-pub tell_kept-requires : goal.tell_kept-requires
-tell_kept-requires g c = kept_once (names_of c.args.inputs.now) c.args.rows.now c.args.settings (g.F.Shelf.seen c.args.shelf.now) (g.F.Shelf.seen c.read_begun.new.shelf) c.in_ok-begun.begun c.in_ok-begun.ensures.read
+pub tell_kept-told-requires : goal.tell_kept-told-requires
+tell_kept-told-requires g c = kept_once (names_of c.args.inputs.now) c.args.rows.now c.args.settings (g.F.Shelf.seen c.args.shelf.now) (g.F.Shelf.seen c.read_begun.new.shelf) c.in_ok-begun.begun c.in_ok-begun.ensures.read
 
 pub returns-in_err-begun-clause-tried : goal.returns-in_err-begun-clause-tried
 returns-in_err-begun-clause-tried g c =
@@ -14,4 +14,4 @@ returns-in_err-begun-clause-tried g c =
 
 pub returns-clause-tried : goal.returns-clause-tried
 returns-clause-tried g c =
-    kept_told (names_of c.args.inputs.now) c.args.rows.now c.args.settings (g.F.Shelf.seen c.args.shelf.now) (g.F.Shelf.seen c.read_begun.new.shelf) c.in_ok-begun.begun c.in_ok-begun.ensures.read c.args.text (g.O.Sink.seen c.args.out.now) (g.O.Sink.seen c.tell_kept.new.out) c.tell_kept.result c.tell_kept.ensures
+    kept_told (names_of c.args.inputs.now) c.args.rows.now c.args.settings (g.F.Shelf.seen c.args.shelf.now) (g.F.Shelf.seen c.read_begun.new.shelf) c.in_ok-begun.begun c.in_ok-begun.ensures.read c.args.text (g.O.Sink.seen c.args.out.now) (g.O.Sink.seen c.tell_kept-told.new.out) c.tell_kept-told.result c.tell_kept-told.ensures

@@ -9,10 +9,10 @@ returns-in_err-begun-clause-tried g c =
     let p = err_from_is_err_and c.from_residual.result c.from_residual.ensures.1 in
     rw (p.1, p.2) (pairs_refused (names_of c.args.inputs.now) c.args.rows.now c.args.settings c.args.workers (g.F.Shelf.seen c.args.shelf.now) (g.F.Shelf.seen c.read_begun.new.shelf) _ c.in_err-begun.ensures.read.0, c.in_err-begun.ensures.read.1, refl)
 
-pub tell_pairs-requires-clause-distinct : goal.tell_pairs-requires-clause-distinct
-tell_pairs-requires-clause-distinct g c κs within = rows_distinct (names_of c.args.inputs.now) c.args.rows.now c.args.settings c.args.workers (g.F.Shelf.seen c.args.shelf.now) (g.F.Shelf.seen c.read_begun.new.shelf) c.in_ok-begun.begun c.in_ok-begun.ensures.read
+pub tell_pairs-told-requires-clause-distinct : goal.tell_pairs-told-requires-clause-distinct
+tell_pairs-told-requires-clause-distinct g c κs within = rows_distinct (names_of c.args.inputs.now) c.args.rows.now c.args.settings c.args.workers (g.F.Shelf.seen c.args.shelf.now) (g.F.Shelf.seen c.read_begun.new.shelf) c.in_ok-begun.begun c.in_ok-begun.ensures.read
 
 pub returns-clause-tried : goal.returns-clause-tried
 returns-clause-tried g c =
     pairs_tried (names_of c.args.inputs.now) c.args.rows.now c.args.settings c.args.workers (g.F.Shelf.seen c.args.shelf.now) (g.F.Shelf.seen c.read_begun.new.shelf)
-    c.in_ok-begun.begun c.in_ok-begun.ensures.read (g.O.Sink.seen c.args.out.now) (g.O.Sink.seen c.tell_pairs.new.out) c.tell_pairs.result c.tell_pairs.ensures
+    c.in_ok-begun.begun c.in_ok-begun.ensures.read (g.O.Sink.seen c.args.out.now) (g.O.Sink.seen c.tell_pairs-told.new.out) c.tell_pairs-told.result c.tell_pairs-told.ensures

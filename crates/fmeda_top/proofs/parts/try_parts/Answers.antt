@@ -10,5 +10,5 @@ returns-in_err-rated-clause-tried g c =
 
 pub returns-clause-tried : goal.returns-clause-tried
 returns-clause-tried g c =
-    parts_tried (g.F.Shelf.seen c.args.shelf.now) (g.F.Shelf.seen c.read_rated.new.shelf) (g.O.Sink.seen c.args.out.now) (g.O.Sink.seen c.tell_parts.new.out) c.args.netlist.now c.args.rates.now c.in_ok-rated.rated
-    c.in_ok-rated.ensures.read c.tell_parts.result c.tell_parts.ensures
+    parts_tried (g.F.Shelf.seen c.args.shelf.now) (g.F.Shelf.seen c.read_rated.new.shelf) (g.O.Sink.seen c.args.out.now) (g.O.Sink.seen c.tell_parts-told.new.out) c.args.netlist.now c.args.rates.now c.in_ok-rated.rated
+    c.in_ok-rated.ensures.read c.tell_parts-told.result c.tell_parts-told.ensures

@@ -11,5 +11,5 @@ returns-in_err-planned-clause-tried g c =
 
 pub returns-clause-tried : goal.returns-clause-tried
 returns-clause-tried g c =
-    report_told (g.F.Shelf.seen c.args.shelf.now) (g.F.Shelf.seen c.read_plan.new.shelf) (g.O.Sink.seen c.args.out.now) (g.O.Sink.seen c.tell_report.new.out) (names_of c.args.inputs.now) c.args.settings c.in_ok-planned.planned
-    c.in_ok-planned.ensures.read c.tell_report.result c.tell_report.ensures
+    report_told (g.F.Shelf.seen c.args.shelf.now) (g.F.Shelf.seen c.read_plan.new.shelf) (g.O.Sink.seen c.args.out.now) (g.O.Sink.seen c.tell_report-told.new.out) (names_of c.args.inputs.now) c.args.settings c.in_ok-planned.planned
+    c.in_ok-planned.ensures.read c.tell_report-told.result c.tell_report-told.ensures
