@@ -35,7 +35,7 @@ use Rattle.alarm_points.specs.declared.PointsKind.{PointsKind}
 use Rattle.alarm_points.specs.declared.header.Header.{Header}
 use Rattle.alarm_points.specs.declared.header.Header.TheVariants.{OneGoal, NamedGoals}
 use Rattle.alarm_points.specs.Listed.{goals_with}
-use Rattle.alarm_points.specs.PointsFile.{goal_from, goal_in, goals_named, header_of, interval_in, interval_read, is_alarm, is_bad_goal, is_dash, is_observe, kind_in, net_in, observed, observing, point_of, points_from, points_of, points_of_rows, points_under, points_unless, row_fault, same_goal, same_point}
+use Rattle.alarm_points.specs.PointsFile.{goal_from, goal_in, goals_named, header_of, interval_in, interval_read, is_alarm, is_bad_goal, is_dash_field, is_observe, kind_in, net_in, observed, observing, point_of, points_from, points_of, points_of_rows, points_under, points_unless, row_fault, same_goal, same_point}
 use Rattle.alarm_points.specs.PointsKept.{ArePointsFor, IsGoalFor}
 use Rattle.alarm_points.proofs.Listing.{goals_step}
 use Rattle.alarm_points.proofs.Whole.{Passes, few_step, row_passes}
@@ -165,7 +165,7 @@ goal_names : (c : Circuit) (h : Header) (rows : List Fields) → map (λ (goal :
 goal_names c h rows = map-map (λ (goal : Goal). goal.name) (goal_from c h rows) (firsts (same_goal h) (observing h rows)) ∙ firsts-map (goal_in h) (observing h rows)
 
 interval_fits : (text : Bytes) → IfSome (unwrap_or (interval_read text) None) (λ cycles. cycles ≤ 4096)
-interval_fits text = by_cases (is_dash text) (plain_number 4096 text) refl
+interval_fits text = by_cases (is_dash_field text) (plain_number 4096 text) refl
   where
     by_cases : (dash : Bool) (o : Option ℕ) → plain_number 4096 text ≡ o
         → IfSome (unwrap_or (if dash then Some None else option_map (λ cycles. Some cycles) o) None) (λ cycles. cycles ≤ 4096)
@@ -349,7 +349,7 @@ goal_of_alarm : (h : Header) (goals : List Name) (row : Fields) → is_bad_goal 
 goal_of_alarm OneGoal goals row e a = refl
 goal_of_alarm NamedGoals goals row e a =
     let other : is_observe NamedGoals row ≡ false = false_of (is_observe NamedGoals row) (λ o. clash (is_alarm NamedGoals row) a (one_kind NamedGoals row o)) in
-    same_name (goal_in NamedGoals row) (codes "-") (not_not (is_dash (goal_in NamedGoals row)) (rw other at e))
+    same_name (goal_in NamedGoals row) (codes "-") (not_not (is_dash_field (goal_in NamedGoals row)) (rw other at e))
 
 alarm_once : (c : Circuit) (h : Header) (rows : List Fields) → AllPass c h rows → AreApart (map (point_of c h) (filter (is_alarm h) rows))
 alarm_once c h rows pass =

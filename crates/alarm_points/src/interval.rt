@@ -1,6 +1,6 @@
 // The interval that a row of a points file gives.
 ghost use Rattle.std.specs.Prelude.{◌≡◌};
-ghost use Rattle.alarm_points.specs.PointsFile.{interval_read, is_dash as is_dash_text};
+ghost use Rattle.alarm_points.specs.PointsFile.{interval_read, is_dash_field as is_dash_text};
 
 use field_text::plain_number;
 

@@ -23,7 +23,7 @@ use Rattle.bench_reader.specs.declared.BenchFault.{BenchFault}
 use Rattle.bench_reader.specs.declared.BenchKind.TheVariants.{TooLarge}
 use Rattle.bench_reader.specs.declared.gather.Gathered.{Gathered}
 use Rattle.bench_reader.specs.declared.parts.Parts.{Parts}
-use Rattle.bench_reader.specs.Answer.{IsReady, answer_of, circuit_from, circuit_unless, fault_in, gathered_of, gathered_unless}
+use Rattle.bench_reader.specs.Answer.{IsSmallNetlist, answer_of, circuit_from, circuit_unless, fault_in, gathered_of, gathered_unless}
 use Rattle.bench_reader.specs.Bench.{bad_bench, bench_of, bench_unless}
 use Rattle.bench_reader.specs.Gather.{gathered_from, is_full, no_lines, StatementFits}
 use Rattle.bench_reader.specs.LineFault.{Said, at_line, line_fault, said_lines}
@@ -81,7 +81,7 @@ module _ (lines : List Said) (once : two_drivers lines ≡ None) (driven : undri
       let parts = h.parts none [] ∙ ap (λ (ns : List Name). parts_of ns lines) (append-nil g.nets.names ∙ nets_gathered lines g h) in
       ap (circuit_from_parts g.nets.names) parts ∙ ap (λ (ns : List Name). circuit_from_parts ns (parts_of (nets_of lines) lines)) (nets_gathered lines g h) ∙ circuit_made
 
-  ready_for : AllByRecursion (λ line. StatementFits line.says) lines → length (nets_of lines) ≤ 2 ^ 18 → (g : Gathered) → IsGathered lines g → g.second ≡ None → IsReady g
+  ready_for : AllByRecursion (λ line. StatementFits line.says) lines → length (nets_of lines) ≤ 2 ^ 18 → (g : Gathered) → IsGathered lines g → g.second ≡ None → IsSmallNetlist g
   ready_for fit small g h none =
       let parts = h.parts none [] ∙ ap (λ (ns : List Name). parts_of ns lines) (append-nil g.nets.names ∙ nets_gathered lines g h) in
       record {
@@ -141,7 +141,7 @@ module _ (lines : List Said) (g : Gathered) (outcome : Outcome lines g) (none : 
       let same = ap (λ (names : List Name). length names) (nets_gathered lines g is_gathered) in
       omega arith
 
-  pub ready : AllByRecursion (λ line. StatementFits line.says) lines → IsReady g
+  pub ready : AllByRecursion (λ line. StatementFits line.says) lines → IsSmallNetlist g
   ready fit = ready_for lines once_none driven_none fit small_enough g is_gathered second_none
 
   circuit_gathered : circuit_from g ≡ circuit_of lines
@@ -182,7 +182,7 @@ file_outcome bytes g e =
     subst (Outcome (said_lines bytes)) (split_gathered (line_fault (said_lines bytes)) (said_lines bytes) g e).1 (lines_gathered (said_lines bytes))
 
 -- what was gathered is ready where it has no fault
-pub file_ready : (bytes : Bytes) (g : Gathered) → gathered_of bytes ≡ Ok g → fault_in g ≡ None → IsReady g
+pub file_ready : (bytes : Bytes) (g : Gathered) → gathered_of bytes ≡ Ok g → fault_in g ≡ None → IsSmallNetlist g
 file_ready bytes g e none = ready (said_lines bytes) g (file_outcome bytes g e) none (lines_fit bytes)
 
 -- its answer is that of the file

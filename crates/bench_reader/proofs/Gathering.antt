@@ -28,7 +28,7 @@ use Rattle.bench_reader.specs.Gates.{gate_plane, gate_rows}
 use Rattle.bench_reader.specs.Gather.{add_input, add_latch, add_output, add_said, add_statement, add_table, driven_at, gate_table, gathered_from, is_full, no_lines, with_nets, with_part}
 use Rattle.bench_reader.specs.LineFault.{Said, at_line}
 use Rattle.bench_reader.specs.Marks.{NetMarks, no_nets, ids_from, is_driven, is_given, mention, mention_all, with_driven, with_given}
-use Rattle.bench_reader.specs.Net.{driven_at as drives_at, driven_of, input_at, inputs_of, latch_at, latch_net, latch_nets_of, nets_at, nets_of, output_at, outputs_of, table_at, table_net, table_nets_of}
+use Rattle.bench_reader.specs.Net.{driven_at as drives_at, driven_of, input_at, inputs_of, latch_on_line, latch_net, latch_nets_of, nets_at, nets_of, output_at, outputs_of, table_on_line, table_net, table_nets_of}
 use Rattle.bench_reader.specs.NetFault.{cells_at, too_large, two_drivers}
 use Rattle.bench_reader.specs.Statement.{Statement, nothing, input, output, table, latch, wrong}
 use Rattle.bench_reader.proofs.Marked.{IsMarked, Visit, all_grows, all_marked, among_more, blank, drive_marked, give_marked, grows, id_stays, ids_all, is_driven_marked, is_given_marked, length_ids, mark_of, mention_marked, mentioned, names_of, visits_at}
@@ -81,9 +81,9 @@ abbrev pub parts_of : List Name → List Said → Parts
 parts_of nets lines = record {
   inputs = map (net_id nets) (inputs_of lines);
   outputs = map (net_id nets) (outputs_of lines);
-  tables = filter_map (λ (line : Said). table_at nets line.says) lines;
+  tables = filter_map (λ (line : Said). table_on_line nets line.says) lines;
   table_nets = map (net_id nets) (table_nets_of lines);
-  latches = filter_map (λ (line : Said). latch_at nets line.says) lines;
+  latches = filter_map (λ (line : Said). latch_on_line nets line.says) lines;
   latch_nets = map (net_id nets) (latch_nets_of lines);
 }
 
@@ -243,15 +243,15 @@ module _ (lines : List Said) (g : Gathered) (h : IsGathered lines g) (line : Sai
 abbrev made_latch : NetId → NetId → Latch
 made_latch from to = record { from = from; to = to; start = false }
 
-tables_same : (nets : List Name) (lines : List Said) (line : Said) → filter_map (λ (l : Said). table_at nets l.says) (line ∷ []) ≡ []
-    → filter_map (λ (l : Said). table_at nets l.says) lines ≡ filter_map (λ (l : Said). table_at nets l.says) (lines ++ line ∷ [])
+tables_same : (nets : List Name) (lines : List Said) (line : Said) → filter_map (λ (l : Said). table_on_line nets l.says) (line ∷ []) ≡ []
+    → filter_map (λ (l : Said). table_on_line nets l.says) lines ≡ filter_map (λ (l : Said). table_on_line nets l.says) (lines ++ line ∷ [])
 tables_same nets lines line e =
-    sym (made_snoc (table_at nets) lines line ∙ ap (λ (more : List Table). filter_map (λ (l : Said). table_at nets l.says) lines ++ more) e ∙ append-nil (filter_map (λ (l : Said). table_at nets l.says) lines))
+    sym (made_snoc (table_on_line nets) lines line ∙ ap (λ (more : List Table). filter_map (λ (l : Said). table_on_line nets l.says) lines ++ more) e ∙ append-nil (filter_map (λ (l : Said). table_on_line nets l.says) lines))
 
-latches_same : (nets : List Name) (lines : List Said) (line : Said) → filter_map (λ (l : Said). latch_at nets l.says) (line ∷ []) ≡ []
-    → filter_map (λ (l : Said). latch_at nets l.says) lines ≡ filter_map (λ (l : Said). latch_at nets l.says) (lines ++ line ∷ [])
+latches_same : (nets : List Name) (lines : List Said) (line : Said) → filter_map (λ (l : Said). latch_on_line nets l.says) (line ∷ []) ≡ []
+    → filter_map (λ (l : Said). latch_on_line nets l.says) lines ≡ filter_map (λ (l : Said). latch_on_line nets l.says) (lines ++ line ∷ [])
 latches_same nets lines line e =
-    sym (made_snoc (latch_at nets) lines line ∙ ap (λ (more : List Latch). filter_map (λ (l : Said). latch_at nets l.says) lines ++ more) e ∙ append-nil (filter_map (λ (l : Said). latch_at nets l.says) lines))
+    sym (made_snoc (latch_on_line nets) lines line ∙ ap (λ (more : List Latch). filter_map (λ (l : Said). latch_on_line nets l.says) lines ++ more) e ∙ append-nil (filter_map (λ (l : Said). latch_on_line nets l.says) lines))
 
 inputs_still : (nets : List Name) (lines : List Said) (line : Said) → input_at line.says ≡ [] → map (net_id nets) (inputs_of lines) ≡ map (net_id nets) (inputs_of (lines ++ line ∷ []))
 inputs_still nets lines line e =
@@ -293,8 +293,8 @@ module _ (lines : List Said) (g : Gathered) (h : IsGathered lines g) (n : ℕ) (
 
     input_adds : (more : List Name)
         → parts_by (map (net_id (net.names ++ more)) (inputs_of lines) ++ net_is ∷ []) (map (net_id (net.names ++ more)) (outputs_of lines))
-        (filter_map (λ (l : Said). table_at (net.names ++ more) l.says) lines) (map (net_id (net.names ++ more)) (table_nets_of lines))
-        (filter_map (λ (l : Said). latch_at (net.names ++ more) l.says) lines) (map (net_id (net.names ++ more)) (latch_nets_of lines))
+        (filter_map (λ (l : Said). table_on_line (net.names ++ more) l.says) lines) (map (net_id (net.names ++ more)) (table_nets_of lines))
+        (filter_map (λ (l : Said). latch_on_line (net.names ++ more) l.says) lines) (map (net_id (net.names ++ more)) (latch_nets_of lines))
         ≡ parts_of (net.names ++ more) (longer (input name))
     input_adds more =
         let ns : List Name = net.names ++ more in
@@ -329,8 +329,8 @@ module _ (lines : List Said) (g : Gathered) (h : IsGathered lines g) (n : ℕ) (
     -- the parts that stay, with these outputs
     output_parts : (more : List Name) (outputs : List NetId) → outputs ≡ map (net_id (net.names ++ more)) (outputs_of (longer (output name)))
         → parts_by (map (net_id (net.names ++ more)) (inputs_of lines)) outputs
-        (filter_map (λ (l : Said). table_at (net.names ++ more) l.says) lines) (map (net_id (net.names ++ more)) (table_nets_of lines))
-        (filter_map (λ (l : Said). latch_at (net.names ++ more) l.says) lines) (map (net_id (net.names ++ more)) (latch_nets_of lines))
+        (filter_map (λ (l : Said). table_on_line (net.names ++ more) l.says) lines) (map (net_id (net.names ++ more)) (table_nets_of lines))
+        (filter_map (λ (l : Said). latch_on_line (net.names ++ more) l.says) lines) (map (net_id (net.names ++ more)) (latch_nets_of lines))
         ≡ parts_of (net.names ++ more) (longer (output name))
     output_parts more outputs e =
         let ns : List Name = net.names ++ more in
@@ -395,8 +395,8 @@ module _ (lines : List Said) (g : Gathered) (h : IsGathered lines g) (n : ℕ) (
 
     latch_adds : (more : List Name)
         → parts_by (map (net_id (both.names ++ more)) (inputs_of lines)) (map (net_id (both.names ++ more)) (outputs_of lines))
-        (filter_map (λ (l : Said). table_at (both.names ++ more) l.says) lines) (map (net_id (both.names ++ more)) (table_nets_of lines))
-        (filter_map (λ (l : Said). latch_at (both.names ++ more) l.says) lines ++ held ∷ []) (map (net_id (both.names ++ more)) (latch_nets_of lines) ++ to ∷ [])
+        (filter_map (λ (l : Said). table_on_line (both.names ++ more) l.says) lines) (map (net_id (both.names ++ more)) (table_nets_of lines))
+        (filter_map (λ (l : Said). latch_on_line (both.names ++ more) l.says) lines ++ held ∷ []) (map (net_id (both.names ++ more)) (latch_nets_of lines) ++ to ∷ [])
         ≡ parts_of (both.names ++ more) (longer (latch out from))
     latch_adds more =
         let ns : List Name = both.names ++ more in
@@ -406,7 +406,7 @@ module _ (lines : List Said) (g : Gathered) (h : IsGathered lines g) (n : ℕ) (
         let from_is : net_id both.names from ≡ net_id ns from = sym (id_stays both.names more from (mentioned n first from)) in
         parts_equal _ _ _ _ _ _ _ _ _ _ _ _
         (inputs_still ns lines line refl) (outputs_still ns lines line refl) (tables_same ns lines line refl) (table_nets_still ns lines line refl)
-        (ap (λ (x : Latch). filter_map (λ (l : Said). latch_at ns l.says) lines ++ x ∷ []) (latch_equal _ _ _ _ from_is to_is) ∙ sym (made_snoc (latch_at ns) lines line))
+        (ap (λ (x : Latch). filter_map (λ (l : Said). latch_on_line ns l.says) lines ++ x ∷ []) (latch_equal _ _ _ _ from_is to_is) ∙ sym (made_snoc (latch_on_line ns) lines line))
         (ap (λ (i : NetId). map (net_id ns) (latch_nets_of lines) ++ i ∷ []) to_is ∙ sym (latch_nets_snoc ns lines line))
 
     latch_gathered : IsGathered (longer (latch out from)) (add_latch g n out from)
@@ -466,8 +466,8 @@ module _ (lines : List Said) (g : Gathered) (h : IsGathered lines g) (n : ℕ) (
 
     table_adds : (more : List Name)
         → parts_by (map (net_id (whole.names ++ more)) (inputs_of lines)) (map (net_id (whole.names ++ more)) (outputs_of lines))
-        (filter_map (λ (l : Said). table_at (whole.names ++ more) l.says) lines ++ made ∷ []) (map (net_id (whole.names ++ more)) (table_nets_of lines) ++ driven ∷ [])
-        (filter_map (λ (l : Said). latch_at (whole.names ++ more) l.says) lines) (map (net_id (whole.names ++ more)) (latch_nets_of lines))
+        (filter_map (λ (l : Said). table_on_line (whole.names ++ more) l.says) lines ++ made ∷ []) (map (net_id (whole.names ++ more)) (table_nets_of lines) ++ driven ∷ [])
+        (filter_map (λ (l : Said). latch_on_line (whole.names ++ more) l.says) lines) (map (net_id (whole.names ++ more)) (latch_nets_of lines))
         ≡ parts_of (whole.names ++ more) (longer (table out gate ins))
     table_adds more =
         let ns : List Name = whole.names ++ more in
@@ -476,7 +476,7 @@ module _ (lines : List Said) (g : Gathered) (h : IsGathered lines g) (n : ℕ) (
         let driven_is : driven ≡ net_id ns out = id_later head.names whole.names more out (mentioned n g.nets out) fresh.0 fresh.1 in
         parts_equal _ _ _ _ _ _ _ _ _ _ _ _
         (inputs_still ns lines line refl) (outputs_still ns lines line refl)
-        (ap (λ (x : Table). filter_map (λ (l : Said). table_at ns l.says) lines ++ x ∷ []) (table_is more) ∙ sym (made_snoc (table_at ns) lines line))
+        (ap (λ (x : Table). filter_map (λ (l : Said). table_on_line ns l.says) lines ++ x ∷ []) (table_is more) ∙ sym (made_snoc (table_on_line ns) lines line))
         (ap (λ (i : NetId). map (net_id ns) (table_nets_of lines) ++ i ∷ []) driven_is ∙ sym (table_nets_snoc ns lines line))
         (latches_same ns lines line refl) (latch_nets_still ns lines line refl)
 
@@ -489,8 +489,8 @@ module _ (lines : List Said) (g : Gathered) (h : IsGathered lines g) (n : ℕ) (
 
   -- a line that names nothing
   module _ (says : Statement) (visits : nets_at says ≡ []) (drives : drives_at says ≡ []) (gives : output_at says ≡ []) (cells : cells_at says ≡ 0)
-      (takes : input_at says ≡ []) (tables : (nets : List Name) → table_at nets says ≡ None) (table_nets : table_net says ≡ [])
-      (latches : (nets : List Name) → latch_at nets says ≡ None) (latch_nets : latch_net says ≡ []) where
+      (takes : input_at says ≡ []) (tables : (nets : List Name) → table_on_line nets says ≡ None) (table_nets : table_net says ≡ [])
+      (latches : (nets : List Name) → latch_on_line nets says ≡ None) (latch_nets : latch_net says ≡ []) where
     none_made : {Y : Type 0} (o : Option Y) → o ≡ None → cons_option o [] ≡ []
     none_made None e = refl
     none_made (Some y) e = cc
@@ -509,8 +509,8 @@ module _ (lines : List Said) (g : Gathered) (h : IsGathered lines g) (n : ℕ) (
     idle_parts ns =
         let line : Said = line_with says in
         parts_equal _ _ _ _ _ _ _ _ _ _ _ _
-        (inputs_still ns lines line takes) (outputs_still ns lines line gives) (tables_same ns lines line (none_made (table_at ns says) (tables ns))) (table_nets_still ns lines line table_nets)
-        (latches_same ns lines line (none_made (latch_at ns says) (latches ns))) (latch_nets_still ns lines line latch_nets)
+        (inputs_still ns lines line takes) (outputs_still ns lines line gives) (tables_same ns lines line (none_made (table_on_line ns says) (tables ns))) (table_nets_still ns lines line table_nets)
+        (latches_same ns lines line (none_made (latch_on_line ns says) (latches ns))) (latch_nets_still ns lines line latch_nets)
 
     idle_gathered : IsGathered (longer says) g
     idle_gathered = record {

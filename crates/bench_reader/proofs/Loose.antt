@@ -17,7 +17,7 @@ use Rattle.bench_reader.specs.declared.BenchFault.{BenchFault}
 use Rattle.bench_reader.specs.declared.BenchKind.TheVariants.{Undriven}
 use Rattle.bench_reader.specs.declared.nets.Mark.{Mark}
 use Rattle.bench_reader.specs.LineFault.{Said, at_line}
-use Rattle.bench_reader.specs.Marks.{NetMarks, first_loose, name_at}
+use Rattle.bench_reader.specs.Marks.{NetMarks, first_loose, name_in_place}
 use Rattle.bench_reader.specs.Net.{driven_of, nets_at}
 use Rattle.bench_reader.specs.NetFault.{undriven}
 use Rattle.bench_reader.proofs.Marked.{IsMarked, Visit, blank, first_line, is_visit, line_from, mark_of, name_of, names_of, visits_at}
@@ -105,7 +105,7 @@ module _ (visits : List Visit) (driven outs : List Name) (t : NetMarks) (m : IsM
           ∙ sym (get_or_from_slice_get (map (is_one_of driven) t.names) k (is_one_of driven name) d (slice_get-map (is_one_of driven) t.names k ∙ ap (option_map (is_one_of driven)) there))
 
   abbrev loose_at : ℕ → BenchFault
-  loose_at k = at_line (get_or t.marks k blank).line (Undriven (name_at t.names k))
+  loose_at k = at_line (get_or t.marks k blank).line (Undriven (name_in_place t.names k))
 
   abbrev loose_named : Name → BenchFault
   loose_named name = at_line (first_line visits name) (Undriven name)
@@ -118,7 +118,7 @@ module _ (visits : List Visit) (driven outs : List Name) (t : NetMarks) (m : IsM
   at_name : (k : ℕ) (name : Name) → slice_get t.names k ≡ Some name → loose_at (0 + k) ≡ loose_named name
   at_name k name e =
       let first : 0 + k ≡ k = omega arith in
-      ap loose_at first ∙ ap (λ (mark : Mark). at_line mark.line (Undriven (name_at t.names k))) (mark_there k name e)
+      ap loose_at first ∙ ap (λ (mark : Mark). at_line mark.line (Undriven (name_in_place t.names k))) (mark_there k name e)
       ∙ ap (λ (n : Name). at_line (first_line visits name) (Undriven n)) (get_or_from_slice_get t.names k name [] e)
 
   line_is : (o : Option Visit) → find (λ (v : Visit). bad v.0) visits ≡ o → option_map (λ (v : Visit). loose_named v.0) o ≡ option_map told_at o

@@ -15,7 +15,7 @@ use Rattle.fm_base.proofs.Distinct.{distinct-snoc, distinct-found, is_same, same
 use Rattle.net_names.specs.Nets.{net_id}
 use Rattle.net_names.proofs.Times.{one_of_both, place, place-found}
 use Rattle.bench_reader.specs.declared.nets.Mark.{Mark}
-use Rattle.bench_reader.specs.Marks.{NetMarks, fresh, ids_from, is_driven, is_given, mention, mention_all, with_driven, with_given}
+use Rattle.bench_reader.specs.Marks.{NetMarks, newly_named, ids_from, is_driven, is_given, mention, mention_all, with_driven, with_given}
 use Rattle.std.proofs.lemmas.Bool.{or_left}
 use Rattle.std.proofs.Math.Bool.{or-false}
 
@@ -43,7 +43,7 @@ abbrev pub mark_of : List Visit → List Name → List Name → Name → Mark
 mark_of visits driven outs name = record { line = first_line visits name; driven = is_one_of driven name; output = is_one_of outs name }
 
 abbrev pub blank : Mark
-blank = fresh 0
+blank = newly_named 0
 
 -- the nets are those of the visits, and each has the mark of its name
 pub record IsMarked (visits : List Visit) (driven outs : List Name) (t : NetMarks) : Type 0 where
@@ -147,7 +147,7 @@ mention_known : (line : ℕ) (t : NetMarks) (name : Name) → is_one_of t.names 
 mention_known line t name e = rw e refl
 
 mention_new : (line : ℕ) (t : NetMarks) (name : Name) → is_one_of t.names name ≡ false
-    → mention line t name ≡ record { names = t.names ++ name ∷ []; marks = t.marks ++ fresh line ∷ [] }
+    → mention line t name ≡ record { names = t.names ++ name ∷ []; marks = t.marks ++ newly_named line ∷ [] }
 mention_new line t name e = rw e refl
 
 module _ (visits : List Visit) (driven outs : List Name) (t : NetMarks) (m : IsMarked visits driven outs t) (line : ℕ) (name : Name) where
@@ -161,7 +161,7 @@ module _ (visits : List Visit) (driven outs : List Name) (t : NetMarks) (m : IsM
   }
 
   abbrev more : NetMarks
-  more = record { names = t.names ++ name ∷ []; marks = t.marks ++ fresh line ∷ [] }
+  more = record { names = t.names ++ name ∷ []; marks = t.marks ++ newly_named line ∷ [] }
 
   -- the name is no net before
   module _ (e : is_one_of t.names name ≡ false) where
@@ -171,13 +171,13 @@ module _ (visits : List Visit) (driven outs : List Name) (t : NetMarks) (m : IsM
         let size = m.size in
         let inside : place t.names other < length t.marks = omega arith in
         ap (λ k. get_or more.marks k blank) (place_stays t.names (name ∷ []) other f)
-        ∙ get_or-append t.marks (fresh line ∷ []) blank (place t.names other) inside
+        ∙ get_or-append t.marks (newly_named line ∷ []) blank (place t.names other) inside
         ∙ m.each other f ∙ mark_equal _ _ _ _ _ _ (sym (line_stays visits (name, line) other (net_visited visits driven outs t m other ∙ f))) refl refl
 
     new_each : get_or more.marks (place more.names name) blank ≡ mark_of (visits ++ (name, line) ∷ []) driven outs name
     new_each =
         ap (λ k. get_or more.marks k blank) (place_new t.names name e ∙ sym m.size)
-        ∙ get_or-append_seam t.marks (fresh line) [] blank
+        ∙ get_or-append_seam t.marks (newly_named line) [] blank
         ∙ mark_equal _ _ _ _ _ _ (sym (line_comes visits name line (net_visited visits driven outs t m name ∙ e)))
         (sym (false_of (is_one_of driven name) (λ f. clash (is_one_of t.names name) (m.driven_in name f) e)))
         (sym (false_of (is_one_of outs name) (λ f. clash (is_one_of t.names name) (m.outs_in name f) e)))
@@ -185,7 +185,7 @@ module _ (visits : List Visit) (driven outs : List Name) (t : NetMarks) (m : IsM
     new_marked : IsMarked (visits ++ (name, line) ∷ []) driven outs more
     new_marked = record {
       names = ap (λ (nets : NetMarks). nets.names) (sym (mention_new line t name e)) ∙ names_mentioned visits line t name m.names;
-      size = length-append t.marks (fresh line ∷ []) ∙ ap (λ n. n + 1) m.size ∙ sym (length-append t.names (name ∷ []));
+      size = length-append t.marks (newly_named line ∷ []) ∙ ap (λ n. n + 1) m.size ∙ sym (length-append t.names (name ∷ []));
       each = λ other f. elim (or_cases (is_one_of t.names other) (bytes_eq other name || false) (sym (one_of_both t.names (name ∷ []) other) ∙ f))
           as (λ _. get_or more.marks (place more.names other) blank ≡ mark_of (visits ++ (name, line) ∷ []) driven outs other) [
             | inl old ↦ old_each other old

@@ -10,7 +10,7 @@ use Rattle.name_index.proofs.NameFacts.{keys_insert}
 use Rattle.indexmap.specs.IndexSet.{insert_key}
 use Rattle.net_names.proofs.Times.{place, place-of-key}
 use Rattle.bench_reader.specs.declared.nets.Mark.{Mark}
-use Rattle.bench_reader.specs.Marks.{NetMarks, fresh, mention}
+use Rattle.bench_reader.specs.Marks.{NetMarks, newly_named, mention}
 use Rattle.bench_reader.proofs.Marked.{place_new}
 use Rattle.fm_base.proofs.Finding.{list_any-map}
 use Rattle.fm_base.proofs.Distinct.{bytes_eq-sym}
@@ -45,13 +45,13 @@ mention_known_key keys key marks line e =
         clash g f = cc
 
 pub mention_new_key : (keys : List Key) (key : Key) (marks : List Mark) (line : ℕ) → true ≡ not (list_any (same_key key) keys)
-    → seen (texts_of (insert_key same_key keys key)) (marks ++ fresh line ∷ []) ≡ mention line (seen (texts_of keys) marks) key.now
+    → seen (texts_of (insert_key same_key keys key)) (marks ++ newly_named line ∷ []) ≡ mention line (seen (texts_of keys) marks) key.now
 mention_new_key keys key marks line e =
-    ap (λ (names : List Name). seen names (marks ++ fresh line ∷ [])) (keys_insert text_of keys key)
+    ap (λ (names : List Name). seen names (marks ++ newly_named line ∷ [])) (keys_insert text_of keys key)
     ∙ by_cases (is_one_of (texts_of keys) key.now) refl (e ∙ ap not (sym (list_any-map (bytes_eq key.now) text_of keys)))
   where
     by_cases : (b : Bool) → is_one_of (texts_of keys) key.now ≡ b → true ≡ not (is_one_of (texts_of keys) key.now)
-        → seen (with_name (texts_of keys) key.now) (marks ++ fresh line ∷ []) ≡ mention line (seen (texts_of keys) marks) key.now
+        → seen (with_name (texts_of keys) key.now) (marks ++ newly_named line ∷ []) ≡ mention line (seen (texts_of keys) marks) key.now
     by_cases false f g = rw f refl
     by_cases true f g = absurd (clash g f)
       where

@@ -14,7 +14,7 @@ use Rattle.fm_base.proofs.Below.{map-below}
 use Rattle.fm_base.proofs.Tests.{and_both}
 use Rattle.bench_reader.specs.declared.gate.Gate.{Gate}
 use Rattle.bench_reader.specs.declared.gate.Gate.TheVariants.{And, Nand, Or, Nor, Xor, Xnor, Not, Buffer}
-use Rattle.bench_reader.specs.Gates.{cells_of, is_odd_row, most_inputs, odd_rows, takes}
+use Rattle.bench_reader.specs.Gates.{cells_of, is_odd_row, most_inputs, odd_rows, takes_inputs}
 
 -- one more cell
 pub one_cell : (left number : ℕ) (row now : List Lit) (cell : Lit) (all : List Lit) → 0 < left
@@ -80,12 +80,12 @@ few_rows inputs rows h e =
     let eight : 2 ^ inputs ≤ 2 ^ 8 = pow-le-pow_right some h in
     omega arith
 
-pub few_inputs : (gate : Gate) (inputs : ℕ) → (gate ≡ Xor) ⊎ (gate ≡ Xnor) → takes gate inputs ≡ true → inputs ≤ 8
-few_inputs gate inputs (inl e) h = leb-true inputs 8 (and_both (nat_le 1 inputs) (nat_le inputs 8) (sym (ap (λ g. takes g inputs) e) ∙ h)).1
-few_inputs gate inputs (inr e) h = leb-true inputs 8 (and_both (nat_le 1 inputs) (nat_le inputs 8) (sym (ap (λ g. takes g inputs) e) ∙ h)).1
+pub few_inputs : (gate : Gate) (inputs : ℕ) → (gate ≡ Xor) ⊎ (gate ≡ Xnor) → takes_inputs gate inputs ≡ true → inputs ≤ 8
+few_inputs gate inputs (inl e) h = leb-true inputs 8 (and_both (nat_le 1 inputs) (nat_le inputs 8) (sym (ap (λ g. takes_inputs g inputs) e) ∙ h)).1
+few_inputs gate inputs (inr e) h = leb-true inputs 8 (and_both (nat_le 1 inputs) (nat_le inputs 8) (sym (ap (λ g. takes_inputs g inputs) e) ∙ h)).1
 
 -- no gate has more inputs than 1,024
-pub most_1024 : (gate : Gate) (inputs : ℕ) → takes gate inputs ≡ true → inputs ≤ 1024
+pub most_1024 : (gate : Gate) (inputs : ℕ) → takes_inputs gate inputs ≡ true → inputs ≤ 1024
 most_1024 gate inputs e = let h = leb-true inputs (most_inputs gate) (and_both (nat_le 1 inputs) (nat_le inputs (most_inputs gate)) e).1 in let m = most gate in omega arith
   where
     most : (g : Gate) → most_inputs g ≤ 1024

@@ -9,7 +9,7 @@ use Rattle.fm_base.proofs.Tests.{and_both}
 use Rattle.bench_reader.specs.declared.BenchKind.TheVariants.{BadLine, BadCount}
 use Rattle.bench_reader.specs.declared.gate.Gate.{Gate}
 use Rattle.bench_reader.specs.declared.gate.Gate.TheVariants.{And, Nand, Or, Nor, Xor, Xnor, Not, Buffer}
-use Rattle.bench_reader.specs.Gates.{cells_of, gate_named, gate_rows, is_odd_row, is_word, odd_rows, takes}
+use Rattle.bench_reader.specs.Gates.{cells_of, gate_named, gate_rows, is_odd_row, is_word, odd_rows, takes_inputs}
 use Rattle.bench_reader.specs.Gather.{StatementFits}
 use Rattle.bench_reader.specs.LineFault.{said, said_lines}
 use Rattle.bench_reader.specs.Statement.{input, output, table, wrong, driver_line, latch_line, names_in, port_line, statement_of, table_line}
@@ -42,7 +42,7 @@ one_input n e =
     let high = leb-true n 1 parts.1 in
     omega arith
 
-pub gate_fits : (gate : Gate) (n : ℕ) → takes gate n ≡ true → AllByRecursion (λ row. length row ≡ n) (gate_rows gate n)
+pub gate_fits : (gate : Gate) (n : ℕ) → takes_inputs gate n ≡ true → AllByRecursion (λ row. length row ≡ n) (gate_rows gate n)
 gate_fits And n e = (length_replicate n _, tt)
 gate_fits Nand n e = (length_replicate n _, tt)
 gate_fits Or n e = (length_replicate n _, tt)
@@ -61,9 +61,9 @@ latch_line_fits out (a ∷ b ∷ more) = tt
 
 table_line_fits : (out : Name) (gate : Option Gate) (ins : List Name) → StatementFits (table_line out gate ins)
 table_line_fits out None ins = tt
-table_line_fits out (Some gate) ins = by_cases (takes gate (length ins)) refl
+table_line_fits out (Some gate) ins = by_cases (takes_inputs gate (length ins)) refl
   where
-    by_cases : (b : Bool) → takes gate (length ins) ≡ b → StatementFits (cond b (table out gate ins) (wrong BadCount))
+    by_cases : (b : Bool) → takes_inputs gate (length ins) ≡ b → StatementFits (cond b (table out gate ins) (wrong BadCount))
     by_cases true e = e
     by_cases false e = tt
 

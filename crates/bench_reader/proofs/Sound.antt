@@ -12,7 +12,7 @@ use Rattle.fm_base.specs.Names.{Bytes, Name, is_one_of}
 use Rattle.fm_base.proofs.Tests.{or_false, and_both}
 use Rattle.fm_base.proofs.Distinct.{distinct-apart}
 use Rattle.net_names.specs.Nets.{net_id}
-use Rattle.net_names.specs.Driven.{AreBeside, drives, times, IsDrivenOnce}
+use Rattle.net_names.specs.Driven.{AreAligned, drives, name_count, IsDrivenOnce}
 use Rattle.net_names.proofs.Answers.{not_given, same_answer}
 use Rattle.net_names.proofs.Brought.{all-brought, as-many, in-order}
 use Rattle.net_names.proofs.Driven.{drives-of-lines}
@@ -22,7 +22,7 @@ use Rattle.bench_reader.specs.declared.BenchFault.{BenchFault}
 use Rattle.bench_reader.specs.Bench.{bad_bench, bench_of, bench_unless}
 use Rattle.bench_reader.specs.Gates.{gate_plane, gate_rows}
 use Rattle.bench_reader.specs.LineFault.{Said, line_fault, said_lines}
-use Rattle.bench_reader.specs.Net.{circuit_of, driven_at, driven_of, drivers_of, input_at, inputs_of, latch_at, latch_net, latch_nets_of, nets_at, nets_of, output_at, outputs_of, table_at as line_table, table_net, table_nets_of}
+use Rattle.bench_reader.specs.Net.{circuit_of, driven_at, driven_of, drivers_of, input_at, inputs_of, latch_on_line, latch_net, latch_nets_of, nets_at, nets_of, output_at, outputs_of, table_on_line as line_table, table_net, table_nets_of}
 use Rattle.bench_reader.specs.NetFault.{cells_at, net_fault, too_large, two_drivers, undriven}
 use Rattle.bench_reader.specs.Statement.{Statement, input, table, latch}
 use Rattle.bench_reader.proofs.Drives.{driven_net, driven_once, names_nets, net_driven, output_net}
@@ -48,33 +48,33 @@ module _ (nets : List Name) (c : Circuit) (size : length c.drivers ≡ length ne
       at says e f = tt
 
   sources_fit : (some : List Said) → AllByRecursion (λ line. list_all (is_one_of nets) (nets_at line.says) ≡ true) some
-      → AllByRecursion (λ (held : Latch). IsNet c held.from) (filter_map (λ line. latch_at nets line.says) some)
+      → AllByRecursion (λ (held : Latch). IsNet c held.from) (filter_map (λ line. latch_on_line nets line.says) some)
   sources_fit some e =
       all-brought (λ (held : Latch). IsNet c held.from) (λ (line : Said). list_all (is_one_of nets) (nets_at line.says) ≡ true) (λ (line : Said). list_all (is_one_of nets) (nets_at line.says) ≡ true)
-      (λ (line : Said). latch_at nets line.says) (λ line q r. at line.says q) some e e
+      (λ (line : Said). latch_on_line nets line.says) (λ line q r. at line.says q) some e e
     where
-      at : (says : Statement) → list_all (is_one_of nets) (nets_at says) ≡ true → AllByRecursion (λ (held : Latch). IsNet c held.from) (cons_option (latch_at nets says) [])
+      at : (says : Statement) → list_all (is_one_of nets) (nets_at says) ≡ true → AllByRecursion (λ (held : Latch). IsNet c held.from) (cons_option (latch_on_line nets says) [])
       at (latch out from) e = (is-net nets c size from (and_both (is_one_of nets from) true (rest_pass nets out (from ∷ []) e)).0, tt)
       at says e = tt
 
 -- tables and latches stand beside the nets that they drive
 beside : (nets : List Name) (some : List Said)
-    → AreBeside nets (flat_map (λ line. table_net line.says) some) (flat_map (λ line. latch_net line.says) some) (filter_map (λ line. line_table nets line.says) some) (filter_map (λ line. latch_at nets line.says) some)
+    → AreAligned nets (flat_map (λ line. table_net line.says) some) (flat_map (λ line. latch_net line.says) some) (filter_map (λ line. line_table nets line.says) some) (filter_map (λ line. latch_on_line nets line.says) some)
 beside nets some = record {
   counted = as-many (λ (line : Said). line_table nets line.says) (λ (line : Said). table_net line.says) (λ line. one_table line.says) some;
-  ordered = in-order (λ (held : Latch). held.to) (net_id nets) (λ (line : Said). latch_at nets line.says) (λ (line : Said). latch_net line.says) (λ line. one_latch line.says) some;
+  ordered = in-order (λ (held : Latch). held.to) (net_id nets) (λ (line : Said). latch_on_line nets line.says) (λ (line : Said). latch_net line.says) (λ line. one_latch line.says) some;
 }
   where
     one_table : (says : Statement) → length (cons_option (line_table nets says) []) ≡ length (table_net says)
     one_table (table out gate ins) = refl
     one_table says = refl
 
-    one_latch : (says : Statement) → map (λ (held : Latch). held.to) (cons_option (latch_at nets says) []) ≡ map (net_id nets) (latch_net says)
+    one_latch : (says : Statement) → map (λ (held : Latch). held.to) (cons_option (latch_on_line nets says) []) ≡ map (net_id nets) (latch_net says)
     one_latch (latch out from) = refl
     one_latch says = refl
 
 -- what a line drives is what it has as an input, as the net of a table and as the net of a latch
-one_driven : (name : Name) (says : Statement) → times name (driven_at says) ≡ drives (input_at says) (table_net says) (latch_net says) name
+one_driven : (name : Name) (says : Statement) → name_count name (driven_at says) ≡ drives (input_at says) (table_net says) (latch_net says) name
 one_driven name (input net) = omega arith
 one_driven name (table out gate ins) = omega arith
 one_driven name (latch out from) = omega arith
@@ -95,7 +95,7 @@ module _ (lines : List Said) (once : two_drivers lines ≡ None) (driven : undri
   abbrev lats : List Name
   lats = latch_nets_of lines
 
-  drive_count : (name : Name) → times name (driven_of lines) ≡ drives ins tabs lats name
+  drive_count : (name : Name) → name_count name (driven_of lines) ≡ drives ins tabs lats name
   unfolding driven_of inputs_of table_nets_of latch_nets_of
   drive_count name =
       drives-of-lines (λ (line : Said). driven_at line.says) (λ (line : Said). input_at line.says) (λ (line : Said). table_net line.says) (λ (line : Said). latch_net line.says) name
@@ -115,7 +115,7 @@ module _ (lines : List Said) (once : two_drivers lines ≡ None) (driven : undri
   tables = filter_map (λ (line : Said). line_table nets line.says) lines
 
   abbrev latches : List Latch
-  latches = filter_map (λ (line : Said). latch_at nets line.says) lines
+  latches = filter_map (λ (line : Said). latch_on_line nets line.says) lines
 
   -- the netlist of lines
   pub netlist_sound : AllByRecursion (λ line. StatementFits line.says) lines → length (nets_of lines) ≤ 2 ^ 18 → IsNetlist made

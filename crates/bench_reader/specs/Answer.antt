@@ -33,7 +33,7 @@ circuit_from g = record {
 }
 
 -- it is one, and its parts are few
-pub record IsReady (g : Gathered) : Type 0 where
+pub record IsSmallNetlist (g : Gathered) : Type 0 where
   pub inputs : length g.parts.inputs ≤ 2 ^ 18
   pub tables : length g.parts.table_nets ≤ 2 ^ 18
   pub latches : length g.parts.latch_nets ≤ 2 ^ 18

@@ -10,14 +10,14 @@ use Rattle.net_names.specs.Nets.{net_id}
 use Rattle.bench_reader.specs.declared.gate.Gate.{Gate}
 use Rattle.bench_reader.specs.declared.gather.Gathered.{Gathered}
 use Rattle.bench_reader.specs.declared.parts.Parts.{Parts}
-use Rattle.bench_reader.specs.Gates.{gate_plane, gate_rows, takes}
+use Rattle.bench_reader.specs.Gates.{gate_plane, gate_rows, takes_inputs}
 use Rattle.bench_reader.specs.LineFault.{Said}
 use Rattle.bench_reader.specs.Marks.{NetMarks, ids_from, is_driven, is_given, mention, mention_all, no_nets, with_driven, with_given}
 use Rattle.bench_reader.specs.Statement.{Statement, input, output, table, latch}
 
 -- a table has as many inputs as its gate allows
 abbrev pub StatementFits : Statement → Type 0
-StatementFits (table out gate ins) = takes gate (length ins) ≡ true
+StatementFits (table out gate ins) = takes_inputs gate (length ins) ≡ true
 StatementFits _ = Unit {0}
 
 abbrev pub no_parts : Parts

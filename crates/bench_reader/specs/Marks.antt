@@ -18,18 +18,18 @@ abbrev pub no_nets : NetMarks
 no_nets = record { names = []; marks = [] }
 
 -- a net that a line names first
-abbrev pub fresh : ℕ → Mark
-fresh line = record { line = line; driven = false; output = false }
+abbrev pub newly_named : ℕ → Mark
+newly_named line = record { line = line; driven = false; output = false }
 
 -- what is known of a net
-abbrev pub mark_at : List Mark → NetId → Mark
-mark_at marks net = slice_index_or marks net.0 (fresh 0)
+abbrev pub net_mark : List Mark → NetId → Mark
+net_mark marks net = slice_index_or marks net.0 (newly_named 0)
 
 -- a line names a net
 abbrev pub mention : ℕ → NetMarks → Name → NetMarks
 mention line nets name =
     if is_one_of nets.names name then nets
-    else record { names = nets.names ++ name ∷ []; marks = nets.marks ++ fresh line ∷ [] }
+    else record { names = nets.names ++ name ∷ []; marks = nets.marks ++ newly_named line ∷ [] }
 
 -- a line names nets, from left to right
 abbrev pub mention_all : ℕ → NetMarks → List Name → NetMarks
@@ -42,24 +42,24 @@ ids_from line nets (name ∷ names) = net_id (mention line nets name).names name
 
 -- a net is driven
 abbrev pub is_driven : NetMarks → NetId → Bool
-is_driven nets net = (mark_at nets.marks net).driven
+is_driven nets net = (net_mark nets.marks net).driven
 
 abbrev pub with_driven : NetMarks → NetId → NetMarks
-with_driven nets net = record { names = nets.names; marks = slice_set nets.marks net.0 (record (mark_at nets.marks net) { driven = true }) }
+with_driven nets net = record { names = nets.names; marks = slice_set nets.marks net.0 (record (net_mark nets.marks net) { driven = true }) }
 
 -- a net is an output
 abbrev pub is_given : NetMarks → NetId → Bool
-is_given nets net = (mark_at nets.marks net).output
+is_given nets net = (net_mark nets.marks net).output
 
 abbrev pub with_given : NetMarks → NetId → NetMarks
-with_given nets net = record { names = nets.names; marks = slice_set nets.marks net.0 (record (mark_at nets.marks net) { output = true }) }
+with_given nets net = record { names = nets.names; marks = slice_set nets.marks net.0 (record (net_mark nets.marks net) { output = true }) }
 
 -- the name at a place
-abbrev pub name_at : List Name → ℕ → Name
-name_at names place = slice_index_or names place []
+abbrev pub name_in_place : List Name → ℕ → Name
+name_in_place names place = slice_index_or names place []
 
 -- the first net that isn't driven, at the line that names it first
 abbrev pub first_loose : NetMarks → Option BenchFault
 first_loose nets =
-    option_map (λ place. at_line (slice_index_or nets.marks place (fresh 0)).line (Undriven (name_at nets.names place)))
+    option_map (λ place. at_line (slice_index_or nets.marks place (newly_named 0)).line (Undriven (name_in_place nets.names place)))
     (position (λ mark. not mark.driven) nets.marks)

@@ -1,7 +1,7 @@
 // The rows of a gate's table.
 ghost use Rattle.std.specs.Prelude.{◌≡◌, ◌==◌, ◌≤◌, ◌<◌, ◌^◌, ◌/◌, ◌%◌, ◌∷◌, [], true, IfOk, if◌then◌else◌, length, replicate};
 ghost use Rattle.circuit.specs.declared.parts.Lit.TheVariants.{Zero, One};
-ghost use Rattle.bench_reader.specs.Gates.{cells_of, gate_rows, is_odd_row, is_one, odd_rows, takes};
+ghost use Rattle.bench_reader.specs.Gates.{cells_of, gate_rows, is_odd_row, is_one_cell, odd_rows, takes_inputs};
 
 use crate::gate::Gate;
 use circuit::parts::{Lit, Row, Rows};
@@ -49,7 +49,7 @@ fn is_odd(row: &[Lit]) -> bool
 }
 
 fn is_a_one(cell: Lit) -> bool
-    ensures { result ≡ is_one cell }
+    ensures { result ≡ is_one_cell cell }
 {
     match cell {
         Lit::One => true,
@@ -84,7 +84,7 @@ fn only(alloc: Global, row: Row) -> Result<Rows, AllocError>
 
 /// The rows of the table of a gate with so many inputs.
 pub fn rows_of(alloc: Global, gate: Gate, inputs: usize) -> Result<Rows, AllocError>
-    requires { takes gate inputs ≡ true }
+    requires { takes_inputs gate inputs ≡ true }
     ensures rows { IfOk result (λ rows. rows ≡ gate_rows gate inputs) }
     ensures few { IfOk result (λ rows. length rows ≤ 256) }
 {

@@ -1,6 +1,6 @@
 // Names of a file as names of their own.
 ghost use Rattle.std.specs.Prelude.{◌≡◌, [], IfOk, map};
-ghost use Rattle.bench_reader.specs.Marks.{name_at};
+ghost use Rattle.bench_reader.specs.Marks.{name_in_place};
 
 use fm_list::{Name, Names, Seq};
 use net_names::copies::own_name;
@@ -19,7 +19,7 @@ pub fn own_names(alloc: Global, names: &[&[u8]]) -> Result<Names, AllocError>
 
 /// The name at a place, copied; it is empty where there is none.
 pub fn name_at(alloc: Global, names: &[&[u8]], place: usize) -> Result<Name, AllocError>
-    ensures { IfOk result (λ n. n ≡ name_at (map (λ name. name.now) names.now) place) }
+    ensures { IfOk result (λ n. n ≡ name_in_place (map (λ name. name.now) names.now) place) }
 {
     match names.get(place) {
         Some(name) => own_name(alloc, name),

@@ -1,6 +1,6 @@
 // The gates of a netlist file, but for flip-flops.
 ghost use Rattle.std.specs.Prelude.{◌≡◌, codes};
-ghost use Rattle.bench_reader.specs.Gates.{gate_named, gate_plane, is_word, most_inputs, takes};
+ghost use Rattle.bench_reader.specs.Gates.{gate_named, gate_plane, is_word, most_inputs, takes_inputs};
 
 /// What a gate does with its inputs.
 #[derive(Clone, Copy, Debug, PartialEq, Eq)]
@@ -79,7 +79,7 @@ impl Gate {
 
     /// Whether the gate may have so many inputs.
     pub fn takes(self, inputs: usize) -> bool
-        ensures { result ≡ takes self inputs }
+        ensures { result ≡ takes_inputs self inputs }
     {
         inputs >= 1 && inputs <= self.most()
     }

@@ -1,7 +1,7 @@
 // The netlist of what was gathered, or its fault.
 ghost use Rattle.std.specs.Prelude.{◌≡◌, None, IfOk};
 ghost use Rattle.fm_base.specs.Answers.{Gives};
-ghost use Rattle.bench_reader.specs.Answer.{answer_of, circuit_from, fault_in, IsReady};
+ghost use Rattle.bench_reader.specs.Answer.{answer_of, circuit_from, fault_in, IsSmallNetlist};
 
 use crate::gather::Gathered;
 use crate::nets::Nets;
@@ -33,7 +33,7 @@ fn fault_of(alloc: Global, gathered: &Gathered<'_>) -> Result<Option<BenchFault>
 
 /// The netlist of nets and parts.
 fn built(alloc: Global, gathered: Gathered<'_>) -> Result<Netlist, AllocError>
-    requires { IsReady gathered }
+    requires { IsSmallNetlist gathered }
     ensures { IfOk result (λ n. n ≡ circuit_from gathered.entry) }
 {
     let Gathered {
@@ -70,7 +70,7 @@ fn built(alloc: Global, gathered: Gathered<'_>) -> Result<Netlist, AllocError>
 
 /// The netlist of what was gathered of lines without faults of their own.
 pub fn netlist_of(alloc: Global, gathered: Gathered<'_>) -> Result<Netlist, Refusal<BenchFault>>
-    requires { fault_in gathered ≡ None → IsReady gathered }
+    requires { fault_in gathered ≡ None → IsSmallNetlist gathered }
     ensures { Gives (answer_of gathered.entry) result }
 {
     match fault_of(alloc, &gathered)? {

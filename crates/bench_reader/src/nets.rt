@@ -1,7 +1,7 @@
 // The nets of a file, each with what is known of it.
 ghost use Rattle.std.specs.Prelude.{◌≡◌, ◌<◌, ◌-◌, ◌^◌, true, not, length, position, IfOk, IfSome, OnOk, slice_set};
 ghost use Rattle.net_names.specs.Nets.{net_id};
-ghost use Rattle.bench_reader.specs.Marks.{first_loose, is_given, is_driven, mark_at, mention, no_nets, with_driven, with_given};
+ghost use Rattle.bench_reader.specs.Marks.{first_loose, is_given, is_driven, net_mark, mention, no_nets, with_driven, with_given};
 
 use crate::copies::{name_at, own_names};
 use crate::{BenchFault, BenchKind};
@@ -36,8 +36,8 @@ impl<'a> Model for Nets<'a> {
 
 /// The net is driven. The answer is whether it was driven before.
 fn mark_driven(marks: &mut [Mark], net: NetId) -> bool
-    ensures marks { marks.new ≡ slice_set marks.old net.0 (record (mark_at marks.old net) { driven = true }) }
-    ensures before { result ≡ (mark_at marks.old net).driven }
+    ensures marks { marks.new ≡ slice_set marks.old net.0 (record (net_mark marks.old net) { driven = true }) }
+    ensures before { result ≡ (net_mark marks.old net).driven }
 {
     let at = net.0 as usize;
     if at < marks.len() {
@@ -54,8 +54,8 @@ fn mark_driven(marks: &mut [Mark], net: NetId) -> bool
 
 /// The net is an output. The answer is whether it was one before.
 fn mark_output(marks: &mut [Mark], net: NetId) -> bool
-    ensures marks { marks.new ≡ slice_set marks.old net.0 (record (mark_at marks.old net) { output = true }) }
-    ensures before { result ≡ (mark_at marks.old net).output }
+    ensures marks { marks.new ≡ slice_set marks.old net.0 (record (net_mark marks.old net) { output = true }) }
+    ensures before { result ≡ (net_mark marks.old net).output }
 {
     let at = net.0 as usize;
     if at < marks.len() {

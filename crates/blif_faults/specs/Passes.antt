@@ -9,7 +9,7 @@ use Rattle.blif_walk.specs.declared.flat.FlatModel.{FlatModel}
 use Rattle.blif_walk.specs.declared.flat.NameId.{NameId}
 use Rattle.blif_walk.specs.declared.flat.NumberedAct.{NumberedAct}
 use Rattle.blif_walk.specs.declared.flat.NumberedAct.TheVariants.{Inputs, Table, Latch}
-use Rattle.blif_walk.specs.Flat.{names_of}
+use Rattle.blif_walk.specs.Flat.{all_names}
 use Rattle.blif_walk.specs.Flattened.{flat_steps}
 
 -- ---- TwoClocks: the first type is kept, and the first clock name is known
@@ -59,4 +59,4 @@ abbrev pub settled : List Step → List Name
 settled steps = clock_names steps ++ flat_map (λ s. driven_names (clock_names steps) s.act) steps
 
 abbrev pub AreSettledMarks : FlatModel → List Bool → Type 0
-AreSettledMarks f marks = marks ≡ map (is_one_of (settled (flat_steps f))) (names_of (flat_steps f))
+AreSettledMarks f marks = marks ≡ map (is_one_of (settled (flat_steps f))) (all_names (flat_steps f))

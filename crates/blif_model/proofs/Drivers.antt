@@ -13,7 +13,7 @@ use Rattle.fm_base.specs.Names.{Name, is_one_of, has_repeat}
 use Rattle.fm_base.proofs.Distinct.{bytes_eq-sym, same_name, filter-found}
 use Rattle.blif_model.proofs.Nets.{nets-found}
 use Rattle.std.proofs.lemmas.List.Folds.{list_any-append}
-use Rattle.net_names.specs.Driven.{drives, times}
+use Rattle.net_names.specs.Driven.{drives, name_count}
 use Rattle.net_names.proofs.Answers.{none_given}
 use Rattle.net_names.proofs.Driven.{drives-of-lines}
 use Rattle.net_names.proofs.Times.{one_of_both, times-append}
@@ -155,9 +155,9 @@ named at (s ∷ some) =
 
 -- the drives of a walk are those of its inputs, tables and latches
 pub times-drives : (name : Name) (steps some : List Step)
-    → times name (map (λ (v : Visit). v.name) (flat_map (λ s. names_at s.line (taken steps s.act ++ table_net s.act ++ latch_net s.act)) some))
+    → name_count name (map (λ (v : Visit). v.name) (flat_map (λ s. names_at s.line (taken steps s.act ++ table_net s.act ++ latch_net s.act)) some))
     ≡ drives (flat_map (λ s. taken steps s.act) some) (flat_map (λ s. table_net s.act) some) (flat_map (λ s. latch_net s.act) some) name
 times-drives name steps some =
-    ap (times name) (named (λ (s : Step). taken steps s.act ++ table_net s.act ++ latch_net s.act) some)
+    ap (name_count name) (named (λ (s : Step). taken steps s.act ++ table_net s.act ++ latch_net s.act) some)
     ∙ drives-of-lines (λ (s : Step). taken steps s.act ++ table_net s.act ++ latch_net s.act) (λ (s : Step). taken steps s.act) (λ (s : Step). table_net s.act) (λ (s : Step). latch_net s.act) name
-    (λ (s : Step). times-append name (taken steps s.act ++ table_net s.act) (latch_net s.act) ∙ ap (λ n. n + times name (latch_net s.act)) (times-append name (taken steps s.act) (table_net s.act))) some
+    (λ (s : Step). times-append name (taken steps s.act ++ table_net s.act) (latch_net s.act) ∙ ap (λ n. n + name_count name (latch_net s.act)) (times-append name (taken steps s.act) (table_net s.act))) some

@@ -12,7 +12,7 @@ use Rattle.fm_base.specs.Names.{Name, is_one_of}
 use Rattle.fm_base.proofs.Tests.{or_false, or_cases, and_both}
 use Rattle.fm_base.proofs.Distinct.{distinct-apart, same_name}
 use Rattle.net_names.specs.Nets.{net_id}
-use Rattle.net_names.specs.Driven.{AreBeside, drives, times, IsDrivenOnce}
+use Rattle.net_names.specs.Driven.{AreAligned, drives, name_count, IsDrivenOnce}
 use Rattle.net_names.proofs.Once.{driven-once}
 use Rattle.net_names.proofs.Brought.{all-brought, as-many, in-order}
 use Rattle.net_names.proofs.Sound.{is-net, is-table, netlist-of-names, size-of-drivers}
@@ -61,7 +61,7 @@ module _ (nets : List Name) (c : Circuit) (size : length c.drivers ≡ length ne
 
 -- tables and latches stand beside the nets that they drive
 beside : (nets : List Name) (some : List Step)
-    → AreBeside nets (flat_map (λ s. table_net s.act) some) (flat_map (λ s. latch_net s.act) some) (filter_map (λ s. table_of nets s.act) some) (filter_map (λ s. latch_of nets s.act) some)
+    → AreAligned nets (flat_map (λ s. table_net s.act) some) (flat_map (λ s. latch_net s.act) some) (filter_map (λ s. table_of nets s.act) some) (filter_map (λ s. latch_of nets s.act) some)
 beside nets some = record {
   counted = as-many (λ (s : Step). table_of nets s.act) (λ (s : Step). table_net s.act) (λ s. table_at s.act) some;
   ordered = in-order (λ (latch : Latch). latch.to) (net_id nets) (λ (s : Step). latch_of nets s.act) (λ (s : Step). latch_net s.act) (λ s. latch_at s.act) some;
@@ -93,7 +93,7 @@ module _ (steps : List Step) (once : two_drivers steps ≡ None) (driven : undri
   abbrev drive_names : List Name
   drive_names = map (λ (v : Visit). v.name) (drives_of steps)
 
-  drive_count : (name : Name) → times name drive_names ≡ drives ins tabs lats name
+  drive_count : (name : Name) → name_count name drive_names ≡ drives ins tabs lats name
   unfolding drives_of input_names_of table_names_of latch_names_of
   drive_count name = times-drives name steps steps
 

@@ -96,18 +96,18 @@ row_fault before tokens = option_map_or
 -- ---- the least kind
 
 -- the kind of a line inside a model, the width of its tokens aside
-abbrev pub own_fault : List Said → Statement → Option NetlistKind
-own_fault before (wrong kind) = Some kind
-own_fault before (row tokens) = row_fault before tokens
-own_fault before (table ins out) = given (nat_lt 1024 (length ins)) TooWide
-own_fault before _ = None
+abbrev pub own_line_kind : List Said → Statement → Option NetlistKind
+own_line_kind before (wrong kind) = Some kind
+own_line_kind before (row tokens) = row_fault before tokens
+own_line_kind before (table ins out) = given (nat_lt 1024 (length ins)) TooWide
+own_line_kind before _ = None
 
 -- a `.model` line and a line that is read past may stand anywhere, and any other stands inside a model
 abbrev pub place_fault : List Said → Statement → Option NetlistKind
 place_fault before passed = None
 place_fault before (model name) = None
 place_fault before unnamed = Some BadToken
-place_fault before says = if is_inside before then own_fault before says else Some NoModel
+place_fault before says = if is_inside before then own_line_kind before says else Some NoModel
 
 -- the least kind of a line: the width of its tokens comes last
 unfoldable pub kind_of : List Said → Said → Option NetlistKind

@@ -77,19 +77,19 @@ at_model models name value default = option_map_or value (model_named models nam
 -- ---- formals
 
 -- the names that each instance binds
-abbrev pub input_names : Statement → List Name
-input_names (inputs names) = names
-input_names (clock names) = names
-input_names _ = []
+abbrev pub formal_names : Statement → List Name
+formal_names (inputs names) = names
+formal_names (clock names) = names
+formal_names _ = []
 
 -- those that it may bind
 abbrev pub port_names : Statement → List Name
 port_names (outputs names) = names
-port_names says = input_names says
+port_names says = formal_names says
 
 -- the formal inputs of a model
 unfoldable pub formal_inputs : Model → List Name
-formal_inputs m = flat_map (λ item. input_names item.says) m.items
+formal_inputs m = flat_map (λ item. formal_names item.says) m.items
 
 -- the formals of a model
 unfoldable pub formals : Model → List Name

@@ -27,7 +27,7 @@ use Rattle.blif_says.specs.declared.models.ModelLines.{ModelLines}
 use Rattle.blif_says.specs.Grouped.{model_of, models_seen}
 use Rattle.blif_nest.specs.declared.lines.Nesting.TheVariants as nestings
 use Rattle.blif_ports.specs.Lines.{first_among}
-use Rattle.blif_nest.specs.Marks.{instance_fault, kind_of}
+use Rattle.blif_nest.specs.Marks.{nesting_fault, nesting_kind}
 use Rattle.fm_base.proofs.Options.{none_both}
 use Rattle.circuit.proofs.Passing.{any_at}
 
@@ -280,10 +280,10 @@ module _ (models : List Model) (callees : List (Vec ℕ Global)) (all : AllCalle
           ap (λ b. option_or (given b (v x)) (first_where (λ y. given (f y) (v y)) xs)) (same 0 x refl)
           ∙ ap (option_or (given (g x) (v x))) (alike f g v xs (λ q y e. same (suc q) y e))
 
-      pub ring_lines : first_among (instance_fault models (λ y. slice_index numbers (position_or_len (λ (z : Model). bytes_eq z.name y.name) models) == slice_index numbers i) nestings.Recursive) m.items
-          ≡ first_among (instance_fault models (reaches models (length models) m.name) nestings.Recursive) m.items
+      pub ring_lines : first_among (nesting_fault models (λ y. slice_index numbers (position_or_len (λ (z : Model). bytes_eq z.name y.name) models) == slice_index numbers i) nestings.Recursive) m.items
+          ≡ first_among (nesting_fault models (reaches models (length models) m.name) nestings.Recursive) m.items
       unfolding instances
-      ring_lines = alike (λ (j : Instance). at_model models j.name (has_number own) false) (λ (j : Instance). at_model models j.name back false) (λ (j : Instance). at_line j.line (kind_of nestings.Recursive)) (instances m) one_test
+      ring_lines = alike (λ (j : Instance). at_model models j.name (has_number own) false) (λ (j : Instance). at_model models j.name back false) (λ (j : Instance). at_line j.line (nesting_kind nestings.Recursive)) (instances m) one_test
 
     pub numbers_marked : (n : ℕ) → map (λ k. k == n) numbers ≡ map (λ y. slice_index numbers (position_or_len (λ (z : Model). bytes_eq z.name y.name) models) == n) models
     numbers_marked n =
@@ -314,35 +314,35 @@ module _ (models : List Model) where
 
   -- the first fault of a model's lines
   abbrev pub holder_fault : Model → Option NetlistFault
-  holder_fault m = first_among (instance_fault models (reaches models (length models) m.name) nestings.Recursive) m.items
+  holder_fault m = first_among (nesting_fault models (reaches models (length models) m.name) nestings.Recursive) m.items
 
   pub recursive_by : recursive models ≡ first_where holder_fault models
   unfolding recursive instances
   recursive_by = refl
 
   pub off_ring_none : (m : Model) → list_any (λ (i : Instance). at_model models i.name (reaches models (length models) m.name) false) (instances m) ≡ false
-      → None ≡ first_among (instance_fault models (reaches models (length models) m.name) nestings.Recursive) m.items
+      → None ≡ first_among (nesting_fault models (reaches models (length models) m.name) nestings.Recursive) m.items
   unfolding instances
   off_ring_none m e =
-      sym (none_first (λ (i : Instance). at_model models i.name (reaches models (length models) m.name) false) (λ (i : Instance). at_line i.line (kind_of nestings.Recursive)) (instances m) e)
+      sym (none_first (λ (i : Instance). at_model models i.name (reaches models (length models) m.name) false) (λ (i : Instance). at_line i.line (nesting_kind nestings.Recursive)) (instances m) e)
 
   module _ (lines : List ModelLines) (seen : models_seen lines ≡ models) where
     pub ring_first : first_where holder_fault (models_seen (drop 0 lines)) ≡ recursive models
     ring_first = ap (first_where holder_fault) seen ∙ sym recursive_by
 
   -- the main model
-  pub deep_some : (m : Model) → Some m ≡ slice_get models 0 → first_among (instance_fault models (has_nest models 32) nestings.TooDeep) m.items ≡ too_deep models
+  pub deep_some : (m : Model) → Some m ≡ slice_get models 0 → first_among (nesting_fault models (has_nest models 32) nestings.TooDeep) m.items ≡ too_deep models
   unfolding too_deep instances
   deep_some m e = main_is models e
     where
-      main_is : (ms : List Model) → Some m ≡ slice_get ms 0 → first_among (instance_fault models (has_nest models 32) nestings.TooDeep) m.items ≡ first_among (instance_fault models (has_nest models 32) nestings.TooDeep) (main_of ms).items
+      main_is : (ms : List Model) → Some m ≡ slice_get ms 0 → first_among (nesting_fault models (has_nest models 32) nestings.TooDeep) m.items ≡ first_among (nesting_fault models (has_nest models 32) nestings.TooDeep) (main_of ms).items
       main_is [] e = cc
-      main_is (n ∷ ms) e = let same : m ≡ n = cc in ap (λ (k : Model). first_among (instance_fault models (has_nest models 32) nestings.TooDeep) k.items) same
+      main_is (n ∷ ms) e = let same : m ≡ n = cc in ap (λ (k : Model). first_among (nesting_fault models (has_nest models 32) nestings.TooDeep) k.items) same
 
   pub deep_none : None ≡ slice_get models 0 → None ≡ too_deep models
   unfolding too_deep instances first_where
   deep_none e = main_is models e
     where
-      main_is : (ms : List Model) → None ≡ slice_get ms 0 → None ≡ first_among (instance_fault models (has_nest models 32) nestings.TooDeep) (main_of ms).items
+      main_is : (ms : List Model) → None ≡ slice_get ms 0 → None ≡ first_among (nesting_fault models (has_nest models 32) nestings.TooDeep) (main_of ms).items
       main_is [] e = refl
       main_is (n ∷ ms) e = cc

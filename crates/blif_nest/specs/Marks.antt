@@ -20,10 +20,10 @@ abbrev pub marks_after : List Bool → List Bool → List (Vec ℕ Global) → L
 marks_after before own callees = map (λ p. mark_after before p.0 p.1.items) (zip own callees)
 
 -- the kind of refusal
-abbrev pub kind_of : Nesting → NetlistKind
-kind_of Recursive = kinds.Recursive
-kind_of TooDeep = kinds.TooDeep
+abbrev pub nesting_kind : Nesting → NetlistKind
+nesting_kind Recursive = kinds.Recursive
+nesting_kind TooDeep = kinds.TooDeep
 
 -- the fault of a `.subckt` line whose model passes a test
-abbrev pub instance_fault : List Model → (Model → Bool) → Nesting → Instance → Option NetlistFault
-instance_fault models test nesting i = given (at_model models i.name test false) (at_line i.line (kind_of nesting))
+abbrev pub nesting_fault : List Model → (Model → Bool) → Nesting → Instance → Option NetlistFault
+nesting_fault models test nesting i = given (at_model models i.name test false) (at_line i.line (nesting_kind nesting))

@@ -7,7 +7,7 @@ ghost use Rattle.blif_counts.specs.Callees.{AllCallees};
 ghost use Rattle.blif_says.specs.Grouped.{model_of};
 ghost use Rattle.blif_ports.specs.Lines.{first_among};
 ghost use Rattle.components.specs.Graph.{AreComponents, AreEdges};
-ghost use Rattle.blif_nest.specs.Marks.{instance_fault};
+ghost use Rattle.blif_nest.specs.Marks.{nesting_fault};
 ghost use Rattle.blif_nest.specs.declared.lines.Nesting.TheVariants as nestings;
 
 use crate::lines::{Nesting, first_fault};
@@ -34,7 +34,7 @@ fn ring_fault(
     requires numbers { AreComponents callees.now numbers.now }
     requires apart { two_models models.now ≡ None }
     requires here { slice_get models.now place ≡ Some (model_of model.now) }
-    ensures { IfOk result (λ o. o ≡ first_among (instance_fault models.now (reaches models.now (length models.now) (model_of model.now).name) nestings.Recursive) (model_of model.now).items) }
+    ensures { IfOk result (λ o. o ≡ first_among (nesting_fault models.now (reaches models.now (length models.now) (model_of model.now).name) nestings.Recursive) (model_of model.now).items) }
 {
     if !is_on_ring(callees, numbers, place) {
         return Ok(None);

@@ -6,8 +6,8 @@ ghost use Rattle.blif_model.specs.LineFault.{at_line};
 ghost use Rattle.blif_model.specs.Models.{Model, at_model, items_of};
 ghost use Rattle.blif_model.specs.Statement.{statement_of, texts};
 ghost use Rattle.blif_says.specs.Grouped.{all_said};
-ghost use Rattle.blif_ports.specs.Lines.{answer_of, first_among};
-ghost use Rattle.blif_nest.specs.Marks.{instance_fault, kind_of};
+ghost use Rattle.blif_ports.specs.Lines.{instance_answer, first_among};
+ghost use Rattle.blif_nest.specs.Marks.{nesting_fault, nesting_kind};
 
 use blif_says::says::Says;
 use blif_says::statement::line_says;
@@ -26,7 +26,7 @@ pub enum Nesting {
 
 /// The fault at a line, where there is one.
 fn fault_if(faulty: bool, line: u32, nesting: Nesting) -> Option<NetlistFault>
-    ensures { result ≡ given faulty (at_line line (kind_of nesting)) }
+    ensures { result ≡ given faulty (at_line line (nesting_kind nesting)) }
 {
     if !faulty {
         return None;
@@ -60,7 +60,7 @@ fn line_fault(
     nesting: Nesting,
     line: &TextLine<'_>,
 ) -> Option<NetlistFault>
-    ensures { (test : Model → Bool) → marks.now ≡ map test models.now → result ≡ answer_of (instance_fault models.now test nesting) (line_of line.now).number (statement_of (texts (line_of line.now))) }
+    ensures { (test : Model → Bool) → marks.now ≡ map test models.now → result ≡ instance_answer (nesting_fault models.now test nesting) (line_of line.now).number (statement_of (texts (line_of line.now))) }
 {
     match line_says(line) {
         Says::Instance { name, .. } => {
@@ -77,7 +77,7 @@ pub fn first_fault(
     nesting: Nesting,
     lines: &[TextLine<'_>],
 ) -> Option<NetlistFault>
-    ensures { (test : Model → Bool) → marks.now ≡ map test models.now → result ≡ first_among (instance_fault models.now test nesting) (items_of (all_said lines.now)) }
+    ensures { (test : Model → Bool) → marks.now ≡ map test models.now → result ≡ first_among (nesting_fault models.now test nesting) (items_of (all_said lines.now)) }
 {
     for line in lines {
         if let Some(fault) = line_fault(models, marks, nesting, line) {

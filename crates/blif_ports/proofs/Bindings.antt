@@ -23,7 +23,7 @@ use Rattle.blif_model.specs.Statement.{Binding, binding_of}
 use Rattle.blif_ports.specs.declared.links.Link.TheVariants.{UnknownModel, BadFormal, Unbound}
 use Rattle.blif_ports.specs.declared.ports.BoundNames.{BoundNames}
 use Rattle.blif_ports.specs.declared.ports.Ports.{Ports}
-use Rattle.blif_ports.specs.Links.{formals_of, has_fault, instance_fault, link_fault}
+use Rattle.blif_ports.specs.Links.{formals_of, has_fault, fault_by_link, link_fault}
 use Rattle.blif_ports.specs.Ports.{bound_in, ports_in, with_bound}
 use Rattle.blif_ports.proofs.SecondNames.{added_found}
 use Rattle.std.proofs.Math.Bool.{or-false, or_assoc}
@@ -110,7 +110,7 @@ bound_step tokens i x old new formal h is f e g =
 
 -- ---- the faults of a file
 
-pub link_by : (link : Link) (models : List Model) → first_where (λ m. first_among (instance_fault link models) m.items) models ≡ link_fault link models
+pub link_by : (link : Link) (models : List Model) → first_where (λ m. first_among (fault_by_link link models) m.items) models ≡ link_fault link models
 unfolding unknown_model bad_formal unbound instances
 link_by UnknownModel models = refl
 link_by BadFormal models = refl

@@ -11,7 +11,7 @@ use Rattle.blif_model.specs.Statement.{Statement, instance, statement_of, texts}
 use Rattle.blif_says.specs.declared.models.ModelLines.{ModelLines}
 use Rattle.blif_says.specs.Grouped.{all_said, model_of, models_seen}
 use Rattle.blif_walk.proofs.Items.{drop_item}
-use Rattle.blif_ports.specs.Lines.{answer_of, first_among}
+use Rattle.blif_ports.specs.Lines.{instance_answer, first_among}
 use Rattle.std.proofs.lemmas.List.{drop_all}
 
 -- ---- the lines of a model
@@ -22,18 +22,18 @@ module _ {Y : Type 0} (answer : Instance → Option Y) where
   first_in lines = first_among answer (items_of (all_said lines))
 
   one_item : (number : ℕ) (says : Statement) (rows : List (List Name)) (items : List Item)
-      → first_among answer (record { line = number; says = says; rows = rows } ∷ items) ≡ option_or (answer_of answer number says) (first_among answer items)
+      → first_among answer (record { line = number; says = says; rows = rows } ∷ items) ≡ option_or (instance_answer answer number says) (first_among answer items)
   unfolding first_where
   one_item number (instance name bindings) rows items = refl
   one_item number says rows items = refl
 
   -- the answer of a line comes before those of the lines behind it
-  line_more : (line : TextLine) (lines : List TextLine) → first_in (line ∷ lines) ≡ option_or (answer_of answer (line_of line).number (statement_of (texts (line_of line)))) (first_in lines)
+  line_more : (line : TextLine) (lines : List TextLine) → first_in (line ∷ lines) ≡ option_or (instance_answer answer (line_of line).number (statement_of (texts (line_of line)))) (first_in lines)
   unfolding items_of
   line_more line lines = one_item (line_of line).number (statement_of (texts (line_of line))) (rows_below (all_said lines)) (items_of (all_said lines))
 
   pub line_step : (lines : List TextLine) (i : ℕ) (x : TextLine) (found : Option Y) → i < length lines → x ≡ get_or lines i x
-      → found ≡ answer_of answer (line_of x).number (statement_of (texts (line_of x)))
+      → found ≡ instance_answer answer (line_of x).number (statement_of (texts (line_of x)))
       → first_in (drop i lines) ≡ option_or found (first_in (drop (i + 1) lines))
   line_step lines i x found h is e =
       ap first_in (drop_item lines i x h is) ∙ line_more x (drop (i + 1) lines) ∙ ap (λ (o : Option Y). option_or o (first_in (drop (i + 1) lines))) (sym e)

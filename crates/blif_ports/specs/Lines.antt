@@ -6,8 +6,8 @@ use Rattle.blif_model.specs.Models.{Item, Instance, instance_from}
 use Rattle.blif_model.specs.Statement.{Statement}
 
 -- the answer of a line: any line but a `.subckt` line gives none
-abbrev pub answer_of : {Y : Type 0} → (Instance → Option Y) → ℕ → Statement → Option Y
-answer_of answer number says = option_map_or answer (instance_from number says) None
+abbrev pub instance_answer : {Y : Type 0} → (Instance → Option Y) → ℕ → Statement → Option Y
+instance_answer answer number says = option_map_or answer (instance_from number says) None
 
 -- the first answer among items
 abbrev pub first_among : {Y : Type 0} → (Instance → Option Y) → List Item → Option Y

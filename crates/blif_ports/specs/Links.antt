@@ -13,10 +13,10 @@ use Rattle.blif_ports.specs.declared.links.Link.{Link}
 use Rattle.blif_ports.specs.declared.links.Link.TheVariants.{UnknownModel, BadFormal, Unbound}
 
 -- the kind of refusal
-abbrev pub kind_of : Link → NetlistKind
-kind_of UnknownModel = kinds.UnknownModel
-kind_of BadFormal = kinds.BadFormal
-kind_of Unbound = kinds.Unbound
+abbrev pub link_kind : Link → NetlistKind
+link_kind UnknownModel = kinds.UnknownModel
+link_kind BadFormal = kinds.BadFormal
+link_kind Unbound = kinds.Unbound
 
 -- the formals of bindings
 abbrev pub formals_of : List Binding → List Name
@@ -30,8 +30,8 @@ has_fault BadFormal models name bindings =
 has_fault Unbound models name bindings = at_model models name (λ inner. has_other (formal_inputs inner) (formals_of bindings)) false
 
 -- the fault of a line
-abbrev pub instance_fault : Link → List Model → Instance → Option NetlistFault
-instance_fault link models i = given (has_fault link models i.name i.bindings) (at_line i.line (kind_of link))
+abbrev pub fault_by_link : Link → List Model → Instance → Option NetlistFault
+fault_by_link link models i = given (has_fault link models i.name i.bindings) (at_line i.line (link_kind link))
 
 -- the fault of the first faulty line of a file
 abbrev pub link_fault : Link → List Model → Option NetlistFault

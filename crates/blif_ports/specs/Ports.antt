@@ -2,7 +2,7 @@
 use Rattle.std.specs.Prelude.{false, ◌||◌, List, [], flat_map, fold}
 use Rattle.fm_base.specs.Names.{Name, is_one_of}
 use Rattle.name_index.specs.Index.{with_name}
-use Rattle.blif_model.specs.Models.{Item, input_names, port_names}
+use Rattle.blif_model.specs.Models.{Item, formal_names, port_names}
 use Rattle.blif_ports.specs.declared.ports.BoundNames.{BoundNames}
 use Rattle.blif_ports.specs.declared.ports.Ports.{Ports}
 
@@ -10,7 +10,7 @@ use Rattle.blif_ports.specs.declared.ports.Ports.{Ports}
 abbrev pub ports_in : List Item → Ports
 ports_in items = record {
   formals = fold with_name [] (flat_map (λ item. port_names item.says) items);
-  inputs = fold with_name [] (flat_map (λ item. input_names item.says) items);
+  inputs = fold with_name [] (flat_map (λ item. formal_names item.says) items);
 }
 
 -- one more formal is bound

@@ -12,8 +12,8 @@ ghost use Rattle.blif_model.specs.Statement.{statement_of, texts};
 ghost use Rattle.blif_says.specs.Grouped.{all_said};
 ghost use Rattle.blif_says.specs.Meant.{bindings_of};
 ghost use Rattle.blif_says.specs.Tokens.{texts_of};
-ghost use Rattle.blif_ports.specs.Lines.{answer_of, first_among};
-ghost use Rattle.blif_ports.specs.Links.{has_fault, instance_fault, kind_of, link_fault};
+ghost use Rattle.blif_ports.specs.Lines.{instance_answer, first_among};
+ghost use Rattle.blif_ports.specs.Links.{has_fault, fault_by_link, link_kind, link_fault};
 ghost use Rattle.blif_ports.specs.Ports.{ports_in};
 
 use crate::names::NameSet;
@@ -39,7 +39,7 @@ pub enum Link {
 
 /// The fault at a line, where there is one.
 fn fault_if(faulty: bool, line: u32, link: Link) -> Option<NetlistFault>
-    ensures { result ≡ given faulty (at_line line (kind_of link)) }
+    ensures { result ≡ given faulty (at_line line (link_kind link)) }
 {
     if !faulty {
         return None;
@@ -144,7 +144,7 @@ fn line_fault(
     line: &TextLine<'_>,
 ) -> Result<Option<NetlistFault>, AllocError>
     requires { ports.now ≡ map (λ m. ports_in m.items) models.now }
-    ensures { IfOk result (λ o. o ≡ answer_of (instance_fault link models.now) (line_of line.now).number (statement_of (texts (line_of line.now)))) }
+    ensures { IfOk result (λ o. o ≡ instance_answer (fault_by_link link models.now) (line_of line.now).number (statement_of (texts (line_of line.now)))) }
 {
     match line_says(line) {
         Says::Instance { name, bindings } => {
@@ -164,7 +164,7 @@ fn first_in_model(
     lines: &[TextLine<'_>],
 ) -> Result<Option<NetlistFault>, AllocError>
     requires { ports.now ≡ map (λ m. ports_in m.items) models.now }
-    ensures { IfOk result (λ o. o ≡ first_among (instance_fault link models.now) (items_of (all_said lines.now))) }
+    ensures { IfOk result (λ o. o ≡ first_among (fault_by_link link models.now) (items_of (all_said lines.now))) }
 {
     for line in lines {
         if let Some(fault) = line_fault(alloc, link, models, ports, line)? {

@@ -1,7 +1,7 @@
 // The formals of models, and the formals that lines bind.
 ghost use Rattle.std.specs.Prelude.{◌≡◌, IfOk, OnOk, fold, map};
 ghost use Rattle.name_index.specs.Index.{with_name};
-ghost use Rattle.blif_model.specs.Models.{input_names, items_of, port_names};
+ghost use Rattle.blif_model.specs.Models.{formal_names, items_of, port_names};
 ghost use Rattle.blif_says.specs.Grouped.{all_said};
 ghost use Rattle.blif_says.specs.Meant.{bindings_of, meant};
 ghost use Rattle.blif_says.specs.Tokens.{texts_of};
@@ -43,7 +43,7 @@ fn add_inputs<'a>(ports: &mut Ports<'a>, names: &[Token<'a>]) -> Result<(), Allo
 /// The formals that a line brings.
 fn add_line<'a>(ports: &mut Ports<'a>, says: Says<'_, 'a>) -> Result<(), AllocError>
     ensures formals { OnOk result (ports.new.formals ≡ fold with_name ports.old.formals (port_names (meant says.entry))) }
-    ensures inputs { OnOk result (ports.new.inputs ≡ fold with_name ports.old.inputs (input_names (meant says.entry))) }
+    ensures inputs { OnOk result (ports.new.inputs ≡ fold with_name ports.old.inputs (formal_names (meant says.entry))) }
 {
     match says {
         Says::Inputs(names) => add_inputs(ports, names),

@@ -16,13 +16,13 @@ use Rattle.blif_model.specs.Walk.{Step, nets_of}
 use Rattle.blif_model.specs.Net.{table_of, latch_of, input_names_of, table_names_of, latch_names_of, output_names_of, drivers_of, circuit_of}
 use Rattle.blif_model.proofs.Sound.{walk-driven}
 use Rattle.blif_reader.specs.Parts.{net_parts}
-use Rattle.blif_reader.specs.Ready.{IsReady}
+use Rattle.blif_reader.specs.Ready.{IsWalkOfNetlist}
 use Rattle.blif_reader.specs.declared.parts.NetParts.{NetParts}
 
 abbrev circuit_by : List Name → List Driver → List Table → List Latch → List NetId → List NetId → Circuit
 circuit_by names drivers tables latches inputs outputs = record { names = names; drivers = drivers; tables = tables; latches = latches; inputs = inputs; outputs = outputs }
 
-module _ (steps : List Step) (ready : IsReady steps) where
+module _ (steps : List Step) (ready : IsWalkOfNetlist steps) where
   -- the drivers that are put are those of the netlist
   drivers_made : drivers_by (map (net_id (nets_of steps)) (input_names_of steps)) (map (net_id (nets_of steps)) (table_names_of steps)) (map (net_id (nets_of steps)) (latch_names_of steps)) (length (nets_of steps))
       ≡ map (driver_of (drivers_of steps)) (nets_of steps)

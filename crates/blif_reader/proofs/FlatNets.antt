@@ -13,7 +13,7 @@ use Rattle.blif_model.specs.Walk.{Act, takes, gives, clocks, visits, flat_table,
 use Rattle.blif_model.specs.WalkFault.{control_of}
 use Rattle.blif_model.proofs.Drivers.{names_at-names}
 use Rattle.blif_walk.proofs.Marking.{names_apart}
-use Rattle.blif_walk.specs.Flat.{names_of}
+use Rattle.blif_walk.specs.Flat.{all_names}
 use Rattle.blif_walk.specs.Sorts.{names_by}
 use Rattle.blif_walk.specs.declared.sorts.Sort.TheVariants.{Clock}
 
@@ -124,8 +124,8 @@ module _ (steps : List Step) where
       later false b e = e
 
   -- the nets are the names without the clock names
-  pub nets-named : nets_of steps ≡ unclocked steps (names_of steps)
-  unfolding nets_of names_of clock_names
+  pub nets-named : nets_of steps ≡ unclocked steps (all_names steps)
+  unfolding nets_of all_names clock_names
   nets-named =
       ap (λ (names : List Name). unclocked steps (distinct names)) (visited_all steps)
       ∙ filter-distinct is_net (visited_in steps)
@@ -134,17 +134,17 @@ module _ (steps : List Step) where
 
   -- a clock name is no net
   pub clock-out : (q : Name) → is_clock steps q ≡ true → is_one_of (nets_of steps) q ≡ false
-  clock-out q e = ap (λ (names : List Name). is_one_of names q) nets-named ∙ filter-found is_net (names_of steps) q ∙ ap (λ b. not b && is_one_of (names_of steps) q) e
+  clock-out q e = ap (λ (names : List Name). is_one_of names q) nets-named ∙ filter-found is_net (all_names steps) q ∙ ap (λ b. not b && is_one_of (all_names steps) q) e
 
   -- the names are no more than the nets and the clock names
-  pub few_names : length (names_of steps) ≤ length (nets_of steps) + length (clock_names steps)
+  pub few_names : length (all_names steps) ≤ length (nets_of steps) + length (clock_names steps)
   few_names =
-      let both : length (filter (is_clock steps) (names_of steps)) + length (filter is_net (names_of steps)) ≡ length (names_of steps) =
-      length-filter_both (is_clock steps) is_net (λ q. refl) (names_of steps) in
-      let nets : length (nets_of steps) ≡ length (filter is_net (names_of steps)) = ap (λ (names : List Name). length names) nets-named in
-      let few : length (filter (is_clock steps) (names_of steps)) ≤ length (clock_names steps) =
-      no_more (filter (is_clock steps) (names_of steps)) (clock_names steps) (no_repeat_where (is_clock steps) (names_of steps) (names_apart steps))
-      (λ q h. first (is_clock steps q) (is_one_of (names_of steps) q) (sym (filter-found (is_clock steps) (names_of steps) q) ∙ h)) in
+      let both : length (filter (is_clock steps) (all_names steps)) + length (filter is_net (all_names steps)) ≡ length (all_names steps) =
+      length-filter_both (is_clock steps) is_net (λ q. refl) (all_names steps) in
+      let nets : length (nets_of steps) ≡ length (filter is_net (all_names steps)) = ap (λ (names : List Name). length names) nets-named in
+      let few : length (filter (is_clock steps) (all_names steps)) ≤ length (clock_names steps) =
+      no_more (filter (is_clock steps) (all_names steps)) (clock_names steps) (no_repeat_where (is_clock steps) (all_names steps) (names_apart steps))
+      (λ q h. first (is_clock steps q) (is_one_of (all_names steps) q) (sym (filter-found (is_clock steps) (all_names steps) q) ∙ h)) in
       omega arith
     where
       first : (a b : Bool) → (a && b) ≡ true → a ≡ true
@@ -152,6 +152,6 @@ module _ (steps : List Step) where
       first false b e = e
 
   -- the marks of clock names
-  pub clock_marks : (marks : List Bool) → marks ≡ map (is_one_of (names_by Clock steps)) (names_of steps) → marks ≡ map (is_clock steps) (names_of steps)
+  pub clock_marks : (marks : List Bool) → marks ≡ map (is_one_of (names_by Clock steps)) (all_names steps) → marks ≡ map (is_clock steps) (all_names steps)
   unfolding names_by clock_names
   clock_marks marks are = are

@@ -13,7 +13,7 @@ use Rattle.net_names.specs.Nets.{net_id}
 use Rattle.net_names.proofs.Times.{place, place-at}
 use Rattle.blif_model.specs.Walk.{Step, is_clock, nets_of, unclocked}
 use Rattle.blif_model.proofs.Nets.{nets-apart}
-use Rattle.blif_walk.specs.Flat.{names_of}
+use Rattle.blif_walk.specs.Flat.{all_names}
 use Rattle.blif_reader.proofs.FlatNets.{nets-named, clock-out}
 
 -- the numbers that these marks give, where a net has the number `next`, and a clock name that behind the last
@@ -83,16 +83,16 @@ count_marks clock names = counted names ∙ sym (length-filter (λ n. not (clock
     counted : (xs : List Name) → count_by not (map clock xs) ≡ count_by (λ n. not (clock n)) xs
     counted xs = is_count_by (λ ys. count_by not (map clock ys)) (λ n. not (clock n)) refl (λ y ys. one_more (clock y) (map clock ys)) xs
 
-module _ (steps : List Step) (marks : List Bool) (are : marks ≡ map (is_clock steps) (names_of steps)) where
+module _ (steps : List Step) (marks : List Bool) (are : marks ≡ map (is_clock steps) (all_names steps)) where
   -- as many marks are no clock marks as there are nets
   pub nets-counted : count_by not marks ≡ length (nets_of steps)
-  nets-counted = ap (count_by not) are ∙ count_marks (is_clock steps) (names_of steps) ∙ ap (λ (names : List Name). length names) (sym (nets-named steps))
+  nets-counted = ap (count_by not) are ∙ count_marks (is_clock steps) (all_names steps) ∙ ap (λ (names : List Name). length names) (sym (nets-named steps))
 
   -- the numbers by the marks are those of the nets
-  pub nets-numbered : numbers_from 0 (length (nets_of steps)) marks ≡ map (net_id (nets_of steps)) (names_of steps)
+  pub nets-numbered : numbers_from 0 (length (nets_of steps)) marks ≡ map (net_id (nets_of steps)) (all_names steps)
   nets-numbered =
       ap (numbers_from 0 (length (nets_of steps))) are
-      ∙ sym (numbers (is_clock steps) (nets_of steps) (nets-apart steps) (clock-out steps) (names_of steps) [] 0 (nets-named steps) refl)
+      ∙ sym (numbers (is_clock steps) (nets_of steps) (nets-apart steps) (clock-out steps) (all_names steps) [] 0 (nets-named steps) refl)
 
 -- the value of a name, by its number
 pub by_number : {Y : Type 0} (f : Name → Y) (names : List Name) (ys : List Y) (k : ℕ) (y : Y) → ys ≡ map f names → k < length ys → y ≡ get_or ys k y → y ≡ f (slice_index_or names k [])
@@ -101,14 +101,14 @@ by_number {Y} f names ys k y e h is =
     is ∙ ap (λ (zs : List Y). get_or zs k y) e ∙ get_or-map f names k [] y (omega arith)
 
 -- the name of one more net
-pub net_step : (steps : List Step) (marks : List Bool) → marks ≡ map (is_clock steps) (names_of steps) → (k : ℕ) → k < length marks → (b : Bool) (nets new : List Name) → b ≡ get_or marks k false
-    → new ≡ cond b nets (nets ++ slice_index_or (names_of steps) k [] ∷ []) → nets ≡ unclocked steps (take k (names_of steps)) → new ≡ unclocked steps (take (k + 1) (names_of steps))
+pub net_step : (steps : List Step) (marks : List Bool) → marks ≡ map (is_clock steps) (all_names steps) → (k : ℕ) → k < length marks → (b : Bool) (nets new : List Name) → b ≡ get_or marks k false
+    → new ≡ cond b nets (nets ++ slice_index_or (all_names steps) k [] ∷ []) → nets ≡ unclocked steps (take k (all_names steps)) → new ≡ unclocked steps (take (k + 1) (all_names steps))
 net_step steps marks are k h b nets new is e inv =
-    let size : length marks ≡ length (names_of steps) = ap (λ (bs : List Bool). length bs) are ∙ length-map (names_of steps) (is_clock steps) in
-    let at : k < length (names_of steps) = omega arith in
-    let mark : b ≡ is_clock steps (get_or (names_of steps) k []) = is ∙ ap (λ (bs : List Bool). get_or bs k false) are ∙ get_or-map (is_clock steps) (names_of steps) k [] false at in
-    e ∙ by_cases b (get_or (names_of steps) k []) (sym mark) inv ∙ sym (filter_more (λ n. not (is_clock steps n)) (names_of steps) k [] at)
+    let size : length marks ≡ length (all_names steps) = ap (λ (bs : List Bool). length bs) are ∙ length-map (all_names steps) (is_clock steps) in
+    let at : k < length (all_names steps) = omega arith in
+    let mark : b ≡ is_clock steps (get_or (all_names steps) k []) = is ∙ ap (λ (bs : List Bool). get_or bs k false) are ∙ get_or-map (is_clock steps) (all_names steps) k [] false at in
+    e ∙ by_cases b (get_or (all_names steps) k []) (sym mark) inv ∙ sym (filter_more (λ n. not (is_clock steps n)) (all_names steps) k [] at)
   where
-    by_cases : (c : Bool) (name : Name) → is_clock steps name ≡ c → nets ≡ unclocked steps (take k (names_of steps)) → cond c nets (nets ++ name ∷ []) ≡ unclocked steps (take k (names_of steps)) ++ cond (not (is_clock steps name)) (name ∷ []) []
-    by_cases true name f inv = rw f (inv ∙ sym (append-nil (unclocked steps (take k (names_of steps)))))
+    by_cases : (c : Bool) (name : Name) → is_clock steps name ≡ c → nets ≡ unclocked steps (take k (all_names steps)) → cond c nets (nets ++ name ∷ []) ≡ unclocked steps (take k (all_names steps)) ++ cond (not (is_clock steps name)) (name ∷ []) []
+    by_cases true name f inv = rw f (inv ∙ sym (append-nil (unclocked steps (take k (all_names steps)))))
     by_cases false name f inv = rw f (ap (λ (front : List Name). front ++ name ∷ []) inv)

@@ -11,7 +11,7 @@ use Rattle.net_names.proofs.Times.{one_of_both}
 use Rattle.fm_list.specs.declared.Seq.{Seq}
 use Rattle.blif_model.specs.Net.{output_names_of}
 use Rattle.blif_model.specs.Walk.{Step, nets_of, outputs_at}
-use Rattle.blif_walk.specs.Flat.{act_by, name_at, names_of, step_by, steps_by}
+use Rattle.blif_walk.specs.Flat.{act_by, name_at, all_names, step_by, steps_by}
 use Rattle.blif_walk.specs.declared.flat.NumberedAct.{NumberedAct}
 use Rattle.blif_walk.specs.declared.flat.NumberedAct.TheVariants as numbered
 use Rattle.blif_walk.specs.declared.flat.NumberedStep.{NumberedStep}
@@ -38,20 +38,20 @@ marked_itself done x = one_of_both done (x ∷ []) x ∙ rw (is_same x) (whole (
 
 -- ---- outputs
 
-module _ (steps : List Step) (done : List Name) (seen : List Bool) (are : seen ≡ map (is_one_of done) (names_of steps)) (k : ℕ) (within : k < length seen) where
+module _ (steps : List Step) (done : List Name) (seen : List Bool) (are : seen ≡ map (is_one_of done) (all_names steps)) (k : ℕ) (within : k < length seen) where
   abbrev name : Name
-  name = slice_index_or (names_of steps) k []
+  name = slice_index_or (all_names steps) k []
 
-  fits : k < length (names_of steps)
-  fits = let size : length seen ≡ length (names_of steps) = ap (λ (bs : List Bool). length bs) are ∙ length-map (names_of steps) (is_one_of done) in omega arith
+  fits : k < length (all_names steps)
+  fits = let size : length seen ≡ length (all_names steps) = ap (λ (bs : List Bool). length bs) are ∙ length-map (all_names steps) (is_one_of done) in omega arith
 
   -- the mark of a name says whether it was seen
   mark_says : (b : Bool) → b ≡ get_or seen k b → b ≡ is_one_of done name
-  mark_says b is = by_number (is_one_of done) (names_of steps) seen k b are within is
+  mark_says b is = by_number (is_one_of done) (all_names steps) seen k b are within is
 
   -- a name that was seen changes nothing
-  pub seen_again : (b : Bool) → b ≡ get_or seen k b → b ≡ true → seen ≡ map (is_one_of (done ++ name ∷ [])) (names_of steps)
-  seen_again b is e = are ∙ same (names_of steps)
+  pub seen_again : (b : Bool) → b ≡ get_or seen k b → b ≡ true → seen ≡ map (is_one_of (done ++ name ∷ [])) (all_names steps)
+  seen_again b is e = are ∙ same (all_names steps)
     where
       same : (names : List Name) → map (is_one_of done) names ≡ map (is_one_of (done ++ name ∷ [])) names
       same [] = refl
@@ -65,8 +65,8 @@ module _ (steps : List Step) (done : List Name) (seen : List Bool) (are : seen �
   ids_again b ids is e inv = inv ∙ ap (map (net_id (nets_of steps))) (sym (distinct-snoc done name ∙ ap (λ b. cond b (distinct done) (distinct done ++ name ∷ [])) (sym (mark_says b is) ∙ e)))
 
   -- a new one is marked, and goes to the end
-  pub seen_first : slice_set seen k true ≡ map (is_one_of (done ++ name ∷ [])) (names_of steps)
-  seen_first = ap (λ (bs : List Bool). slice_set bs k true) are ∙ mark_one done (names_of steps) k (names_apart steps) fits
+  pub seen_first : slice_set seen k true ≡ map (is_one_of (done ++ name ∷ [])) (all_names steps)
+  seen_first = ap (λ (bs : List Bool). slice_set bs k true) are ∙ mark_one done (all_names steps) k (names_apart steps) fits
 
   pub ids_first : (b : Bool) (ids new : List NetId) (id : NetId) → b ≡ get_or seen k b → b ≡ false → id ≡ net_id (nets_of steps) name → new ≡ ids ++ id ∷ [] → ids ≡ map (net_id (nets_of steps)) (distinct done)
       → new ≡ map (net_id (nets_of steps)) (distinct (done ++ name ∷ []))
@@ -91,8 +91,8 @@ marks_none [] n e = rw e refl
 marks_none (x ∷ names) n e = rw e (ap (λ (bs : List Bool). false ∷ bs) (marks_none names (length names) refl))
 
 -- the outputs of one more line
-pub outputs_step : (names : List Name) (lines : List NumberedStep) (i : ℕ) (line : NumberedStep) → i < length lines → line ≡ get_or lines i line → names ≡ names_of (steps_by names lines)
-    → flat_map (λ s. outputs_at s.act) (steps_by names (take i lines)) ++ outputs_at (act_by (name_at (names_of (steps_by names lines))) line.act) ≡ flat_map (λ s. outputs_at s.act) (steps_by names (take (i + 1) lines))
+pub outputs_step : (names : List Name) (lines : List NumberedStep) (i : ℕ) (line : NumberedStep) → i < length lines → line ≡ get_or lines i line → names ≡ all_names (steps_by names lines)
+    → flat_map (λ s. outputs_at s.act) (steps_by names (take i lines)) ++ outputs_at (act_by (name_at (all_names (steps_by names lines))) line.act) ≡ flat_map (λ s. outputs_at s.act) (steps_by names (take (i + 1) lines))
 outputs_step names lines i line h is first =
     ap (λ (ns : List Name). flat_map (λ s. outputs_at s.act) (steps_by names (take i lines)) ++ outputs_at (act_by (name_at ns) line.act)) (sym first)
     ∙ ap (λ (out : List Name). flat_map (λ s. outputs_at s.act) (steps_by names (take i lines)) ++ out) (sym (append-nil (outputs_at (act_by (name_at names) line.act))))

@@ -13,7 +13,7 @@ use Rattle.net_names.specs.Nets.{net_id}
 use Rattle.blif_model.specs.Walk.{Act, takes, gives, clocks, visits, flat_table, flat_latch, FlatLatch, Step, is_clock, latch_net, nets_of, table_net, taken, unclocked}
 use Rattle.blif_model.specs.Net.{latch_of, table_of}
 use Rattle.fm_list.specs.declared.Seq.{Seq}
-use Rattle.blif_walk.specs.Flat.{AreBelow, act_by, ids_in, name_at, names_of, step_by, steps_by}
+use Rattle.blif_walk.specs.Flat.{AreBelow, act_by, ids_in, name_at, all_names, step_by, steps_by}
 use Rattle.blif_walk.specs.declared.flat.NumberedAct.{NumberedAct}
 use Rattle.blif_walk.specs.declared.flat.NumberedAct.TheVariants as numbered
 use Rattle.blif_walk.specs.declared.flat.NumberedLatch.{NumberedLatch}
@@ -35,11 +35,11 @@ module _ (steps : List Step) where
   input_kept inputs new name id e f is = is ∙ ap (λ (i : NetId). inputs ++ i ∷ []) f ∙ ap (λ b. inputs ++ map (net_id (nets_of steps)) (cond (not b) (name ∷ []) [])) (sym e)
 
   abbrev input_ids : List NameId → List NetId
-  input_ids names = map (net_id (nets_of steps)) (unclocked steps (map (name_at (names_of steps)) names))
+  input_ids names = map (net_id (nets_of steps)) (unclocked steps (map (name_at (all_names steps)) names))
 
   -- one more name
   pub input_step : (first inputs new : List NetId) (names : List NameId) (i : ℕ) (name d : NameId) → i < length names → name ≡ get_or names i d
-      → new ≡ inputs ++ map (net_id (nets_of steps)) (unclocked steps (name_at (names_of steps) name ∷ []))
+      → new ≡ inputs ++ map (net_id (nets_of steps)) (unclocked steps (name_at (all_names steps) name ∷ []))
       → inputs ≡ first ++ input_ids (take i names) → new ≡ first ++ input_ids (take (i + 1) names)
   input_step first inputs new names i name d h is e inv =
       let more : take (i + 1) names ≡ take i names ++ name ∷ [] = take_more names i d h ∙ ap (λ (n : NameId). take i names ++ n ∷ []) (sym is) in
@@ -49,9 +49,9 @@ module _ (steps : List Step) where
     where
       ids-append : (xs ys : List NameId) → input_ids (xs ++ ys) ≡ input_ids xs ++ input_ids ys
       ids-append xs ys =
-          ap (λ (ns : List Name). map (net_id (nets_of steps)) (unclocked steps ns)) (map-append (name_at (names_of steps)) xs ys)
-          ∙ ap (map (net_id (nets_of steps))) (filter-append (λ n. not (is_clock steps n)) (map (name_at (names_of steps)) xs) (map (name_at (names_of steps)) ys))
-          ∙ map-append (net_id (nets_of steps)) (unclocked steps (map (name_at (names_of steps)) xs)) (unclocked steps (map (name_at (names_of steps)) ys))
+          ap (λ (ns : List Name). map (net_id (nets_of steps)) (unclocked steps ns)) (map-append (name_at (all_names steps)) xs ys)
+          ∙ ap (map (net_id (nets_of steps))) (filter-append (λ n. not (is_clock steps n)) (map (name_at (all_names steps)) xs) (map (name_at (all_names steps)) ys))
+          ∙ map-append (net_id (nets_of steps)) (unclocked steps (map (name_at (all_names steps)) xs)) (unclocked steps (map (name_at (all_names steps)) ys))
 
 -- ---- lines
 
@@ -158,18 +158,18 @@ module _ (steps done : List Step) (line : ℕ) (old : NetParts) (was : old ≡ n
 
 -- ---- the lines of a flattened model
 
-module _ (names : List Name) (lines : List NumberedStep) (first : names ≡ names_of (steps_by names lines)) where
+module _ (names : List Name) (lines : List NumberedStep) (first : names ≡ all_names (steps_by names lines)) where
   -- the numbers of a line are those of names
-  pub line_within : {Y : Type 0} (f : Name → Y) (ys : List Y) → ys ≡ map f (names_of (steps_by names lines)) → All (λ (s : NumberedStep). AreBelow (length names) (ids_in s.act)) lines
+  pub line_within : {Y : Type 0} (f : Name → Y) (ys : List Y) → ys ≡ map f (all_names (steps_by names lines)) → All (λ (s : NumberedStep). AreBelow (length names) (ids_in s.act)) lines
       → (i : ℕ) (line : NumberedStep) → i < length lines → line ≡ get_or lines i line → AreBelow (length ys) (ids_in line.act)
   line_within {Y} f ys are within i line h is =
       let size : length names ≡ length ys =
-      ap (λ (ns : List Name). length ns) first ∙ sym (length-map (names_of (steps_by names lines)) f) ∙ ap (λ (zs : List Y). length zs) (sym are) in
+      ap (λ (ns : List Name). length ns) first ∙ sym (length-map (all_names (steps_by names lines)) f) ∙ ap (λ (zs : List Y). length zs) (sym are) in
       subst (λ (n : ℕ). AreBelow n (ids_in line.act)) size (subst (λ (s : NumberedStep). AreBelow (length names) (ids_in s.act)) (sym is) (within i line h))
 
   -- one more line
   pub lines_step : (i : ℕ) (line : NumberedStep) → i < length lines → line ≡ get_or lines i line
-      → steps_by names (take i lines) ++ step_by (name_at (names_of (steps_by names lines))) line ∷ [] ≡ steps_by names (take (i + 1) lines)
+      → steps_by names (take i lines) ++ step_by (name_at (all_names (steps_by names lines))) line ∷ [] ≡ steps_by names (take (i + 1) lines)
   lines_step i line h is =
       ap (λ (ns : List Name). steps_by names (take i lines) ++ step_by (name_at ns) line ∷ []) (sym first)
       ∙ sym (map-append (step_by (name_at names)) (take i lines) (line ∷ []))

@@ -21,7 +21,7 @@ use Rattle.blif_model.proofs.FileNetlist.{unfaulted-netlist, walk_unfaulted}
 use Rattle.blif_ports.proofs.Bindings.{skip, stop}
 use Rattle.blif_says.specs.Answer.{models_read}
 use Rattle.blif_says.proofs.Answered.{lines-refused, models-taken}
-use Rattle.blif_walk.specs.Flat.{names_of}
+use Rattle.blif_walk.specs.Flat.{all_names}
 use Rattle.blif_reader.specs.Mentions.{count_of_mentions}
 use Rattle.blif_reader.proofs.FlatNets.{few_names}
 use Rattle.blif_reader.proofs.Mentions.{few_clocks}
@@ -29,17 +29,17 @@ use Rattle.fm_base.specs.Answers.{Gives}
 use Rattle.fm_base.specs.declared.refusal.Refusal.{Refusal}
 use Rattle.fm_base.specs.declared.refusal.Refusal.TheVariants.{Fault, Memory}
 use Rattle.blif_reader.specs.Stages.{GiveSound, WalkSound, models_give, unwalked_fault, walk_gives, ModelsGive, WalkGives}
-use Rattle.blif_reader.specs.Ready.{IsReady}
+use Rattle.blif_reader.specs.Ready.{IsWalkOfNetlist}
 use Rattle.fm_base.proofs.Options.{or_none, none_from, none_both}
 
 -- ---- the walk
 
 -- more names than nets and mentions of clock names allow
-pub over_names : (models : List Model) (most : ℕ) → most ≡ 2 ^ 18 + count_of_mentions models → most < length (names_of (walk models)) → 2 ^ 18 < length (nets_of (walk models))
+pub over_names : (models : List Model) (most : ℕ) → most ≡ 2 ^ 18 + count_of_mentions models → most < length (all_names (walk models)) → 2 ^ 18 < length (nets_of (walk models))
 over_names models most counted over =
     let names = few_names (walk models) in
     let clocks = few_clocks models in
-    past (length (names_of (walk models))) (length (nets_of (walk models))) (length (clock_names (walk models))) (count_of_mentions models) most names clocks counted over
+    past (length (all_names (walk models))) (length (nets_of (walk models))) (length (clock_names (walk models))) (count_of_mentions models) most names clocks counted over
   where
     past : (names nets clocks mentions most : ℕ) → names ≤ nets + clocks → clocks ≤ mentions → most ≡ 2 ^ 18 + mentions → most < names → 2 ^ 18 < nets
     past names nets clocks mentions most h few e over = omega arith
@@ -62,7 +62,7 @@ module _ (steps : List Step) (line : ℕ) where
     walk_read c e made = within ∙ ap (λ (f : Option NetlistFault). netlist_unless f steps) (sym e) ∙ ap Ok (sym made)
 
     -- a walk without a fault gives a netlist
-    pub walk_ready : WalkSound steps → None ≡ walk_fault steps → IsReady steps
+    pub walk_ready : WalkSound steps → None ≡ walk_fault steps → IsWalkOfNetlist steps
     walk_ready sound e =
         let none = walk_unfaulted steps (sym e) in
         record { once = none.drivers; driven = none.driven; few = few; sound = sound few (sym e) }

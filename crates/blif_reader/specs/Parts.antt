@@ -4,7 +4,7 @@ use Rattle.fm_base.specs.Names.{Name, distinct, is_one_of}
 use Rattle.blif_model.specs.Walk.{Step, latch_net, nets_of, table_net, taken}
 use Rattle.blif_model.specs.Net.{latch_of, table_of}
 use Rattle.net_names.specs.Nets.{net_id}
-use Rattle.blif_walk.specs.Flat.{names_of}
+use Rattle.blif_walk.specs.Flat.{all_names}
 use Rattle.blif_reader.specs.declared.outputs.OutputNets.{OutputNets}
 use Rattle.blif_reader.specs.declared.parts.NetParts.{NetParts}
 
@@ -20,5 +20,5 @@ net_parts steps done = record {
 
 -- the nets of these outputs, each once, and which names they are
 pub record AreOutputNets (steps : List Step) (done : List Name) (outputs : OutputNets) : Type 0 where
-  pub seen : outputs.seen.items ≡ map (is_one_of done) (names_of steps)
+  pub seen : outputs.seen.items ≡ map (is_one_of done) (all_names steps)
   pub ids : outputs.ids ≡ map (net_id (nets_of steps)) (distinct done)

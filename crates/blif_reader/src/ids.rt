@@ -2,7 +2,7 @@
 ghost use Rattle.std.specs.Prelude.{◌≡◌, ◌+◌, ◌<◌, ◌^◌, List, IfOk, count_by, if◌then◌else◌, length, map, not};
 ghost use Rattle.blif_model.specs.Walk.{Step, is_clock, nets_of};
 ghost use Rattle.net_names.specs.Nets.{net_id};
-ghost use Rattle.blif_walk.specs.Flat.{AreBelow, name_at, names_of};
+ghost use Rattle.blif_walk.specs.Flat.{AreBelow, name_at, all_names};
 ghost use Rattle.blif_reader.specs.Numbers.{AreNetNumbers};
 
 use crate::numbers::NetNumbers;
@@ -37,7 +37,7 @@ fn next_number(is_clock: bool, next: u32) -> u32
 fn net_ids(alloc: Global, clocks: &[bool]) -> Result<Vec<NetId>, AllocError>
     requires { length clocks.now < 2 ^ 32 }
     ensures length { IfOk result (λ ids. length ids.items ≡ length clocks.now) }
-    ensures numbers { IfOk result (λ ids. (steps : List Step) → clocks.now ≡ map (is_clock steps) (names_of steps) → ids.items ≡ map (net_id (nets_of steps)) (names_of steps)) }
+    ensures numbers { IfOk result (λ ids. (steps : List Step) → clocks.now ≡ map (is_clock steps) (all_names steps) → ids.items ≡ map (net_id (nets_of steps)) (all_names steps)) }
 {
     let behind = net_count(clocks) as u32;
     let mut next: u32 = 0;
@@ -53,7 +53,7 @@ impl NetNumbers {
     /// The numbers of nets, where these names are clock names.
     pub fn new(alloc: Global, clocks: Vec<bool>) -> Result<Self, AllocError>
         requires { length clocks.items < 2 ^ 32 }
-        ensures { IfOk result (λ n. (steps : List Step) → clocks.items ≡ map (is_clock steps) (names_of steps) → AreNetNumbers steps n) }
+        ensures { IfOk result (λ n. (steps : List Step) → clocks.items ≡ map (is_clock steps) (all_names steps) → AreNetNumbers steps n) }
     {
         let ids = net_ids(alloc, clocks.as_slice())?;
         Ok(NetNumbers { clocks, ids })
@@ -62,7 +62,7 @@ impl NetNumbers {
     /// The name is a clock name.
     pub fn is_clock(&self, name: NameId) -> bool
         requires { name.0 < length self.now.ids.items }
-        ensures { (steps : List Step) → AreNetNumbers steps self.now → result ≡ is_clock steps (name_at (names_of steps) name) }
+        ensures { (steps : List Step) → AreNetNumbers steps self.now → result ≡ is_clock steps (name_at (all_names steps) name) }
     {
         self.clocks[name.0 as usize]
     }
@@ -70,7 +70,7 @@ impl NetNumbers {
     /// The number of the name's net.
     pub fn net(&self, name: NameId) -> NetId
         requires { name.0 < length self.now.ids.items }
-        ensures { (steps : List Step) → AreNetNumbers steps self.now → result ≡ net_id (nets_of steps) (name_at (names_of steps) name) }
+        ensures { (steps : List Step) → AreNetNumbers steps self.now → result ≡ net_id (nets_of steps) (name_at (all_names steps) name) }
     {
         self.ids[name.0 as usize]
     }
@@ -78,7 +78,7 @@ impl NetNumbers {
     /// The numbers of the nets of names.
     pub fn nets(&self, alloc: Global, names: &[NameId]) -> Result<NetIds, AllocError>
         requires { AreBelow (length self.now.ids.items) names.now }
-        ensures { IfOk result (λ ids. (steps : List Step) → AreNetNumbers steps self.now → ids ≡ map (net_id (nets_of steps)) (map (name_at (names_of steps)) names.now)) }
+        ensures { IfOk result (λ ids. (steps : List Step) → AreNetNumbers steps self.now → ids ≡ map (net_id (nets_of steps)) (map (name_at (all_names steps)) names.now)) }
     {
         let mut ids = Seq::new(alloc);
         for name in names {

@@ -2,9 +2,9 @@
 ghost use Rattle.std.specs.Prelude.{◌≡◌, ◌<◌, ◌^◌, IfOk, length, map};
 ghost use Rattle.blif_model.specs.Net.{circuit_of};
 ghost use Rattle.blif_model.specs.Walk.{is_clock};
-ghost use Rattle.blif_walk.specs.Flat.{names_of};
+ghost use Rattle.blif_walk.specs.Flat.{all_names};
 ghost use Rattle.blif_walk.specs.Flattened.{flat_steps};
-ghost use Rattle.blif_reader.specs.Ready.{IsReady};
+ghost use Rattle.blif_reader.specs.Ready.{IsWalkOfNetlist};
 
 use crate::nets::net_names;
 use crate::numbers::NetNumbers;
@@ -21,9 +21,9 @@ pub fn flat_netlist(
     flat: &FlatModel<'_, '_>,
     clocks: Vec<bool>,
 ) -> Result<Netlist, AllocError>
-    requires clocks { clocks.items ≡ map (is_clock (flat_steps flat.now)) (names_of (flat_steps flat.now)) }
+    requires clocks { clocks.items ≡ map (is_clock (flat_steps flat.now)) (all_names (flat_steps flat.now)) }
     requires few { length flat.now.names < 2 ^ 32 }
-    requires ready { IsReady (flat_steps flat.now) }
+    requires ready { IsWalkOfNetlist (flat_steps flat.now) }
     ensures { IfOk result (λ n. n ≡ circuit_of (flat_steps flat.now)) }
 {
     let names = net_names(alloc, &flat.names, clocks.as_slice())?;

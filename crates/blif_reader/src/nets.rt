@@ -1,7 +1,7 @@
 // The names of nets.
 ghost use Rattle.std.specs.Prelude.{◌≡◌, ◌∷◌, ◌++◌, [], ◌<◌, List, IfOk, OnOk, if◌then◌else◌, length, map, slice_index_or};
 ghost use Rattle.blif_model.specs.Walk.{Step, is_clock, nets_of};
-ghost use Rattle.blif_walk.specs.Flat.{names_of};
+ghost use Rattle.blif_walk.specs.Flat.{all_names};
 
 use circuit::parts::Names;
 use fm_list::Seq;
@@ -29,7 +29,7 @@ fn put_net(
 /// The names of the nets, in their order: those that are no clock names.
 pub fn net_names(alloc: Global, names: &NameIndex, clocks: &[bool]) -> Result<Names, AllocError>
     requires { length clocks.now ≡ length names.now }
-    ensures { IfOk result (λ nets. (steps : List Step) → names.now ≡ names_of steps → clocks.now ≡ map (is_clock steps) (names_of steps) → nets ≡ nets_of steps) }
+    ensures { IfOk result (λ nets. (steps : List Step) → names.now ≡ all_names steps → clocks.now ≡ map (is_clock steps) (all_names steps) → nets ≡ nets_of steps) }
 {
     let mut nets = Seq::new(alloc);
     for (number, is_clock) in clocks.iter().enumerate() {

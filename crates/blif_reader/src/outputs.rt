@@ -4,7 +4,7 @@ ghost use Rattle.blif_model.specs.Walk.{Step, nets_of, outputs_at};
 ghost use Rattle.blif_model.specs.Net.{output_names_of};
 ghost use Rattle.fm_base.specs.Names.{Name};
 ghost use Rattle.net_names.specs.Nets.{net_id};
-ghost use Rattle.blif_walk.specs.Flat.{AreBelow, act_by, ids_in, name_at, names_of};
+ghost use Rattle.blif_walk.specs.Flat.{AreBelow, act_by, ids_in, name_at, all_names};
 ghost use Rattle.blif_walk.specs.Flattened.{flat_steps};
 ghost use Rattle.blif_reader.specs.Numbers.{AreNetNumbers};
 ghost use Rattle.blif_reader.specs.Parts.{AreOutputNets};
@@ -31,7 +31,7 @@ fn put_output(
     requires name { name.0 < length numbers.now.ids.items }
     requires seen { length outputs.old.seen.items ≡ length numbers.now.ids.items }
     ensures length { OnOk result (length outputs.new.seen.items ≡ length outputs.old.seen.items) }
-    ensures added { OnOk result ((steps : List Step) (done : List Name) → AreNetNumbers steps numbers.now → AreOutputNets steps done outputs.old → AreOutputNets steps (done ++ name_at (names_of steps) name ∷ []) outputs.new) }
+    ensures added { OnOk result ((steps : List Step) (done : List Name) → AreNetNumbers steps numbers.now → AreOutputNets steps done outputs.old → AreOutputNets steps (done ++ name_at (all_names steps) name ∷ []) outputs.new) }
 {
     let place = name.0 as usize;
     if outputs.seen[place] {
@@ -50,7 +50,7 @@ fn put_outputs(
     requires names { AreBelow (length numbers.now.ids.items) names.now }
     requires seen { length outputs.old.seen.items ≡ length numbers.now.ids.items }
     ensures length { OnOk result (length outputs.new.seen.items ≡ length outputs.old.seen.items) }
-    ensures added { OnOk result ((steps : List Step) (done : List Name) → AreNetNumbers steps numbers.now → AreOutputNets steps done outputs.old → AreOutputNets steps (done ++ map (name_at (names_of steps)) names.now) outputs.new) }
+    ensures added { OnOk result ((steps : List Step) (done : List Name) → AreNetNumbers steps numbers.now → AreOutputNets steps done outputs.old → AreOutputNets steps (done ++ map (name_at (all_names steps)) names.now) outputs.new) }
 {
     for name in names {
         put_output(numbers, outputs, *name)?;
@@ -67,7 +67,7 @@ fn put_step(
     requires names { AreBelow (length numbers.now.ids.items) (ids_in step.now.act) }
     requires seen { length outputs.old.seen.items ≡ length numbers.now.ids.items }
     ensures length { OnOk result (length outputs.new.seen.items ≡ length outputs.old.seen.items) }
-    ensures added { OnOk result ((steps : List Step) (done : List Name) → AreNetNumbers steps numbers.now → AreOutputNets steps done outputs.old → AreOutputNets steps (done ++ outputs_at (act_by (name_at (names_of steps)) step.now.act)) outputs.new) }
+    ensures added { OnOk result ((steps : List Step) (done : List Name) → AreNetNumbers steps numbers.now → AreOutputNets steps done outputs.old → AreOutputNets steps (done ++ outputs_at (act_by (name_at (all_names steps)) step.now.act)) outputs.new) }
 {
     match &step.act {
         NumberedAct::Outputs(names) => put_outputs(numbers, outputs, names.as_slice()),

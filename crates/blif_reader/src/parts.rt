@@ -3,7 +3,7 @@ ghost use Rattle.std.specs.Prelude.{◌≡◌, ◌∷◌, ◌++◌, [], ◌<◌,
 ghost use Rattle.blif_model.specs.Walk.{Step, nets_of, unclocked};
 ghost use Rattle.blif_model.specs.Net.{latch_of, table_of};
 ghost use Rattle.net_names.specs.Nets.{net_id};
-ghost use Rattle.blif_walk.specs.Flat.{AreBelow, act_by, ids_in, name_at, names_of, step_by};
+ghost use Rattle.blif_walk.specs.Flat.{AreBelow, act_by, ids_in, name_at, all_names, step_by};
 ghost use Rattle.blif_walk.specs.Flattened.{flat_steps};
 ghost use Rattle.blif_reader.specs.Numbers.{AreNetNumbers};
 ghost use Rattle.blif_reader.specs.Parts.{net_parts};
@@ -29,7 +29,7 @@ pub struct NetParts {
 /// An input, unless it is a clock name.
 fn put_input(numbers: &NetNumbers, inputs: &mut NetIds, name: NameId) -> Result<(), AllocError>
     requires { name.0 < length numbers.now.ids.items }
-    ensures { OnOk result ((steps : List Step) → AreNetNumbers steps numbers.now → inputs.new ≡ inputs.old ++ map (net_id (nets_of steps)) (unclocked steps (name_at (names_of steps) name ∷ []))) }
+    ensures { OnOk result ((steps : List Step) → AreNetNumbers steps numbers.now → inputs.new ≡ inputs.old ++ map (net_id (nets_of steps)) (unclocked steps (name_at (all_names steps) name ∷ []))) }
 {
     if numbers.is_clock(name) {
         return Ok(());
@@ -40,7 +40,7 @@ fn put_input(numbers: &NetNumbers, inputs: &mut NetIds, name: NameId) -> Result<
 /// Inputs that are no clock names.
 fn put_inputs(numbers: &NetNumbers, inputs: &mut NetIds, names: &[NameId]) -> Result<(), AllocError>
     requires { AreBelow (length numbers.now.ids.items) names.now }
-    ensures { OnOk result ((steps : List Step) → AreNetNumbers steps numbers.now → inputs.new ≡ inputs.old ++ map (net_id (nets_of steps)) (unclocked steps (map (name_at (names_of steps)) names.now))) }
+    ensures { OnOk result ((steps : List Step) → AreNetNumbers steps numbers.now → inputs.new ≡ inputs.old ++ map (net_id (nets_of steps)) (unclocked steps (map (name_at (all_names steps)) names.now))) }
 {
     for name in names {
         put_input(numbers, inputs, *name)?;
@@ -54,7 +54,7 @@ fn net_table(
     table: &NumberedTable<'_, '_>,
 ) -> Result<Table, AllocError>
     requires { AreBelow (length numbers.now.ids.items) table.now.ins }
-    ensures { IfOk result (λ t. (steps : List Step) → AreNetNumbers steps numbers.now → table_of (nets_of steps) (act_by (name_at (names_of steps)) (acts.Table table.now)) ≡ Some t) }
+    ensures { IfOk result (λ t. (steps : List Step) → AreNetNumbers steps numbers.now → table_of (nets_of steps) (act_by (name_at (all_names steps)) (acts.Table table.now)) ≡ Some t) }
 {
     let ins = numbers.nets(alloc, table.ins.as_slice())?;
     let rows = rows_of(alloc, table.below)?;
@@ -68,7 +68,7 @@ fn net_table(
 fn net_latch(numbers: &NetNumbers, latch: &NumberedLatch<'_>) -> Latch
     requires from { latch.now.from.0 < length numbers.now.ids.items }
     requires to { latch.now.to.0 < length numbers.now.ids.items }
-    ensures { (steps : List Step) → AreNetNumbers steps numbers.now → latch_of (nets_of steps) (act_by (name_at (names_of steps)) (acts.Latch latch.now)) ≡ Some result }
+    ensures { (steps : List Step) → AreNetNumbers steps numbers.now → latch_of (nets_of steps) (act_by (name_at (all_names steps)) (acts.Latch latch.now)) ≡ Some result }
 {
     Latch {
         from: numbers.net(latch.from),
@@ -85,7 +85,7 @@ fn put_table(
     table: &NumberedTable<'_, '_>,
 ) -> Result<(), AllocError>
     requires { AreBelow (length numbers.now.ids.items) (ids_in (acts.Table table.now)) }
-    ensures { OnOk result ((steps done : List Step) (line : ℕ) → AreNetNumbers steps numbers.now → parts.old ≡ net_parts steps done → parts.new ≡ net_parts steps (done ++ record { line = line; act = act_by (name_at (names_of steps)) (acts.Table table.now) } ∷ [])) }
+    ensures { OnOk result ((steps done : List Step) (line : ℕ) → AreNetNumbers steps numbers.now → parts.old ≡ net_parts steps done → parts.new ≡ net_parts steps (done ++ record { line = line; act = act_by (name_at (all_names steps)) (acts.Table table.now) } ∷ [])) }
 {
     let made = net_table(alloc, numbers, table)?;
     parts.tables.push(made)?;
@@ -99,7 +99,7 @@ fn put_latch(
     latch: &NumberedLatch<'_>,
 ) -> Result<(), AllocError>
     requires { AreBelow (length numbers.now.ids.items) (ids_in (acts.Latch latch.now)) }
-    ensures { OnOk result ((steps done : List Step) (line : ℕ) → AreNetNumbers steps numbers.now → parts.old ≡ net_parts steps done → parts.new ≡ net_parts steps (done ++ record { line = line; act = act_by (name_at (names_of steps)) (acts.Latch latch.now) } ∷ [])) }
+    ensures { OnOk result ((steps done : List Step) (line : ℕ) → AreNetNumbers steps numbers.now → parts.old ≡ net_parts steps done → parts.new ≡ net_parts steps (done ++ record { line = line; act = act_by (name_at (all_names steps)) (acts.Latch latch.now) } ∷ [])) }
 {
     parts.latches.push(net_latch(numbers, latch))?;
     parts.latch_nets.push(numbers.net(latch.to))
@@ -113,7 +113,7 @@ fn put_step(
     step: &NumberedStep<'_, '_>,
 ) -> Result<(), AllocError>
     requires { AreBelow (length numbers.now.ids.items) (ids_in step.now.act) }
-    ensures { OnOk result ((steps done : List Step) → AreNetNumbers steps numbers.now → parts.old ≡ net_parts steps done → parts.new ≡ net_parts steps (done ++ step_by (name_at (names_of steps)) step.now ∷ [])) }
+    ensures { OnOk result ((steps done : List Step) → AreNetNumbers steps numbers.now → parts.old ≡ net_parts steps done → parts.new ≡ net_parts steps (done ++ step_by (name_at (all_names steps)) step.now ∷ [])) }
 {
     match &step.act {
         NumberedAct::Inputs(names) => put_inputs(numbers, &mut parts.inputs, names.as_slice()),

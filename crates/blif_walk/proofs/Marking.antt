@@ -12,13 +12,13 @@ use Rattle.blif_model.specs.Walk.{Step}
 use Rattle.blif_walk.specs.declared.flat.NameId.{NameId}
 use Rattle.blif_walk.specs.declared.flat.NumberedStep.{NumberedStep}
 use Rattle.blif_walk.specs.declared.sorts.Sort.{Sort}
-use Rattle.blif_walk.specs.Flat.{AreBelow, name_at, names_of, act_by, ids_in, step_by, steps_by, IsFlat}
+use Rattle.blif_walk.specs.Flat.{AreBelow, name_at, all_names, act_by, ids_in, step_by, steps_by, IsFlat}
 use Rattle.blif_walk.specs.Sorts.{named, names_by}
 use Rattle.blif_walk.specs.Marks.{marked}
 
 -- the names of steps stand once each
-pub names_apart : (steps : List Step) → has_repeat (names_of steps) ≡ false
-unfolding names_of
+pub names_apart : (steps : List Step) → has_repeat (all_names steps) ≡ false
+unfolding all_names
 names_apart steps = distinct-apart (flat_map _ steps)
 
 -- ---- one mark

@@ -16,7 +16,7 @@ use Rattle.blif_walk.specs.declared.flat.NameId.{NameId}
 use Rattle.blif_walk.specs.declared.flat.NumberedAct.{NumberedAct}
 use Rattle.blif_walk.specs.declared.flat.NumberedAct.TheVariants.{Inputs, Outputs, Clocks, PortNets, Table, Latch}
 use Rattle.blif_walk.specs.declared.flat.NumberedStep.{NumberedStep}
-use Rattle.blif_walk.specs.Flat.{name_at, names_of, mentioned, AreBelow, act_by, step_by, steps_by, ids_in, IsFlat}
+use Rattle.blif_walk.specs.Flat.{name_at, all_names, mentioned, AreBelow, act_by, step_by, steps_by, ids_in, IsFlat}
 use Rattle.blif_walk.specs.Numbering.{HaveNumbers, IsNumbered}
 
 -- ---- names that grow
@@ -40,22 +40,22 @@ distinct_more done (text ∷ texts) =
     ∙ ap (λ (seen : List Name). fold with_name seen texts) (distinct-snoc done text ∙ ap (λ b. cond b (distinct done) (distinct done ++ text ∷ [])) (sym (distinct-found done text)))
 
 -- the names of steps, and of steps behind them
-pub names_more : (steps more : List Step) → names_of (steps ++ more) ≡ fold with_name (names_of steps) (flat_map (λ (s : Step). mentioned s.act) more)
-unfolding names_of
+pub names_more : (steps more : List Step) → all_names (steps ++ more) ≡ fold with_name (all_names steps) (flat_map (λ (s : Step). mentioned s.act) more)
+unfolding all_names
 names_more steps more =
     ap distinct (flat_map-append (λ (s : Step). mentioned s.act) steps more)
     ∙ distinct_more (flat_map (λ (s : Step). mentioned s.act) steps) (flat_map (λ (s : Step). mentioned s.act) more)
 
-pub names_none : names_of [] ≡ []
-unfolding names_of
+pub names_none : all_names [] ≡ []
+unfolding all_names
 names_none = distinct-nil
 
 -- more steps have no fewer names
-pub names_longer : (steps more : List Step) → length (names_of steps) ≤ length (names_of (steps ++ more))
+pub names_longer : (steps more : List Step) → length (all_names steps) ≤ length (all_names (steps ++ more))
 names_longer steps more =
-    let rest = grown (names_of steps) (flat_map (λ (s : Step). mentioned s.act) more) in
-    let all : length (names_of (steps ++ more)) ≡ length (names_of steps ++ rest.0) = ap length (names_more steps more ∙ rest.1) in
-    let size : length (names_of steps ++ rest.0) ≡ length (names_of steps) + length rest.0 = length-append (names_of steps) rest.0 in
+    let rest = grown (all_names steps) (flat_map (λ (s : Step). mentioned s.act) more) in
+    let all : length (all_names (steps ++ more)) ≡ length (all_names steps ++ rest.0) = ap length (names_more steps more ∙ rest.1) in
+    let size : length (all_names steps ++ rest.0) ≡ length (all_names steps) + length rest.0 = length-append (all_names steps) rest.0 in
     omega arith
 
 -- ---- numbers of names that grow
@@ -195,10 +195,10 @@ steps_kept names more (s ∷ steps) within =
 
 -- ---- one line more
 
-pub names_next : (names new : List Name) (steps : List Step) (s : Step) → names ≡ names_of steps → new ≡ fold with_name names (mentioned s.act) → new ≡ names_of (steps ++ s ∷ [])
+pub names_next : (names new : List Name) (steps : List Step) (s : Step) → names ≡ all_names steps → new ≡ fold with_name names (mentioned s.act) → new ≡ all_names (steps ++ s ∷ [])
 names_next names new steps s first e =
     e ∙ ap (λ (seen : List Name). fold with_name seen (mentioned s.act)) first
-    ∙ ap (λ (texts : List Name). fold with_name (names_of steps) texts) (sym (append-nil (mentioned s.act)))
+    ∙ ap (λ (texts : List Name). fold with_name (all_names steps) texts) (sym (append-nil (mentioned s.act)))
     ∙ sym (names_more steps (s ∷ []))
 
 pub steps_next : (names new : List Name) (steps : List NumberedStep) (s : NumberedStep) (act : Act) → IsFlat names steps → IsNumbered names new act s.act
@@ -219,7 +219,7 @@ flat_next names new steps s act flat one = record {
       λ ids below. All-weaker (λ (i : NameId). i.0 < length names) (λ (i : NameId). i.0 < length new) (λ i lt. omega (arith, lt, size)) ids below in
       All-push (λ (x : NumberedStep). AreBelow (length new) (ids_in x.act)) steps s
       (All-weaker (λ (x : NumberedStep). AreBelow (length names) (ids_in x.act)) (λ (x : NumberedStep). AreBelow (length new) (ids_in x.act)) (λ x below. wider (ids_in x.act) below) steps flat.within) one.within;
-  first = names_next names new (steps_by names steps) (record { line = s.line; act = act }) flat.first one.names ∙ ap names_of (sym (steps_next names new steps s act flat one));
+  first = names_next names new (steps_by names steps) (record { line = s.line; act = act }) flat.first one.names ∙ ap all_names (sym (steps_next names new steps s act flat one));
 }
 
 pub flat_none : IsFlat [] []
@@ -230,10 +230,10 @@ pub walk_on : (steps walker rest all : List Step) (s : Step) → walker ≡ s �
 walk_on steps walker rest all s e h = append_assoc steps (s ∷ []) rest ∙ ap (λ (more : List Step). steps ++ more) (sym e) ∙ h
 
 -- too many names so far are too many in all
-pub too_many : (most : ℕ) (names new : List Name) (steps walker rest all : List Step) (s : Step) → names ≡ names_of steps → new ≡ fold with_name names (mentioned s.act)
-    → walker ≡ s ∷ rest → steps ++ walker ≡ all → most < length new → most < length (names_of all)
+pub too_many : (most : ℕ) (names new : List Name) (steps walker rest all : List Step) (s : Step) → names ≡ all_names steps → new ≡ fold with_name names (mentioned s.act)
+    → walker ≡ s ∷ rest → steps ++ walker ≡ all → most < length new → most < length (all_names all)
 too_many most names new steps walker rest all s first e w h past =
-    let size : length new ≡ length (names_of (steps ++ s ∷ [])) = ap length (names_next names new steps s first e) in
+    let size : length new ≡ length (all_names (steps ++ s ∷ [])) = ap length (names_next names new steps s first e) in
     let longer = names_longer (steps ++ s ∷ []) rest in
-    let same : length (names_of ((steps ++ s ∷ []) ++ rest)) ≡ length (names_of all) = ap (λ (ss : List Step). length (names_of ss)) (walk_on steps walker rest all s w h) in
+    let same : length (all_names ((steps ++ s ∷ []) ++ rest)) ≡ length (all_names all) = ap (λ (ss : List Step). length (all_names ss)) (walk_on steps walker rest all s w h) in
     omega (arith, size, longer, same, past)

@@ -47,8 +47,8 @@ abbrev pub mentioned : Act → List Name
 mentioned act = visited act ++ control_of act
 
 -- the names of steps in order of first mention
-unfoldable pub names_of : List Step → List Name
-names_of steps = distinct (flat_map (λ s. mentioned s.act) steps)
+unfoldable pub all_names : List Step → List Name
+all_names steps = distinct (flat_map (λ s. mentioned s.act) steps)
 
 -- ---- numbers that have a name
 
@@ -68,4 +68,4 @@ AreBelow count ids = All (λ id. id.0 < count) ids
 -- each number has a name, and the names are those of the steps, each at its first mention
 pub record IsFlat (names : List Name) (steps : List NumberedStep) : Type 0 where
   pub within : All (λ s. AreBelow (length names) (ids_in s.act)) steps
-  pub first : names ≡ names_of (steps_by names steps)
+  pub first : names ≡ all_names (steps_by names steps)

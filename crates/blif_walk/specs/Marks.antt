@@ -4,13 +4,13 @@ use Rattle.fm_base.specs.Names.{is_one_of}
 use Rattle.blif_walk.specs.declared.flat.FlatModel.{FlatModel}
 use Rattle.blif_walk.specs.declared.flat.NameId.{NameId}
 use Rattle.blif_walk.specs.declared.sorts.Sort.{Sort}
-use Rattle.blif_walk.specs.Flat.{names_of}
+use Rattle.blif_walk.specs.Flat.{all_names}
 use Rattle.blif_walk.specs.Flattened.{flat_steps}
 use Rattle.blif_walk.specs.Sorts.{names_by}
 
 -- whether each name is one of the names of this sort
 abbrev pub AreMarksOf : FlatModel → Sort → List Bool → Type 0
-AreMarksOf f sort marks = marks ≡ map (is_one_of (names_by sort (flat_steps f))) (names_of (flat_steps f))
+AreMarksOf f sort marks = marks ≡ map (is_one_of (names_by sort (flat_steps f))) (all_names (flat_steps f))
 
 -- these numbers are marked
 abbrev pub marked : List Bool → List NameId → List Bool

@@ -14,8 +14,8 @@ abbrev pub scope_at : Place → Scope
 scope_at Main = top
 scope_at (Inner path bound) = inside path bound
 
-abbrev pub latch_at : LatchNets → FlatLatch
-latch_at l = record { from = l.from; to = l.to; edge = option_map (λ e. e.now) l.edge; control = l.control; start = l.start }
+abbrev pub flat_latch_at : LatchNets → FlatLatch
+flat_latch_at l = record { from = l.from; to = l.to; edge = option_map (λ e. e.now) l.edge; control = l.control; start = l.start }
 
 abbrev pub act_at : NetAct → Act
 act_at (Takes names) = takes names
@@ -23,7 +23,7 @@ act_at (Gives names) = gives names
 act_at (Clocks names) = clocks names
 act_at (Visits names) = visits names
 act_at (Table t) = flat_table t.ins t.out (rows_below (all_said t.below.now))
-act_at (Latch l) = flat_latch (latch_at l)
+act_at (Latch l) = flat_latch (flat_latch_at l)
 
 abbrev pub step_at : NetStep → Step
 step_at s = record { line = s.line; act = act_at s.act }

@@ -6,7 +6,7 @@ ghost use Rattle.blif_model.specs.Walk.{acts_of, net_of, port, flat_latch_of, co
 ghost use Rattle.blif_says.specs.Grouped.{all_said};
 ghost use Rattle.blif_says.specs.Meant.{bindings_of, latch_line_of, meant};
 ghost use Rattle.blif_says.specs.Tokens.{texts_of};
-ghost use Rattle.blif_walk.specs.Seen.{act_at, scope_at, latch_at};
+ghost use Rattle.blif_walk.specs.Seen.{act_at, scope_at, flat_latch_at};
 ghost use Rattle.blif_walk.specs.Ports.{own_act};
 
 use crate::frames::{LatchNets, NetAct, Place, TableNets};
@@ -84,7 +84,7 @@ fn latch_nets<'a>(
     place: &Place<'_>,
     line: LatchSays<'a>,
 ) -> Result<LatchNets<'a>, AllocError>
-    ensures { IfOk result (λ s. latch_at s ≡ flat_latch_of (scope_at place.now) (latch_line_of line.entry)) }
+    ensures { IfOk result (λ s. flat_latch_at s ≡ flat_latch_of (scope_at place.now) (latch_line_of line.entry)) }
 {
     let from = net_name(alloc, place, line.from)?;
     let to = net_name(alloc, place, line.to)?;

@@ -25,13 +25,13 @@ pub struct BoundNets<'a> {
 impl<'a> Model for BoundNets<'a> {
     ghost use Rattle.std.specs.Prelude.{List, map};
     ghost use Rattle.blif_model.specs.Walk.{Bound};
-    ghost use Rattle.blif_walk.specs.Places.{ArePlaces};
+    ghost use Rattle.blif_walk.specs.Places.{AreNamePlaces};
 
     ghost Value = { List Bound };
 
     ghost view = { λ s. map (λ b. record { formal = b.formal.now; net = b.net }) s.nets.items };
 
-    ghost invariant = { λ s. ArePlaces (λ b. b.formal.now) s.nets.items s.places.entries };
+    ghost invariant = { λ s. AreNamePlaces (λ b. b.formal.now) s.nets.items s.places.entries };
 }
 
 impl<'a> BoundNets<'a> {

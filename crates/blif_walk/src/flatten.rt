@@ -4,10 +4,10 @@ ghost use Rattle.std.specs.Option.{option_to_list};
 ghost use Rattle.blif_model.specs.Models.{rows_below};
 ghost use Rattle.blif_model.specs.Walk.{flat_table, walk};
 ghost use Rattle.blif_says.specs.Grouped.{all_said};
-ghost use Rattle.blif_walk.specs.Flat.{latch_by, name_at, names_of, table_by};
+ghost use Rattle.blif_walk.specs.Flat.{latch_by, name_at, all_names, table_by};
 ghost use Rattle.blif_walk.specs.Flattened.{flat_steps};
 ghost use Rattle.blif_walk.specs.Numbering.{HaveNumbers, IsNumbered};
-ghost use Rattle.blif_walk.specs.Seen.{act_at, latch_at};
+ghost use Rattle.blif_walk.specs.Seen.{act_at, flat_latch_at};
 
 use crate::flat::{FlatModel, NameId, NumberedAct, NumberedLatch, NumberedStep, NumberedTable};
 use crate::frames::{LatchNets, NetAct, TableNets};
@@ -75,7 +75,7 @@ fn number_latch<'a>(
     names: &mut NameIndex,
     latch: LatchNets<'a>,
 ) -> Result<NumberedLatch<'a>, AllocError>
-    ensures same { IfOk result (λ l. latch_by (name_at names.new) l ≡ latch_at latch.entry) }
+    ensures same { IfOk result (λ l. latch_by (name_at names.new) l ≡ flat_latch_at latch.entry) }
     ensures names { IfOk result (λ l. HaveNumbers names.old names.new (latch.entry.from ∷ latch.entry.to ∷ option_to_list latch.entry.control) (l.from ∷ l.to ∷ option_to_list l.control)) }
 {
     let from = number_name(names, latch.from.as_slice())?;
@@ -130,7 +130,7 @@ pub fn flatten<'m, 'a>(
     models: &ModelTable<'m, 'a>,
     most: usize,
 ) -> Result<Option<FlatModel<'m, 'a>>, AllocError>
-    ensures steps { IfOk result (λ o. MatchOption o (most < length (names_of (walk models.now))) (λ f. flat_steps f ≡ walk models.now)) }
+    ensures steps { IfOk result (λ o. MatchOption o (most < length (all_names (walk models.now))) (λ f. flat_steps f ≡ walk models.now)) }
     ensures fits { IfOk result (λ o. IfSome o (λ f. length f.names ≤ most)) }
 {
     let mut names = NameIndex::new(alloc);

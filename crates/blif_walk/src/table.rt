@@ -3,7 +3,7 @@ ghost use Rattle.std.specs.Prelude.{◌≡◌, ◌<◌, length, IfOk, MatchOptio
 ghost use Rattle.std.specs.Option.{option_map};
 ghost use Rattle.blif_model.specs.Models.{model_named};
 ghost use Rattle.blif_says.specs.Grouped.{model_of, models_seen};
-ghost use Rattle.blif_walk.specs.Places.{ArePlaces};
+ghost use Rattle.blif_walk.specs.Places.{AreNamePlaces};
 
 use crate::places::{add_place, place_of};
 use blif_says::models::ModelLines;
@@ -22,13 +22,13 @@ impl<'m, 'a> Model for ModelTable<'m, 'a> {
     ghost use Rattle.std.specs.Prelude.{List};
     ghost use Rattle.blif_model.specs.Models.{Model};
     ghost use Rattle.blif_says.specs.Grouped.{models_seen};
-    ghost use Rattle.blif_walk.specs.Places.{ArePlaces};
+    ghost use Rattle.blif_walk.specs.Places.{AreNamePlaces};
 
     ghost Value = { List Model };
 
     ghost view = { λ s. models_seen s.models.items };
 
-    ghost invariant = { λ s. ArePlaces (λ m. m.name.now) s.models.items s.places.entries };
+    ghost invariant = { λ s. AreNamePlaces (λ m. m.name.now) s.models.items s.places.entries };
 }
 
 /// The place of the first model of each name.
@@ -36,7 +36,7 @@ fn places_of<'a>(
     alloc: Global,
     models: &[ModelLines<'_, 'a>],
 ) -> Result<IndexMap<&'a [u8], usize>, AllocError>
-    ensures { IfOk result (λ p. ArePlaces (λ m. m.name.now) models.now p.entries) }
+    ensures { IfOk result (λ p. AreNamePlaces (λ m. m.name.now) models.now p.entries) }
 {
     let mut places = IndexMap::new(alloc);
     for (place, model) in models.iter().enumerate() {

@@ -3,7 +3,7 @@ ghost use Rattle.std.specs.Prelude.{◌≡◌, false, [], length};
 ghost use Rattle.std.specs.String.{string_bytes};
 ghost use Rattle.claim_counter.specs.Views.{starting_view, giving};
 ghost use Rattle.claim_counter.specs.Seats.{IsOf};
-ghost use Rattle.campaign_board.specs.Boards.{AreEntries, entry_of};
+ghost use Rattle.campaign_board.specs.Boards.{AreEntries, board_entry};
 ghost use Rattle.campaign_board.specs.Kept.{IsStart};
 ghost use Rattle.campaign_board.specs.Sharing.{MayPost};
 
@@ -40,7 +40,7 @@ fn post_and_look<F: Shelf + Drop, N: Origin, R: Wait>(
 ) -> Look
     requires seat { IsOf shared.now seat.old × (seat.old.view.holds ≡ false) }
     requires drawn { MayPost N.start seat.old.view entry.now.batch }
-    requires entry { entry.now ≡ entry_of N.start.entries entry.now.batch }
+    requires entry { entry.now ≡ board_entry N.start.entries entry.now.batch }
     ensures seat { IsOf shared.now seat.new × (seat.new.view.holds ≡ false) × (seat.new.view.share ≡ seat.old.view.share) }
 {
     shared.post(rt, seat, entry);

@@ -11,8 +11,8 @@ use Rattle.campaign_core.specs.Machines.{times}
 use Rattle.fm_base.specs.Once.{Lacks, IsOnce}
 use Rattle.result_file.specs.declared.Row.{Row}
 use Rattle.campaign_board.specs.Boards.{Start, AreEntries, batches_of, next_row}
-use Rattle.campaign_board.specs.Kept.{AreRows, Seen}
-use Rattle.campaign_board.specs.Missing.{IsMissing, number_of, batch_numbered, added_rows, numbers_of, batches_with}
+use Rattle.campaign_board.specs.Kept.{AreRows, BoardState}
+use Rattle.campaign_board.specs.Missing.{IsMissing, claim_number, batch_numbered, added_rows, numbers_of, batches_with}
 use Rattle.campaign_board.specs.Headed.{IsHeaded}
 use Rattle.fm_base.proofs.SumsBelow.{once_few}
 use Rattle.campaign_board.proofs.Adding.{rows_push}
@@ -59,11 +59,11 @@ added_due o rows pre h =
     let apart = once_apart (batches_of o.rows) (batches_of (added_rows o rows)) (subst IsOnce split h.once) in
     λ k d lt. (within k d lt, apart k d lt)
 
-numbers_back : (o : Start) (batches : List ℕ) → All (IsMissing o) batches → map (batch_numbered o) (map (number_of o) batches) ≡ batches
+numbers_back : (o : Start) (batches : List ℕ) → All (IsMissing o) batches → map (batch_numbered o) (map (claim_number o) batches) ≡ batches
 numbers_back o [] h = refl
 numbers_back o (b ∷ bs) h =
     let rest = numbers_back o bs (All-tail (IsMissing o) b bs h) in
-    ap (λ c. c ∷ map (batch_numbered o) (map (number_of o) bs)) (batch_back o b (All-head (IsMissing o) b bs h)).1 ∙ ap (λ l. b ∷ l) rest
+    ap (λ c. c ∷ map (batch_numbered o) (map (claim_number o) bs)) (batch_back o b (All-head (IsMissing o) b bs h)).1 ∙ ap (λ l. b ∷ l) rest
 
 -- the batches of all rows, by the numbers of those that were added
 pub batches_again : (o : Start) (rows : List Row) → IsPrefix o.rows rows → AreRows o rows → batches_with o (numbers_of o rows) ≡ batches_of rows
@@ -72,58 +72,58 @@ batches_again o rows pre h =
 
 -- one more row has one more number
 pub numbers_push : (o : Start) (rows : List Row) (batch : ℕ) → IsPrefix o.rows rows → AreEntries o.entries → batch < length o.entries
-    → numbers_of o (rows ++ next_row o.entries rows batch ∷ []) ≡ numbers_of o rows ++ number_of o batch ∷ []
+    → numbers_of o (rows ++ next_row o.entries rows batch ∷ []) ≡ numbers_of o rows ++ claim_number o batch ∷ []
 numbers_push o rows batch pre are lt =
     let row : Row = next_row o.entries rows batch in
     let rest : added_rows o (rows ++ row ∷ []) ≡ added_rows o rows ++ row ∷ [] = drop-append-le (length o.rows) rows (row ∷ []) (prefix_few o rows pre) in
-    ap (λ rs. map (number_of o) (batches_of rs)) rest
-    ∙ ap (map (number_of o)) (map-append (λ (r : Row). r.batch) (added_rows o rows) (row ∷ []))
-    ∙ map-append (number_of o) (batches_of (added_rows o rows)) (row.batch ∷ [])
-    ∙ ap (λ b. numbers_of o rows ++ number_of o b ∷ []) (are.numbered batch lt)
+    ap (λ rs. map (claim_number o) (batches_of rs)) rest
+    ∙ ap (map (claim_number o)) (map-append (λ (r : Row). r.batch) (added_rows o rows) (row ∷ []))
+    ∙ map-append (claim_number o) (batches_of (added_rows o rows)) (row.batch ∷ [])
+    ∙ ap (λ b. numbers_of o rows ++ claim_number o b ∷ []) (are.numbered batch lt)
 
 -- a number that isn't among those of some batches is of none of them
-no_number : (o : Start) (batches : List ℕ) (batch : ℕ) → times (number_of o batch) (map (number_of o) batches) ≡ 0 → Lacks batches batch
+no_number : (o : Start) (batches : List ℕ) (batch : ℕ) → times (claim_number o batch) (map (claim_number o) batches) ≡ 0 → Lacks batches batch
 no_number o [] batch h = tt
 no_number o (b ∷ bs) batch h =
-    let n : ℕ = number_of o batch in
-    let split = sum_by-cons (λ y. cond {A = ℕ} (y == n) 1 0) (number_of o b) (map (number_of o) bs) in (
-      λ e. (let one : cond {A = ℕ} (number_of o b == n) 1 0 ≡ 1 = ap (λ (t : Bool). cond {A = ℕ} t 1 0) (eq-eqb (number_of o b) n (ap (number_of o) e)) in absurd (omega (arith, h, split, one))),
+    let n : ℕ = claim_number o batch in
+    let split = sum_by-cons (λ y. cond {A = ℕ} (y == n) 1 0) (claim_number o b) (map (claim_number o) bs) in (
+      λ e. (let one : cond {A = ℕ} (claim_number o b == n) 1 0 ≡ 1 = ap (λ (t : Bool). cond {A = ℕ} t 1 0) (eq-eqb (claim_number o b) n (ap (claim_number o) e)) in absurd (omega (arith, h, split, one))),
       no_number o bs batch (omega (arith, h, split)),
     )
 
 -- the rows lack a batch to do whose number they lack
-pub lacks_row : (o : Start) (rows : List Row) (batch : ℕ) → IsPrefix o.rows rows → IsMissing o batch → times (number_of o batch) (numbers_of o rows) ≡ 0 → Lacks (batches_of rows) batch
+pub lacks_row : (o : Start) (rows : List Row) (batch : ℕ) → IsPrefix o.rows rows → IsMissing o batch → times (claim_number o batch) (numbers_of o rows) ≡ 0 → Lacks (batches_of rows) batch
 lacks_row o rows batch pre due none =
     subst (λ bs. Lacks bs batch) (sym (batches_split o rows pre))
     (lacks_both (batches_of o.rows) (batches_of (added_rows o rows)) batch due.1 (no_number o (batches_of (added_rows o rows)) batch none))
 
-test_same : (o : Start) (a b : ℕ) → IsMissing o a → IsMissing o b → (number_of o a == number_of o b) ≡ (a == b)
+test_same : (o : Start) (a b : ℕ) → IsMissing o a → IsMissing o b → (claim_number o a == claim_number o b) ≡ (a == b)
 test_same o a b due_a due_b = go (a == b) refl
   where
-    go : (t : Bool) → (a == b) ≡ t → (number_of o a == number_of o b) ≡ t
-    go true e = eq-eqb (number_of o a) (number_of o b) (ap (number_of o) (grind (arith, nat_tests)))
+    go : (t : Bool) → (a == b) ≡ t → (claim_number o a == claim_number o b) ≡ t
+    go true e = eq-eqb (claim_number o a) (claim_number o b) (ap (claim_number o) (grind (arith, nat_tests)))
     go false e = grind (arith, nat_tests, same_number o a b due_a due_b)
 
 -- a batch to do stands among some of them as often as its number among theirs
-pub times_number : (o : Start) (batches : List ℕ) (batch : ℕ) → All (IsMissing o) batches → IsMissing o batch → times (number_of o batch) (map (number_of o) batches) ≡ times batch batches
+pub times_number : (o : Start) (batches : List ℕ) (batch : ℕ) → All (IsMissing o) batches → IsMissing o batch → times (claim_number o batch) (map (claim_number o) batches) ≡ times batch batches
 times_number o [] batch all due = refl
 times_number o (b ∷ bs) batch all due =
     let rest = times_number o bs batch (All-tail (IsMissing o) b bs all) due in
     let one = ap (λ (t : Bool). cond {A = ℕ} t 1 0) (test_same o b batch (All-head (IsMissing o) b bs all) due) in
-    omega (arith, sum_by-cons (λ y. cond {A = ℕ} (y == number_of o batch) 1 0) (number_of o b) (map (number_of o) bs), sum_by-cons (λ y. cond {A = ℕ} (y == batch) 1 0) b bs, rest, one)
+    omega (arith, sum_by-cons (λ y. cond {A = ℕ} (y == claim_number o batch) 1 0) (claim_number o b) (map (claim_number o) bs), sum_by-cons (λ y. cond {A = ℕ} (y == batch) 1 0) b bs, rest, one)
 
 -- how many rows there are
 pub rows_few : (o : Start) (rows : List Row) → AreEntries o.entries → AreRows o rows → length rows ≤ 16384
 rows_few o rows are h = omega (arith, once_few (batches_of rows) (length o.entries) h.within h.once, are.few, length-map rows (λ (r : Row). r.batch))
 
 pub length_numbers : (o : Start) (rows : List Row) → length (numbers_of o rows) ≡ length rows - length o.rows
-length_numbers o rows = length-map (batches_of (added_rows o rows)) (number_of o) ∙ length-map (added_rows o rows) (λ (r : Row). r.batch) ∙ length-drop (length o.rows) rows
+length_numbers o rows = length-map (batches_of (added_rows o rows)) (claim_number o) ∙ length-map (added_rows o rows) (λ (r : Row). r.batch) ∙ length-drop (length o.rows) rows
 
 prefix_push : {X : Type 0} (xs ys : List X) (y : X) → IsPrefix xs ys → IsPrefix xs (ys ++ y ∷ [])
 prefix_push xs ys y pre = (pre.0 ++ y ∷ [], sym (append_assoc xs pre.0 (y ∷ [])) ∙ ap (λ l. l ++ y ∷ []) pre.1)
 
 -- the row of a batch that the rows lack was added
-pub headed_push : {F : Type 0} (o : Start) (before now : Seen F) (started batch : ℕ) → IsHeaded o before started → batch < length o.entries → Lacks (batches_of before.rows) batch
+pub headed_push : {F : Type 0} (o : Start) (before now : BoardState F) (started batch : ℕ) → IsHeaded o before started → batch < length o.entries → Lacks (batches_of before.rows) batch
     → now.rows ≡ before.rows ++ next_row o.entries before.rows batch ∷ [] → now.written ≡ true → IsHeaded o now started
 headed_push o before now started batch h lt lacks e written = record {
   written = written;
@@ -134,7 +134,7 @@ headed_push o before now started batch h lt lacks e written = record {
 }
 
 -- nothing was added
-pub headed_same : {F : Type 0} (o : Start) (before now : Seen F) (started : ℕ) → IsHeaded o before started → now.rows ≡ before.rows → now.written ≡ true → IsHeaded o now started
+pub headed_same : {F : Type 0} (o : Start) (before now : BoardState F) (started : ℕ) → IsHeaded o before started → now.rows ≡ before.rows → now.written ≡ true → IsHeaded o now started
 headed_same o before now started h e written = record {
   written = written;
   starts = subst (λ rs. IsPrefix o.rows rs) (sym e) h.starts;

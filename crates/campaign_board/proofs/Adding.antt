@@ -13,7 +13,7 @@ use Rattle.result_file.specs.declared.Row.{Row}
 use Rattle.result_file.specs.ResultText.{row_text}
 use Rattle.campaign_board.specs.declared.entry.Entry.{Entry}
 use Rattle.fm_base.specs.Once.{Lacks, IsOnce}
-use Rattle.campaign_board.specs.Boards.{Start, AreEntries, entry_of, batches_of, sums_over, row_with, row_due, next_row, row_at_place, text_of}
+use Rattle.campaign_board.specs.Boards.{Start, AreEntries, board_entry, batches_of, sums_over, row_with, row_due, next_row, row_at_place, file_text}
 use Rattle.campaign_board.specs.Kept.{AreRows}
 use Rattle.fm_base.proofs.SumsBelow.{once_le, once_few, sum_up-list}
 use Rattle.fm_base.proofs.OnceLists.{once_push}
@@ -21,9 +21,9 @@ use Rattle.fm_base.proofs.OnceLists.{once_push}
 -- the sums over distinct batches are small
 pub small_over : (entries : List Entry) (batches : List ℕ) → AreEntries entries → All (λ b. b < length entries) batches → IsOnce batches → AreSmall (sums_over entries batches)
 small_over entries batches are within once =
-    let d : Entry = entry_of [] 0 in
-    let le : (f : Entry → ℕ) → sum_by (λ b. f (entry_of entries b)) batches ≤ sum_by f entries =
-    λ f. (let most = once_le batches (length entries) (λ b. f (entry_of entries b)) within once in omega (arith, most, sum_up-list f d entries)) in
+    let d : Entry = board_entry [] 0 in
+    let le : (f : Entry → ℕ) → sum_by (λ b. f (board_entry entries b)) batches ≤ sum_by f entries =
+    λ f. (let most = once_le batches (length entries) (λ b. f (board_entry entries b)) within once in omega (arith, most, sum_up-list f d entries)) in
     let s = are.small in
     record {
       permanent_all = let a = le (λ e. e.own.permanent_all) in let b = s.permanent_all in omega (arith, a, b);
@@ -33,13 +33,13 @@ small_over entries batches are within once =
       transient_danger = let a = le (λ e. e.own.transient_danger) in let b = s.transient_danger in omega (arith, a, b);
     }
 
-pub sums_push : (entries : List Entry) (batches : List ℕ) (batch : ℕ) → sums_over entries (batches ++ batch ∷ []) ≡ plus (sums_over entries batches) (entry_of entries batch).own
+pub sums_push : (entries : List Entry) (batches : List ℕ) (batch : ℕ) → sums_over entries (batches ++ batch ∷ []) ≡ plus (sums_over entries batches) (board_entry entries batch).own
 sums_push entries batches batch = λ i. record {
-  permanent_all = sum_by_push (λ b. (entry_of entries b).own.permanent_all) batches batch i;
-  permanent_danger = sum_by_push (λ b. (entry_of entries b).own.permanent_danger) batches batch i;
-  latent = sum_by_push (λ b. (entry_of entries b).own.latent) batches batch i;
-  transient_all = sum_by_push (λ b. (entry_of entries b).own.transient_all) batches batch i;
-  transient_danger = sum_by_push (λ b. (entry_of entries b).own.transient_danger) batches batch i;
+  permanent_all = sum_by_push (λ b. (board_entry entries b).own.permanent_all) batches batch i;
+  permanent_danger = sum_by_push (λ b. (board_entry entries b).own.permanent_danger) batches batch i;
+  latent = sum_by_push (λ b. (board_entry entries b).own.latent) batches batch i;
+  transient_all = sum_by_push (λ b. (board_entry entries b).own.transient_all) batches batch i;
+  transient_danger = sum_by_push (λ b. (board_entry entries b).own.transient_danger) batches batch i;
 }
 
 -- the batch of the row that comes next, and the batches then
@@ -48,7 +48,7 @@ pub batches_push : (o : Start) (rows : List Row) (batch : ℕ) → AreEntries o.
 batches_push o rows batch are lt =
     map-append (λ (r : Row). r.batch) rows (next_row o.entries rows batch ∷ []) ∙ ap (λ b. batches_of rows ++ b ∷ []) (are.numbered batch lt)
 
-pub text_push : (header : List ℕ) (rows : List Row) (row : Row) → text_of header (rows ++ row ∷ []) ≡ text_of header rows ++ row_text row
+pub text_push : (header : List ℕ) (rows : List Row) (row : Row) → file_text header (rows ++ row ∷ []) ≡ file_text header rows ++ row_text row
 text_push header rows row =
     ap (λ t. header ++ t) (flat_map-append row_text rows (row ∷ []) ∙ ap (λ t. flat_map row_text rows ++ t) (append-nil (row_text row)))
     ∙ sym (append_assoc header (flat_map row_text rows) (row_text row))
@@ -57,16 +57,16 @@ due_before : (entries : List Entry) (batches : List ℕ) (batch k : ℕ) → k <
 due_before entries batches batch k lt =
     let same : get_or (batches ++ batch ∷ []) k 0 ≡ get_or batches k 0 = get_or-append batches (batch ∷ []) 0 k lt in
     let front : take (k + 1) (batches ++ batch ∷ []) ≡ take (k + 1) batches = take-append-le (k + 1) batches (batch ∷ []) (omega arith) in
-    ap (λ b. row_with (entry_of entries b) (sums_over entries (take (k + 1) (batches ++ batch ∷ [])))) same
-    ∙ ap (λ bs. row_with (entry_of entries (get_or batches k 0)) (sums_over entries bs)) front
+    ap (λ b. row_with (board_entry entries b) (sums_over entries (take (k + 1) (batches ++ batch ∷ [])))) same
+    ∙ ap (λ bs. row_with (board_entry entries (get_or batches k 0)) (sums_over entries bs)) front
 
 due_last : (entries : List Entry) (batches : List ℕ) (batch k : ℕ) → k ≡ length batches
-    → row_due entries (batches ++ batch ∷ []) k ≡ row_with (entry_of entries batch) (sums_over entries (batches ++ batch ∷ []))
+    → row_due entries (batches ++ batch ∷ []) k ≡ row_with (board_entry entries batch) (sums_over entries (batches ++ batch ∷ []))
 due_last entries batches batch k e =
     let same : get_or (batches ++ batch ∷ []) (length batches) 0 ≡ batch = get_or-append_seam batches batch [] 0 in
     let all : take (k + 1) (batches ++ batch ∷ []) ≡ batches ++ batch ∷ [] = take_all _ (batches ++ batch ∷ []) (simp length-append (omega (arith, e))) in
-    ap (λ b. row_with (entry_of entries b) (sums_over entries (take (k + 1) (batches ++ batch ∷ [])))) (ap (λ n. get_or (batches ++ batch ∷ []) n 0) e ∙ same)
-    ∙ ap (λ bs. row_with (entry_of entries batch) (sums_over entries bs)) all
+    ap (λ b. row_with (board_entry entries b) (sums_over entries (take (k + 1) (batches ++ batch ∷ [])))) (ap (λ n. get_or (batches ++ batch ∷ []) n 0) e ∙ same)
+    ∙ ap (λ bs. row_with (board_entry entries batch) (sums_over entries bs)) all
 
 pub rows_push : (o : Start) (rows : List Row) (batch : ℕ) → AreEntries o.entries → AreRows o rows → batch < length o.entries → Lacks (batches_of rows) batch
     → AreRows o (rows ++ next_row o.entries rows batch ∷ [])

@@ -9,8 +9,8 @@ use Rattle.fm_shelf.specs.Content.{Content, Unknown, Absent, Held, IsIfKnown, Ha
 use Rattle.fm_shelf.specs.Shelf.{ShelfState, CountRose, OnlyWrites, MayHaveMore, Appends, MayAppend}
 use Rattle.fm_shelf.proofs.Appends.{has_on}
 use Rattle.fm_base.specs.Once.{Lacks}
-use Rattle.campaign_board.specs.Boards.{Start, batches_of, sums_over, next_row, text_of}
-use Rattle.campaign_board.specs.Kept.{AreRows, IsTorn, IsBoard, IsStart, IsWhole, IsHeaderTorn}
+use Rattle.campaign_board.specs.Boards.{Start, batches_of, sums_over, next_row, file_text}
+use Rattle.campaign_board.specs.Kept.{AreRows, IsTorn, IsBoard, IsStart, AreKeptBytes, IsHeaderTorn}
 use Rattle.campaign_board.specs.Posts.{sums_at_end}
 use Rattle.fm_base.proofs.SumsBelow.{once_few}
 use Rattle.campaign_board.proofs.Adding.{rows_push, batches_push, text_push}
@@ -42,7 +42,7 @@ added_row o rows sums now_sums before now batch h lt lacks writes has e =
       added = e ∙ ap (sums_over o.entries) (sym (batches_push o rows batch h.entries lt));
       file = λ _ _.
           subst (HasIfKnown (now.content o.name)) (sym (text_push o.header rows (next_row o.entries rows batch)))
-          (has_on (before.content o.name) (now.content o.name) (text_of o.header rows) (row_text (next_row o.entries rows batch)) writes.unknown (h.file refl refl) has);
+          (has_on (before.content o.name) (now.content o.name) (file_text o.header rows) (row_text (next_row o.entries rows batch)) writes.unknown (h.file refl refl) has);
       torn = λ _ f. absurd (false≢true f);
       others = λ other ne. writes.others other ne ∙ h.others other ne;
       grows = omega arith;
@@ -62,7 +62,7 @@ failed_row o rows sums before now batch h lt lacks writes more =
       added = h.added;
       file = λ _ f. absurd (false≢true (sym f));
       torn = λ _ _.
-          is_more (before.content o.name) (now.content o.name) (text_of o.header rows) (row_text (next_row o.entries rows batch)) (IsTorn o rows) (h.file refl refl) writes.unknown more.1
+          is_more (before.content o.name) (now.content o.name) (file_text o.header rows) (row_text (next_row o.entries rows batch)) (IsTorn o rows) (h.file refl refl) writes.unknown more.1
           (λ bytes n e. record { batch = batch; within = lt; lacks = lacks; taken = n; is = e });
       others = λ other ne. writes.others other ne ∙ h.others other ne;
       grows = omega arith;
@@ -100,7 +100,7 @@ begins_room o rows batches shelf name h =
 
 -- the header stands: the file has the header and the rows
 pub headed : (o : Start) (rows : List Row) (sums : Sums) (before now : ShelfState) → IsBoard o rows sums false false before
-    → OnlyWrites before now o.name → HasIfKnown (now.content o.name) (text_of o.header rows) → IsBoard o rows sums false true now
+    → OnlyWrites before now o.name → HasIfKnown (now.content o.name) (file_text o.header rows) → IsBoard o rows sums false true now
 headed o rows sums before now h writes has =
     let g = h.grows in
     let grown = writes.counts.grows o.name in
@@ -138,23 +138,23 @@ kept_cut Unknown now whole text is unknown has = subst (λ t. HasIfKnown t text)
 kept_cut Absent now whole text is unknown has = absurd is
 kept_cut (Held bytes) now whole text is unknown has = subst (HasIfKnown now) is has
 
-pub cut_has : (o : Start) (rows : List Row) (whole : ℕ) (before now : Content) → IsWhole o rows whole before → 0 < whole → (before ≡ Unknown → now ≡ Unknown)
-    → HasIfKnown now (take whole (bytes_of before)) → HasIfKnown now (text_of o.header rows)
-cut_has o rows whole before now is some unknown has = elim is as (λ _. HasIfKnown now (text_of o.header rows)) [
+pub cut_has : (o : Start) (rows : List Row) (whole : ℕ) (before now : Content) → AreKeptBytes o rows whole before → 0 < whole → (before ≡ Unknown → now ≡ Unknown)
+    → HasIfKnown now (take whole (bytes_of before)) → HasIfKnown now (file_text o.header rows)
+cut_has o rows whole before now is some unknown has = elim is as (λ _. HasIfKnown now (file_text o.header rows)) [
   | inl none ↦ (let e = none.0 in absurd (omega arith))
-  | inr kept ↦ kept_cut before now whole (text_of o.header rows) kept.1 unknown has
+  | inr kept ↦ kept_cut before now whole (file_text o.header rows) kept.1 unknown has
 ]
 
-no_rows : (o : Start) (rows : List Row) (whole : ℕ) (before : Content) → IsWhole o rows whole before → whole ≡ 0 → rows ≡ []
+no_rows : (o : Start) (rows : List Row) (whole : ℕ) (before : Content) → AreKeptBytes o rows whole before → whole ≡ 0 → rows ≡ []
 no_rows o rows whole before is e = elim is as (λ _. rows ≡ []) [ inl none ↦ none.1 | inr kept ↦ (let f = kept.0 in absurd (omega arith)) ]
 
 -- the header was appended to the empty file
-pub header_has : (o : Start) (rows : List Row) (whole : ℕ) (before mid now : Content) → IsWhole o rows whole before → whole ≡ 0
-    → HasIfKnown mid (take whole (bytes_of before)) → (mid ≡ Unknown → now ≡ Unknown) → HasIfKnown now (bytes_of mid ++ o.header) → HasIfKnown now (text_of o.header rows)
+pub header_has : (o : Start) (rows : List Row) (whole : ℕ) (before mid now : Content) → AreKeptBytes o rows whole before → whole ≡ 0
+    → HasIfKnown mid (take whole (bytes_of before)) → (mid ≡ Unknown → now ≡ Unknown) → HasIfKnown now (bytes_of mid ++ o.header) → HasIfKnown now (file_text o.header rows)
 header_has o rows whole before mid now is e cut unknown has =
     let none : rows ≡ [] = no_rows o rows whole before is e in
     let empty : HasIfKnown mid [] = subst (λ n. HasIfKnown mid (take n (bytes_of before))) e cut in
-    subst (λ rs. HasIfKnown now (text_of o.header rs)) (sym none)
+    subst (λ rs. HasIfKnown now (file_text o.header rs)) (sym none)
     (subst (HasIfKnown now) (sym (append-nil o.header)) (has_on mid now [] o.header unknown empty has))
 
 pub torn_header : (header : List ℕ) (whole : ℕ) (before mid now : Content) → whole ≡ 0 → HasIfKnown mid (take whole (bytes_of before)) → (mid ≡ Unknown → now ≡ Unknown)

@@ -8,7 +8,7 @@ use Rattle.std.proofs.lemmas.List.FromFn.{length-range_with_len, get_or-range_wi
 use Rattle.fm_base.specs.Lists.{below}
 use Rattle.fm_base.specs.Once.{Lacks}
 use Rattle.campaign_board.specs.Boards.{Start, batches_of}
-use Rattle.campaign_board.specs.Missing.{missing_below, missing, IsMissing, number_of, batch_numbered}
+use Rattle.campaign_board.specs.Missing.{missing_below, batches_missing, IsMissing, claim_number, batch_numbered}
 use Rattle.campaign_board.proofs.Rising.{StandsIn, rising_filter, rising_order, rising_place, filter_has}
 
 -- a list that lacks a number, by a test
@@ -28,7 +28,7 @@ unfolding missing_below below
 missing_rises n kept i j le lt = rising_order 0 (filter (is_left kept) (range_with_len 0 n)) (rising_filter (is_left kept) 0 n) i j le lt
 
 -- the batches to do, in rising order
-pub missing_order : (o : Start) (i j : ℕ) → i ≤ j → j < length (missing o) → get_or (missing o) i 0 ≤ get_or (missing o) j 0
+pub missing_order : (o : Start) (i j : ℕ) → i ≤ j → j < length (batches_missing o) → get_or (batches_missing o) i 0 ≤ get_or (batches_missing o) j 0
 missing_order o i j le lt = missing_rises (length o.entries) (batches_of o.rows) i j le lt
 
 few_missing : (n : ℕ) (kept : List ℕ) → length (missing_below n kept) ≤ n
@@ -38,7 +38,7 @@ few_missing n kept =
     omega (arith, both, length-range_with_len 0 n)
 
 -- there are at most as many as batches
-pub missing_few : (o : Start) → length (missing o) ≤ length o.entries
+pub missing_few : (o : Start) → length (batches_missing o) ≤ length o.entries
 missing_few o = few_missing (length o.entries) (batches_of o.rows)
 
 within_missing : (n : ℕ) (kept : List ℕ) (i : ℕ) → i < length (missing_below n kept) → (get_or (missing_below n kept) i 0 < n) × Lacks kept (get_or (missing_below n kept) i 0)
@@ -51,7 +51,7 @@ within_missing n kept i lt =
     let batch : ℕ = get_or (filter (is_left kept) (range_with_len 0 n)) i 0 in (less, any_lacks kept batch (not-true (list_any (λ other. other == batch) kept) pass))
 
 -- the batch with a number is one to do
-pub numbered_missing : (o : Start) (i : ℕ) → i < length (missing o) → IsMissing o (batch_numbered o i)
+pub numbered_missing : (o : Start) (i : ℕ) → i < length (batches_missing o) → IsMissing o (batch_numbered o i)
 numbered_missing o i lt = within_missing (length o.entries) (batches_of o.rows) i lt
 
 place_below : (n : ℕ) (kept : List ℕ) (i : ℕ) → i < length (missing_below n kept) → position_or_len (λ other. other == get_or (missing_below n kept) i 0) (missing_below n kept) ≡ i
@@ -59,8 +59,8 @@ unfolding missing_below below
 place_below n kept i lt = rising_place 0 (filter (is_left kept) (range_with_len 0 n)) (rising_filter (is_left kept) 0 n) i lt
 
 -- the batch with a number has this number
-pub number_back : (o : Start) (i : ℕ) → i < length (missing o) → number_of o (batch_numbered o i) ≡ i
-unfolding number_of
+pub number_back : (o : Start) (i : ℕ) → i < length (batches_missing o) → claim_number o (batch_numbered o i) ≡ i
+unfolding claim_number
 number_back o i lt = place_below (length o.entries) (batches_of o.rows) i lt
 
 has_missing : (n : ℕ) (kept : List ℕ) (batch : ℕ) → batch < n → Lacks kept batch → StandsIn batch (missing_below n kept)
@@ -68,13 +68,13 @@ unfolding missing_below below
 has_missing n kept batch lt lacks = filter_has (is_left kept) 0 n batch (omega arith) (omega arith) (not_from_false (list_any (λ other. other == batch) kept) (lacks_any kept batch lacks))
 
 -- a batch to do has a number, and is the batch with it
-pub batch_back : (o : Start) (batch : ℕ) → IsMissing o batch → (number_of o batch < length (missing o)) × (batch_numbered o (number_of o batch) ≡ batch)
+pub batch_back : (o : Start) (batch : ℕ) → IsMissing o batch → (claim_number o batch < length (batches_missing o)) × (batch_numbered o (claim_number o batch) ≡ batch)
 batch_back o batch due =
     let found = has_missing (length o.entries) (batches_of o.rows) batch due.0 due.1 in
-    let same : number_of o batch ≡ found.0 = ap (number_of o) (sym found.2) ∙ number_back o found.0 found.1 in
-    let P : ℕ → Type 0 = λ i. (i < length (missing o)) × (batch_numbered o i ≡ batch) in
+    let same : claim_number o batch ≡ found.0 = ap (claim_number o) (sym found.2) ∙ number_back o found.0 found.1 in
+    let P : ℕ → Type 0 = λ i. (i < length (batches_missing o)) × (batch_numbered o i ≡ batch) in
     subst P (sym same) (found.1, found.2)
 
 -- two batches to do with one number are one
-pub same_number : (o : Start) (a b : ℕ) → IsMissing o a → IsMissing o b → number_of o a ≡ number_of o b → a ≡ b
+pub same_number : (o : Start) (a b : ℕ) → IsMissing o a → IsMissing o b → claim_number o a ≡ claim_number o b → a ≡ b
 same_number o a b due_a due_b e = sym (batch_back o a due_a).1 ∙ ap (batch_numbered o) e ∙ (batch_back o b due_b).1

@@ -8,7 +8,7 @@ use Rattle.result_file.specs.ResultText.{row_text}
 use Rattle.fm_shelf.specs.Shelf.{ShelfState, OnlyWrites, Appends, MayAppend}
 use Rattle.campaign_board.specs.declared.entry.Entry.{Entry}
 use Rattle.fm_base.specs.Once.{Lacks}
-use Rattle.campaign_board.specs.Boards.{Start, entry_of, batches_of, sums_over, next_row}
+use Rattle.campaign_board.specs.Boards.{Start, board_entry, batches_of, sums_over, next_row}
 use Rattle.campaign_board.specs.Kept.{IsBoard}
 use Rattle.fm_base.proofs.OnceLists.{once_push}
 use Rattle.campaign_board.proofs.Adding.{small_over, sums_push}
@@ -27,7 +27,7 @@ on_ok (Err x) e h = absurd (cc)
 pub record IsAsked (o : Start) (rows : List Row) (entry : Entry) : Type 0 where
   pub within : entry.batch < length o.entries
   pub lacks : Lacks (batches_of rows) entry.batch
-  pub own : entry ≡ entry_of o.entries entry.batch
+  pub own : entry ≡ board_entry o.entries entry.batch
 
 pub now_small : (o : Start) (rows : List Row) (sums : Sums) (failed written : Bool) (shelf : ShelfState) (entry : Entry)
     → IsBoard o rows sums failed written shelf → IsAsked o rows entry → AreSmall (plus sums entry.own)
@@ -35,7 +35,7 @@ now_small o rows sums failed written shelf entry h asked =
     let batches : List ℕ = batches_of rows in
     let small = small_over o.entries (batches ++ entry.batch ∷ []) h.entries
     (All-push (λ b. b < length o.entries) batches entry.batch h.rows_are.within asked.within) (once_push batches entry.batch h.rows_are.once asked.lacks) in
-    subst AreSmall (sums_push o.entries batches entry.batch ∙ ap (λ s. plus s (entry_of o.entries entry.batch).own) (sym h.added) ∙ ap (λ (e : Entry). plus sums e.own) (sym asked.own)) small
+    subst AreSmall (sums_push o.entries batches entry.batch ∙ ap (λ s. plus s (board_entry o.entries entry.batch).own) (sym h.added) ∙ ap (λ (e : Entry). plus sums e.own) (sym asked.own)) small
 
 sums_now : (o : Start) (rows : List Row) (sums : Sums) (failed written : Bool) (shelf : ShelfState) (entry : Entry)
     → IsBoard o rows sums failed written shelf → IsAsked o rows entry → plus sums entry.own ≡ sums_over o.entries (batches_of rows ++ entry.batch ∷ [])

@@ -8,22 +8,22 @@ use Rattle.campaign_plan.specs.Batches.{own_sums, total}
 use Rattle.campaign_plan.proofs.Running.{total_push}
 use Rattle.result_file.specs.declared.Row.{Row}
 use Rattle.result_file.specs.ResultText.{row_text, row_of, row_at, result_rows, entry_at}
-use Rattle.result_file.specs.KeptRows.{entry_of as planes_of}
+use Rattle.result_file.specs.KeptRows.{board_entry as planes_of}
 use Rattle.result_file.proofs.Whole.{no_row}
 use Rattle.result_file.proofs.WrittenBack.{length-result_rows, row_is}
-use Rattle.campaign_board.specs.Boards.{Start, AreEntries, entry_of, batches_of, sums_over}
+use Rattle.campaign_board.specs.Boards.{Start, AreEntries, board_entry, batches_of, sums_over}
 use Rattle.campaign_board.specs.Kept.{AreRows}
 use Rattle.campaign_board.specs.AsResult.{HasOwnSums, BoardsAreResults}
 use Rattle.campaign_board.proofs.Adding.{sums_push}
 
 -- the plan's own sums of a row are its entry's
 own_at : (p : Analysis) (o : Start) (rows : List Row) → AreEntries o.entries → HasOwnSums p o → AreRows o rows → (k : ℕ) → k < length rows
-    → own_sums p (planes_of (get_or rows k no_row)).0 (planes_of (get_or rows k no_row)).1 ≡ (entry_of o.entries (get_or (batches_of rows) k 0)).own
+    → own_sums p (planes_of (get_or rows k no_row)).0 (planes_of (get_or rows k no_row)).1 ≡ (board_entry o.entries (get_or (batches_of rows) k 0)).own
 own_at p o rows are own h k lt =
     let batch : ℕ = get_or (batches_of rows) k 0 in
     let within : batch < length o.entries = h.within k 0 (omega (arith, lt, length-map rows (λ (r : Row). r.batch))) in
     ap (λ (r : Row). own_sums p (planes_of r).0 (planes_of r).1) (h.due k lt)
-    ∙ ap (λ b. own_sums p b (record { danger = (entry_of o.entries batch).danger; noticed = (entry_of o.entries batch).noticed })) (are.numbered batch within)
+    ∙ ap (λ b. own_sums p b (record { danger = (board_entry o.entries batch).danger; noticed = (board_entry o.entries batch).noticed })) (are.numbered batch within)
     ∙ sym (own batch within)
 
 -- the totals over the first rows

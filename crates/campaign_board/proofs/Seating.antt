@@ -9,7 +9,7 @@ use Rattle.campaign_board.specs.declared.entry.Posted.{Posted}
 use Rattle.campaign_board.specs.declared.entry.Posted.TheVariants.{Kept, Stopped}
 use Rattle.campaign_board.specs.declared.entry.Look.{Look}
 use Rattle.campaign_board.specs.Boards.{Start}
-use Rattle.campaign_board.specs.Missing.{number_of}
+use Rattle.campaign_board.specs.Missing.{claim_number}
 use Rattle.campaign_board.specs.Sharing.{IsDrawn, MayPost, TellsSeat, IsLook}
 
 -- what the calls leave of a view: how many numbers there are, its share, its claims and its answers None; and the turn is free
@@ -44,7 +44,7 @@ still_of c old now h table kept = record {
 -- a batch that was just drawn may be posted, by a seat that has posted all that it drew
 pub may_post : (o : Start) (old now : View) (batch : ℕ) → IsDrawn o old now batch → ((n : ℕ) → times n old.claims ≡ times n old.posts) → MayPost o now batch
 may_post o old now batch h all =
-    let n : ℕ = number_of o batch in
+    let n : ℕ = claim_number o batch in
     let P : View → Type 0 = λ v. (0 < times n v.claims) × (times n v.posts ≡ 0) in
     let both : P now = subst P (sym h.view) (claimed_self n old.claims, sym (all n) ∙ h.new) in
     record { due = h.due; drawn = both.0; new = both.1 }

@@ -6,7 +6,7 @@ use Rattle.result_file.specs.ResultText.{row_text}
 use Rattle.fm_shelf.specs.Content.{Content, IsIfKnown, HasIfKnown, bytes_of}
 use Rattle.fm_shelf.specs.Shelf.{ShelfState, CountRose}
 use Rattle.fm_base.specs.Once.{Lacks, IsOnce}
-use Rattle.campaign_board.specs.Boards.{Start, AreEntries, batches_of, sums_over, row_due, next_row, row_at_place, text_of}
+use Rattle.campaign_board.specs.Boards.{Start, AreEntries, batches_of, sums_over, row_due, next_row, row_at_place, file_text}
 
 -- rows of distinct batches, each with its entry's planes and the sums of the entries up to it
 pub record AreRows (o : Start) (rows : List Row) : Type 0 where
@@ -20,13 +20,13 @@ pub record IsTorn (o : Start) (rows : List Row) (bytes : List ℕ) : Type 0 wher
   pub within : batch < length o.entries
   pub lacks : Lacks (batches_of rows) batch
   pub taken : ℕ
-  pub is : bytes ≡ text_of o.header rows ++ take taken (row_text (next_row o.entries rows batch))
+  pub is : bytes ≡ file_text o.header rows ++ take taken (row_text (next_row o.entries rows batch))
 
 pub record IsBoard (o : Start) (rows : List Row) (sums : Sums) (failed written : Bool) (now : ShelfState) : Type 0 where
   pub entries : AreEntries o.entries
   pub rows_are : AreRows o rows
   pub added : sums ≡ sums_over o.entries (batches_of rows)
-  pub file : written ≡ true → failed ≡ false → HasIfKnown (now.content o.name) (text_of o.header rows)
+  pub file : written ≡ true → failed ≡ false → HasIfKnown (now.content o.name) (file_text o.header rows)
   pub torn : written ≡ true → failed ≡ true → IsIfKnown (now.content o.name) (IsTorn o rows)
   pub others : (other : List ℕ) → other ≢ o.name → now.content other ≡ o.shelf.content other
   pub grows : o.shelf.write_faults o.name ≤ now.write_faults o.name
@@ -42,17 +42,17 @@ pub record IsStart (o : Start) (name : List ℕ) (own : List Row) (batches : ℕ
   pub rows_are : AreRows o own
 
 -- a board, as callers see it
-pub record Seen (F : Type 0) : Type 0 where
+pub record BoardState (F : Type 0) : Type 0 where
   pub rows : List Row
   pub failed : Bool
   pub written : Bool
   pub shelf : F
 
 -- the bytes to keep: none for a board without rows, or else the header and these rows, as they stand in the file
-abbrev pub IsWhole : (o : Start) (rows : List Row) (whole : ℕ) (held : Content) → Type 0
-IsWhole o rows whole held =
+abbrev pub AreKeptBytes : (o : Start) (rows : List Row) (whole : ℕ) (held : Content) → Type 0
+AreKeptBytes o rows whole held =
     ((whole ≡ 0) × (rows ≡ []))
-    ⊎ ((whole ≡ 89 + 130 * length rows) × IsIfKnown held (λ bytes. take whole bytes ≡ text_of o.header rows))
+    ⊎ ((whole ≡ 89 + 130 * length rows) × IsIfKnown held (λ bytes. take whole bytes ≡ file_text o.header rows))
 
 -- the file is as before the call, or it is its first bytes, followed by a part of the header where none were kept
 abbrev pub IsHeaderTorn : (header : List ℕ) (whole : ℕ) (before now : Content) → Type 0

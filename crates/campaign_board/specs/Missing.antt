@@ -11,20 +11,20 @@ unfoldable pub missing_below : ℕ → List ℕ → List ℕ
 missing_below batches kept = filter (λ batch. not (list_any (λ other. other == batch) kept)) (below batches)
 
 -- the batches to do: those that the rows at the start lack
-abbrev pub missing : Start → List ℕ
-missing o = missing_below (length o.entries) (batches_of o.rows)
+abbrev pub batches_missing : Start → List ℕ
+batches_missing o = missing_below (length o.entries) (batches_of o.rows)
 
 -- the batch is one of those to do
 abbrev pub IsMissing : Start → ℕ → Type 0
 IsMissing o batch = (batch < length o.entries) × Lacks (batches_of o.rows) batch
 
 -- the number of a batch: its place among the batches to do
-unfoldable pub number_of : Start → ℕ → ℕ
-number_of o batch = position_or_len (λ other. other == batch) (missing o)
+unfoldable pub claim_number : Start → ℕ → ℕ
+claim_number o batch = position_or_len (λ other. other == batch) (batches_missing o)
 
 -- the batch with a number
 abbrev pub batch_numbered : Start → ℕ → ℕ
-batch_numbered o number = slice_index_or (missing o) number 0
+batch_numbered o number = slice_index_or (batches_missing o) number 0
 
 -- the rows after those at the start
 abbrev pub added_rows : Start → List Row → List Row
@@ -32,7 +32,7 @@ added_rows o rows = drop (length o.rows) rows
 
 -- the number of each row after those at the start
 abbrev pub numbers_of : Start → List Row → List ℕ
-numbers_of o rows = map (number_of o) (batches_of (added_rows o rows))
+numbers_of o rows = map (claim_number o) (batches_of (added_rows o rows))
 
 -- the batches of the rows at the start, followed by those with these numbers
 abbrev pub batches_with : Start → List ℕ → List ℕ

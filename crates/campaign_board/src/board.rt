@@ -1,9 +1,9 @@
 ghost use Rattle.std.specs.Prelude.{◌≡◌, ◌<◌, ◌≤◌, vec_capacity, ◌++◌, ◌∷◌, [], true, false, length, IfOk, IfErr, OnOk, OnErr};
 ghost use Rattle.fm_shelf.specs.Shelf.{CountRose};
 ghost use Rattle.fm_base.specs.Once.{Lacks};
-ghost use Rattle.campaign_board.specs.Boards.{AreEntries, entry_of, batches_of, sums_over, next_row};
-ghost use Rattle.campaign_board.specs.Kept.{AreRows, IsBoard, IsStart, IsWhole, IsHeaderTorn};
-ghost use Rattle.campaign_board.specs.Posts.{Tells, sums_at_end};
+ghost use Rattle.campaign_board.specs.Boards.{AreEntries, board_entry, batches_of, sums_over, next_row};
+ghost use Rattle.campaign_board.specs.Kept.{AreRows, IsBoard, IsStart, AreKeptBytes, IsHeaderTorn};
+ghost use Rattle.campaign_board.specs.Posts.{TellsPost, sums_at_end};
 
 use crate::entry::{Entry, Posted};
 use fm_base::Line;
@@ -43,9 +43,9 @@ pub struct Board<F: Shelf + Drop, N: Origin> {
 impl<F: Shelf + Drop, N: Origin> Model for Board<F, N> {
     ghost use Rattle.std.specs.Prelude.{◌≡◌, ◌≤◌, length, vec_capacity};
     ghost use Rattle.std.specs.String.{string_bytes};
-    ghost use Rattle.campaign_board.specs.Kept.{AreRows, IsBoard, Seen};
+    ghost use Rattle.campaign_board.specs.Kept.{AreRows, IsBoard, BoardState};
 
-    ghost Value = { Seen F };
+    ghost Value = { BoardState F };
 
     ghost view = { λ b. record { rows = b.rows.items; failed = b.failed; written = b.written; shelf = b.shelf } };
 
@@ -94,7 +94,7 @@ impl<F: Shelf + Drop, N: Origin> Board<F, N> {
     pub fn append_header(&mut self, whole: u64, own: &Line) -> Result<(), Failed>
         requires fresh { (self.old.written ≡ false) × (self.old.failed ≡ false) }
         requires own { own.now ≡ N.start.header }
-        requires whole { IsWhole N.start self.old.rows whole ((F.seen self.old.shelf).content N.start.name) }
+        requires whole { AreKeptBytes N.start self.old.rows whole ((F.seen self.old.shelf).content N.start.name) }
         ensures rows { self.new.rows ≡ self.old.rows }
         ensures ok { OnOk result ((self.new.written ≡ true) × (self.new.failed ≡ false)) }
         ensures failed { OnErr result ((self.new.failed ≡ true) × CountRose ((F.seen self.old.shelf).write_faults N.start.name) ((F.seen self.new.shelf).write_faults N.start.name)) }
@@ -119,8 +119,8 @@ impl<F: Shelf + Drop, N: Origin> Board<F, N> {
     pub(crate) fn add(&mut self, entry: &Entry) -> Posted
         requires written { self.old.written ≡ true }
         requires batch { (entry.now.batch < length N.start.entries) × Lacks (batches_of self.old.rows) entry.now.batch }
-        requires entry { entry.now ≡ entry_of N.start.entries entry.now.batch }
-        ensures posted { Tells N.start.entries self.old self.new entry.now.batch result }
+        requires entry { entry.now ≡ board_entry N.start.entries entry.now.batch }
+        ensures posted { TellsPost N.start.entries self.old self.new entry.now.batch result }
         ensures written { self.new.written ≡ true }
     {
         if self.failed {

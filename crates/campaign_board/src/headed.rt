@@ -1,9 +1,9 @@
 ghost use Rattle.std.specs.Prelude.{◌≡◌, length, true};
 ghost use mathlib.Core.List.{IsPrefix};
 ghost use Rattle.campaign_core.specs.Machines.{times};
-ghost use Rattle.campaign_board.specs.Boards.{entry_of, sums_over};
+ghost use Rattle.campaign_board.specs.Boards.{board_entry, sums_over};
 ghost use Rattle.campaign_board.specs.Kept.{AreRows};
-ghost use Rattle.campaign_board.specs.Missing.{IsMissing, number_of, numbers_of, batches_with};
+ghost use Rattle.campaign_board.specs.Missing.{IsMissing, claim_number, numbers_of, batches_with};
 ghost use Rattle.campaign_board.specs.Headed.{Adds};
 
 use crate::board::{Board, Origin};
@@ -21,10 +21,10 @@ pub struct Headed<F: Shelf + Drop, N: Origin> {
 }
 
 impl<F: Shelf + Drop, N: Origin> Model for Headed<F, N> {
-    ghost use Rattle.campaign_board.specs.Kept.{Seen};
+    ghost use Rattle.campaign_board.specs.Kept.{BoardState};
     ghost use Rattle.campaign_board.specs.Headed.{IsHeaded};
 
-    ghost Value = { Seen F };
+    ghost Value = { BoardState F };
 
     ghost view = { λ h. h.board };
 
@@ -60,8 +60,8 @@ impl<F: Shelf + Drop, N: Origin> Headed<F, N> {
     // Adds the row of a batch that has none yet
     pub(crate) fn add(&mut self, entry: &Entry) -> Posted
         requires due { IsMissing N.start entry.now.batch }
-        requires new { times (number_of N.start entry.now.batch) (numbers_of N.start self.old.rows) ≡ 0 }
-        requires entry { entry.now ≡ entry_of N.start.entries entry.now.batch }
+        requires new { times (claim_number N.start entry.now.batch) (numbers_of N.start self.old.rows) ≡ 0 }
+        requires entry { entry.now ≡ board_entry N.start.entries entry.now.batch }
         ensures { Adds N.start self.old self.new entry.now.batch result }
     {
         self.board.add(entry)

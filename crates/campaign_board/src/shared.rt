@@ -1,8 +1,8 @@
 ghost use Rattle.std.specs.Prelude.{◌≡◌, ◌≤◌, ◌^◌, [], true, false, length, IfSome, IfNone, IfOk, IfErr};
-ghost use Rattle.claim_counter.specs.Views.{starting_view, with_none, less_one, with_one, joined, giving};
+ghost use Rattle.claim_counter.specs.Views.{starting_view, with_none, less_one, with_one, joined_views, giving};
 ghost use Rattle.claim_counter.specs.Seats.{IsOf};
-ghost use Rattle.campaign_board.specs.Boards.{entry_of};
-ghost use Rattle.campaign_board.specs.Missing.{missing, IsMissing, number_of};
+ghost use Rattle.campaign_board.specs.Boards.{board_entry};
+ghost use Rattle.campaign_board.specs.Missing.{batches_missing, IsMissing, claim_number};
 ghost use Rattle.campaign_board.specs.Sharing.{IsDrawn, MayPost, TellsSeat, IsLook, IsClosed};
 
 use crate::board::{Board, Origin};
@@ -30,13 +30,13 @@ pub struct Shared<F: Shelf + Drop, N: Origin> {
 impl<F: Shelf + Drop, N: Origin> Model for Shared<F, N> {
     ghost use Rattle.std.specs.Prelude.{◌≡◌, length};
     ghost use Rattle.claim_counter.specs.Seats.{Counter};
-    ghost use Rattle.campaign_board.specs.Missing.{missing};
+    ghost use Rattle.campaign_board.specs.Missing.{batches_missing};
 
     ghost Value = { Counter };
 
     ghost view = { λ s. s.claims };
 
-    ghost invariant = { λ s. (s.todo ≡ missing N.start) × (s.claims.todo ≡ length (missing N.start)) × (s.started ≡ length N.start.rows) };
+    ghost invariant = { λ s. (s.todo ≡ batches_missing N.start) × (s.claims.todo ≡ length (batches_missing N.start)) × (s.started ≡ length N.start.rows) };
 }
 
 /// There was no memory for a table.
@@ -54,8 +54,8 @@ impl<F: Shelf + Drop, N: Origin> Shared<F, N> {
         todo: BatchList,
     ) -> Result<(Self, Seat<F, N>), AllocError>
         requires rows { board.now.rows ≡ N.start.rows }
-        requires todo { todo ≡ missing N.start }
-        ensures { IfOk result (λ r. (r.0.todo ≡ length (missing N.start)) × (r.1.table ≡ r.0.table) × (r.1.view ≡ starting_view r.0.todo)) }
+        requires todo { todo ≡ batches_missing N.start }
+        ensures { IfOk result (λ r. (r.0.todo ≡ length (batches_missing N.start)) × (r.1.table ≡ r.0.table) × (r.1.view ≡ starting_view r.0.todo)) }
     {
         let started = board.rows().len();
         let (claims, seat) = Claims::new(alloc, todo.len() as u64)?;
@@ -88,8 +88,8 @@ impl<F: Shelf + Drop, N: Origin> Shared<F, N> {
     ) -> Result<(Self, Seat<F, N>), NoShared<F, N>>
         requires written { board.written ≡ true }
         requires rows { board.rows ≡ N.start.rows }
-        requires todo { todo ≡ missing N.start }
-        ensures ok { IfOk result (λ r. (r.0.todo ≡ length (missing N.start)) × (r.1.table ≡ r.0.table) × (r.1.view ≡ giving (starting_view r.0.todo) board.failed)) }
+        requires todo { todo ≡ batches_missing N.start }
+        ensures ok { IfOk result (λ r. (r.0.todo ≡ length (batches_missing N.start)) × (r.1.table ≡ r.0.table) × (r.1.view ≡ giving (starting_view r.0.todo) board.failed)) }
         ensures err { IfErr result (λ e. e.board ≡ board) }
     {
         let Ok((shared, mut seat)) = Shared::table(alloc, &board, todo) else {
@@ -113,7 +113,7 @@ impl<F: Shelf + Drop, N: Origin> Shared<F, N> {
     pub fn join(&self, seat: &mut Seat<F, N>, other: Seat<F, N>)
         requires table { IsOf self.now seat.old × IsOf self.now other }
         requires free { other.view.holds ≡ false }
-        ensures { (seat.new.table ≡ seat.old.table) × (seat.new.view ≡ joined seat.old.view other.view) }
+        ensures { (seat.new.table ≡ seat.old.table) × (seat.new.view ≡ joined_views seat.old.view other.view) }
     {
         self.claims.join(seat, other);
     }
@@ -133,7 +133,7 @@ impl<F: Shelf + Drop, N: Origin> Shared<F, N> {
     // The number of a batch to do
     fn number(&self, batch: u32) -> u64
         requires { IsMissing N.start batch }
-        ensures { result ≡ number_of N.start batch }
+        ensures { result ≡ claim_number N.start batch }
     {
         let Ok(number) = self.todo.as_slice().binary_search(&batch) else {
             unreachable!()
@@ -148,7 +148,7 @@ impl<F: Shelf + Drop, N: Origin> Shared<F, N> {
         requires table { IsOf self.now seat.old }
         requires free { seat.old.view.holds ≡ false }
         requires drawn { MayPost N.start seat.old.view entry.now.batch }
-        requires entry { entry.now ≡ entry_of N.start.entries entry.now.batch }
+        requires entry { entry.now ≡ board_entry N.start.entries entry.now.batch }
         ensures table { seat.new.table ≡ seat.old.table }
         ensures posted { TellsSeat N.start seat.old.view seat.new.view entry.now.batch result }
     {

@@ -10,7 +10,7 @@ use Rattle.metric_sums.specs.Totals.{plus, sums_by}
 use Rattle.campaign_core.specs.declared.event.Event.{Event}
 use Rattle.campaign_core.specs.declared.event.Event.TheVariants.{Draw, Post, Look, Fail}
 use Rattle.campaign_core.specs.Machines.{Machine, fresh, is_claimed, is_posted, is_lawful, with_draw, after, after_all, all_lawful, times, times_claimed, once_below}
-use Rattle.campaign_core.specs.Laws.{own, from_scratch, grown}
+use Rattle.campaign_core.specs.Laws.{own, from_scratch, grown_sums}
 
 -- how often a number stands in a list that one more was appended to
 times-snoc : (x n : ℕ) (history : List ℕ) → times x (history ++ n ∷ []) ≡ times x history + cond (n == x) 1 0
@@ -112,10 +112,10 @@ sums_push own xs n = λ i. record {
 }
 
 -- sums that start from scratch stay so
-pub grown_is : (sums : List Sums) (m : Machine) (es : List Event) → grown sums (from_scratch sums m.history) es ≡ from_scratch sums (after_all m es).history
+pub grown_is : (sums : List Sums) (m : Machine) (es : List Event) → grown_sums sums (from_scratch sums m.history) es ≡ from_scratch sums (after_all m es).history
 grown_is sums m [] = refl
-grown_is sums m (Draw w ∷ es) = ap (λ (l : List ℕ). grown sums (from_scratch sums l) es) (sym (history_draw m w (nat_lt m.next m.limit))) ∙ grown_is sums (after m (Draw w)) es
-grown_is sums m (Post w n ∷ es) = ap (λ (t : Sums). grown sums t es) (sym (sums_push (own sums) m.history n)) ∙ grown_is sums (after m (Post w n)) es
+grown_is sums m (Draw w ∷ es) = ap (λ (l : List ℕ). grown_sums sums (from_scratch sums l) es) (sym (history_draw m w (nat_lt m.next m.limit))) ∙ grown_is sums (after m (Draw w)) es
+grown_is sums m (Post w n ∷ es) = ap (λ (t : Sums). grown_sums sums t es) (sym (sums_push (own sums) m.history n)) ∙ grown_is sums (after m (Post w n)) es
 grown_is sums m (Look w ∷ es) = grown_is sums m es
 grown_is sums m (Fail w ∷ es) = grown_is sums (after m (Fail w)) es
 

@@ -15,9 +15,9 @@ abbrev pub from_scratch : List Sums → List ℕ → Sums
 from_scratch sums history = sums_by (own sums) history
 
 -- the sums that grow at each post by those of its number
-abbrev pub grown : List Sums → Sums → List Event → Sums
-grown sums now [] = now
-grown sums now (Draw w ∷ es) = grown sums now es
-grown sums now (Post w n ∷ es) = grown sums (plus now (own sums n)) es
-grown sums now (Look w ∷ es) = grown sums now es
-grown sums now (Fail w ∷ es) = grown sums now es
+abbrev pub grown_sums : List Sums → Sums → List Event → Sums
+grown_sums sums now [] = now
+grown_sums sums now (Draw w ∷ es) = grown_sums sums now es
+grown_sums sums now (Post w n ∷ es) = grown_sums sums (plus now (own sums n)) es
+grown_sums sums now (Look w ∷ es) = grown_sums sums now es
+grown_sums sums now (Fail w ∷ es) = grown_sums sums now es

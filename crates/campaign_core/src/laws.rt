@@ -4,7 +4,7 @@ ghost use Rattle.metric_sums.specs.declared.Sums.{Sums};
 ghost use Rattle.metric_sums.specs.Totals.{no_sums};
 ghost use Rattle.campaign_core.specs.declared.event.Event.{Event};
 ghost use Rattle.campaign_core.specs.Machines.{fresh, after_all, all_lawful, times, times_claimed, once_below};
-ghost use Rattle.campaign_core.specs.Laws.{grown, from_scratch};
+ghost use Rattle.campaign_core.specs.Laws.{grown_sums, from_scratch};
 
 /// The claims of the workers are disjoint, and together they are the numbers below the next one: each of these was claimed once, and no other number.
 pub fn claims_are_disjoint()
@@ -29,5 +29,5 @@ pub fn history_is_whole()
 
 /// The sums that start at zero and grow at each post by those of its number are at any time, and so at each look, the sums of the history from scratch.
 pub fn sums_are_from_scratch()
-    ensures { (limit : ℕ) (sums : List Sums) (es : List Event) → grown sums no_sums es ≡ from_scratch sums (after_all (fresh limit) es).history }
+    ensures { (limit : ℕ) (sums : List Sums) (es : List Event) → grown_sums sums no_sums es ≡ from_scratch sums (after_all (fresh limit) es).history }
 {}

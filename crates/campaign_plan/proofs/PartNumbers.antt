@@ -12,14 +12,14 @@ use Rattle.circuit.specs.declared.parts.Fault.TheVariants.{Stuck}
 use Rattle.circuit.specs.Circuit.{Circuit}
 use Rattle.circuit.specs.Names.{net_name}
 use Rattle.circuit.specs.Sound.{IsNetlist}
-use Rattle.fault_list.specs.Faults.{net, faults_of, fault_at, net_of_fault, latch_at}
+use Rattle.fault_list.specs.Faults.{net, faults_of, fault_at, net_of_fault, latch_numbered}
 use Rattle.fault_list.specs.Kept.{stuck_count, flip_count}
 use Rattle.fault_list.proofs.Rows.{some_wide}
 use Rattle.fault_list.proofs.Numbers.{length_faults, stuck_at, flip_at, pulse_at}
 use Rattle.fm_base.specs.Lists.{below}
 use Rattle.fm_base.proofs.Below.{below_push, map-below}
 use Rattle.rate_table.specs.declared.Pattern.{Pattern}
-use Rattle.rate_table.specs.Table.{IsTable, matches}
+use Rattle.rate_table.specs.Table.{IsRateTable, matches}
 use Rattle.rate_table.proofs.Rows.{find_holds}
 use Rattle.campaign_plan.specs.Analysis.{Analysis, all_faults, part_count, part_of_net, part_of}
 use Rattle.campaign_plan.specs.Making.{net_part, AreNetParts}
@@ -58,7 +58,7 @@ pub no_parts : (p : Analysis) → HasParts p 0 []
 unfolding below
 no_parts p = record { rated = refl; numbers = refl; within = λ k d lt. absurd (omega (arith, lt)) }
 
-part_within : (p : Analysis) → IsTable p.rates → (n part : ℕ) → part_of_net p n ≡ Some part → part < part_count p
+part_within : (p : Analysis) → IsRateTable p.rates → (n part : ℕ) → part_of_net p n ≡ Some part → part < part_count p
 part_within p table n part e = by_cases (find (λ (pattern : Pattern). matches pattern (net_name p.circuit n)) p.rates.patterns) refl e
   where
     by_cases : (o : Option Pattern) → find (λ (pattern : Pattern). matches pattern (net_name p.circuit n)) p.rates.patterns ≡ o
@@ -69,7 +69,7 @@ part_within p table n part e = by_cases (find (λ (pattern : Pattern). matches p
         let below = find_holds (λ (pattern : Pattern). matches pattern (net_name p.circuit n)) (λ (pattern : Pattern). pattern.part < length p.rates.parts) p.rates.patterns pattern found table.numbers in
         omega (arith, same, below)
 
-pub parts_push : (p : Analysis) → IsTable p.rates → (n : ℕ) (parts : List ℕ) (part : ℕ) → HasParts p n parts → part_of_net p n ≡ Some part
+pub parts_push : (p : Analysis) → IsRateTable p.rates → (n : ℕ) (parts : List ℕ) (part : ℕ) → HasParts p n parts → part_of_net p n ≡ Some part
     → HasParts p (n + 1) (parts ++ part ∷ [])
 parts_push p table n parts part has e = record {
   rated = find_more (λ net. is_none (part_of_net p net)) n has.rated (ap is_none e);
@@ -103,10 +103,10 @@ net_within c flips pulses sound i lt =
       | inr rest ↦ later rest
     ]
   where
-    flipped : (q : ℕ) → q < length c.latches → (latch_at c q).to.0 < length c.drivers
+    flipped : (q : ℕ) → q < length c.latches → (latch_numbered c q).to.0 < length c.drivers
     flipped q less =
         let found = slice_get-get_or c.latches q (record { from = net 0; to = net 0; start = false }) less in
-        slice_get_within c.drivers (latch_at c q).to.0 _ (sound.latches q (latch_at c q) found)
+        slice_get_within c.drivers (latch_numbered c q).to.0 _ (sound.latches q (latch_numbered c q) found)
 
     later : stuck_count (length c.drivers) ≤ i → net_of_fault c (fault_at (faults_of c flips pulses) i) < length c.drivers
     later rest =

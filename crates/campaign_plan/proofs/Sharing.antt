@@ -13,15 +13,15 @@ use Rattle.fm_base.specs.Lists.{same_bit, below}
 use Rattle.fm_base.proofs.Below.{below_push, map-below}
 use Rattle.metric_sums.specs.declared.Role.TheVariants.{Other}
 use Rattle.rate_table.specs.declared.Part.{Part}
-use Rattle.rate_table.specs.Table.{IsTable}
+use Rattle.rate_table.specs.Table.{IsRateTable}
 use Rattle.campaign_plan.proofs.Weighing.{weight_share}
 use Rattle.std.proofs.lemmas.List.Elements.{filter_map-append}
 use Rattle.campaign_plan.specs.declared.PlanRefusal.TheVariants.{IdleRate}
 use Rattle.campaign_plan.specs.PlanFaults.{idle_rate_of, is_idle}
 use Rattle.campaign_plan.specs.declared.shares.Share.{Share}
 use Rattle.campaign_plan.specs.Analysis.{Analysis, all_faults, fault_numbered, part_count, part_numbered, part_of}
-use Rattle.campaign_plan.specs.Shares.{AreCounts, AreShares, share_at, less, given, full_share, share_of_rate, idle_of}
-use Rattle.campaign_plan.specs.Weights.{is_of, rate_of_kind, weight}
+use Rattle.campaign_plan.specs.Shares.{ArePartCounts, AreShares, share_at, less, next_weight, full_share, share_of_rate, idle_of}
+use Rattle.campaign_plan.specs.Weights.{has_part_and_kind, rate_of_kind, weight}
 
 same_kind : (a b : Bool) → a ≡ b → same_bit a b ≡ true
 same_kind true b e = sym e
@@ -35,31 +35,31 @@ other_kind false true e = refl
 other_kind false false e = absurd (e refl)
 
 -- whether a fault is of a part and kind
-is_mine : (p : Analysis) (k : ℕ) (permanent : Bool) (f : Fault) → is_permanent f ≡ permanent → part_of p f ≡ k → is_of p k permanent f ≡ true
+is_mine : (p : Analysis) (k : ℕ) (permanent : Bool) (f : Fault) → is_permanent f ≡ permanent → part_of p f ≡ k → has_part_and_kind p k permanent f ≡ true
 is_mine p k permanent f kind part =
     let here : (part_of p f == k) ≡ true = grind (arith, part) in
     ap₂ (λ a b. a && b) (same_kind (is_permanent f) permanent kind) here
 
-not_part : (p : Analysis) (k : ℕ) (permanent : Bool) (f : Fault) → k ≢ part_of p f → is_of p k permanent f ≡ false
+not_part : (p : Analysis) (k : ℕ) (permanent : Bool) (f : Fault) → k ≢ part_of p f → has_part_and_kind p k permanent f ≡ false
 not_part p k permanent f ne =
     let here : (part_of p f == k) ≡ false = grind (arith, ne) in
     ap (λ b. same_bit (is_permanent f) permanent && b) here ∙ and-false (same_bit (is_permanent f) permanent)
 
-not_kind : (p : Analysis) (k : ℕ) (permanent : Bool) (f : Fault) → is_permanent f ≢ permanent → is_of p k permanent f ≡ false
+not_kind : (p : Analysis) (k : ℕ) (permanent : Bool) (f : Fault) → is_permanent f ≢ permanent → has_part_and_kind p k permanent f ≡ false
 not_kind p k permanent f ne = ap (λ b. b && (part_of p f == k)) (other_kind (is_permanent f) permanent ne)
 
 abbrev so_far : Analysis → ℕ → Bool → ℕ → ℕ
-so_far p k permanent i = count_by (is_of p k permanent) (take i (all_faults p))
+so_far p k permanent i = count_by (has_part_and_kind p k permanent) (take i (all_faults p))
 
 -- ---- counts
 
 pub no_counts : (p : Analysis) (permanent : Bool) (counts : List ℕ) → length counts ≡ part_count p
-    → ((k : ℕ) → k < part_count p → get_or counts k 0 ≡ 0) → AreCounts p permanent (take 0 (all_faults p)) counts
+    → ((k : ℕ) → k < part_count p → get_or counts k 0 ≡ 0) → ArePartCounts p permanent (take 0 (all_faults p)) counts
 no_counts p permanent counts size none = record { size = size; each = none }
 
-pub one_counted : (p : Analysis) (permanent : Bool) (i : ℕ) (counts : List ℕ) (part : ℕ) → AreCounts p permanent (take i (all_faults p)) counts
+pub one_counted : (p : Analysis) (permanent : Bool) (i : ℕ) (counts : List ℕ) (part : ℕ) → ArePartCounts p permanent (take i (all_faults p)) counts
     → i < length (all_faults p) → is_permanent (fault_numbered p i) ≡ permanent → part_of p (fault_numbered p i) ≡ part → part < part_count p
-    → AreCounts p permanent (take (i + 1) (all_faults p)) (set counts part (get_or counts part 0 + 1))
+    → ArePartCounts p permanent (take (i + 1) (all_faults p)) (set counts part (get_or counts part 0 + 1))
 one_counted p permanent i counts part are lt kind own within = record {
   size = length-set counts part (get_or counts part 0 + 1) ∙ are.size;
   each = λ k less. (let split : (k ≡ part) ⊎ (k ≢ part) = grind arith in
@@ -67,18 +67,18 @@ one_counted p permanent i counts part are lt kind own within = record {
         | inl e ↦ subst (λ j. get_or (set counts part (get_or counts part 0 + 1)) j 0 ≡ so_far p j permanent (i + 1)) (sym e)
             (get_or-set_same counts part (get_or counts part 0 + 1) 0 (omega (arith, are.size, within))
             ∙ ap (λ n. n + 1) (are.each part within)
-            ∙ sym (count_by_more_yes (is_of p part permanent) (all_faults p) i (Stuck (net 0) false) lt (is_mine p part permanent (fault_numbered p i) kind own)))
+            ∙ sym (count_by_more_yes (has_part_and_kind p part permanent) (all_faults p) i (Stuck (net 0) false) lt (is_mine p part permanent (fault_numbered p i) kind own)))
         | inr ne ↦ get_or-set_other counts part k (get_or counts part 0 + 1) 0 ne ∙ are.each k less
-            ∙ sym (count_by_more_no (is_of p k permanent) (all_faults p) i (Stuck (net 0) false) lt
+            ∙ sym (count_by_more_no (has_part_and_kind p k permanent) (all_faults p) i (Stuck (net 0) false) lt
             (not_part p k permanent (fault_numbered p i) (λ e. ne (e ∙ own))))
       ]);
 }
 
-pub none_counted : (p : Analysis) (permanent : Bool) (i : ℕ) (counts : List ℕ) → AreCounts p permanent (take i (all_faults p)) counts
-    → i < length (all_faults p) → is_permanent (fault_numbered p i) ≢ permanent → AreCounts p permanent (take (i + 1) (all_faults p)) counts
+pub none_counted : (p : Analysis) (permanent : Bool) (i : ℕ) (counts : List ℕ) → ArePartCounts p permanent (take i (all_faults p)) counts
+    → i < length (all_faults p) → is_permanent (fault_numbered p i) ≢ permanent → ArePartCounts p permanent (take (i + 1) (all_faults p)) counts
 none_counted p permanent i counts are lt kind = record {
   size = are.size;
-  each = λ k less. are.each k less ∙ sym (count_by_more_no (is_of p k permanent) (all_faults p) i (Stuck (net 0) false) lt (not_kind p k permanent (fault_numbered p i) kind));
+  each = λ k less. are.each k less ∙ sym (count_by_more_no (has_part_and_kind p k permanent) (all_faults p) i (Stuck (net 0) false) lt (not_kind p k permanent (fault_numbered p i) kind));
 }
 
 -- ---- shares
@@ -95,9 +95,9 @@ share_taken p permanent i shares part are lt kind own within = record {
             ∙ ap (less 1) (are.each part within)
             ∙ (let one : (full_share p permanent part).left - so_far p part permanent i - 1 ≡ (full_share p permanent part).left - (so_far p part permanent i + 1) = omega arith in
             ap (λ n. record { whole = (full_share p permanent part).whole; left = n }) one)
-            ∙ sym (ap (λ n. less n (full_share p permanent part)) (count_by_more_yes (is_of p part permanent) (all_faults p) i (Stuck (net 0) false) lt (is_mine p part permanent (fault_numbered p i) kind own))))
+            ∙ sym (ap (λ n. less n (full_share p permanent part)) (count_by_more_yes (has_part_and_kind p part permanent) (all_faults p) i (Stuck (net 0) false) lt (is_mine p part permanent (fault_numbered p i) kind own))))
         | inr ne ↦ get_or-set_other shares part k (less 1 (share_at shares part)) _ ne ∙ are.each k below
-            ∙ sym (ap (λ n. less n (full_share p permanent k)) (count_by_more_no (is_of p k permanent) (all_faults p) i (Stuck (net 0) false) lt
+            ∙ sym (ap (λ n. less n (full_share p permanent k)) (count_by_more_no (has_part_and_kind p k permanent) (all_faults p) i (Stuck (net 0) false) lt
             (not_part p k permanent (fault_numbered p i) (λ e. ne (e ∙ own)))))
       ]);
 }
@@ -107,7 +107,7 @@ pub share_kept : (p : Analysis) (permanent : Bool) (i : ℕ) (shares : List Shar
 share_kept p permanent i shares are lt kind = record {
   size = are.size;
   each = λ k below. are.each k below
-      ∙ sym (ap (λ n. less n (full_share p permanent k)) (count_by_more_no (is_of p k permanent) (all_faults p) i (Stuck (net 0) false) lt (not_kind p k permanent (fault_numbered p i) kind)));
+      ∙ sym (ap (λ n. less n (full_share p permanent k)) (count_by_more_no (has_part_and_kind p k permanent) (all_faults p) i (Stuck (net 0) false) lt (not_kind p k permanent (fault_numbered p i) kind)));
 }
 
 -- what a part's number in the table says
@@ -115,10 +115,10 @@ pub number_at : (p : Analysis) (numbers : List ℕ) (i d : ℕ) → numbers ≡ 
     → get_or numbers i d ≡ part_of p (fault_numbered p i)
 number_at p numbers i d e lt = ap (λ (ns : List ℕ). get_or ns i d) e ∙ get_or-map (part_of p) (all_faults p) i (Stuck (net 0) false) d lt
 
-pub counted_few : (p : Analysis) (permanent : Bool) (i k : ℕ) (counts : List ℕ) → AreCounts p permanent (take i (all_faults p)) counts
+pub counted_few : (p : Analysis) (permanent : Bool) (i k : ℕ) (counts : List ℕ) → ArePartCounts p permanent (take i (all_faults p)) counts
     → k < part_count p → get_or counts k 0 ≤ i
 counted_few p permanent i k counts are lt =
-    omega (arith, are.each k lt, count_by-le-length (is_of p k permanent) (take i (all_faults p)), length-take i (all_faults p))
+    omega (arith, are.each k lt, count_by-le-length (has_part_and_kind p k permanent) (take i (all_faults p)), length-take i (all_faults p))
 
 -- ---- the share of a fault is its weight
 
@@ -150,15 +150,15 @@ shared_among rate n some =
 
 pub share_weight : (p : Analysis) (permanent : Bool) (i : ℕ) (shares : List Share) (part : ℕ) → AreShares p permanent i shares
     → i < length (all_faults p) → is_permanent (fault_numbered p i) ≡ permanent → part_of p (fault_numbered p i) ≡ part → part < part_count p
-    → given (share_at shares part) ≡ weight p i
+    → next_weight (share_at shares part) ≡ weight p i
 share_weight p permanent i shares part are lt kind own within =
     let mine = is_mine p part permanent (fault_numbered p i) kind own in
-    let more : count_by (is_of p part permanent) (take (i + 1) (all_faults p)) ≡ so_far p part permanent i + 1 =
-    count_by_more_yes (is_of p part permanent) (all_faults p) i (Stuck (net 0) false) lt mine in
+    let more : count_by (has_part_and_kind p part permanent) (take (i + 1) (all_faults p)) ≡ so_far p part permanent i + 1 =
+    count_by_more_yes (has_part_and_kind p part permanent) (all_faults p) i (Stuck (net 0) false) lt mine in
     let rate = rate_of_kind permanent (part_numbered p part) in
-    let n = count_by (is_of p part permanent) (all_faults p) in
-    let some : 0 < n = omega (arith, more, count_take (is_of p part permanent) (all_faults p) (i + 1)) in
-    ap given (are.each part within) ∙ ap (λ (s : Share). given (less (so_far p part permanent i) s)) (shared_among rate n some)
+    let n = count_by (has_part_and_kind p part permanent) (all_faults p) in
+    let some : 0 < n = omega (arith, more, count_take (has_part_and_kind p part permanent) (all_faults p) (i + 1)) in
+    ap next_weight (are.each part within) ∙ ap (λ (s : Share). next_weight (less (so_far p part permanent i) s)) (shared_among rate n some)
     ∙ ap (λ (b : ℕ). rate / n + b) (left_or_none (so_far p part permanent i) (rate % n))
     ∙ sym (weight_share p part permanent i mine)
 
@@ -172,7 +172,7 @@ whole_within rate (suc n) =
     let here : (suc n == 0) ≡ false = grind arith in
     rw here (div-le_self rate (suc n))
 
-pub share_small : (p : Analysis) → IsTable p.rates → (permanent : Bool) (i : ℕ) (shares : List Share) (k : ℕ) → AreShares p permanent i shares
+pub share_small : (p : Analysis) → IsRateTable p.rates → (permanent : Bool) (i : ℕ) (shares : List Share) (k : ℕ) → AreShares p permanent i shares
     → k < part_count p → (share_at shares k).whole < 2 ^ 63
 share_small p table permanent i shares k are lt =
     let whole : (share_at shares k).whole ≡ (full_share p permanent k).whole = ap (λ (s : Share). s.whole) (are.each k lt) in
@@ -183,7 +183,7 @@ share_small p table permanent i shares k are lt =
       most,
       table.rates,
       rate_within permanent (part_numbered p k),
-      whole_within (rate_of_kind permanent (part_numbered p k)) (count_by (is_of p k permanent) (all_faults p)),
+      whole_within (rate_of_kind permanent (part_numbered p k)) (count_by (has_part_and_kind p k permanent) (all_faults p)),
     )
 
 -- ---- the shares of all parts
@@ -262,7 +262,7 @@ idle_cases false true name = refl
 idle_cases false false name = refl
 
 pub idle_by : (p : Analysis) (k c d : ℕ) (part : Part) → part ≡ part_numbered p k
-    → c ≡ count_by (is_of p k true) (all_faults p) → d ≡ count_by (is_of p k false) (all_faults p)
+    → c ≡ count_by (has_part_and_kind p k true) (all_faults p) → d ≡ count_by (has_part_and_kind p k false) (all_faults p)
     → idle_rate_of p k ≡ option_map (λ permanent. IdleRate part.name permanent) (idle_of part c d)
 idle_by p k c d part own of_permanent of_transient =
     idle_cases (is_idle p true k) (is_idle p false k) (part_numbered p k).name

@@ -11,11 +11,11 @@ use Rattle.metric_sums.specs.Totals.{AreSmall, AreConsistent}
 use Rattle.metric_sums.proofs.Shares.{AreWithin, share_within, sums_within, consistent_within}
 use Rattle.rate_table.specs.declared.Part.{Part}
 use Rattle.rate_table.specs.declared.Pattern.{Pattern}
-use Rattle.rate_table.specs.Table.{IsTable, all_rates, matches}
+use Rattle.rate_table.specs.Table.{IsRateTable, all_rates, matches}
 use Rattle.rate_table.proofs.Rows.{find_holds}
 use Rattle.campaign_plan.specs.declared.Outcome.{Outcome}
 use Rattle.campaign_plan.specs.Analysis.{Analysis, fault_count, fault_numbered, part_numbered, part_count, part_of, batch_count}
-use Rattle.campaign_plan.specs.Weights.{rate_of_kind, is_of, weight}
+use Rattle.campaign_plan.specs.Weights.{rate_of_kind, has_part_and_kind, weight}
 use Rattle.campaign_plan.specs.Batches.{Entry, total, batches, own_sums, lane_sums, class_in_lane, AreDistinct}
 use Rattle.campaign_plan.specs.Kept.{IsPlan}
 use Rattle.fm_base.proofs.SumsBelow.{sum_up, sum_up-zero, sum_up-push, sum_up-split, sum_up-mono, sum_up-plus, sum_up-less, sum_up-keys, sum_up-list, sum_by-below, sum_by-filter, where_true, once_le, sum_by-map}
@@ -27,7 +27,7 @@ abbrev matches_fault : Analysis → ℕ → Pattern → Bool
 matches_fault p i pattern = matches pattern (net_name p.circuit (net_of_fault p.circuit (fault_numbered p i)))
 
 -- the number of a fault's part is that of a part, or 0
-part_below : (p : Analysis) → IsTable p.rates → (i : ℕ) → part_of p (fault_numbered p i) < part_count p + 1
+part_below : (p : Analysis) → IsRateTable p.rates → (i : ℕ) → part_of p (fault_numbered p i) < part_count p + 1
 part_below p table i = by_cases (find (matches_fault p i) p.rates.patterns) refl
   where
     by_cases : (o : Option Pattern) → find (matches_fault p i) p.rates.patterns ≡ o
@@ -50,12 +50,12 @@ part_rates p k = rate_of_kind true (part_numbered p k) + rate_of_kind false (par
 part_small : (p : Analysis) (k : ℕ) → sum_up (λ i. where_true (part_of p (fault_numbered p i) == k) (weight p i)) (fault_count p) ≤ part_rates p k
 part_small p k =
     let split : sum_up (λ i. where_true (part_of p (fault_numbered p i) == k) (weight p i)) (fault_count p)
-    ≡ sum_up (λ i. where_true (is_of p k true (fault_numbered p i)) (weight p i) + where_true (is_of p k false (fault_numbered p i)) (weight p i)) (fault_count p) =
+    ≡ sum_up (λ i. where_true (has_part_and_kind p k true (fault_numbered p i)) (weight p i) + where_true (has_part_and_kind p k false (fault_numbered p i)) (weight p i)) (fault_count p) =
     λ j. sum_up (λ i. kinds_apart (is_permanent (fault_numbered p i)) (part_of p (fault_numbered p i) == k) (weight p i) j) (fault_count p) in
     omega (
       arith,
       split,
-      sum_up-plus (fault_count p) (λ i. where_true (is_of p k true (fault_numbered p i)) (weight p i)) (λ i. where_true (is_of p k false (fault_numbered p i)) (weight p i)),
+      sum_up-plus (fault_count p) (λ i. where_true (has_part_and_kind p k true (fault_numbered p i)) (weight p i)) (λ i. where_true (has_part_and_kind p k false (fault_numbered p i)) (weight p i)),
       class_small p k true,
       class_small p k false,
     )
@@ -64,7 +64,7 @@ no_part_there : (parts : List Part) (d : Part) → get_or parts (length parts) d
 no_part_there [] d = refl
 no_part_there (part ∷ parts) d = no_part_there parts d
 
-pub weights_small : (p : Analysis) → IsTable p.rates → sum_up (weight p) (fault_count p) ≤ 10 ^ 18
+pub weights_small : (p : Analysis) → IsRateTable p.rates → sum_up (weight p) (fault_count p) ≤ 10 ^ 18
 weights_small p table =
     let keys = sum_up-keys (part_count p + 1) (fault_count p) (λ i. part_of p (fault_numbered p i)) (weight p) (λ i _. part_below p table i) in
     let less = sum_up-less (part_count p + 1) (λ k. sum_up (λ i. where_true (part_of p (fault_numbered p i) == k) (weight p i)) (fault_count p)) (part_rates p) (part_small p) in
@@ -112,7 +112,7 @@ batch_sum p batch =
     sum_by-filter (is_used (fault_count p) batch) (λ lane. weight p (fault_number batch lane)) (below 64)
     ∙ sum_by-below 64 (λ lane. where_true (is_used (fault_count p) batch lane) (weight p (fault_number batch lane)))
 
-batches_small : (p : Analysis) → IsTable p.rates → (m : ℕ) → sum_up (batch_weight p) m ≤ 10 ^ 18
+batches_small : (p : Analysis) → IsRateTable p.rates → (m : ℕ) → sum_up (batch_weight p) m ≤ 10 ^ 18
 batches_small p table m =
     let n = fault_count p in
     let sums : sum_up (batch_weight p) m ≡ sum_up (λ b. sum_up (λ k. cut (weight p) n (64 * b + k)) 64) m = λ j. sum_up (λ b. batch_sum p b j) m in
@@ -133,7 +133,7 @@ total_within p entries =
     (sums_within (λ (e : Entry). own_sums p e.0 e.1) (λ (e : Entry). batch_weight p e.0) entries (λ e. own_within p e.0 e.1))
 
 -- batches that stand once each have small sums
-pub consistent_once : (p : Analysis) → IsTable p.rates → (entries : List Entry)
+pub consistent_once : (p : Analysis) → IsRateTable p.rates → (entries : List Entry)
     → All (λ batch. batch < batch_count p) (batches entries) → IsOnce (batches entries) → AreConsistent (total p entries)
 consistent_once p table entries within once =
     let le = once_le (batches entries) (batch_count p) (batch_weight p) within once in

@@ -11,7 +11,7 @@ use Rattle.fault_list.specs.Faults.{net}
 use Rattle.fm_base.specs.Lists.{same_bit, below}
 use Rattle.fm_base.proofs.Tests.{and_both, same_bit_true}
 use Rattle.campaign_plan.specs.Analysis.{Analysis, all_faults, fault_count, fault_numbered, part_numbered, part_of}
-use Rattle.campaign_plan.specs.Weights.{rate_of_kind, is_of, weight}
+use Rattle.campaign_plan.specs.Weights.{rate_of_kind, has_part_and_kind, weight}
 use Rattle.fm_base.proofs.SumsBelow.{sum_up, sum_up-zero, sum_up-push, sum_by-below, sum_by-filter, where_true}
 
 -- the whole part for each, and one more for the first ones
@@ -66,55 +66,55 @@ so_far test fs q r w d each (suc m) le = by_cases (test (get_or fs m d)) refl (s
         omega (arith, sum_up-push m (λ i. where_true (test (get_or fs i d)) (w i)), rest, here, more)
 
 -- the weight of a fault of a part and kind
-weight_of : (p : Analysis) (k : ℕ) (permanent : Bool) (i : ℕ) → is_of p k permanent (fault_numbered p i) ≡ true
-    → weight p i ≡ one_more (rate_of_kind permanent (part_numbered p k) / count_by (is_of p k permanent) (all_faults p))
-    (rate_of_kind permanent (part_numbered p k) % count_by (is_of p k permanent) (all_faults p))
-    (count_by (is_of p k permanent) (take i (all_faults p)))
+weight_of : (p : Analysis) (k : ℕ) (permanent : Bool) (i : ℕ) → has_part_and_kind p k permanent (fault_numbered p i) ≡ true
+    → weight p i ≡ one_more (rate_of_kind permanent (part_numbered p k) / count_by (has_part_and_kind p k permanent) (all_faults p))
+    (rate_of_kind permanent (part_numbered p k) % count_by (has_part_and_kind p k permanent) (all_faults p))
+    (count_by (has_part_and_kind p k permanent) (take i (all_faults p)))
 unfolding weight one_more
 weight_of p k permanent i e =
     let parts = and_both (same_bit (is_permanent (fault_numbered p i)) permanent) (part_of p (fault_numbered p i) == k) e in
     let kind : is_permanent (fault_numbered p i) ≡ permanent = same_bit_true (is_permanent (fault_numbered p i)) permanent parts.0 in
     let part : part_of p (fault_numbered p i) ≡ k = grind (arith, parts.1) in
-    λ j. rate_of_kind (kind j) (part_numbered p (part j)) / count_by (is_of p (part j) (kind j)) (all_faults p)
-    + (if nat_lt (count_by (is_of p (part j) (kind j)) (take i (all_faults p)))
-    (rate_of_kind (kind j) (part_numbered p (part j)) % count_by (is_of p (part j) (kind j)) (all_faults p)) then 1 else 0)
+    λ j. rate_of_kind (kind j) (part_numbered p (part j)) / count_by (has_part_and_kind p (part j) (kind j)) (all_faults p)
+    + (if nat_lt (count_by (has_part_and_kind p (part j) (kind j)) (take i (all_faults p)))
+    (rate_of_kind (kind j) (part_numbered p (part j)) % count_by (has_part_and_kind p (part j) (kind j)) (all_faults p)) then 1 else 0)
 
 -- the same, written out
-pub weight_share : (p : Analysis) (k : ℕ) (permanent : Bool) (i : ℕ) → is_of p k permanent (fault_numbered p i) ≡ true
-    → weight p i ≡ rate_of_kind permanent (part_numbered p k) / count_by (is_of p k permanent) (all_faults p)
-    + (if nat_lt (count_by (is_of p k permanent) (take i (all_faults p))) (rate_of_kind permanent (part_numbered p k) % count_by (is_of p k permanent) (all_faults p)) then 1 else 0)
+pub weight_share : (p : Analysis) (k : ℕ) (permanent : Bool) (i : ℕ) → has_part_and_kind p k permanent (fault_numbered p i) ≡ true
+    → weight p i ≡ rate_of_kind permanent (part_numbered p k) / count_by (has_part_and_kind p k permanent) (all_faults p)
+    + (if nat_lt (count_by (has_part_and_kind p k permanent) (take i (all_faults p))) (rate_of_kind permanent (part_numbered p k) % count_by (has_part_and_kind p k permanent) (all_faults p)) then 1 else 0)
 unfolding one_more
 weight_share p k permanent i e = weight_of p k permanent i e
 
 -- the sum of the weights of a part's faults of one kind
 abbrev pub class_sum : Analysis → ℕ → Bool → ℕ
-class_sum p k permanent = sum_up (λ i. where_true (is_of p k permanent (fault_numbered p i)) (weight p i)) (fault_count p)
+class_sum p k permanent = sum_up (λ i. where_true (has_part_and_kind p k permanent (fault_numbered p i)) (weight p i)) (fault_count p)
 
 class_shared : (p : Analysis) (k : ℕ) (permanent : Bool) → class_sum p k permanent
-    ≡ shared (rate_of_kind permanent (part_numbered p k) / count_by (is_of p k permanent) (all_faults p))
-    (rate_of_kind permanent (part_numbered p k) % count_by (is_of p k permanent) (all_faults p))
-    (count_by (is_of p k permanent) (all_faults p))
+    ≡ shared (rate_of_kind permanent (part_numbered p k) / count_by (has_part_and_kind p k permanent) (all_faults p))
+    (rate_of_kind permanent (part_numbered p k) % count_by (has_part_and_kind p k permanent) (all_faults p))
+    (count_by (has_part_and_kind p k permanent) (all_faults p))
 class_shared p k permanent =
     let fs = all_faults p in
-    let n = count_by (is_of p k permanent) fs in
+    let n = count_by (has_part_and_kind p k permanent) fs in
     let r = rate_of_kind permanent (part_numbered p k) in
-    so_far (is_of p k permanent) fs (r / n) (r % n) (weight p) (Stuck (net 0) false) (λ i lt e. weight_of p k permanent i e) (length fs) (omega arith)
-    ∙ ap (λ (l : List Fault). shared (r / n) (r % n) (count_by (is_of p k permanent) l)) (take_all (length fs) fs (omega arith))
+    so_far (has_part_and_kind p k permanent) fs (r / n) (r % n) (weight p) (Stuck (net 0) false) (λ i lt e. weight_of p k permanent i e) (length fs) (omega arith)
+    ∙ ap (λ (l : List Fault). shared (r / n) (r % n) (count_by (has_part_and_kind p k permanent) l)) (take_all (length fs) fs (omega arith))
 
 -- it is the rate where there is such a fault
-class_rate : (p : Analysis) (k : ℕ) (permanent : Bool) → 0 < count_by (is_of p k permanent) (all_faults p)
+class_rate : (p : Analysis) (k : ℕ) (permanent : Bool) → 0 < count_by (has_part_and_kind p k permanent) (all_faults p)
     → class_sum p k permanent ≡ rate_of_kind permanent (part_numbered p k)
 class_rate p k permanent some =
-    class_shared p k permanent ∙ shared-all (rate_of_kind permanent (part_numbered p k)) (count_by (is_of p k permanent) (all_faults p)) some
+    class_shared p k permanent ∙ shared-all (rate_of_kind permanent (part_numbered p k)) (count_by (has_part_and_kind p k permanent) (all_faults p)) some
 
 -- and never more
 pub class_small : (p : Analysis) (k : ℕ) (permanent : Bool) → class_sum p k permanent ≤ rate_of_kind permanent (part_numbered p k)
-class_small p k permanent = by_cases (count_by (is_of p k permanent) (all_faults p)) refl
+class_small p k permanent = by_cases (count_by (has_part_and_kind p k permanent) (all_faults p)) refl
   where
-    by_cases : (n : ℕ) → count_by (is_of p k permanent) (all_faults p) ≡ n → class_sum p k permanent ≤ rate_of_kind permanent (part_numbered p k)
+    by_cases : (n : ℕ) → count_by (has_part_and_kind p k permanent) (all_faults p) ≡ n → class_sum p k permanent ≤ rate_of_kind permanent (part_numbered p k)
     by_cases zero e =
         let r = rate_of_kind permanent (part_numbered p k) in
-        let n = count_by (is_of p k permanent) (all_faults p) in
+        let n = count_by (has_part_and_kind p k permanent) (all_faults p) in
         let none : shared (r / n) (r % n) n ≡ shared (r / n) (r % n) 0 = ap (shared (r / n) (r % n)) e in
         omega (arith, class_shared p k permanent, none, shared-zero (r / n) (r % n))
     by_cases (suc n) e =
@@ -122,8 +122,8 @@ class_small p k permanent = by_cases (count_by (is_of p k permanent) (all_faults
         omega (arith, all)
 
 -- the weights of a part's faults of one kind sum to its rate of that kind, where it has such a fault
-pub weights_sum_to_rate : (p : Analysis) (k : ℕ) (permanent : Bool) → 0 < count_by (is_of p k permanent) (all_faults p)
-    → sum_by (weight p) (filter (λ i. is_of p k permanent (fault_numbered p i)) (below (fault_count p))) ≡ rate_of_kind permanent (part_numbered p k)
+pub weights_sum_to_rate : (p : Analysis) (k : ℕ) (permanent : Bool) → 0 < count_by (has_part_and_kind p k permanent) (all_faults p)
+    → sum_by (weight p) (filter (λ i. has_part_and_kind p k permanent (fault_numbered p i)) (below (fault_count p))) ≡ rate_of_kind permanent (part_numbered p k)
 weights_sum_to_rate p k permanent some =
-    sum_by-filter (λ i. is_of p k permanent (fault_numbered p i)) (weight p) (below (fault_count p))
-    ∙ sum_by-below (fault_count p) (λ i. where_true (is_of p k permanent (fault_numbered p i)) (weight p i)) ∙ class_rate p k permanent some
+    sum_by-filter (λ i. has_part_and_kind p k permanent (fault_numbered p i)) (weight p) (below (fault_count p))
+    ∙ sum_by-below (fault_count p) (λ i. where_true (has_part_and_kind p k permanent (fault_numbered p i)) (weight p i)) ∙ class_rate p k permanent some

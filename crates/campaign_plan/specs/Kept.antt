@@ -3,7 +3,7 @@ use Rattle.std.specs.Prelude.{◌≡◌, ℕ, ◌<◌, ◌≤◌, List, map, All
 use Rattle.circuit.specs.Sound.{IsNetlist}
 use Rattle.circuit.specs.Loop.{HasNoLoop}
 use Rattle.workload.specs.RunsKept.{AreRuns, AreRunsFor}
-use Rattle.rate_table.specs.Table.{IsTable}
+use Rattle.rate_table.specs.Table.{IsRateTable}
 use Rattle.alarm_points.specs.PointsKept.{ArePointsFor}
 use Rattle.campaign_plan.specs.declared.Settings.{Settings}
 use Rattle.campaign_plan.specs.Analysis.{Analysis, all_faults, fault_count, part_count, part_of}
@@ -26,7 +26,7 @@ pub record IsPlan (p : Analysis) : Type 0 where
   pub no_loop : HasNoLoop p.circuit
   pub runs : AreRuns p.runs
   pub runs_fit : AreRunsFor p.circuit p.runs
-  pub rates : IsTable p.rates
+  pub rates : IsRateTable p.rates
   pub points : ArePointsFor p.circuit p.points
   pub settings : AreSettings p.settings
   pub rated : plan_refusal p ≡ None

@@ -10,14 +10,14 @@ use Rattle.campaign_plan.specs.Analysis.{Analysis, all_faults, fault_count, faul
 use Rattle.campaign_plan.specs.Batches.{AreDistinct, Entry, class_of_fault, class_with, in_order, total, true_planes}
 use Rattle.campaign_plan.specs.Danger.{is_dangerous, is_noticed}
 use Rattle.campaign_plan.specs.Kept.{IsPlan}
-use Rattle.campaign_plan.specs.Weights.{is_of, rate_of_kind, weight}
+use Rattle.campaign_plan.specs.Weights.{has_part_and_kind, rate_of_kind, weight}
 
 -- ---- weights
 
 -- THE WEIGHTS OF A PART'S FAULTS OF ONE KIND SUM TO ITS RATE of that kind, where it has such a fault
 abbrev pub WeightsSumToRates : Type 0
-WeightsSumToRates = (p : Analysis) (k : ℕ) (permanent : Bool) → 0 < count_by (is_of p k permanent) (all_faults p)
-    → sum_by (weight p) (filter (λ i. is_of p k permanent (fault_numbered p i)) (below (fault_count p))) ≡ rate_of_kind permanent (part_numbered p k)
+WeightsSumToRates = (p : Analysis) (k : ℕ) (permanent : Bool) → 0 < count_by (has_part_and_kind p k permanent) (all_faults p)
+    → sum_by (weight p) (filter (λ i. has_part_and_kind p k permanent (fault_numbered p i)) (below (fault_count p))) ≡ rate_of_kind permanent (part_numbered p k)
 
 -- THE FIVE SUMS ARE AT MOST 10^18, whatever the planes, over batches of a plan that stand once each; and dangerous and latent
 -- faults are apart and among all

@@ -9,18 +9,18 @@ use Rattle.campaign_plan.specs.declared.PlanRefusal.{PlanRefusal}
 use Rattle.campaign_plan.specs.PlanFaults.{idle_rate}
 use Rattle.campaign_plan.specs.Making.{HasCause}
 use Rattle.campaign_plan.specs.Analysis.{Analysis, all_faults, fault_count, part_count, part_numbered, part_of}
-use Rattle.campaign_plan.specs.Weights.{rate_of_kind, is_of, weight}
+use Rattle.campaign_plan.specs.Weights.{rate_of_kind, has_part_and_kind, weight}
 
 -- the number of each fault's part
-pub record AreNumbered (p : Analysis) (faults : List Fault) (numbers : List ℕ) : Type 0 where
+pub record HavePartNumbers (p : Analysis) (faults : List Fault) (numbers : List ℕ) : Type 0 where
   pub listed : faults ≡ all_faults p
   pub numbered : numbers ≡ map (part_of p) (all_faults p)
   pub within : All (λ number. number < part_count p) numbers
 
 -- how many of these faults are of each part and of this kind
-pub record AreCounts (p : Analysis) (permanent : Bool) (fs : List Fault) (counts : List ℕ) : Type 0 where
+pub record ArePartCounts (p : Analysis) (permanent : Bool) (fs : List Fault) (counts : List ℕ) : Type 0 where
   pub size : length counts ≡ part_count p
-  pub each : (k : ℕ) → k < part_count p → slice_index_or counts k 0 ≡ count_by (is_of p k permanent) fs
+  pub each : (k : ℕ) → k < part_count p → slice_index_or counts k 0 ≡ count_by (has_part_and_kind p k permanent) fs
 
 -- a rate in equal shares for so many faults, and nothing where there is none
 abbrev pub share_of_rate : ℕ → ℕ → Share
@@ -31,20 +31,20 @@ abbrev pub share_at : List Share → ℕ → Share
 share_at shares k = slice_index_or shares k (record { whole = 0; left = 0 })
 
 -- the weight of the next fault, and the share behind it
-abbrev pub given : Share → ℕ
-given share = share.whole + (if nat_lt 0 share.left then 1 else 0)
+abbrev pub next_weight : Share → ℕ
+next_weight share = share.whole + (if nat_lt 0 share.left then 1 else 0)
 
 abbrev pub less : ℕ → Share → Share
 less taken share = record { whole = share.whole; left = share.left - taken }
 
 -- a part's share for its faults of a kind
 abbrev pub full_share : Analysis → Bool → ℕ → Share
-full_share p permanent k = share_of_rate (rate_of_kind permanent (part_numbered p k)) (count_by (is_of p k permanent) (all_faults p))
+full_share p permanent k = share_of_rate (rate_of_kind permanent (part_numbered p k)) (count_by (has_part_and_kind p k permanent) (all_faults p))
 
 -- the shares of all parts, where the first faults have taken theirs
 pub record AreShares (p : Analysis) (permanent : Bool) (taken : ℕ) (shares : List Share) : Type 0 where
   pub size : length shares ≡ part_count p
-  pub each : (k : ℕ) → k < part_count p → share_at shares k ≡ less (count_by (is_of p k permanent) (take taken (all_faults p))) (full_share p permanent k)
+  pub each : (k : ℕ) → k < part_count p → share_at shares k ≡ less (count_by (has_part_and_kind p k permanent) (take taken (all_faults p))) (full_share p permanent k)
 
 -- the kind of a part's idle rate, permanent before transient, where it has so many faults of each
 abbrev pub idle_of : Part → ℕ → ℕ → Option Bool

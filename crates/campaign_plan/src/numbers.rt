@@ -1,7 +1,7 @@
 // What a plan is made of, and the part of each net and of each fault.
 ghost use Rattle.std.specs.Prelude.{◌≡◌, ◌<◌, All, IfOk, length, map};
 ghost use Rattle.circuit.specs.Sound.{IsNetlist};
-ghost use Rattle.rate_table.specs.Table.{IsTable};
+ghost use Rattle.rate_table.specs.Table.{IsRateTable};
 ghost use Rattle.workload.specs.RunsKept.{AreRuns};
 ghost use Rattle.campaign_plan.specs.Kept.{AreSettings};
 ghost use Rattle.campaign_plan.specs.Analysis.{all_faults, part_count, part_of};
@@ -87,7 +87,7 @@ pub(crate) fn list_faults(alloc: Global, p: &Inputs) -> Result<FaultList, PlanRe
 pub(crate) fn kept(p: &Inputs)
     ensures netlist { IsNetlist p.now.net }
     ensures runs { AreRuns p.now.work }
-    ensures rates { IsTable p.now.rates }
+    ensures rates { IsRateTable p.now.rates }
 {
     p.net.nets();
     p.work.runs();

@@ -1,10 +1,10 @@
 // The shares of a part's rate that its faults get.
 ghost use Rattle.std.specs.Prelude.{◌≡◌, ◌<◌, ◌≤◌, ◌^◌, true, false, IfOk, length, map, set};
 ghost use Rattle.fm_base.specs.Lists.{below};
-ghost use Rattle.rate_table.specs.Table.{IsTable};
+ghost use Rattle.rate_table.specs.Table.{IsRateTable};
 ghost use Rattle.campaign_plan.specs.Analysis.{all_faults, fault_count, part_count};
 ghost use Rattle.campaign_plan.specs.Making.{analysis};
-ghost use Rattle.campaign_plan.specs.Shares.{AreNumbered, AreCounts, AreShares, given, idle_of, less, share_at, share_of_rate, IdleGives, WeightsGive};
+ghost use Rattle.campaign_plan.specs.Shares.{HavePartNumbers, ArePartCounts, AreShares, next_weight, idle_of, less, share_at, share_of_rate, IdleGives, WeightsGive};
 ghost use Rattle.campaign_plan.specs.Weights.{rate_of_kind, weight};
 
 use crate::PlanRefusal;
@@ -44,8 +44,8 @@ fn counts(
     numbers: &[u32],
     permanent: bool,
 ) -> Result<Vec<u32>, AllocError>
-    requires { AreNumbered (analysis p.now) faults.now numbers.now }
-    ensures { IfOk result (λ counts. AreCounts (analysis p.now) permanent (all_faults (analysis p.now)) counts.items) }
+    requires { HavePartNumbers (analysis p.now) faults.now numbers.now }
+    ensures { IfOk result (λ counts. ArePartCounts (analysis p.now) permanent (all_faults (analysis p.now)) counts.items) }
 {
     let mut counts = vec![in alloc; 0; p.rates.parts().len()]?;
     for i in 0..faults.len() {
@@ -74,7 +74,7 @@ fn shares(
     counts: &[u32],
     permanent: bool,
 ) -> Result<Vec<Share>, AllocError>
-    requires { AreCounts (analysis p.now) permanent (all_faults (analysis p.now)) counts.now }
+    requires { ArePartCounts (analysis p.now) permanent (all_faults (analysis p.now)) counts.now }
     ensures { IfOk result (λ shares. AreShares (analysis p.now) permanent 0 shares.items) }
 {
     let mut shares = Vec::new(alloc);
@@ -88,7 +88,7 @@ fn shares(
 fn take_share(shares: &mut [Share], part: u32) -> u64
     requires part { part < length shares.old }
     requires small { (share_at shares.old part).whole < 2 ^ 63 }
-    ensures weight { result ≡ given (share_at shares.old part) }
+    ensures weight { result ≡ next_weight (share_at shares.old part) }
     ensures rest { shares.new ≡ set shares.old part (less 1 (share_at shares.old part)) }
 {
     let share = shares[part as usize];
@@ -112,8 +112,8 @@ fn weights(
     permanent: &mut [Share],
     transient: &mut [Share],
 ) -> Result<Vec<u64>, AllocError>
-    requires numbers { AreNumbered (analysis p.now) faults.now numbers.now }
-    requires table { IsTable p.now.rates }
+    requires numbers { HavePartNumbers (analysis p.now) faults.now numbers.now }
+    requires table { IsRateTable p.now.rates }
     requires permanent { AreShares (analysis p.now) true 0 permanent.old }
     requires transient { AreShares (analysis p.now) false 0 transient.old }
     ensures { IfOk result (λ weights. weights.items ≡ map (weight (analysis p.now)) (below (fault_count (analysis p.now)))) }
@@ -151,8 +151,8 @@ fn refuse_idle(
     of_permanent: &[u32],
     of_transient: &[u32],
 ) -> Result<(), PlanRefusal>
-    requires permanent { AreCounts (analysis p.now) true (all_faults (analysis p.now)) of_permanent.now }
-    requires transient { AreCounts (analysis p.now) false (all_faults (analysis p.now)) of_transient.now }
+    requires permanent { ArePartCounts (analysis p.now) true (all_faults (analysis p.now)) of_permanent.now }
+    requires transient { ArePartCounts (analysis p.now) false (all_faults (analysis p.now)) of_transient.now }
     ensures { IdleGives (analysis p.now) result }
 {
     for (k, part) in p.rates.parts().iter().enumerate() {
@@ -171,8 +171,8 @@ pub(crate) fn weigh(
     faults: &FaultList,
     numbers: &[u32],
 ) -> Result<Vec<u64>, PlanRefusal>
-    requires table { IsTable p.now.rates }
-    requires numbers { AreNumbered (analysis p.now) faults.now numbers.now }
+    requires table { IsRateTable p.now.rates }
+    requires numbers { HavePartNumbers (analysis p.now) faults.now numbers.now }
     ensures { WeightsGive (analysis p.now) result }
 {
     let of_permanent = counts(alloc, p, faults, numbers, true)?;

@@ -1,6 +1,6 @@
 // The tables that a plan has at hand: its faults, and the part and the weight of each.
 ghost use Rattle.circuit.specs.Sound.{IsNetlist};
-ghost use Rattle.rate_table.specs.Table.{IsTable};
+ghost use Rattle.rate_table.specs.Table.{IsRateTable};
 ghost use Rattle.campaign_plan.specs.Kept.{AreSettings};
 ghost use Rattle.campaign_plan.specs.Making.{analysis, TablesGive};
 
@@ -21,7 +21,7 @@ pub(crate) struct FaultTables {
 // The tables of a plan, or the first of what refuses it: too many faults, a net without a rate, an idle rate.
 pub(crate) fn fault_tables(alloc: Global, p: &Inputs) -> Result<FaultTables, PlanRefusal>
     requires netlist { IsNetlist p.now.net }
-    requires rates { IsTable p.now.rates }
+    requires rates { IsRateTable p.now.rates }
     requires settings { AreSettings p.now.set }
     ensures { TablesGive (analysis p.now) result }
 {

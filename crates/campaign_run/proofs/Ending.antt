@@ -12,15 +12,15 @@ use Rattle.campaign_plan.specs.Kept.{IsPlan}
 use Rattle.result_file.specs.KeptRows.{entry_of as planed}
 use Rattle.fmeda_report.specs.Rows.{HoldEachOnce, planes_in}
 use Rattle.campaign_board.specs.Boards.{Start, batches_of}
-use Rattle.campaign_board.specs.Kept.{Seen as Board, IsBoard, IsStart}
+use Rattle.campaign_board.specs.Kept.{BoardState as Board, IsBoard, IsStart}
 use Rattle.campaign_workers.specs.Finish.{IsFinished}
 use Rattle.campaign_run.specs.declared.run.End.{End}
 use Rattle.campaign_run.specs.declared.run.End.TheVariants.{Done, NoMemory, ResultFault, OutFault}
 use Rattle.campaign_run.specs.Outside.{had_written}
 use Rattle.campaign_run.specs.Starting.{StartsFrom}
 use Rattle.campaign_run.specs.Origins.{origin_of}
-use Rattle.campaign_run.specs.Steps.{HasWorked, HaveAll, Tells}
-use Rattle.campaign_run.specs.Ran.{Campaign, HasRun, IsReported, IsLeft, EndsAs, planes_of, text_for, text_of as written_by}
+use Rattle.campaign_run.specs.Steps.{HasWorked, HaveAll, TellsEnd}
+use Rattle.campaign_run.specs.Ran.{Campaign, HasRun, IsReported, IsTruncatedResult, EndsAs, campaign_planes, text_for, campaign_text as written_by}
 use Rattle.campaign_run.proofs.Entries.{are_entries, length_entries}
 use Rattle.campaign_run.proofs.Keeping.{starts_kept, starts_text, kept_rows_due, same_batches}
 use Rattle.campaign_run.proofs.Reporting.{are_part, hold_each, text_same, text_result, begin_kept}
@@ -33,8 +33,8 @@ starts c shelf batches plan many start count = record {
   named = refl;
   rows_same = refl;
   shelf_same = refl;
-  many = count ∙ sym (length_entries c.p (planes_of c));
-  entries = are_entries c.p (planes_of c) plan;
+  many = count ∙ sym (length_entries c.p (campaign_planes c));
+  entries = are_entries c.p (campaign_planes c) plan;
   rows_are = kept_rows_due c.p c.k (origin_of c shelf) refl (starts_kept c.own c.p (shelf.content c.name) c.k many start);
 }
 
@@ -61,7 +61,7 @@ text_is : {F : Type 0} (c : Campaign) (before now : ShelfState) (sums : Sums) (b
 text_is c before now sums board many start (worked, kept) fine =
     let o : Start = origin_of c before in
     let hold : HoldEachOnce c.p board.rows =
-    hold_each c.p o board.rows (length_entries c.p (planes_of c)) kept.rows_are (have_all o c.k.whole before now board worked fine) in
+    hold_each c.p o board.rows (length_entries c.p (campaign_planes c)) kept.rows_are (have_all o c.k.whole before now board worked fine) in
     let within : All (λ b. b < batch_count c.p) (batches_of c.k.rows) =
     subst (All (λ b. b < batch_count c.p)) (same_batches c.k.rows) (starts_kept c.own c.p (before.content c.name) c.k many start).distinct.within in
     text_same c.text c.p c.k o board.rows refl within kept.rows_are hold
@@ -73,40 +73,40 @@ reports c before after sums board (worked, kept) fine wrote =
     let o : Start = origin_of c before.shelf in
     let finished = has_finished o c.k.whole before.shelf after.shelf board worked fine in
     let hold : HoldEachOnce c.p board.rows =
-    hold_each c.p o board.rows (length_entries c.p (planes_of c)) kept.rows_are (have_all o c.k.whole before.shelf after.shelf board worked fine) in
-    let part = are_part c.p (planes_of c) o board.rows refl kept.rows_are in
+    hold_each c.p o board.rows (length_entries c.p (campaign_planes c)) kept.rows_are (have_all o c.k.whole before.shelf after.shelf board worked fine) in
+    let part = are_part c.p (campaign_planes c) o board.rows refl kept.rows_are in
     record {
       reported = record {
         wrote = wrote;
         entries = map planed board.rows;
         whole = record { distinct = part.distinct; each = hold.each; have = part.have };
-        result = subst (HasIfKnown (after.shelf.content c.name)) (text_result c.p (planes_of c) o board.rows refl kept.entries kept.rows_are) (kept.file finished.0 fine);
+        result = subst (HasIfKnown (after.shelf.content c.name)) (text_result c.p (campaign_planes c) o board.rows refl kept.entries kept.rows_are) (kept.file finished.0 fine);
       };
       first = begin_kept c.k.rows board.rows finished.1.starts;
     }
 
 -- what is left where a write of the file has failed
 leaves : {F : Type 0} (c : Campaign) (before now : ShelfState) (sums : Sums) (board : Board F) → length c.own ≡ 89 → StartsFrom c.own c.p (before.content c.name) c.k
-    → IsWorked c before now sums board → board.failed ≡ true → IsLeft c before now
+    → IsWorked c before now sums board → board.failed ≡ true → IsTruncatedResult c before now
 leaves c before now sums board many start (worked, kept) bad =
     let o : Start = origin_of c before in
     let from = starts_text c.own c.p (before.content c.name) c.k many start in
-    elim worked as (λ _. IsLeft c before now) [
+    elim worked as (λ _. IsTruncatedResult c before now) [
       | inl finished ↦
           (let torn = kept.torn finished.0 bad in
           inr (
-            left_torn c.p (planes_of c) o board.rows (now.content c.name) refl kept.entries kept.rows_are torn,
+            left_torn c.p (campaign_planes c) o board.rows (now.content c.name) refl kept.entries kept.rows_are torn,
             begins_torn o c.k.rows board.rows (now.content c.name) (take c.k.whole (bytes_of (before.content c.name))) from finished.1.starts torn,
           ))
       | inr torn ↦
-          left_header c.p (planes_of c) o c.k.rows c.k.whole (before.content c.name) (now.content c.name) refl kept.entries
+          left_header c.p (campaign_planes c) o c.k.rows c.k.whole (before.content c.name) (now.content c.name) refl kept.entries
           (kept_rows_due c.p c.k o refl (starts_kept c.own c.p (before.content c.name) c.k many start)) from torn.1
     ]
 
 -- by how it ended
 ends : {F : Type 0} (end : End) (c : Campaign) (before after : Outside) (sums : Sums) (board : Board F) → length c.own ≡ 89 → StartsFrom c.own c.p (before.shelf.content c.name) c.k
     → IsWorked c before.shelf after.shelf sums board
-    → Tells end board.failed (text_for c.text c.p (planes_in board.rows)) before.out after.out → EndsAs end c before after
+    → TellsEnd end board.failed (text_for c.text c.p (planes_in board.rows)) before.out after.out → EndsAs end c before after
 ends Done c before after sums board many start worked told =
     let text = text_is c before.shelf after.shelf sums board many start worked told.0 in
     reports c before after sums board worked told.0 (subst (Wrote before.out after.out) text told.1)
@@ -122,7 +122,7 @@ ends OutFault c before after sums board many start worked told =
 pub has_run : {F : Type 0} (end : End) (c : Campaign) (before after : Outside) (sums : Sums) (board : Board F) → length c.own ≡ 89
     → StartsFrom c.own c.p (before.shelf.content c.name) c.k → HasWorked (origin_of c before.shelf) c.k.whole before.shelf after.shelf board
     → IsBoard (origin_of c before.shelf) board.rows sums board.failed board.written after.shelf
-    → Tells end board.failed (text_for c.text c.p (planes_in board.rows)) before.out after.out → before.out.faults ≤ after.out.faults → HasRun end c before after
+    → TellsEnd end board.failed (text_for c.text c.p (planes_in board.rows)) before.out after.out → before.out.faults ≤ after.out.faults → HasRun end c before after
 has_run end c before after sums board many start worked kept told grows = record {
   ends = ends end c before after sums board many start (worked, kept) told;
   others = λ name ne. kept.others name ne;

@@ -15,7 +15,7 @@ use Rattle.campaign_plan.specs.PlanFaults.{plan_refusal, missing_rate, idle_rate
 use Rattle.campaign_plan.specs.Kept.{IsPlan}
 use Rattle.fmeda_report.proofs.Summing.{consistent_below}
 use Rattle.campaign_board.specs.declared.entry.Entry.{Entry}
-use Rattle.campaign_board.specs.Boards.{Start, AreEntries, entry_of}
+use Rattle.campaign_board.specs.Boards.{Start, AreEntries, board_entry}
 use Rattle.campaign_board.specs.AsResult.{HasOwnSums}
 use Rattle.campaign_run.specs.Origins.{entry_with, entries_for}
 use Rattle.fm_base.proofs.SumsBelow.{sum_by-map}
@@ -37,7 +37,7 @@ unfolding below
 length_entries p planes = length-map-range_with_len (entry_with p planes) 0 (batch_count p)
 
 -- the entry of a batch is the batch's
-pub entry_at : (p : Analysis) (planes : ℕ → Outcome) (batch : ℕ) → batch < batch_count p → entry_of (entries_for p planes) batch ≡ entry_with p planes batch
+pub entry_at : (p : Analysis) (planes : ℕ → Outcome) (batch : ℕ) → batch < batch_count p → board_entry (entries_for p planes) batch ≡ entry_with p planes batch
 unfolding below
 entry_at p planes batch lt = get_or-map-range_with_len (entry_with p planes) 0 (batch_count p) batch batch _ lt (omega arith)
 
@@ -68,6 +68,6 @@ pub have_own : (p : Analysis) (planes : ℕ → Outcome) (o : Start) → o.entri
 have_own p planes o e =
     λ batch lt. (
     let lower : batch < batch_count p = omega (arith, lt, ap length e, length_entries p planes) in
-    let same : entry_of o.entries batch ≡ entry_with p planes batch = ap (λ es. entry_of es batch) e ∙ entry_at p planes batch lower in
+    let same : board_entry o.entries batch ≡ entry_with p planes batch = ap (λ es. board_entry es batch) e ∙ entry_at p planes batch lower in
     ap (λ (entry : Entry). entry.own) same
     ∙ sym (ap (λ (entry : Entry). own_sums p batch (record { danger = entry.danger; noticed = entry.noticed })) same))

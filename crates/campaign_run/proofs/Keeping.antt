@@ -13,12 +13,12 @@ use Rattle.campaign_plan.specs.Analysis.{Analysis, batch_count}
 use Rattle.campaign_plan.specs.Batches.{Entry, batches, own_sums, total, true_planes}
 use Rattle.result_file.specs.declared.Row.{Row}
 use Rattle.result_file.specs.declared.KeptRows.{KeptRows}
-use Rattle.result_file.specs.KeptRows.{entry_of as planed}
+use Rattle.result_file.specs.KeptRows.{board_entry as planed}
 use Rattle.result_file.proofs.Whole.{no_row}
 use Rattle.campaign_board.specs.declared.entry.Entry.{Entry as BoardEntry}
-use Rattle.campaign_board.specs.Boards.{Start, entry_of, batches_of, sums_over, row_with, text_of}
-use Rattle.campaign_board.specs.Kept.{AreRows, IsWhole}
-use Rattle.campaign_run.specs.Found.{kept_or_true}
+use Rattle.campaign_board.specs.Boards.{Start, board_entry, batches_of, sums_over, row_with, file_text}
+use Rattle.campaign_board.specs.Kept.{AreRows, AreKeptBytes}
+use Rattle.campaign_run.specs.Found.{checkpointed_or_true}
 use Rattle.campaign_run.specs.Starting.{StartsFrom}
 use Rattle.campaign_run.specs.Origins.{entry_with, entries_for}
 use Rattle.campaign_run.proofs.Entries.{sums_by-map, length_entries, entry_at}
@@ -48,7 +48,7 @@ find_row (row ∷ rows) once (suc k) d lt =
     rw apart (find_row rows once.1 k d lower)
 
 found_kept : (p : Analysis) (k : KeptRows) → IsOnce (batches_of k.rows) → (i : ℕ) (d : Row) → i < length k.rows
-    → kept_or_true p k (get_or k.rows i d).batch ≡ (planed (get_or k.rows i d)).1
+    → checkpointed_or_true p k (get_or k.rows i d).batch ≡ (planed (get_or k.rows i d)).1
 found_kept p k once i d lt =
     ap (λ o. unwrap_or (option_map (λ (entry : Entry). entry.1) o) (true_planes p (get_or k.rows i d).batch)) (find_row k.rows once i d lt)
 
@@ -74,7 +74,7 @@ all_take P (suc n) (x ∷ xs) all = All-cons P x (take n xs) (All-head P x xs al
 
 -- each row that is kept has the entry of its batch
 entry_kept : (p : Analysis) (k : KeptRows) → AreKept p k.rows → (i : ℕ) (d : Row) → i < length k.rows
-    → entry_of (entries_for p (kept_or_true p k)) (get_or k.rows i d).batch
+    → board_entry (entries_for p (checkpointed_or_true p k)) (get_or k.rows i d).batch
     ≡ record {
       batch = (get_or k.rows i d).batch;
       danger = (get_or k.rows i d).danger;
@@ -87,22 +87,22 @@ entry_kept p k h i d lt =
     let all : All (λ batch. batch < batch_count p) (batches_of k.rows) = subst (All (λ batch. batch < batch_count p)) (same_batches k.rows) h.distinct.within in
     let within : row.batch < batch_count p =
     subst (λ batch. batch < batch_count p) (get_or-map (λ (r : Row). r.batch) k.rows i d 0 lt) (all i 0 (omega (arith, lt, length-map k.rows (λ (r : Row). r.batch)))) in
-    entry_at p (kept_or_true p k) row.batch within
+    entry_at p (checkpointed_or_true p k) row.batch within
     ∙ ap (λ (planes : Outcome). entry_with p (λ _. planes) row.batch) (found_kept p k once i d lt)
 
 -- THE ROWS THAT ARE KEPT ARE ROWS OF THE BOARD
-pub kept_rows_due : (p : Analysis) (k : KeptRows) (o : Start) → o.entries ≡ entries_for p (kept_or_true p k) → AreKept p k.rows → AreRows o k.rows
+pub kept_rows_due : (p : Analysis) (k : KeptRows) (o : Start) → o.entries ≡ entries_for p (checkpointed_or_true p k) → AreKept p k.rows → AreRows o k.rows
 kept_rows_due p k o e h =
-    let entries : List BoardEntry = entries_for p (kept_or_true p k) in
+    let entries : List BoardEntry = entries_for p (checkpointed_or_true p k) in
     let many = length-map k.rows (λ (r : Row). r.batch) in
-    let own : All (λ (row : Row). (entry_of entries row.batch).own ≡ own_sums p (planed row).0 (planed row).1) k.rows =
+    let own : All (λ (row : Row). (board_entry entries row.batch).own ≡ own_sums p (planed row).0 (planed row).1) k.rows =
     λ i d lt. ap (λ (entry : BoardEntry). entry.own) (entry_kept p k h i d lt) in
     let sums : (i : ℕ) → sums_over entries (take i (batches_of k.rows)) ≡ total p (map planed (take i k.rows)) =
     λ i. (
     ap (sums_over entries) (take-map (λ (r : Row). r.batch) i k.rows)
-    ∙ sums_by-map (λ batch. (entry_of entries batch).own) (λ (r : Row). r.batch) (take i k.rows)
-    ∙ sums_by-same (λ (r : Row). (entry_of entries r.batch).own) (λ (r : Row). own_sums p (planed r).0 (planed r).1) (take i k.rows)
-    (all_take (λ (row : Row). (entry_of entries row.batch).own ≡ own_sums p (planed row).0 (planed row).1) i k.rows own)
+    ∙ sums_by-map (λ batch. (board_entry entries batch).own) (λ (r : Row). r.batch) (take i k.rows)
+    ∙ sums_by-same (λ (r : Row). (board_entry entries r.batch).own) (λ (r : Row). own_sums p (planed r).0 (planed r).1) (take i k.rows)
+    (all_take (λ (row : Row). (board_entry entries row.batch).own ≡ own_sums p (planed row).0 (planed row).1) i k.rows own)
     ∙ sym (sums_by-map (λ (entry : Entry). own_sums p entry.0 entry.1) planed (take i k.rows))) in
     record {
       due = λ i lt. (
@@ -111,12 +111,12 @@ kept_rows_due p k o e h =
           ap (λ s. row_with (record { batch = row.batch; danger = row.danger; noticed = row.noticed; own = own_sums p row.batch (planed row).1 }) s)
           (h.summed i lt ∙ sym (sums (i + 1)))
           ∙ ap (λ entry. row_with entry (sums_over entries (take (i + 1) (batches_of k.rows)))) (sym (entry_kept p k h i no_row lt))
-          ∙ ap (λ b. row_with (entry_of entries b) (sums_over entries (take (i + 1) (batches_of k.rows)))) (sym batch)
-          ∙ ap (λ (es : List BoardEntry). row_with (entry_of es (get_or (batches_of k.rows) i 0)) (sums_over es (take (i + 1) (batches_of k.rows)))) (sym e));
+          ∙ ap (λ b. row_with (board_entry entries b) (sums_over entries (take (i + 1) (batches_of k.rows)))) (sym batch)
+          ∙ ap (λ (es : List BoardEntry). row_with (board_entry es (get_or (batches_of k.rows) i 0)) (sums_over es (take (i + 1) (batches_of k.rows)))) (sym e));
       once = subst IsOnce (same_batches k.rows) h.distinct.once;
       within = λ i d lt. (
           let all = subst (All (λ batch. batch < batch_count p)) (same_batches k.rows) h.distinct.within i d lt in
-          omega (arith, all, ap length e, length_entries p (kept_or_true p k)));
+          omega (arith, all, ap length e, length_entries p (checkpointed_or_true p k)));
     }
 
 -- ---- what a campaign starts from
@@ -138,26 +138,26 @@ starts_kept own p held k many start = elim start as (λ _. AreKept p k.rows) [
 ]
 
 pub starts_whole : (own : List ℕ) (p : Analysis) (held : Content) (k : KeptRows) (o : Start) → length own ≡ 89 → StartsFrom own p held k → o.header ≡ own
-    → IsWhole o k.rows k.whole held
-starts_whole own p held k o many start e = elim start as (λ _. IsWhole o k.rows k.whole held) [
+    → AreKeptBytes o k.rows k.whole held
+starts_whole own p held k o many start e = elim start as (λ _. AreKeptBytes o k.rows k.whole held) [
   | inl none ↦ inl (ap (λ (j : KeptRows). j.whole) none, ap (λ (j : KeptRows). j.rows) none)
   | inr from ↦
-      elim ((kept_is own p from.0 k many from.2).whole) as (λ _. IsWhole o k.rows k.whole held) [
+      elim ((kept_is own p from.0 k many from.2).whole) as (λ _. AreKeptBytes o k.rows k.whole held) [
         | inl none ↦ inl (ap (λ (j : KeptRows). j.whole) none, ap (λ (j : KeptRows). j.rows) none)
-        | inr some ↦ inr (some.0, is_where_has held from.0 (λ bytes. take k.whole bytes ≡ text_of o.header k.rows) from.1 (some.1 ∙ ap (λ h. text_of h k.rows) (sym e)))
+        | inr some ↦ inr (some.0, is_where_has held from.0 (λ bytes. take k.whole bytes ≡ file_text o.header k.rows) from.1 (some.1 ∙ ap (λ h. file_text h k.rows) (sym e)))
       ]
 ]
 
 -- the bytes that are kept of the file are none, or the header and the rows that are kept
 pub starts_text : (own : List ℕ) (p : Analysis) (held : Content) (k : KeptRows) → length own ≡ 89 → StartsFrom own p held k
-    → (take k.whole (bytes_of held) ≡ []) ⊎ (take k.whole (bytes_of held) ≡ text_of own k.rows)
-starts_text own p held k many start = elim start as (λ _. (take k.whole (bytes_of held) ≡ []) ⊎ (take k.whole (bytes_of held) ≡ text_of own k.rows)) [
+    → (take k.whole (bytes_of held) ≡ []) ⊎ (take k.whole (bytes_of held) ≡ file_text own k.rows)
+starts_text own p held k many start = elim start as (λ _. (take k.whole (bytes_of held) ≡ []) ⊎ (take k.whole (bytes_of held) ≡ file_text own k.rows)) [
   | inl none ↦ inl (ap (λ (j : KeptRows). take j.whole (bytes_of held)) none)
   | inr from ↦
-      elim (bytes_held held from.0 from.1) as (λ _. (take k.whole (bytes_of held) ≡ []) ⊎ (take k.whole (bytes_of held) ≡ text_of own k.rows)) [
+      elim (bytes_held held from.0 from.1) as (λ _. (take k.whole (bytes_of held) ≡ []) ⊎ (take k.whole (bytes_of held) ≡ file_text own k.rows)) [
         | inl e ↦ inl (ap (take k.whole) e ∙ take-nil k.whole)
         | inr e ↦
-            elim ((kept_is own p from.0 k many from.2).whole) as (λ _. (take k.whole (bytes_of held) ≡ []) ⊎ (take k.whole (bytes_of held) ≡ text_of own k.rows)) [
+            elim ((kept_is own p from.0 k many from.2).whole) as (λ _. (take k.whole (bytes_of held) ≡ []) ⊎ (take k.whole (bytes_of held) ≡ file_text own k.rows)) [
               | inl none ↦ inl (ap (λ (j : KeptRows). take j.whole (bytes_of held)) none)
               | inr some ↦ inr (ap (take k.whole) e ∙ some.1)
             ]

@@ -24,8 +24,8 @@ use Rattle.result_file.proofs.Checks.{once_more, sums_equal}
 use Rattle.result_file.proofs.Keeping.{kept_torn, kept_foreign, kept_own}
 use Rattle.result_file.proofs.Pieces.{length-pieces}
 use Rattle.result_file.proofs.Whole.{no_row}
-use Rattle.campaign_board.specs.Boards.{text_of}
-use Rattle.campaign_run.specs.Starting.{nothing}
+use Rattle.campaign_board.specs.Boards.{file_text}
+use Rattle.campaign_run.specs.Starting.{no_kept_rows}
 use Rattle.fm_base.proofs.Options.{none_both, none_mapped}
 
 -- rows of distinct batches, each with the sums of the rows up to it
@@ -33,10 +33,10 @@ pub record AreKept (p : Analysis) (rows : List Row) : Type 0 where
   pub distinct : AreDistinct p (map planed rows)
   pub summed : (i : ℕ) → i < length rows → (get_or rows i no_row).sums ≡ total p (map planed (take (i + 1) rows))
 
--- nothing is kept, or the bytes are the header and the rows
+-- no_kept_rows is kept, or the bytes are the header and the rows
 pub record IsKept (own : List ℕ) (p : Analysis) (bytes : List ℕ) (k : KeptRows) : Type 0 where
   pub rows : AreKept p k.rows
-  pub whole : (k ≡ nothing) ⊎ ((k.whole ≡ 89 + 130 * length k.rows) × (take k.whole bytes ≡ text_of own k.rows))
+  pub whole : (k ≡ no_kept_rows) ⊎ ((k.whole ≡ 89 + 130 * length k.rows) × (take k.whole bytes ≡ file_text own k.rows))
 
 pub nothing_kept : (p : Analysis) → AreKept p []
 nothing_kept p = record {
@@ -168,7 +168,7 @@ kept_is own p bytes k many h = torn (is_torn_header own bytes) refl
 
     torn : (b : Bool) → is_torn_header own bytes ≡ b → IsKept own p bytes k
     torn true e =
-        let same : Ok nothing ≡ Ok k = sym (kept_torn own p bytes e) ∙ h in
-        let is : k ≡ nothing = cc in
+        let same : Ok no_kept_rows ≡ Ok k = sym (kept_torn own p bytes e) ∙ h in
+        let is : k ≡ no_kept_rows = cc in
         record { rows = subst (λ (j : KeptRows). AreKept p j.rows) (sym is) (nothing_kept p); whole = inl is }
     torn false e = mine (bytes_eq (take 89 bytes) own) e refl

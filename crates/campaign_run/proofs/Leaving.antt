@@ -11,7 +11,7 @@ use Rattle.campaign_plan.specs.Analysis.{Analysis}
 use Rattle.result_file.specs.declared.Row.{Row}
 use Rattle.result_file.specs.ResultText.{row_text}
 use Rattle.result_file.specs.KeptRows.{entry_of as planed}
-use Rattle.campaign_board.specs.Boards.{Start, AreEntries, next_row, text_of}
+use Rattle.campaign_board.specs.Boards.{Start, AreEntries, next_row, file_text}
 use Rattle.campaign_board.specs.Kept.{AreRows, IsTorn, IsHeaderTorn}
 use Rattle.campaign_board.proofs.Adding.{rows_push, text_push}
 use Rattle.campaign_run.specs.Reported.{BeginsWith}
@@ -34,7 +34,7 @@ begins_with start text bytes more from e = elim from as (λ _. BeginsWith bytes 
 ]
 
 -- the text of rows begins with that of the first ones
-text_more : (own : List ℕ) (k rows : List Row) (pre : IsPrefix k rows) → text_of own rows ≡ text_of own k ++ flat_map row_text pre.0
+text_more : (own : List ℕ) (k rows : List Row) (pre : IsPrefix k rows) → file_text own rows ≡ file_text own k ++ flat_map row_text pre.0
 text_more own k rows pre =
     ap (λ rs. own ++ flat_map row_text rs) (sym pre.1) ∙ ap (λ t. own ++ t) (flat_map-append row_text k pre.0)
     ∙ sym (append_assoc own (flat_map row_text k) (flat_map row_text pre.0))
@@ -47,7 +47,7 @@ torn_prefix : (p : Analysis) (planes : ℕ → Outcome) (o : Start) (rows : List
 torn_prefix p planes o rows bytes e are h torn =
     let row : Row = next_row o.entries rows torn.batch in
     let more : AreRows o (rows ++ row ∷ []) = rows_push o rows torn.batch are h torn.within torn.lacks in
-    let text : List ℕ = text_of o.header rows in
+    let text : List ℕ = file_text o.header rows in
     record {
       entries = map planed (rows ++ row ∷ []);
       part = are_part p planes o (rows ++ row ∷ []) e more;
@@ -64,14 +64,14 @@ left_torn p planes o rows Unknown e are h torn = record { entries = map planed r
 left_torn p planes o rows Absent e are h torn = absurd torn
 left_torn p planes o rows (Held bytes) e are h torn = torn_prefix p planes o rows bytes e are h torn
 
-pub begins_torn : (o : Start) (k rows : List Row) (now : Content) (start : List ℕ) → (start ≡ []) ⊎ (start ≡ text_of o.header k) → IsPrefix k rows
+pub begins_torn : (o : Start) (k rows : List Row) (now : Content) (start : List ℕ) → (start ≡ []) ⊎ (start ≡ file_text o.header k) → IsPrefix k rows
     → IsIfKnown now (IsTorn o rows) → BeginsAs now start
 begins_torn o k rows Unknown start from pre torn = tt
 begins_torn o k rows Absent start from pre torn = absurd torn
 begins_torn o k rows (Held bytes) start from pre torn =
     let part : List ℕ = take torn.taken (row_text (next_row o.entries rows torn.batch)) in
-    begins_with start (text_of o.header k) bytes (flat_map row_text pre.0 ++ part) from
-    (torn.is ∙ ap (λ t. t ++ part) (text_more o.header k rows pre) ∙ append_assoc (text_of o.header k) (flat_map row_text pre.0) part)
+    begins_with start (file_text o.header k) bytes (flat_map row_text pre.0 ++ part) from
+    (torn.is ∙ ap (λ t. t ++ part) (text_more o.header k rows pre) ∙ append_assoc (file_text o.header k) (flat_map row_text pre.0) part)
 
 -- ---- a header that was torn
 
@@ -89,7 +89,7 @@ header_prefix header start more bytes n whole from none is cut = elim (cases_eq 
 ]
 
 pub left_header : (p : Analysis) (planes : ℕ → Outcome) (o : Start) (rows : List Row) (whole : ℕ) (before now : Content) → o.entries ≡ entries_for p planes → AreEntries o.entries
-    → AreRows o rows → (take whole (bytes_of before) ≡ []) ⊎ (take whole (bytes_of before) ≡ text_of o.header rows) → IsHeaderTorn o.header whole before now
+    → AreRows o rows → (take whole (bytes_of before) ≡ []) ⊎ (take whole (bytes_of before) ≡ file_text o.header rows) → IsHeaderTorn o.header whole before now
     → (now ≡ before) ⊎ (LeftPrefix o.header p planes now × BeginsAs now (take whole (bytes_of before)))
 left_header p planes o rows whole before now e are h from torn = elim torn as (λ _. (now ≡ before) ⊎ (LeftPrefix o.header p planes now × BeginsAs now (take whole (bytes_of before)))) [
   | inl same ↦ inl same

@@ -12,17 +12,17 @@ use Rattle.campaign_plan.specs.Batches.{Entry, AreDistinct}
 use Rattle.result_file.specs.declared.Row.{Row}
 use Rattle.result_file.specs.declared.KeptRows.{KeptRows}
 use Rattle.result_file.specs.ResultText.{result_text}
-use Rattle.result_file.specs.KeptRows.{entry_of as planed}
+use Rattle.result_file.specs.KeptRows.{board_entry as planed}
 use Rattle.result_file.proofs.Whole.{no_row}
 use Rattle.fmeda_report.specs.Rows.{HoldEachOnce, planes_in}
 use Rattle.fmeda_report.proofs.RowPlanes.{row_found, rows_below, planes_in-at, planes_in-none}
 use Rattle.fmeda_report.proofs.TrueReport.{past_planes}
 use Rattle.campaign_board.specs.declared.entry.Entry.{Entry as BoardEntry}
-use Rattle.campaign_board.specs.Boards.{Start, AreEntries, entry_of, batches_of, text_of}
+use Rattle.campaign_board.specs.Boards.{Start, AreEntries, board_entry, batches_of, file_text}
 use Rattle.campaign_board.specs.Kept.{AreRows}
 use Rattle.campaign_board.proofs.Results.{boards_are_results}
 use Rattle.campaign_run.specs.declared.run.Text.{Text}
-use Rattle.campaign_run.specs.Found.{kept_or_true, IsPart}
+use Rattle.campaign_run.specs.Found.{checkpointed_or_true, IsPart}
 use Rattle.campaign_run.specs.Reported.{BeginsWith}
 use Rattle.campaign_run.specs.Origins.{entry_with, entries_for}
 use Rattle.campaign_run.specs.Ran.{text_for}
@@ -55,7 +55,7 @@ planes_at_row p planes o rows e h i d lt =
     let many = length-map rows (λ (r : Row). r.batch) in
     let batch : ℕ = get_or (batches_of rows) i 0 in
     let lower : batch < batch_count p = (let within = h.within i 0 (omega (arith, lt, many)) in omega (arith, within, ap length e, length_entries p planes)) in
-    let entry : entry_of o.entries batch ≡ entry_with p planes batch = ap (λ es. entry_of es batch) e ∙ entry_at p planes batch lower in
+    let entry : board_entry o.entries batch ≡ entry_with p planes batch = ap (λ es. board_entry es batch) e ∙ entry_at p planes batch lower in
     let due = h.due i lt in
     let here : row.batch ≡ batch = ap (λ (r : Row). r.batch) due ∙ ap (λ (e : BoardEntry). e.batch) entry in
     let found : (planed row).1 ≡ planes batch =
@@ -86,32 +86,32 @@ lacks_past (row ∷ rows) n batch all le =
 
 -- the planes of the rows are those that the campaign finds
 planes_same : (p : Analysis) (k : KeptRows) (rows : List Row) → All (λ b. b < batch_count p) (batches_of k.rows) → HoldEachOnce p rows
-    → All (λ (row : Row). (planed row).1 ≡ kept_or_true p k (planed row).0) rows → (batch : ℕ) → planes_in rows batch ≡ kept_or_true p k batch
+    → All (λ (row : Row). (planed row).1 ≡ checkpointed_or_true p k (planed row).0) rows → (batch : ℕ) → planes_in rows batch ≡ checkpointed_or_true p k batch
 planes_same p k rows within hold have batch = by_cases (nat_lt batch (batch_count p)) refl
   where
-    by_cases : (b : Bool) → nat_lt batch (batch_count p) ≡ b → planes_in rows batch ≡ kept_or_true p k batch
+    by_cases : (b : Bool) → nat_lt batch (batch_count p) ≡ b → planes_in rows batch ≡ checkpointed_or_true p k batch
     by_cases true e =
         let lt : batch < batch_count p = grind (arith, e) in
         let there = hold.each batch lt in
         let found = row_found rows there.0 batch there.1 there.2 in
         let same : (get_or rows there.0 no_row).batch ≡ batch = found.1 no_row in
         ap (planes_in rows) (sym same) ∙ planes_in-at rows hold.distinct.once there.0 no_row found.0
-        ∙ have there.0 no_row found.0 ∙ ap (kept_or_true p k) same
+        ∙ have there.0 no_row found.0 ∙ ap (checkpointed_or_true p k) same
     by_cases false e =
         let past : batch_count p ≤ batch = grind (arith, e) in
         planes_in-none rows batch (λ i d lt. omega (arith, past, rows_below rows (batch_count p) hold.distinct.within i d lt))
         ∙ sym (found_true p k batch (lacks_past k.rows (batch_count p) batch within past) ∙ past_planes p batch past)
 
-pub text_same : (text : Text) (p : Analysis) (k : KeptRows) (o : Start) (rows : List Row) → o.entries ≡ entries_for p (kept_or_true p k)
-    → All (λ b. b < batch_count p) (batches_of k.rows) → AreRows o rows → HoldEachOnce p rows → text_for text p (planes_in rows) ≡ text_for text p (kept_or_true p k)
+pub text_same : (text : Text) (p : Analysis) (k : KeptRows) (o : Start) (rows : List Row) → o.entries ≡ entries_for p (checkpointed_or_true p k)
+    → All (λ b. b < batch_count p) (batches_of k.rows) → AreRows o rows → HoldEachOnce p rows → text_for text p (planes_in rows) ≡ text_for text p (checkpointed_or_true p k)
 text_same text p k o rows e within h hold =
-    let all : planes_in rows ≡ kept_or_true p k = λ j batch. planes_same p k rows within hold (planes_at_row p (kept_or_true p k) o rows e h) batch j in
+    let all : planes_in rows ≡ checkpointed_or_true p k = λ j batch. planes_same p k rows within hold (planes_at_row p (checkpointed_or_true p k) o rows e h) batch j in
     ap (text_for text p) all
 
 -- ---- the result file
 
 pub text_result : (p : Analysis) (planes : ℕ → Outcome) (o : Start) (rows : List Row) → o.entries ≡ entries_for p planes → AreEntries o.entries → AreRows o rows
-    → text_of o.header rows ≡ result_text o.header p (map planed rows)
+    → file_text o.header rows ≡ result_text o.header p (map planed rows)
 text_result p planes o rows e are h = (boards_are_results p o rows are (have_own p planes o e) h).text_is
 
 pub begin_kept : (k rows : List Row) → IsPrefix k rows → BeginsWith (map planed rows) (map planed k)

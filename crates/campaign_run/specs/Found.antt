@@ -7,8 +7,8 @@ use Rattle.result_file.specs.declared.KeptRows.{KeptRows}
 use Rattle.result_file.specs.KeptRows.{kept_entries}
 
 -- the planes that were kept of a batch, or else those that it truly has
-abbrev pub kept_or_true : Analysis → KeptRows → ℕ → Outcome
-kept_or_true p k batch = unwrap_or (option_map (λ entry. entry.1) (find (λ entry. entry.0 == batch) (kept_entries k))) (true_planes p batch)
+abbrev pub checkpointed_or_true : Analysis → KeptRows → ℕ → Outcome
+checkpointed_or_true p k batch = unwrap_or (option_map (λ entry. entry.1) (find (λ entry. entry.0 == batch) (kept_entries k))) (true_planes p batch)
 
 -- each batch of the plan once, with the planes that `planes` gives
 pub record IsWhole (p : Analysis) (planes : ℕ → Outcome) (entries : List Entry) : Type 0 where

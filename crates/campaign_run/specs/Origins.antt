@@ -7,7 +7,7 @@ use Rattle.campaign_plan.specs.Batches.{own_sums}
 use Rattle.fm_base.specs.Lists.{below}
 use Rattle.campaign_board.specs.declared.entry.Entry.{Entry}
 use Rattle.campaign_board.specs.Boards.{Start}
-use Rattle.campaign_run.specs.Ran.{Campaign, planes_of}
+use Rattle.campaign_run.specs.Ran.{Campaign, campaign_planes}
 
 -- the entry of a batch with the planes that `planes` gives, and the sums over it by these planes
 abbrev pub entry_with : Analysis → (ℕ → Outcome) → ℕ → Entry
@@ -25,7 +25,7 @@ entries_for p planes = map (entry_with p planes) (below (batch_count p))
 -- what the board of a campaign begins with, on a shelf of which this is seen
 abbrev pub origin_of : Campaign → ShelfState → Start
 origin_of c shelf = record {
-  entries = entries_for c.p (planes_of c);
+  entries = entries_for c.p (campaign_planes c);
   header = c.own;
   name = c.name;
   rows = c.k.rows;

@@ -15,7 +15,7 @@ use Rattle.campaign_run.specs.declared.run.Text.TheVariants.{Report, Summary}
 use Rattle.campaign_run.specs.declared.run.End.{End}
 use Rattle.campaign_run.specs.declared.run.End.TheVariants.{Done, NoMemory, ResultFault, OutFault}
 use Rattle.campaign_run.specs.Outside.{KeepsOthers, had_written}
-use Rattle.campaign_run.specs.Found.{kept_or_true}
+use Rattle.campaign_run.specs.Found.{checkpointed_or_true}
 use Rattle.campaign_run.specs.Reported.{HasReported, BeginsWith}
 use Rattle.campaign_run.specs.Left.{LeftPrefix, BeginsAs}
 
@@ -33,23 +33,23 @@ pub record Campaign : Type 0 where
   pub text : Text
 
 -- the planes that its batches are found to have
-abbrev pub planes_of : Campaign → ℕ → Outcome
-planes_of c = kept_or_true c.p c.k
+abbrev pub campaign_planes : Campaign → ℕ → Outcome
+campaign_planes c = checkpointed_or_true c.p c.k
 
 -- what it writes
-abbrev pub text_of : Campaign → Bytes
-text_of c = text_for c.text c.p (planes_of c)
+abbrev pub campaign_text : Campaign → Bytes
+campaign_text c = text_for c.text c.p (campaign_planes c)
 
 -- the campaign is reported, and the rows of its file begin with those that were kept
 pub record IsReported (c : Campaign) (before after : Outside) : Type 0 where
-  pub reported : HasReported c.own (text_of c) c.p (planes_of c) c.name before after
+  pub reported : HasReported c.own (campaign_text c) c.p (campaign_planes c) c.name before after
   pub first : BeginsWith reported.entries (kept_entries c.k)
 
 -- the file is as before, or a byte prefix of a result file that still begins with the bytes that were kept
-abbrev pub IsLeft : Campaign → (before after : ShelfState) → Type 0
-IsLeft c before after =
+abbrev pub IsTruncatedResult : Campaign → (before after : ShelfState) → Type 0
+IsTruncatedResult c before after =
     (after.content c.name ≡ before.content c.name)
-    ⊎ (LeftPrefix c.own c.p (planes_of c) (after.content c.name) × BeginsAs (after.content c.name) (take c.k.whole (bytes_of (before.content c.name))))
+    ⊎ (LeftPrefix c.own c.p (campaign_planes c) (after.content c.name) × BeginsAs (after.content c.name) (take c.k.whole (bytes_of (before.content c.name))))
 
 -- Done: it is reported. NoMemory: nothing has changed. ResultFault: the result file couldn't be written, and nothing went out.
 -- OutFault: the file is as after Done, and a prefix of the text went out.
@@ -57,8 +57,8 @@ abbrev pub EndsAs : End → Campaign → (before after : Outside) → Type 0
 EndsAs Done c before after = IsReported c before after
 EndsAs NoMemory c before after = after ≡ before
 EndsAs ResultFault c before after =
-    CountRose (before.shelf.write_faults c.name) (after.shelf.write_faults c.name) × IsLeft c before.shelf after.shelf × (after.out ≡ before.out)
-EndsAs OutFault c before after = IsReported c before (had_written before after (text_of c)) × WrotePrefix before.out after.out (text_of c)
+    CountRose (before.shelf.write_faults c.name) (after.shelf.write_faults c.name) × IsTruncatedResult c before.shelf after.shelf × (after.out ≡ before.out)
+EndsAs OutFault c before after = IsReported c before (had_written before after (campaign_text c)) × WrotePrefix before.out after.out (campaign_text c)
 
 -- A CAMPAIGN THAT RAN: it ended so; other files are as before; and neither the faults of writing its file nor those of `out` have fallen
 pub record HasRun (end : End) (c : Campaign) (before after : Outside) : Type 0 where

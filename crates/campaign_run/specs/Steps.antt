@@ -5,20 +5,20 @@ use Rattle.fm_shelf.specs.Sink.{SinkState, Wrote, WrotePrefix}
 use Rattle.fm_base.specs.Names.{Bytes}
 use Rattle.result_file.specs.declared.Row.{Row}
 use Rattle.campaign_board.specs.Boards.{Start, batches_of}
-use Rattle.campaign_board.specs.Kept.{Seen, IsHeaderTorn}
+use Rattle.campaign_board.specs.Kept.{BoardState, IsHeaderTorn}
 use Rattle.campaign_workers.specs.Finish.{IsFinished}
 use Rattle.campaign_run.specs.declared.run.End.{End}
 use Rattle.campaign_run.specs.declared.run.End.TheVariants.{Done, NoMemory, ResultFault, OutFault}
 
 -- a board on this shelf to which nothing was done
-pub record IsFresh {F : Type 0} (o : Start) (shelf : F) (board : Seen F) : Type 0 where
+pub record IsNewBoard {F : Type 0} (o : Start) (shelf : F) (board : BoardState F) : Type 0 where
   pub rows : board.rows ≡ o.rows
   pub failed : board.failed ≡ false
   pub written : board.written ≡ false
   pub shelf_is : board.shelf ≡ shelf
 
 -- the board of a campaign whose workers have ended; or its header couldn't be written, and it has failed
-abbrev pub HasWorked : {F : Type 0} → Start → (whole : ℕ) → (before after : ShelfState) → Seen F → Type 0
+abbrev pub HasWorked : {F : Type 0} → Start → (whole : ℕ) → (before after : ShelfState) → BoardState F → Type 0
 HasWorked o whole before after board =
     ((board.written ≡ true) × IsFinished o board.rows board.failed)
     ⊎ ((board.failed ≡ true) × IsHeaderTorn o.header whole (before.content o.name) (after.content o.name))
@@ -28,8 +28,8 @@ abbrev pub HaveAll : Start → List Row → Type 0
 HaveAll o rows = (batch : ℕ) → batch < length o.entries → Contains (batches_of rows) batch
 
 -- what went out, by the end of a campaign: nothing where the board has failed, and else the text, or a prefix of it
-abbrev pub Tells : End → (failed : Bool) → (text : Bytes) → (before after : SinkState) → Type 0
-Tells Done failed text before after = (failed ≡ false) × Wrote before after text
-Tells NoMemory failed text before after = ⊥
-Tells ResultFault failed text before after = (failed ≡ true) × (after ≡ before)
-Tells OutFault failed text before after = (failed ≡ false) × WrotePrefix before after text
+abbrev pub TellsEnd : End → (failed : Bool) → (text : Bytes) → (before after : SinkState) → Type 0
+TellsEnd Done failed text before after = (failed ≡ false) × Wrote before after text
+TellsEnd NoMemory failed text before after = ⊥
+TellsEnd ResultFault failed text before after = (failed ≡ true) × (after ≡ before)
+TellsEnd OutFault failed text before after = (failed ≡ false) × WrotePrefix before after text

@@ -1,12 +1,12 @@
 ghost use Rattle.std.specs.Prelude.{◌≡◌, ◌<◌, ◌≤◌, IfOk, IfErr, length};
 ghost use Rattle.circuit.specs.Order.{IsOrder};
 ghost use Rattle.campaign_plan.specs.Analysis.{batch_count};
-ghost use Rattle.campaign_board.specs.Kept.{IsStart, IsWhole};
+ghost use Rattle.campaign_board.specs.Kept.{IsStart, AreKeptBytes};
 ghost use Rattle.campaign_workers.specs.Truth.{HasTrueEntries};
 ghost use Rattle.fmeda_report.specs.Rooms.{room_for};
 ghost use Rattle.campaign_run.specs.Origins.{origin_of};
 ghost use Rattle.campaign_run.specs.Starting.{StartsFrom};
-ghost use Rattle.campaign_run.specs.Steps.{IsFresh, HasWorked};
+ghost use Rattle.campaign_run.specs.Steps.{IsNewBoard, HasWorked};
 ghost use Rattle.campaign_run.specs.Ran.{HasRun};
 
 use crate::campaign::Campaign;
@@ -49,7 +49,7 @@ fn prepare<F: Shelf + Drop, N: Origin>(
     requires start { IsStart N.start name.now rows batches (F.seen shelf) }
     ensures space { IfOk result (λ r. r.space ≡ room_for plan.now) }
     ensures crew { IfOk result (λ r. r.crew.workshop ≡ record { plan = plan.now; order = order.now }) }
-    ensures board { IfOk result (λ r. IsFresh N.start shelf r.crew.board) }
+    ensures board { IfOk result (λ r. IsNewBoard N.start shelf r.crew.board) }
     ensures err { IfErr result (λ e. e.shelf ≡ shelf) }
 {
     let Ok(space) = ReportSpace::new(alloc, plan) else {
@@ -80,9 +80,9 @@ fn worked<
     gate: &G,
 ) -> Board<F, N>
     requires made { crew.workshop ≡ record { plan = plan.now; order = order.now } }
-    requires fresh { IsFresh N.start crew.board.shelf crew.board }
+    requires fresh { IsNewBoard N.start crew.board.shelf crew.board }
     requires own { own.now ≡ N.start.header }
-    requires whole { IsWhole N.start crew.board.rows whole ((F.seen crew.board.shelf).content N.start.name) }
+    requires whole { AreKeptBytes N.start crew.board.rows whole ((F.seen crew.board.shelf).content N.start.name) }
     requires entries { HasTrueEntries plan.now N.start }
     ensures { HasWorked N.start whole (F.seen crew.board.shelf) (F.seen result.shelf) result }
 {

@@ -6,7 +6,7 @@ ghost use Rattle.campaign_board.specs.Kept.{IsBoard};
 ghost use Rattle.fmeda_report.specs.Rooms.{room_for};
 ghost use Rattle.fmeda_report.specs.Rows.{HoldEachOnce, planes_in};
 ghost use Rattle.campaign_run.specs.Ran.{text_for};
-ghost use Rattle.campaign_run.specs.Steps.{HaveAll, Tells};
+ghost use Rattle.campaign_run.specs.Steps.{HaveAll, TellsEnd};
 
 use crate::run::{End, Ran, Text};
 use campaign_board::{Board, Origin};
@@ -44,7 +44,7 @@ pub(crate) fn tell<F: Shelf + Drop, N: Origin, O: Sink>(
     requires space { space.old ≡ room_for plan.now }
     requires entries { length N.start.entries ≡ batch_count plan.now }
     requires rows { board.failed ≡ false → HaveAll N.start board.rows }
-    ensures told { Tells result.end board.failed (text_for text plan.now (planes_in board.rows)) (O.seen out.old) (O.seen out.new) }
+    ensures told { TellsEnd result.end board.failed (text_for text plan.now (planes_in board.rows)) (O.seen out.old) (O.seen out.new) }
     ensures grows { (O.seen out.old).faults ≤ (O.seen out.new).faults }
     ensures shelf { result.shelf ≡ board.shelf }
     ensures kept { IsBoard N.start board.rows (sums_over N.start.entries (batches_of board.rows)) board.failed board.written (F.seen result.shelf) }

@@ -17,15 +17,15 @@ use Rattle.campaign_plan.specs.Kept.{IsPlan}
 use Rattle.result_file.specs.declared.Row.{Row}
 use Rattle.result_file.specs.KeptRows.{entry_of as planed}
 use Rattle.campaign_board.specs.Boards.{Start, batches_of}
-use Rattle.campaign_board.specs.Kept.{Seen as Board, AreRows, IsBoard, IsStart, IsHeaderTorn}
+use Rattle.campaign_board.specs.Kept.{BoardState as Board, AreRows, IsBoard, IsStart, IsHeaderTorn}
 use Rattle.campaign_board.specs.Missing.{IsMissing}
 use Rattle.campaign_workers.specs.Truth.{HasTrueEntries}
 use Rattle.campaign_run.specs.declared.run.End.{End}
 use Rattle.campaign_run.specs.declared.run.End.TheVariants.{Done, NoMemory, ResultFault, OutFault}
 use Rattle.campaign_run.specs.Outside.{had_written}
-use Rattle.campaign_run.specs.Starting.{nothing}
+use Rattle.campaign_run.specs.Starting.{no_kept_rows}
 use Rattle.campaign_run.specs.Left.{LeftPrefix}
-use Rattle.campaign_run.specs.Steps.{Tells}
+use Rattle.campaign_run.specs.Steps.{TellsEnd}
 use Rattle.campaign_run.proofs.Entries.{length_entries}
 use Rattle.campaign_run.proofs.Keeping.{same_batches}
 use Rattle.campaign_run.proofs.Finding.{have_true}
@@ -59,7 +59,7 @@ pub starts : (name own : Bytes) (p : Analysis) (shelf : ShelfState) (batches : �
 starts name own p shelf batches plan many count = campaign_starts (whole_campaign name own p) shelf batches plan many (inl refl) count
 
 pub all_true : (name own : Bytes) (p : Analysis) (shelf : ShelfState) → HasTrueEntries p (part_origin name own p shelf)
-all_true name own p shelf = have_true p nothing (part_origin name own p shelf) refl refl
+all_true name own p shelf = have_true p no_kept_rows (part_origin name own p shelf) refl refl
 
 pub many_entries : (name own : Bytes) (p : Analysis) (shelf : ShelfState) → length (part_origin name own p shelf).entries ≡ batch_count p
 many_entries name own p shelf = length_entries p (true_planes p)
@@ -140,7 +140,7 @@ module _ (c : PartCampaign) (before : ShelfState) where
 ends : {F : Type 0} (end : End) (c : PartCampaign) (before after : Outside) (sums : Sums) (board : Board F)
     → HasPartWorked (part_origin c.name c.own c.p before.shelf) c.part c.parts before.shelf after.shelf board
     → IsBoard (part_origin c.name c.own c.p before.shelf) board.rows sums board.failed board.written after.shelf
-    → Tells end board.failed (shard_line c.part c.parts (length board.rows)) before.out after.out → EndsPartAs end c before after
+    → TellsEnd end board.failed (shard_line c.part c.parts (length board.rows)) before.out after.out → EndsPartAs end c before after
 ends Done c before after sums board worked kept told = tells c before.shelf board sums after.shelf worked kept told.0 before.out after.out told.1
 ends NoMemory c before after sums board worked kept told = absurd told
 ends ResultFault c before after sums board worked kept told = (kept.rose told.0, leaves c before.shelf board sums after.shelf worked kept told.0, told.1)
@@ -151,7 +151,7 @@ ends OutFault c before after sums board worked kept told =
 pub has_run : {F : Type 0} (end : End) (c : PartCampaign) (before after : Outside) (sums : Sums) (board : Board F)
     → HasPartWorked (part_origin c.name c.own c.p before.shelf) c.part c.parts before.shelf after.shelf board
     → IsBoard (part_origin c.name c.own c.p before.shelf) board.rows sums board.failed board.written after.shelf
-    → Tells end board.failed (shard_line c.part c.parts (length board.rows)) before.out after.out → before.out.faults ≤ after.out.faults
+    → TellsEnd end board.failed (shard_line c.part c.parts (length board.rows)) before.out after.out → before.out.faults ≤ after.out.faults
     → HasRunPart end c before after
 has_run end c before after sums board worked kept told grows = record {
   ends = ends end c before after sums board worked kept told;

@@ -10,7 +10,7 @@ use Rattle.claim_counter.specs.Views.{starting_view, with_claim, giving}
 use Rattle.claim_counter.specs.Seats.{Counter, Seated}
 use Rattle.claim_counter.proofs.Views.{times-snoc}
 use Rattle.campaign_board.specs.Boards.{Start}
-use Rattle.campaign_board.specs.Missing.{number_of}
+use Rattle.campaign_board.specs.Missing.{claim_number}
 use Rattle.campaign_board.specs.Sharing.{IsDrawn, MayPost, IsPosted}
 use Rattle.campaign_board.proofs.Numbering.{batch_back, same_number}
 use Rattle.result_merge.specs.Parts.{is_of_part}
@@ -30,8 +30,8 @@ no_row c o part parts todo p rows failed worked closed = record {
   due = closed.due;
   own = λ fine batch due. (
       let quiet : p.view.fails ≡ false = not_failed p.view.fails failed closed.closed.fails fine in
-      let lower : number_of o batch < todo = subst (λ m. number_of o batch < m) (sym closed.todo_is) (batch_back o batch due).0 in
-      let claimed : times (number_of o batch) p.view.claims ≡ 1 = closed.closed.claims (worked.none quiet) (number_of o batch) ∙ once_lower (number_of o batch) todo lower in
+      let lower : claim_number o batch < todo = subst (λ m. claim_number o batch < m) (sym closed.todo_is) (batch_back o batch due).0 in
+      let claimed : times (claim_number o batch) p.view.claims ≡ 1 = closed.closed.claims (worked.none quiet) (claim_number o batch) ∙ once_lower (claim_number o batch) todo lower in
       closed.posts batch due ∙ worked.posted quiet batch due ∙ ap (counted_in part parts batch) claimed);
 }
 
@@ -57,8 +57,8 @@ begins c o part parts first now failed h table given =
         free = ap (λ (v : View). v.holds) view;
         all = share;
         posted = λ batch due. (
-            ap (λ (v : View). times (number_of o batch) v.posts) view ∙ no_counted (is_of_part part parts batch)
-            ∙ ap (λ (v : View). counted_in part parts batch (times (number_of o batch) v.claims)) (sym view));
+            ap (λ (v : View). times (claim_number o batch) v.posts) view ∙ no_counted (is_of_part part parts batch)
+            ∙ ap (λ (v : View). counted_in part parts batch (times (claim_number o batch) v.claims)) (sym view));
       },
       ap (λ (v : View). v.nones) view,
     )
@@ -79,53 +79,53 @@ all_counted part parts batch count e = rw e refl
 -- a batch of another part was drawn
 pub skipped : (o : Start) (part parts : ℕ) (old now : View) (batch : ℕ) → HasPostedPart o part parts old → IsDrawn o old now batch → is_of_part part parts batch ≡ false
     → HasPostedPart o part parts now
-skipped o part parts old now batch h drawn out other due = by_number (number_of o batch == number_of o other) refl
+skipped o part parts old now batch h drawn out other due = by_number (claim_number o batch == claim_number o other) refl
   where
-    by_number : (same : Bool) → (number_of o batch == number_of o other) ≡ same
-        → times (number_of o other) now.posts ≡ counted_in part parts other (times (number_of o other) now.claims)
+    by_number : (same : Bool) → (claim_number o batch == claim_number o other) ≡ same
+        → times (claim_number o other) now.posts ≡ counted_in part parts other (times (claim_number o other) now.claims)
     by_number true t =
-        let numbers : number_of o batch ≡ number_of o other = grind (arith, nat_tests) in
+        let numbers : claim_number o batch ≡ claim_number o other = grind (arith, nat_tests) in
         let here : batch ≡ other = same_number o batch other drawn.due due numbers in
         let away : is_of_part part parts other ≡ false = subst (λ b. is_of_part part parts b ≡ false) here out in
-        ap (λ (v : View). times (number_of o other) v.posts) drawn.view ∙ h other due
-        ∙ none_counted part parts other (times (number_of o other) old.claims) away ∙ sym (none_counted part parts other (times (number_of o other) now.claims) away)
+        ap (λ (v : View). times (claim_number o other) v.posts) drawn.view ∙ h other due
+        ∙ none_counted part parts other (times (claim_number o other) old.claims) away ∙ sym (none_counted part parts other (times (claim_number o other) now.claims) away)
     by_number false t =
-        let apart : number_of o batch ≢ number_of o other = grind (arith, nat_tests) in
-        let claims : times (number_of o other) now.claims ≡ times (number_of o other) old.claims =
-        ap (λ (v : View). times (number_of o other) v.claims) drawn.view ∙ no_more old.claims (number_of o batch) (number_of o other) apart in
-        ap (λ (v : View). times (number_of o other) v.posts) drawn.view ∙ h other due ∙ ap (counted_in part parts other) (sym claims)
+        let apart : claim_number o batch ≢ claim_number o other = grind (arith, nat_tests) in
+        let claims : times (claim_number o other) now.claims ≡ times (claim_number o other) old.claims =
+        ap (λ (v : View). times (claim_number o other) v.claims) drawn.view ∙ no_more old.claims (claim_number o batch) (claim_number o other) apart in
+        ap (λ (v : View). times (claim_number o other) v.posts) drawn.view ∙ h other due ∙ ap (counted_in part parts other) (sym claims)
 
 -- a batch of the part was drawn: it may be posted
 pub may_post_own : (o : Start) (part parts : ℕ) (old now : View) (batch : ℕ) → HasPostedPart o part parts old → IsDrawn o old now batch → is_of_part part parts batch ≡ true
     → MayPost o now batch
 may_post_own o part parts old now batch h drawn own =
-    let n : ℕ = number_of o batch in
+    let n : ℕ = claim_number o batch in
     let claims : times n now.claims ≡ times n old.claims + 1 = ap (λ (v : View). times n v.claims) drawn.view ∙ one_more old.claims n in
     let posts : times n now.posts ≡ 0 = ap (λ (v : View). times n v.posts) drawn.view ∙ h batch drawn.due ∙ all_counted part parts batch (times n old.claims) own ∙ drawn.new in
     record { due = drawn.due; drawn = omega (arith, claims); new = posts }
 
 -- and it was posted
 pub posted_own : (o : Start) (part parts : ℕ) (old mid now : View) (batch : ℕ) → HasPostedPart o part parts old → IsDrawn o old mid batch → is_of_part part parts batch ≡ true
-    → now.claims ≡ mid.claims → now.posts ≡ mid.posts ++ number_of o batch ∷ [] → HasPostedPart o part parts now
-posted_own o part parts old mid now batch h drawn own claims posts other due = by_number (number_of o batch == number_of o other) refl
+    → now.claims ≡ mid.claims → now.posts ≡ mid.posts ++ claim_number o batch ∷ [] → HasPostedPart o part parts now
+posted_own o part parts old mid now batch h drawn own claims posts other due = by_number (claim_number o batch == claim_number o other) refl
   where
-    by_number : (same : Bool) → (number_of o batch == number_of o other) ≡ same
-        → times (number_of o other) now.posts ≡ counted_in part parts other (times (number_of o other) now.claims)
+    by_number : (same : Bool) → (claim_number o batch == claim_number o other) ≡ same
+        → times (claim_number o other) now.posts ≡ counted_in part parts other (times (claim_number o other) now.claims)
     by_number true t =
-        let numbers : number_of o batch ≡ number_of o other = grind (arith, nat_tests) in
+        let numbers : claim_number o batch ≡ claim_number o other = grind (arith, nat_tests) in
         let here : batch ≡ other = same_number o batch other drawn.due due numbers in
-        let n : ℕ = number_of o batch in
+        let n : ℕ = claim_number o batch in
         let claimed : times n now.claims ≡ times n old.claims + 1 = ap (times n) (claims ∙ ap (λ (v : View). v.claims) drawn.view) ∙ one_more old.claims n in
         let sent : times n now.posts ≡ times n old.posts + 1 = ap (times n) (posts ∙ ap (λ (v : View). v.posts ++ n ∷ []) drawn.view) ∙ one_more old.posts n in
         let before : times n old.posts ≡ times n old.claims = h batch drawn.due ∙ all_counted part parts batch (times n old.claims) own in
         let at_batch : times n now.posts ≡ counted_in part parts batch (times n now.claims) =
         sent ∙ ap (λ k. k + 1) before ∙ sym claimed ∙ sym (all_counted part parts batch (times n now.claims) own) in
-        subst (λ b. times (number_of o b) now.posts ≡ counted_in part parts b (times (number_of o b) now.claims)) here at_batch
+        subst (λ b. times (claim_number o b) now.posts ≡ counted_in part parts b (times (claim_number o b) now.claims)) here at_batch
     by_number false t =
-        let apart : number_of o batch ≢ number_of o other = grind (arith, nat_tests) in
-        let m : ℕ = number_of o other in
-        let claimed : times m now.claims ≡ times m old.claims = ap (times m) (claims ∙ ap (λ (v : View). v.claims) drawn.view) ∙ no_more old.claims (number_of o batch) m apart in
-        let sent : times m now.posts ≡ times m old.posts = ap (times m) (posts ∙ ap (λ (v : View). v.posts ++ number_of o batch ∷ []) drawn.view) ∙ no_more old.posts (number_of o batch) m apart in
+        let apart : claim_number o batch ≢ claim_number o other = grind (arith, nat_tests) in
+        let m : ℕ = claim_number o other in
+        let claimed : times m now.claims ≡ times m old.claims = ap (times m) (claims ∙ ap (λ (v : View). v.claims) drawn.view) ∙ no_more old.claims (claim_number o batch) m apart in
+        let sent : times m now.posts ≡ times m old.posts = ap (times m) (posts ∙ ap (λ (v : View). v.posts ++ claim_number o batch ∷ []) drawn.view) ∙ no_more old.posts (claim_number o batch) m apart in
         sent ∙ h other due ∙ ap (counted_in part parts other) (sym claimed)
 
 -- after a draw of another part's batch the seat goes on
@@ -154,7 +154,7 @@ goes_on c o part parts old mid now batch sums h table_mid table drawn own posted
     let todo : now.view.todo ≡ mid.view.todo = ap (λ (v : View). v.todo) posted.view in
     let held : now.view.holds ≡ false = ap (λ (v : View). v.holds) posted.view in
     let claims : now.view.claims ≡ mid.view.claims = ap (λ (v : View). v.claims) posted.view in
-    let posts : now.view.posts ≡ mid.view.posts ++ number_of o batch ∷ [] = ap (λ (v : View). v.posts) posted.view in
+    let posts : now.view.posts ≡ mid.view.posts ++ claim_number o batch ∷ [] = ap (λ (v : View). v.posts) posted.view in
     let opened : now.view.opened ≡ mid.view.opened = ap (λ (v : View). v.opened) posted.view in
     record {
       of = record {

@@ -4,9 +4,9 @@ ghost use Rattle.circuit.specs.Order.{IsOrder};
 ghost use Rattle.campaign_plan.specs.Analysis.{batch_count};
 ghost use Rattle.campaign_board.specs.Boards.{batches_of, sums_over};
 ghost use Rattle.campaign_board.specs.Kept.{IsBoard, IsStart};
-ghost use Rattle.campaign_board.specs.Missing.{missing};
+ghost use Rattle.campaign_board.specs.Missing.{batches_missing};
 ghost use Rattle.campaign_workers.specs.Truth.{HasTrueEntries};
-ghost use Rattle.campaign_run.specs.Steps.{IsFresh, Tells};
+ghost use Rattle.campaign_run.specs.Steps.{IsNewBoard, TellsEnd};
 ghost use Rattle.command_text.specs.Texts.{shard_line};
 ghost use Rattle.campaign_shard.specs.RanPart.{HasRunPart};
 ghost use Rattle.campaign_shard.specs.PartSteps.{part_origin, simulated, HasPartWorked, IsOpening};
@@ -48,7 +48,7 @@ fn batches_to_do<F: Shelf + Drop, N: Origin>(
 ) -> Result<BatchList, AllocError>
     requires entries { length N.start.entries ≡ batch_count plan.now }
     requires rows { board.now.rows ≡ N.start.rows }
-    ensures { IfOk result (λ todo. todo ≡ missing N.start) }
+    ensures { IfOk result (λ todo. todo ≡ batches_missing N.start) }
 {
     missing_batches(alloc, plan.batches(), board.rows())
 }
@@ -90,7 +90,7 @@ fn prepare<'a, F: Shelf + Drop, N: Origin>(
     requires order { IsOrder plan.now.circuit order.now }
     requires batches { batches ≡ batch_count plan.now }
     requires start { IsStart N.start name.now [] batches (F.seen shelf) }
-    ensures board { IfOk result (λ r. IsFresh N.start shelf r.board) }
+    ensures board { IfOk result (λ r. IsNewBoard N.start shelf r.board) }
     ensures simulator { IfOk result (λ r. r.place.simulator ≡ simulated plan.now) }
     ensures seat { IfOk result (λ r. IsOpening r.place.shared r.place.seat) }
     ensures err { IfErr result (λ e. e.shelf ≡ shelf) }
@@ -114,7 +114,7 @@ fn worked<R: Wait, F: Shelf + Drop, N: Origin>(
 ) -> Board<F, N>
     requires parts { 0 < shard.parts }
     requires own { own.now ≡ N.start.header }
-    requires fresh { IsFresh N.start prepared.board.shelf prepared.board × (N.start.rows ≡ []) }
+    requires fresh { IsNewBoard N.start prepared.board.shelf prepared.board × (N.start.rows ≡ []) }
     requires simulator { prepared.place.simulator ≡ simulated plan.now }
     requires seat { IsOpening prepared.place.shared prepared.place.seat }
     requires entries { HasTrueEntries plan.now N.start × (length N.start.entries ≡ batch_count plan.now) }
@@ -141,7 +141,7 @@ fn tell<F: Shelf + Drop, N: Origin, O: Sink>(
     board: Board<F, N>,
     out: &mut O,
 ) -> Ran<F>
-    ensures told { Tells result.end board.failed (shard_line shard.part shard.parts (length board.rows)) (O.seen out.old) (O.seen out.new) }
+    ensures told { TellsEnd result.end board.failed (shard_line shard.part shard.parts (length board.rows)) (O.seen out.old) (O.seen out.new) }
     ensures grows { (O.seen out.old).faults ≤ (O.seen out.new).faults }
     ensures shelf { result.shelf ≡ board.shelf }
     ensures kept { IsBoard N.start board.rows (sums_over N.start.entries (batches_of board.rows)) board.failed board.written (F.seen result.shelf) }

@@ -12,7 +12,7 @@ use Rattle.claim_counter.specs.Seats.{Counter, Seated, IsOf}
 use Rattle.claim_counter.specs.Crews.{IsDone, shares_of}
 use Rattle.claim_counter.proofs.Joining.{Joined, all_last, finished}
 use Rattle.campaign_board.specs.Boards.{Start, batches_of}
-use Rattle.campaign_board.specs.Missing.{IsMissing, number_of, added_rows, numbers_of}
+use Rattle.campaign_board.specs.Missing.{IsMissing, claim_number, added_rows, numbers_of}
 use Rattle.campaign_board.specs.Sharing.{IsClosed}
 use Rattle.campaign_board.proofs.Numbering.{batch_back}
 use Rattle.campaign_board.proofs.AddedRows.{batches_split}
@@ -46,7 +46,7 @@ here_or_not (y ∷ ys) x = elim (cases_eq y x) as (λ _. Contains (y ∷ ys) x �
 each_once : (o : Start) (c : Counter) (many : ℕ) (first : Seated) (left : List Seated) (rows : List Row) (failed : Bool) → Joined c many first left → left ≡ [] → 0 < many
     → IsClosed o c.todo first.view rows failed → failed ≡ false → (batch : ℕ) → IsMissing o batch → times batch (batches_of (added_rows o rows)) ≡ 1
 each_once o c many first left rows failed h e some closed fine batch due =
-    let n : ℕ = number_of o batch in
+    let n : ℕ = claim_number o batch in
     let all = finished {V = List Row} (numbers_of o) (λ _. failed) c many first left rows h e some closed.closed fine n in
     let less = (batch_back o batch due).0 in
     let one : once_below n c.todo ≡ 1 = grind (arith, nat_tests, closed.todo_is) in

@@ -5,11 +5,11 @@ use Rattle.std.proofs.lemmas.List.{append-nil, map-append}
 use Rattle.metric_sums.specs.declared.Sums.{Sums}
 use Rattle.claim_counter.specs.declared.view.View.{View}
 use Rattle.claim_counter.specs.Seats.{Counter, Seated}
-use Rattle.claim_counter.specs.Crews.{IsReady}
+use Rattle.claim_counter.specs.Crews.{MayDraw}
 use Rattle.campaign_plan.specs.Analysis.{Analysis}
 use Rattle.campaign_board.specs.declared.entry.Entry.{Entry}
-use Rattle.campaign_board.specs.Boards.{Start, entry_of}
-use Rattle.campaign_board.specs.Missing.{number_of}
+use Rattle.campaign_board.specs.Boards.{Start, board_entry}
+use Rattle.campaign_board.specs.Missing.{claim_number}
 use Rattle.campaign_board.specs.Sharing.{IsDrawn, MayPost, IsPosted}
 use Rattle.campaign_workers.specs.Truth.{true_entry, HasTrueEntries}
 use Rattle.campaign_workers.specs.Rounds.{drawn_in, numbers_in, Owes}
@@ -50,20 +50,20 @@ blank_four (suc (suc (suc zero))) le = refl
 blank_four (suc (suc (suc (suc k)))) le = refl
 
 -- nothing was drawn yet
-pub begins_round : (c : Counter) (o : Start) (p : Seated) → IsReady c p → HasDrawn c o p p (None ∷ None ∷ None ∷ None ∷ []) 0
+pub begins_round : (c : Counter) (o : Start) (p : Seated) → MayDraw c p → HasDrawn c o p p (None ∷ None ∷ None ∷ None ∷ []) 0
 begins_round c o p ready = record { owes = owes_nothing c o p ready; claims = sym (append-nil p.view.claims); nones = ready.first; share = refl; blank = blank_four; full = refl }
 
 -- one more batch was drawn
 pub draws_one : (c : Counter) (o : Start) (old now next : Seated) (batches : List (Option ℕ)) (i batch : ℕ) → HasDrawn c o old now batches i → i < length batches → next.table ≡ now.table
     → IsDrawn o now.view next.view batch → HasDrawn c o old next (set batches i (Some batch)) (i + 1)
 draws_one c o old now next batches i batch h less same drawn =
-    let n : ℕ = number_of o batch in
+    let n : ℕ = claim_number o batch in
     let more = set_draws batches i batch less h.blank in
     record {
       owes = subst (Owes c o next) (sym more) (owes_drawn c o now next (drawn_in batches) batch h.owes same drawn);
       claims =
           ap (λ (v : View). v.claims) drawn.view ∙ ap (λ claims. claims ++ n ∷ []) h.claims ∙ append_assoc old.view.claims (numbers_in o batches) (n ∷ [])
-          ∙ ap (λ numbers. old.view.claims ++ numbers) (sym (map-append (number_of o) (drawn_in batches) (batch ∷ []))) ∙ ap (λ drawn. old.view.claims ++ map (number_of o) drawn) (sym more);
+          ∙ ap (λ numbers. old.view.claims ++ numbers) (sym (map-append (claim_number o) (drawn_in batches) (batch ∷ []))) ∙ ap (λ drawn. old.view.claims ++ map (claim_number o) drawn) (sym more);
       nones = ap (λ (v : View). v.nones) drawn.view ∙ h.nones;
       share = ap (λ (v : View). v.share) drawn.view ∙ h.share;
       blank = λ k le. let apart : k ≢ i = omega arith in get_or-set_other batches i k (Some batch) None apart ∙ h.blank k (omega arith);
@@ -93,16 +93,16 @@ may_post_at c o old now batches i batch h e =
 
 -- its entry is the one of the origin
 pub posts_entry : (p : Analysis) (o : Start) (view : View) (batch : ℕ) (entry : Entry) → MayPost o view batch → HasTrueEntries p o → entry ≡ true_entry p batch
-    → MayPost o view entry.batch × (entry ≡ entry_of o.entries entry.batch)
+    → MayPost o view entry.batch × (entry ≡ board_entry o.entries entry.batch)
 posts_entry p o view batch entry may entries e =
-    let P : Entry → Type 0 = λ x. MayPost o view x.batch × (x ≡ entry_of o.entries x.batch) in
+    let P : Entry → Type 0 = λ x. MayPost o view x.batch × (x ≡ board_entry o.entries x.batch) in
     subst P (sym e) (may, sym (entries batch may.due))
 
 -- once it was posted, those behind it are left
 pub posts_at : (p : Analysis) (c : Counter) (o : Start) (old now next : Seated) (batches : List (Option ℕ)) (i batch : ℕ) (entry : Entry) (sums : Sums) → HasLeft c o old now batches (drop i batches)
     → get_or batches i None ≡ Some batch → entry ≡ true_entry p batch → next.table ≡ now.table → IsPosted o now.view next.view entry.batch sums → HasLeft c o old next batches (drop (i + 1) batches)
 posts_at p c o old now next batches i batch entry sums h e is same told =
-    let n : ℕ = number_of o batch in
+    let n : ℕ = claim_number o batch in
     let rest = drop (i + 1) batches in
     let all : HasLeft c o old now batches (Some batch ∷ rest) = subst (HasLeft c o old now batches) (left_next batches i batch e) h in
     let posted : IsPosted o now.view next.view batch sums = subst (λ (x : Entry). IsPosted o now.view next.view x.batch sums) is told in

@@ -8,9 +8,10 @@ use Rattle.campaign_plan.specs.Analysis.{Analysis}
 use Rattle.campaign_core.specs.Machines.{times}
 use Rattle.claim_counter.specs.Views.{giving}
 use Rattle.claim_counter.specs.Seats.{Counter, Seated, IsOf}
-use Rattle.claim_counter.specs.Crews.{IsReady, IsCrew}
+use Rattle.claim_counter.specs.Crews.{MayDraw, IsCrew}
 use Rattle.campaign_workers.specs.declared.worker.Worker.{Worker}
-use Rattle.campaign_workers.specs.Workplaces.{AreToolsFor, AreFor, seats_of}
+use Rattle.campaign_workers.specs.Workplaces.{AreFor, seats_of}
+use Rattle.classifier.specs.Tools.{AreToolsFor}
 use Rattle.campaign_workers.proofs.Owing.{same_seat}
 
 module _ {F N : Type 0} where
@@ -20,12 +21,12 @@ module _ {F N : Type 0} where
 
   -- each worker is ready, with tools for the plan and the order
   pub at_work : (p q : Analysis) (order nets : List NetId) (golden : Recording) (table : Counter) (first : Seated) (workers now : List (Worker F N)) → AreFor p order golden table first workers
-      → p ≡ q → order ≡ nets → now ≡ workers → All (λ w. IsReady table w.seat × AreToolsFor q nets w.lanes w.windows) now
+      → p ≡ q → order ≡ nets → now ≡ workers → All (λ w. MayDraw table w.seat × AreToolsFor q nets w.lanes w.windows) now
   at_work p q order nets golden table first workers now h plan orders same =
-      subst (All (λ w. IsReady table w.seat × AreToolsFor q nets w.lanes w.windows)) (sym same)
-      (subst (λ nets. All (λ w. IsReady table w.seat × AreToolsFor q nets w.lanes w.windows) workers) orders
-      (subst (λ q. All (λ w. IsReady table w.seat × AreToolsFor q order w.lanes w.windows) workers) plan
-      (λ k d lt. (all_workers (λ s. IsReady table s) workers h.crew.ready k d lt, h.tools k d lt))))
+      subst (All (λ w. MayDraw table w.seat × AreToolsFor q nets w.lanes w.windows)) (sym same)
+      (subst (λ nets. All (λ w. MayDraw table w.seat × AreToolsFor q nets w.lanes w.windows) workers) orders
+      (subst (λ q. All (λ w. MayDraw table w.seat × AreToolsFor q order w.lanes w.windows) workers) plan
+      (λ k d lt. (all_workers (λ s. MayDraw table s) workers h.crew.ready k d lt, h.tools k d lt))))
 
 -- the first seat, once it has given the turn back
 pub first_free : (c : Counter) (first now : Seated) (seats : List Seated) (failed : Bool) → IsCrew c first seats → now.table ≡ first.table → now.view ≡ giving first.view failed

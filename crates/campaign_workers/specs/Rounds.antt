@@ -3,7 +3,7 @@ use Rattle.std.specs.Prelude.{◌≡◌, ℕ, ◌+◌, false, List, [], ◌∷�
 use Rattle.campaign_core.specs.Machines.{times}
 use Rattle.claim_counter.specs.Seats.{Counter, Seated, IsOf}
 use Rattle.campaign_board.specs.Boards.{Start}
-use Rattle.campaign_board.specs.Missing.{IsMissing, number_of}
+use Rattle.campaign_board.specs.Missing.{IsMissing, claim_number}
 use Rattle.campaign_plan.specs.declared.Outcome.{Outcome}
 use Rattle.campaign_plan.specs.Analysis.{Analysis, all_faults}
 use Rattle.classifier.specs.Batch.{outcome_for}
@@ -16,7 +16,7 @@ drawn_in (Some batch ∷ batches) = batch ∷ drawn_in batches
 
 -- their numbers on the claim counter
 abbrev pub numbers_in : Start → List (Option ℕ) → List ℕ
-numbers_in o batches = map (number_of o) (drawn_in batches)
+numbers_in o batches = map (claim_number o) (drawn_in batches)
 
 -- the planes that each batch of a round truly has, and 0 where there is none
 abbrev pub true_planes_in : Analysis → List (Option ℕ) → List Outcome
@@ -30,5 +30,5 @@ pub record Owes (c : Counter) (o : Start) (p : Seated) (owed : List ℕ) : Type 
   pub of : IsOf c p
   pub free : p.view.holds ≡ false
   pub due : All (IsMissing o) owed
-  pub once : All (λ batch. times (number_of o batch) p.view.claims ≡ 1) owed
-  pub all : (n : ℕ) → times n p.view.claims ≡ times n p.view.posts + times n (map (number_of o) owed)
+  pub once : All (λ batch. times (claim_number o batch) p.view.claims ≡ 1) owed
+  pub all : (n : ℕ) → times n p.view.claims ≡ times n p.view.posts + times n (map (claim_number o) owed)

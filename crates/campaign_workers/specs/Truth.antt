@@ -3,7 +3,7 @@ use Rattle.std.specs.Prelude.{◌≡◌, ℕ}
 use Rattle.campaign_plan.specs.Analysis.{Analysis}
 use Rattle.campaign_plan.specs.Batches.{true_planes, own_sums}
 use Rattle.campaign_board.specs.declared.entry.Entry.{Entry}
-use Rattle.campaign_board.specs.Boards.{Start, entry_of}
+use Rattle.campaign_board.specs.Boards.{Start, board_entry}
 use Rattle.campaign_board.specs.Missing.{IsMissing}
 
 -- the entry of a batch with the planes that it truly has, and the sums over it by these planes
@@ -17,4 +17,4 @@ true_entry p batch = record {
 
 -- each batch to do has its true entry in the origin
 abbrev pub HasTrueEntries : Analysis → Start → Type 0
-HasTrueEntries p o = (batch : ℕ) → IsMissing o batch → entry_of o.entries batch ≡ true_entry p batch
+HasTrueEntries p o = (batch : ℕ) → IsMissing o batch → board_entry o.entries batch ≡ true_entry p batch

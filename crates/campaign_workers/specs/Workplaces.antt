@@ -6,19 +6,10 @@ use Rattle.alarm_points.specs.FourWatches.{FourWatches, AreFourMadeFor}
 use Rattle.golden_difference.specs.Lanes.{IsMadeFor, Lanes}
 use Rattle.golden_run.specs.Recording.{Recording}
 use Rattle.campaign_plan.specs.Analysis.{Analysis}
+use Rattle.classifier.specs.Tools.{golden_of, AreToolsFor}
 use Rattle.claim_counter.specs.Seats.{Counter, Seated}
 use Rattle.claim_counter.specs.Crews.{IsCrew}
 use Rattle.campaign_workers.specs.declared.worker.Worker.{Worker}
-
--- the golden run of a plan, by an order of its tables
-abbrev pub golden_of : Analysis → List NetId → Recording
-golden_of p order = record { circuit = p.circuit; order = order; runs = p.runs }
-
--- four words of lanes and of windows for a plan, by an order of its tables
-pub record AreToolsFor (p : Analysis) (order : List NetId) (lanes : Lanes (List ℕ)) (windows : FourWatches) : Type 0 where
-  pub lanes_made : IsMadeFor p.circuit order lanes
-  pub windows_made : AreFourMadeFor p.points windows
-  pub ftti : windows.ftti ≡ p.settings.ftti
 
 abbrev pub seats_of : {F N : Type 0} → List (Worker F N) → List Seated
 seats_of workers = map (λ w. w.seat) workers

@@ -2,7 +2,8 @@ ghost use Rattle.std.specs.Prelude.{◌≡◌, ◌^◌, ◌<◌, ◌≤◌, [], 
 ghost use Rattle.circuit.specs.Order.{IsOrder};
 ghost use Rattle.campaign_plan.specs.Analysis.{batch_count};
 ghost use Rattle.claim_counter.specs.Crews.{IsCrew};
-ghost use Rattle.campaign_workers.specs.Workplaces.{AreToolsFor, seats_of};
+ghost use Rattle.campaign_workers.specs.Workplaces.{seats_of};
+ghost use Rattle.classifier.specs.Tools.{AreToolsFor};
 
 use crate::worker::Worker;
 use alarm_points::windows4::Windows4;

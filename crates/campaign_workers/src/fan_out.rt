@@ -2,9 +2,10 @@ ghost use Rattle.std.specs.Prelude.{ℕ, ◌≡◌, ◌<◌, ◌+◌, ◌^◌, t
 ghost use Rattle.campaign_plan.specs.Analysis.{batch_count};
 ghost use Rattle.campaign_core.specs.Machines.{times};
 ghost use Rattle.claim_counter.specs.Seats.{IsOf};
-ghost use Rattle.claim_counter.specs.Crews.{IsReady, IsDone, shares_of};
+ghost use Rattle.claim_counter.specs.Crews.{MayDraw, IsDone, shares_of};
 ghost use Rattle.campaign_workers.specs.Truth.{HasTrueEntries};
-ghost use Rattle.campaign_workers.specs.Workplaces.{golden_of, AreToolsFor, seats_of};
+ghost use Rattle.campaign_workers.specs.Workplaces.{seats_of};
+ghost use Rattle.classifier.specs.Tools.{golden_of, AreToolsFor};
 ghost use Rattle.campaign_workers.specs.Finish.{IsFinished};
 
 use crate::crew::{Crew, Workshop};
@@ -40,7 +41,7 @@ fn work_all<
     gate: &G,
     workers: &mut [Worker<F, N>],
 )
-    requires ready { All (λ w. IsReady shared.now w.seat × AreToolsFor plan.now order.now w.lanes w.windows) workers.old }
+    requires ready { All (λ w. MayDraw shared.now w.seat × AreToolsFor plan.now order.now w.lanes w.windows) workers.old }
     requires golden { golden.now ≡ golden_of plan.now order.now }
     requires entries { HasTrueEntries plan.now N.start × (length N.start.entries ≡ batch_count plan.now) }
     ensures done { All (λ w. IsDone shared.now w.seat) workers.new }
@@ -51,7 +52,7 @@ fn work_all<
         workers,
         32,
         &|_, worker: &mut Worker<F, N>|
-            requires { IsReady shared.now worker.now.seat × AreToolsFor plan.now order.now worker.now.lanes worker.now.windows × (golden.now ≡ golden_of plan.now order.now) × HasTrueEntries plan.now N.start × (length N.start.entries ≡ batch_count plan.now) }
+            requires { MayDraw shared.now worker.now.seat × AreToolsFor plan.now order.now worker.now.lanes worker.now.windows × (golden.now ≡ golden_of plan.now order.now) × HasTrueEntries plan.now N.start × (length N.start.entries ≡ batch_count plan.now) }
             ensures { IsDone shared.entry.now worker.exit.now.seat × (worker.exit.now.seat.view.share ≡ worker.entry.now.seat.view.share) }
         { work(rt, plan, order, golden, shared, gate, worker) },
     );

@@ -3,7 +3,7 @@ ghost use Rattle.campaign_plan.specs.Analysis.{batch_count};
 ghost use Rattle.campaign_plan.specs.Batches.{true_planes};
 ghost use Rattle.campaign_workers.specs.Rounds.{true_planes_in};
 ghost use Rattle.campaign_workers.specs.Truth.{true_entry};
-ghost use Rattle.campaign_workers.specs.Workplaces.{golden_of, AreToolsFor};
+ghost use Rattle.classifier.specs.Tools.{golden_of, AreToolsFor};
 
 use alarm_points::windows4::Windows4;
 use campaign_board::Entry;

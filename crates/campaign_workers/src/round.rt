@@ -1,6 +1,6 @@
 // What a worker draws before it simulates.
 ghost use Rattle.std.specs.Prelude.{◌≡◌, ◌<◌, ◌++◌, [], true, false, length};
-ghost use Rattle.claim_counter.specs.Crews.{IsReady};
+ghost use Rattle.claim_counter.specs.Crews.{MayDraw};
 ghost use Rattle.campaign_workers.specs.Rounds.{drawn_in, numbers_in, Owes};
 
 use campaign_board::{Origin, Seat, Shared};
@@ -30,7 +30,7 @@ pub(crate) fn draw_round<F: Shelf + Drop, N: Origin, G: Gate>(
     worker: u32,
     seat: &mut Seat<F, N>,
 ) -> Round
-    requires ready { IsReady shared.now seat.old }
+    requires ready { MayDraw shared.now seat.old }
     ensures owes { Owes shared.now N.start seat.new (drawn_in result.batches) }
     ensures claims { seat.new.view.claims ≡ seat.old.view.claims ++ numbers_in N.start result.batches }
     ensures last { result.last ≡ true → 0 < seat.new.view.nones }

@@ -1,9 +1,9 @@
 ghost use Rattle.std.specs.Prelude.{◌≡◌, ◌++◌, [], OnOk, OnErr, length};
 ghost use Rattle.campaign_plan.specs.Analysis.{batch_count};
-ghost use Rattle.claim_counter.specs.Crews.{IsReady, IsDone};
+ghost use Rattle.claim_counter.specs.Crews.{MayDraw, IsDone};
 ghost use Rattle.campaign_workers.specs.Rounds.{drawn_in, numbers_in, true_planes_in, Owes};
 ghost use Rattle.campaign_workers.specs.Truth.{HasTrueEntries};
-ghost use Rattle.campaign_workers.specs.Workplaces.{golden_of, AreToolsFor};
+ghost use Rattle.classifier.specs.Tools.{golden_of, AreToolsFor};
 
 use crate::outcome::{entry_with, simulated_planes};
 use crate::round::{Round, draw_round};
@@ -113,7 +113,7 @@ pub(crate) fn work<R: Wait, F: Shelf + Drop, N: Origin, G: Gate>(
     gate: &G,
     worker: &mut Worker<F, N>,
 )
-    requires ready { IsReady shared.now worker.old.seat }
+    requires ready { MayDraw shared.now worker.old.seat }
     requires golden { golden.now ≡ golden_of plan.now order.now }
     requires tools { AreToolsFor plan.now order.now worker.old.lanes worker.old.windows }
     requires entries { HasTrueEntries plan.now N.start × (length N.start.entries ≡ batch_count plan.now) }

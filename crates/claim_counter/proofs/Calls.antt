@@ -7,7 +7,7 @@ use Rattle.claim_counter.specs.declared.view.View.{View}
 use Rattle.campaign_core.specs.Machines.{times}
 use Rattle.claim_counter.specs.Views.{opening_view, taking, noting}
 use Rattle.claim_counter.specs.Rules.{Rule}
-use Rattle.claim_counter.specs.Plays.{Took, Takes, Gives, Opens, Notes}
+use Rattle.claim_counter.specs.Plays.{Took, Takes, StepGives, Opens, Notes}
 use Rattle.claim_counter.specs.Seats.{Seated, IsSteady, Follows, Taken, Closed}
 use Rattle.claim_counter.proofs.Views.{false_true}
 use Rattle.claim_counter.proofs.Takes.{takes_turn}
@@ -30,9 +30,9 @@ module _ {V : Type 0} (list : V → List ℕ) (failed : V → Bool) where
       subst P (sym e) (takes_turn list failed todo slots id old me.0 even knows is_open free some_share)
 
   pub gives_me : (todo slots id m : ℕ) (me : Me (Option V) View) (v : View) (x : V) → me ≡ (v, (0, Some x) ∷ []) → m ≡ cond (failed x) 2 0 → v.holds ≡ true → list x ≡ v.seen → (v.fails ≡ true → failed x ≡ true)
-      → Allows (Rule list failed todo) slots id me 1 (λ _. m) (λ _. Gives list failed (step slots 1 m 0 none) me m)
+      → Allows (Rule list failed todo) slots id me 1 (λ _. m) (λ _. StepGives list failed (step slots 1 m 0 none) me m)
   gives_me todo slots id m me v x e word holds same told =
-      let P : Me (Option V) View → Type 0 = λ me. Allows (Rule list failed todo) slots id me 1 (λ _. m) (λ _. Gives list failed (step slots 1 m 0 none) me m) in
+      let P : Me (Option V) View → Type 0 = λ me. Allows (Rule list failed todo) slots id me 1 (λ _. m) (λ _. StepGives list failed (step slots 1 m 0 none) me m) in
       subst P (sym e) (gives_turn list failed todo slots id m v x word holds same told)
 
   pub notes_me : (todo slots id i d : ℕ) (me old : Me (Option V) View) → me ≡ old → old.0.holds ≡ true → 0 < times d old.0.claims → times d old.0.posts ≡ 0 → i ≡ 2 + length old.0.seen

@@ -7,7 +7,7 @@ use Rattle.atomic_table.specs.Table.{State, gives, step, stepped, Allows}
 use Rattle.claim_counter.specs.declared.view.View.{View}
 use Rattle.claim_counter.specs.Views.{giving}
 use Rattle.claim_counter.specs.Rules.{holder, knower, Rule}
-use Rattle.claim_counter.specs.Plays.{Gives}
+use Rattle.claim_counter.specs.Plays.{StepGives}
 use Rattle.claim_counter.proofs.Views.{sum_at, each_set, false_true}
 use Rattle.claim_counter.proofs.Frames.{claims_frame, history_frame, out_held, holds_one}
 
@@ -65,5 +65,5 @@ module _ {V : Type 0} (list : V → List ℕ) (failed : V → Bool) (todo : ℕ)
 
 module _ {V : Type 0} (list : V → List ℕ) (failed : V → Bool) where
   pub gives_turn : (todo slots id m : ℕ) (v : View) (x : V) → m ≡ cond (failed x) 2 0 → v.holds ≡ true → list x ≡ v.seen → (v.fails ≡ true → failed x ≡ true)
-      → Allows (Rule list failed todo) slots id (v, (0, Some x) ∷ []) 1 (λ _. m) (λ _. Gives list failed (step slots 1 m 0 none) (v, (0, Some x) ∷ []) m)
+      → Allows (Rule list failed todo) slots id (v, (0, Some x) ∷ []) 1 (λ _. m) (λ _. StepGives list failed (step slots 1 m 0 none) (v, (0, Some x) ∷ []) m)
   gives_turn todo slots id m v x word holds same told s h len at fits = (giving v (m == 2), gives, tt, give_rule list failed todo s id v h at m x word holds same told, refl)

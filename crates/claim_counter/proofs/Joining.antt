@@ -1,4 +1,4 @@
--- Seats that are split from a first seat, do their work, and are joined into it again.
+-- Seats that are split from a first seat, do their work, and are joined_views into it again.
 use Rattle.std.proofs.Common.{◌^◌, ◌≡◌, ℕ, zero, suc, ◌+◌, ◌<◌, ◌≤◌, ◌||◌, Bool, true, false, List, [], ◌∷◌, ◌++◌, length, get_or, sym, refl, ap, ◌∙◌, subst, arith, length-append}
 use Rattle.std.specs.List.{sum_by, All}
 use Rattle.std.proofs.lemmas.List.Sums.{sum_by-cons, sum_by_push}
@@ -6,9 +6,9 @@ use Rattle.std.proofs.lemmas.List.Elements.{All-push}
 use Rattle.std.proofs.lemmas.Bool.{false≢true, or_parts}
 use Rattle.campaign_core.specs.Machines.{times, once_below}
 use Rattle.claim_counter.specs.declared.view.View.{View}
-use Rattle.claim_counter.specs.Views.{joined, less_one, with_one, with_claim, with_none}
+use Rattle.claim_counter.specs.Views.{joined_views, less_one, with_one, with_claim, with_none}
 use Rattle.claim_counter.specs.Seats.{Counter, Seated, IsOf, Closed}
-use Rattle.claim_counter.specs.Crews.{shares_of, IsReady, IsDone, IsCrew}
+use Rattle.claim_counter.specs.Crews.{shares_of, MayDraw, IsDone, IsCrew}
 use Rattle.claim_counter.proofs.Views.{times-append, claimed_self}
 use Rattle.std.proofs.Math.Seq.{get_or-append_seam}
 
@@ -48,19 +48,19 @@ splits_one c first now seat seats h two table view table2 view2 =
       of = record { table = h.of.table; todo = h.of.todo; share = omega arith; opened = h.of.opened };
       nones = h.nones;
       all = h.all;
-      ready = All-push (λ p. IsReady c p) seats b h.ready (record { of = record { table = h.of.table; todo = h.of.todo; share = omega arith; opened = refl }; first = refl; free = refl; all = λ n. refl });
+      ready = All-push (λ p. MayDraw c p) seats b h.ready (record { of = record { table = h.of.table; todo = h.of.todo; share = omega arith; opened = refl }; first = refl; free = refl; all = λ n. refl });
       shares = omega arith;
     })
 
 -- a ready seat whose draw is answered None is done
-pub done_at_none : (c : Counter) (old now : Seated) → IsReady c old → now.table ≡ old.table → now.view ≡ with_none old.view → IsDone c now
+pub done_at_none : (c : Counter) (old now : Seated) → MayDraw c old → now.table ≡ old.table → now.view ≡ with_none old.view → IsDone c now
 done_at_none c old now r table view =
     let P : Seated → Type 0 = λ p. IsDone c p in
     let same : record { table = old.table; view = with_none old.view } ≡ now = λ i. record { table = sym table i; view = sym view i } in
     subst P same (record { of = record { table = r.of.table; todo = r.of.todo; share = r.of.share; opened = r.of.opened }; free = r.free; none = λ _. omega arith; all = λ _. r.all })
 
 -- a number that a ready seat drew is claimed and not posted
-pub drawn_once : (c : Counter) (old : Seated) (v : View) (n : ℕ) → IsReady c old → times n old.view.claims ≡ 0 → v ≡ with_claim old.view n → (0 < times n v.claims) × (times n v.posts ≡ 0)
+pub drawn_once : (c : Counter) (old : Seated) (v : View) (n : ℕ) → MayDraw c old → times n old.view.claims ≡ 0 → v ≡ with_claim old.view n → (0 < times n v.claims) × (times n v.posts ≡ 0)
 drawn_once c old v n r none_ e =
     let P : View → Type 0 = λ v. (0 < times n v.claims) × (times n v.posts ≡ 0) in
     subst P (sym e) (claimed_self n old.view.claims, sym (r.all n) ∙ none_)
@@ -74,12 +74,12 @@ pub record Joined (c : Counter) (many : ℕ) (first : Seated) (left : List Seate
   pub shares : first.view.share + shares_of left ≡ 2 ^ 32
   pub none : first.view.fails ≡ false → length left < many → 0 < first.view.nones
 
--- nothing was joined yet
+-- nothing was joined_views yet
 pub starts_joined : (c : Counter) (first : Seated) (was now : List Seated) → IsCrew c first was → first.view.holds ≡ false → All (λ p. IsDone c p) now → shares_of now ≡ shares_of was → Joined c (length now) first now
 starts_joined c first was now h free done shares = record { of = h.of; free = free; all = λ _. h.all; ready = done; shares = let a = h.shares in omega arith; none = λ _ less. absurd (omega arith) }
 
--- the last seat is joined
-pub joins_one : (c : Counter) (many : ℕ) (first now : Seated) (left rest : List Seated) (p : Seated) → Joined c many first left → left ≡ rest ++ p ∷ [] → now.table ≡ first.table → now.view ≡ joined first.view p.view → Joined c many now rest
+-- the last seat is joined_views
+pub joins_one : (c : Counter) (many : ℕ) (first now : Seated) (left rest : List Seated) (p : Seated) → Joined c many first left → left ≡ rest ++ p ∷ [] → now.table ≡ first.table → now.view ≡ joined_views first.view p.view → Joined c many now rest
 joins_one c many first now left rest p h e table view =
     let ready : All (λ p. IsDone c p) (rest ++ p ∷ []) = subst (λ l. All (λ p. IsDone c p) l) e h.ready in
     let done = all_last (λ p. IsDone c p) rest p ready in
@@ -88,7 +88,7 @@ joins_one c many first now left rest p h e table view =
     let shares = h.shares in
     let sum : shares_of left ≡ shares_of rest + u.share = ap shares_of e ∙ sum_by_push (λ (p : Seated). p.view.share) rest p in
     let P : Seated → Type 0 = λ p. Joined c many p rest in
-    let same : record { table = first.table; view = joined v u } ≡ now = λ i. record { table = sym table i; view = sym view i } in
+    let same : record { table = first.table; view = joined_views v u } ≡ now = λ i. record { table = sym table i; view = sym view i } in
     subst P same (record {
       of = record { table = h.of.table; todo = h.of.todo; share = let a = h.of.share in omega arith; opened = refl };
       free = h.free;
@@ -102,7 +102,7 @@ fine_seat : {V : Type 0} (list : V → List ℕ) (failed : V → Bool) (todo : �
 fine_seat list failed todo v x true is c fine = absurd (false≢true (sym fine ∙ c.fails is))
 fine_seat list failed todo v x false is c fine = is
 
--- once all were joined, a value that hasn't failed has each number once
+-- once all were joined_views, a value that hasn't failed has each number once
 pub finished : {V : Type 0} (list : V → List ℕ) (failed : V → Bool) (c : Counter) (many : ℕ) (first : Seated) (left : List Seated) (x : V) → Joined c many first left → left ≡ [] → 0 < many → Closed list failed c.todo first.view x → failed x ≡ false → (n : ℕ) → times n (list x) ≡ once_below n c.todo
 finished list failed c many first left x h e some_ closed fine n =
     let ok = fine_seat list failed c.todo first.view x first.view.fails refl closed fine in

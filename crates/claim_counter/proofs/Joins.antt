@@ -8,7 +8,7 @@ use Rattle.atomic_table.specs.Table.{Joins}
 use Rattle.atomic_table.proofs.Lists.{set_else}
 use Rattle.campaign_core.specs.Machines.{times}
 use Rattle.claim_counter.specs.declared.view.View.{View}
-use Rattle.claim_counter.specs.Views.{longer, joined, spent_view}
+use Rattle.claim_counter.specs.Views.{longer, joined_views, spent_view}
 use Rattle.claim_counter.specs.Rules.{ClaimsRule, HistoryRule, holder, knower, Homes, TurnRule, Rule}
 use Rattle.claim_counter.proofs.Views.{le_sum, each_set, sum_joined, times-append, false_true}
 
@@ -28,17 +28,17 @@ word_or t true b e f = e
 word_or t false true e f = absurd (omega (arith, f e))
 word_or t false false e f = e
 
-module _ (views : List View) (id other : ℕ) (v w : View) (at : get_elem? views id ≡ some v) (there : get_elem? (set views id (joined v w)) other ≡ some w) (apart : other ≢ id) where
+module _ (views : List View) (id other : ℕ) (v w : View) (at : get_elem? views id ≡ some v) (there : get_elem? (set views id (joined_views v w)) other ≡ some w) (apart : other ≢ id) where
   was : get_elem? views other ≡ some w
-  was = sym (set_else views id other (joined v w) apart) ∙ there
+  was = sym (set_else views id other (joined_views v w) apart) ∙ there
 
-  sum_join : (f : View → ℕ) → f spent_view ≡ 0 → sum_by f (set (set views id (joined v w)) other spent_view) + (f v + f w) ≡ sum_by f views + f (joined v w)
-  sum_join f none_ = let a = sum_joined f views id other v w (joined v w) spent_view at there in omega arith
+  sum_join : (f : View → ℕ) → f spent_view ≡ 0 → sum_by f (set (set views id (joined_views v w)) other spent_view) + (f v + f w) ≡ sum_by f views + f (joined_views v w)
+  sum_join f none_ = let a = sum_joined f views id other v w (joined_views v w) spent_view at there in omega arith
 
-  each_join : (P : View → Type 0) → P (joined v w) → P spent_view → ((j : ℕ) (u : View) → get_elem? views j ≡ some u → P u) → (j : ℕ) (u : View) → get_elem? (set (set views id (joined v w)) other spent_view) j ≡ some u → P u
-  each_join P one two old = each_set P (set views id (joined v w)) other spent_view two (each_set P views id (joined v w) one old)
+  each_join : (P : View → Type 0) → P (joined_views v w) → P spent_view → ((j : ℕ) (u : View) → get_elem? views j ≡ some u → P u) → (j : ℕ) (u : View) → get_elem? (set (set views id (joined_views v w)) other spent_view) j ≡ some u → P u
+  each_join P one two old = each_set P (set views id (joined_views v w)) other spent_view two (each_set P views id (joined_views v w) one old)
 
-  claims_join : (todo n : ℕ) → 0 < v.share → ClaimsRule todo n views → ClaimsRule todo n (set (set views id (joined v w)) other spent_view)
+  claims_join : (todo n : ℕ) → 0 < v.share → ClaimsRule todo n views → ClaimsRule todo n (set (set views id (joined_views v w)) other spent_view)
   claims_join todo n some_share h = record {
     claims = λ x. let a = sum_join (λ u. times x u.claims) refl in omega (arith, h.claims x, times-append x v.claims w.claims);
     shares = let a = sum_join (λ u. u.share) refl in omega (arith, h.shares);
@@ -50,7 +50,7 @@ module _ (views : List View) (id other : ℕ) (v w : View) (at : get_elem? views
   }
 
   module _ {V : Type 0} (list : V → List ℕ) (failed : V → Bool) (homes : Homes V) where
-    history_join : (todo : ℕ) (tail history : List ℕ) → HistoryRule list todo tail history homes views → HistoryRule list todo tail history homes (set (set views id (joined v w)) other spent_view)
+    history_join : (todo : ℕ) (tail history : List ℕ) → HistoryRule list todo tail history homes views → HistoryRule list todo tail history homes (set (set views id (joined_views v w)) other spent_view)
     history_join todo tail history h = record {
       words = h.words;
       room = h.room;
@@ -62,7 +62,7 @@ module _ (views : List View) (id other : ℕ) (v w : View) (at : get_elem? views
       empty = h.empty;
     }
 
-    turn_join : (t : ℕ) → v.opened ≡ true → w.holds ≡ false → TurnRule failed t homes views → TurnRule failed t homes (set (set views id (joined v w)) other spent_view)
+    turn_join : (t : ℕ) → v.opened ≡ true → w.holds ≡ false → TurnRule failed t homes views → TurnRule failed t homes (set (set views id (joined_views v w)) other spent_view)
     turn_join t is_open free h =
         let a = sum_join holder refl in
         let b = sum_join knower refl in
@@ -95,7 +95,7 @@ module _ (views : List View) (id other : ℕ) (v w : View) (at : get_elem? views
         h
 
 module _ {V : Type 0} (list : V → List ℕ) (failed : V → Bool) where
-  pub joins : (todo id other : ℕ) (v w : View) → v.opened ≡ true → 0 < v.share → w.holds ≡ false → Joins (Rule list failed todo) id v other w (joined v w) spent_view
+  pub joins : (todo id other : ℕ) (v w : View) → v.opened ≡ true → 0 < v.share → w.holds ≡ false → Joins (Rule list failed todo) id v other w (joined_views v w) spent_view
   joins todo id other v w is_open some_share free s h at apart there = record {
     counter = h.counter;
     turn = h.turn;

@@ -10,7 +10,7 @@ use Rattle.atomic_table.proofs.Lists.{set_again, set_else}
 use Rattle.campaign_core.specs.Machines.{Machine, fresh, with_draw, after, is_lawful, is_claimed, is_posted, times, times_claimed_by}
 use Rattle.campaign_core.specs.declared.event.Event.TheVariants.{Draw, Post, Look, Fail}
 use Rattle.claim_counter.specs.declared.view.View.{View}
-use Rattle.claim_counter.specs.Views.{opening_view, starting_view, with_claim, with_none, taking, noting, giving, joined}
+use Rattle.claim_counter.specs.Views.{opening_view, starting_view, with_claim, with_none, taking, noting, giving, joined_views}
 use Rattle.claim_counter.specs.Rules.{Rule}
 use Rattle.claim_counter.specs.Shown.{Shows, moved, history_of}
 use Rattle.claim_counter.specs.Steps.{after_draw, after_open, after_take, after_note, after_give, after_load, after_split, after_join, given_back}
@@ -172,7 +172,7 @@ module _ {V : Type 0} (list : V → List ℕ) (failed : V → Bool) (todo id : �
 
   pub join_made : (other : ℕ) (w : View) → get_elem? s.views other ≡ some w → other ≢ id → v.opened ≡ true → 0 < v.share → w.holds ≡ false → Rule list failed todo (after_join s id v other w) × Shows todo (after_join s id v other w) (moved other id m)
   join_made other w there apart is_open some_share free = (
-    joins list failed todo id other v w is_open some_share free s h at apart (set_else s.views id other (joined v w) apart ∙ there),
+    joins list failed todo id other v w is_open some_share free s h at apart (set_else s.views id other (joined_views v w) apart ∙ there),
     shows_of todo h.counter h.turn h.tail (after_join s id v other w) (moved other id m) h.words shows.limit next_is (claimed_join s.views id other v w m.claims at there apart (claims_shown todo s m shows)) tail_is failed_is,
   )
 

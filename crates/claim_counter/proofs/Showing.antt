@@ -10,7 +10,7 @@ use Rattle.atomic_table.specs.Table.{State}
 use Rattle.atomic_table.proofs.Lists.{at_set}
 use Rattle.campaign_core.specs.Machines.{Machine, times, times_claimed_by}
 use Rattle.claim_counter.specs.declared.view.View.{View}
-use Rattle.claim_counter.specs.Views.{less_one, with_one, joined, spent_view}
+use Rattle.claim_counter.specs.Views.{less_one, with_one, joined_views, spent_view}
 use Rattle.claim_counter.specs.Shown.{history_of, Shows}
 use Rattle.claim_counter.proofs.Views.{times-snoc, times-append}
 
@@ -156,24 +156,24 @@ moved_not : (other id j k l n : ℕ) → k ≡ cond (j == other) 0 (l + cond (j 
 moved_not other id j k l n h a b = grind (arith, nat_tests)
 
 -- two views are put together
-pub claimed_join : (views : List View) (id other : ℕ) (v w : View) (cs : List (ℕ × ℕ)) → get_elem? views id ≡ some v → get_elem? views other ≡ some w → other ≢ id → Claimed views cs → Claimed (set (set views id (joined v w)) other spent_view) (map (λ c. (cond (c.0 == other) id c.0, c.1)) cs)
+pub claimed_join : (views : List View) (id other : ℕ) (v w : View) (cs : List (ℕ × ℕ)) → get_elem? views id ≡ some v → get_elem? views other ≡ some w → other ≢ id → Claimed views cs → Claimed (set (set views id (joined_views v w)) other spent_view) (map (λ c. (cond (c.0 == other) id c.0, c.1)) cs)
 claimed_join views id other v w cs at there apart h =
     let now : List (ℕ × ℕ) = map (λ c. (cond (c.0 == other) id c.0, c.1)) cs in
     let many : (j x : ℕ) → times_claimed_by j x now ≡ cond (j == other) 0 (times_claimed_by j x cs + cond (j == id) (times_claimed_by other x cs) 0) = λ j x. moved_count other id j x cs apart in record {
       each = λ j u found x. ⊎_elim
           (λ (t : (j ≡ other) × (spent_view ≡ u)). moved_away other id j (times_claimed_by j x now) (times_claimed_by j x cs) (times_claimed_by other x cs) (many j x) t.0 ∙ ap (λ (u : View). times x u.claims) t.1)
           (λ t. ⊎_elim
-          (λ (q : (j ≡ id) × (joined v w ≡ u)).
+          (λ (q : (j ≡ id) × (joined_views v w ≡ u)).
           let a = moved_here other id j (times_claimed_by j x now) (times_claimed_by j x cs) (times_claimed_by other x cs) apart (many j x) q.0 in
           let b : times_claimed_by j x cs ≡ times x v.claims = ap (λ (k : ℕ). times_claimed_by k x cs) q.0 ∙ h.each id v at x in
           let d : times_claimed_by j x now ≡ times x (v.claims ++ w.claims) = omega (arith, h.each other w there x, times-append x v.claims w.claims) in
           d ∙ ap (λ (u : View). times x u.claims) q.1)
           (λ q. moved_not other id j (times_claimed_by j x now) (times_claimed_by j x cs) (times_claimed_by other x cs) (many j x) t.0 q.0 ∙ h.each j u q.1 x)
-          (at_set views id j (joined v w) u t.1))
-          (at_set (set views id (joined v w)) other j spent_view u found);
+          (at_set views id j (joined_views v w) u t.1))
+          (at_set (set views id (joined_views v w)) other j spent_view u found);
       others = λ j out x.
           let b1 = at_below views id v at in
           let b2 = at_below views other w there in
-          let le : length views ≤ j = omega (arith, length-set views id (joined v w), length-set (set views id (joined v w)) other spent_view) in
+          let le : length views ≤ j = omega (arith, length-set views id (joined_views v w), length-set (set views id (joined_views v w)) other spent_view) in
           moved_not other id j (times_claimed_by j x now) (times_claimed_by j x cs) (times_claimed_by other x cs) (many j x) (omega arith) (omega arith) ∙ h.others j le x;
     }

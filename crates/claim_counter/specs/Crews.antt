@@ -9,7 +9,7 @@ abbrev pub shares_of : List Seated → ℕ
 shares_of seats = sum_by (λ p. p.view.share) seats
 
 -- the seat may draw, and has posted all that it drew
-pub record IsReady (c : Counter) (p : Seated) : Type 0 where
+pub record MayDraw (c : Counter) (p : Seated) : Type 0 where
   pub of : IsOf c p
   pub first : p.view.nones ≡ 0
   pub free : p.view.holds ≡ false
@@ -27,5 +27,5 @@ pub record IsCrew (c : Counter) (first : Seated) (seats : List Seated) : Type 0 
   pub of : IsOf c first
   pub nones : first.view.nones ≡ 0
   pub all : (n : ℕ) → times n first.view.claims ≡ times n first.view.posts
-  pub ready : All (λ p. IsReady c p) seats
+  pub ready : All (λ p. MayDraw c p) seats
   pub shares : first.view.share + shares_of seats ≡ 2 ^ 32

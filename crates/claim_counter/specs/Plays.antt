@@ -26,8 +26,8 @@ module _ {V : Type 0} (list : V → List ℕ) (failed : V → Bool) where
   Takes s v n w = MatchBool (n == s.first) (Took n v w) (w ≡ v)
 
   -- the value in the seat's slot is what comes home
-  abbrev pub Gives : Step (Option V) → Me (Option V) View → ℕ → Me (Option V) View → Type 0
-  Gives s v n w = w ≡ (giving v.0 (n == 2), rest v.1)
+  abbrev pub StepGives : Step (Option V) → Me (Option V) View → ℕ → Me (Option V) View → Type 0
+  StepGives s v n w = w ≡ (giving v.0 (n == 2), rest v.1)
 
 -- a number that was drawn and not posted has a place in the history
 abbrev pub Learns : {S : Type 0} → Step S → Me S View → ℕ → Me S View → Type 0

@@ -4,7 +4,7 @@ use Rattle.atomic_table.specs.Table.{State, stepped, keeps, takes, gives}
 use Rattle.campaign_core.specs.Machines.{Machine, after}
 use Rattle.campaign_core.specs.declared.event.Event.TheVariants.{Fail}
 use Rattle.claim_counter.specs.declared.view.View.{View}
-use Rattle.claim_counter.specs.Views.{starting_view, drawn, taking, noting, giving, less_one, with_one, joined, spent_view}
+use Rattle.claim_counter.specs.Views.{starting_view, drawn, taking, noting, giving, less_one, with_one, joined_views, spent_view}
 
 module _ {V : Type 0} where
   -- fetch_add on the counter
@@ -37,7 +37,7 @@ module _ {V : Type 0} where
 
   -- a join of the seat `other` with the view w
   abbrev pub after_join : State (Option V) View → ℕ → View → ℕ → View → State (Option V) View
-  after_join s id v other w = record { words = s.words; homes = s.homes; views = slice_set (slice_set s.views id (joined v w)) other spent_view }
+  after_join s id v other w = record { words = s.words; homes = s.homes; views = slice_set (slice_set s.views id (joined_views v w)) other spent_view }
 
 -- the machine after the turn was given back: a failure where the turn was 1 and the value has failed, and else nothing
 abbrev pub given_back : Machine → ℕ → ℕ → Bool → Machine

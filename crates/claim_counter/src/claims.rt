@@ -1,6 +1,6 @@
 ghost use Rattle.std.specs.Prelude.{◌≡◌, ◌+◌, ◌-◌, ◌<◌, ◌≤◌, ◌^◌, ◌⊎◌, true, false, IfSome, IfNone, IfOk};
 ghost use Rattle.campaign_core.specs.Machines.{times};
-ghost use Rattle.claim_counter.specs.Views.{starting_view, with_claim, with_none, less_one, with_one, joined, noting, giving};
+ghost use Rattle.claim_counter.specs.Views.{starting_view, with_claim, with_none, less_one, with_one, joined_views, noting, giving};
 ghost use Rattle.claim_counter.specs.Seats.{IsOf, Taken, Closed};
 
 use crate::kept::Kept;
@@ -59,7 +59,7 @@ impl<V: Kept> Claims<V> {
     pub fn join(&self, seat: &mut Seat<V>, other: Seat<V>)
         requires table { IsOf self.now seat.old × IsOf self.now other }
         requires free { other.view.holds ≡ false }
-        ensures { (seat.new.table ≡ seat.old.table) × (seat.new.view ≡ joined seat.old.view other.view) }
+        ensures { (seat.new.table ≡ seat.old.table) × (seat.new.view ≡ joined_views seat.old.view other.view) }
     {
         let shared = &self.table.shared;
         shared.join_seat::<OneShare>(&mut seat.token, other.into_token());

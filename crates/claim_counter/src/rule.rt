@@ -1,6 +1,6 @@
-ghost use Rattle.claim_counter.specs.Views.{opening_view, less_one, with_one, joined, spent_view};
+ghost use Rattle.claim_counter.specs.Views.{opening_view, less_one, with_one, joined_views, spent_view};
 ghost use Rattle.claim_counter.specs.Rules.{Rule};
-ghost use Rattle.claim_counter.specs.Plays.{Draws, Opens, Takes, Gives, Learns, Notes};
+ghost use Rattle.claim_counter.specs.Plays.{Draws, Opens, Takes, StepGives, Learns, Notes};
 
 use crate::kept::Kept;
 use crate::view::View;
@@ -43,7 +43,7 @@ impl<V: Kept> Play<Option<V>, View> for Take {
 pub struct Give;
 
 impl<V: Kept> Play<Option<V>, View> for Give {
-    ghost then = { Gives V.list V.is_failed };
+    ghost then = { StepGives V.list V.is_failed };
 }
 
 /// The load that tells the holder of the turn of a history word that is left.
@@ -70,7 +70,7 @@ impl Split<View> for OneShare {
 }
 
 impl Join<View> for OneShare {
-    ghost both = { joined };
+    ghost both = { joined_views };
 
     ghost spent = { spent_view };
 }

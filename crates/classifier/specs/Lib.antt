@@ -2,3 +2,4 @@ pub mod Load
 pub mod Seen
 pub mod Planes
 pub mod Batch
+pub mod Tools

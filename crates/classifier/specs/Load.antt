@@ -4,7 +4,7 @@ use Rattle.circuit.specs.declared.parts.Fault.{Fault}
 use Rattle.circuit.specs.declared.parts.NetId.{NetId}
 use Rattle.circuit.specs.Circuit.{Circuit}
 use Rattle.golden_difference.specs.Lanes.{Lanes}
-use Rattle.lane_kernel.specs.Loads.{faults_of}
+use Rattle.lane_kernel.specs.Loads.{loaded_faults}
 
 -- the circuit, the order of its tables, and the faults of each lane, one word of 64 lanes behind the other
 pub record Load : Type 0 where
@@ -18,7 +18,7 @@ load_of lanes = record { circuit = lanes.circuit; order = lanes.order; faults = 
 
 -- the faults in a lane of a word
 abbrev pub in_lane : List (List (Option Fault)) → ℕ → ℕ → List Fault
-in_lane faults word lane = faults_of faults (word * 64 + lane)
+in_lane faults word lane = loaded_faults faults (word * 64 + lane)
 
 -- those that it was loaded with
 abbrev pub lane_faults : Load → ℕ → ℕ → List Fault

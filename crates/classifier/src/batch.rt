@@ -10,7 +10,7 @@ ghost use Rattle.alarm_points.specs.PointsKept.{ArePointsFor};
 ghost use Rattle.alarm_points.specs.Watch.{AreMadeFor};
 ghost use Rattle.campaign_plan.specs.Batches.{outcome_of};
 ghost use Rattle.golden_difference.specs.Lanes.{IsMadeFor};
-ghost use Rattle.lane_kernel.specs.Loads.{faults_of};
+ghost use Rattle.lane_kernel.specs.Loads.{loaded_faults};
 ghost use Rattle.classifier.specs.Batch.{alone_in, batch_at, fault_in_lane, outcome_for};
 ghost use Rattle.classifier.specs.Planes.{HasPlanes, outcome_at};
 
@@ -46,7 +46,7 @@ fn fault_in(faults: &FaultList, batch: Option<u32>, lane: u32) -> Option<Fault>
 
 // The faults of a batch, each alone in its lane.
 fn loads_of(faults: &FaultList, batch: Option<u32>) -> [[Option<Fault>; 2]; 64]
-    ensures { (k : ℕ) → k < 64 → faults_of result k ≡ alone_in faults.now batch k }
+    ensures { (k : ℕ) → k < 64 → loaded_faults result k ≡ alone_in faults.now batch k }
 {
     let mut loads = [[None, None]; 64];
     for lane in 0..LANES {
@@ -105,7 +105,7 @@ pub fn batch_outcome<L: Ledger>(
 fn load_words(faults: &FaultList, batches: &[Option<u32>; 4], lanes: &mut DifferentialLanes4)
     ensures made { IsMadeFor lanes.old.circuit lanes.old.order lanes.new }
     ensures loads { (word k : ℕ) → word < 4 → k < 64
-        → faults_of lanes.new.loads (word * 64 + k) ≡ alone_in faults.now (batch_at batches.now word) k }
+        → loaded_faults lanes.new.loads (word * 64 + k) ≡ alone_in faults.now (batch_at batches.now word) k }
 {
     for word in 0..4 {
         lanes.load(word, &loads_of(faults, batches[word as usize]));

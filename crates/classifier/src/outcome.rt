@@ -10,7 +10,7 @@ ghost use Rattle.alarm_points.specs.PointsKept.{ArePointsFor};
 ghost use Rattle.campaign_plan.specs.Danger.{is_dangerous_in, is_noticed_in};
 ghost use Rattle.fm_base.specs.Planes.{bit};
 ghost use Rattle.golden_difference.specs.Lanes.{IsMadeFor};
-ghost use Rattle.lane_kernel.specs.Loads.{faults_of};
+ghost use Rattle.lane_kernel.specs.Loads.{loaded_faults};
 ghost use Rattle.classifier.specs.Load.{IsLoadFor, Load, lane_faults, load_of};
 ghost use Rattle.classifier.specs.Planes.{HasPlanes, outcome_at, planes_of};
 ghost use Rattle.alarm_points.specs.FourWatches.{AreAllMadeFor, AreFourMadeFor, windows_at};
@@ -192,7 +192,7 @@ pub fn loaded_outcome<L: Ledger>(
     requires points { ArePointsFor net.now points.now }
     requires lanes { IsMadeFor net.now order.now lanes.old }
     requires windows { AreMadeFor points.now windows.old }
-    ensures outcome { result ≡ planes_of net.now points.now windows.old.ftti work.now (faults_of lanes.old.loads) }
+    ensures outcome { result ≡ planes_of net.now points.now windows.old.ftti work.now (loaded_faults lanes.old.loads) }
     ensures lanes { IsMadeFor net.now order.now lanes.new }
     ensures loads { lanes.new.loads ≡ lanes.old.loads }
     ensures windows { AreMadeFor points.now windows.new }

@@ -5,7 +5,7 @@ ghost use Rattle.fm_base.specs.Planes.{bit};
 ghost use Rattle.golden_difference.specs.Beside.{AreBeside, IsGoldenRow, IsOver, trace_differs};
 ghost use Rattle.golden_difference.specs.Lanes.{bank_of};
 ghost use Rattle.lane_kernel.specs.Bits.{quad_bit};
-ghost use Rattle.lane_kernel.specs.Loads.{faults_of};
+ghost use Rattle.lane_kernel.specs.Loads.{loaded_faults};
 ghost use Rattle.classifier.specs.Load.{IsLoadFor, Load, in_lane, lane_faults, load_of};
 
 use circuit::netlist::Netlist;
@@ -45,7 +45,7 @@ pub trait LaneWords: Drop {
     fn load_word(&mut self, word: u32, faults: &[[Option<Fault>; 2]; 64])
         requires { word < words }
         ensures made { IsLoadFor (load self.old).circuit (load self.old).order (load self.new) }
-        ensures loads { (k : ℕ) → k < 64 → lane_faults (load self.new) word k ≡ faults_of faults.now k }
+        ensures loads { (k : ℕ) → k < 64 → lane_faults (load self.new) word k ≡ loaded_faults faults.now k }
         ensures others { (other k : ℕ) → other < words → other ≢ word → k < 64 → lane_faults (load self.new) other k ≡ lane_faults (load self.old) other k };
 
     /// Goes to the initial state in all lanes. All that was loaded is in force.

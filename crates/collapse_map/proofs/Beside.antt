@@ -12,7 +12,7 @@ use Rattle.fault_list.specs.Faults.{fault_at, faults_for, net}
 use Rattle.fault_list.specs.Kept.{count_for, flip_count, stuck_count}
 use Rattle.fault_list.proofs.Numbers.{flip_at, length_faults, pulse_at, stuck_at}
 use Rattle.fm_base.proofs.Tests.{clash, not_not}
-use Rattle.collapse_map.specs.Collapsed.{AreFaultsOf, number_of, same_fault}
+use Rattle.collapse_map.specs.Collapsed.{AreFaultsOf, number_in_list, same_fault}
 use Rattle.collapse_map.specs.Numbers.{are_beside}
 use Rattle.collapse_map.proofs.Numbered.{same_fault_self, same_fault_true}
 use Rattle.std.proofs.Math.Nat.{div-mul-le_self}
@@ -129,6 +129,6 @@ far_apart c fs q j i listed low high lt apart = by_test (same_fault (fault_at fs
 
 -- THE NUMBER OF A FAULT is that of the first like it
 pub number_is : (fs : List Fault) (i first : ℕ) → i < length fs → first ≤ i → same_fault (fault_at fs i) (fault_at fs first) ≡ true
-    → ((q : ℕ) → q < first → same_fault (fault_at fs i) (fault_at fs q) ≡ false) → first ≡ number_of fs (fault_at fs i)
+    → ((q : ℕ) → q < first → same_fault (fault_at fs i) (fault_at fs q) ≡ false) → first ≡ number_in_list fs (fault_at fs i)
 number_is fs i first lt le same before =
     sym (position_or_len_is (same_fault (fault_at fs i)) fs first (Stuck (net 0) false) (omega arith) before (λ _. same))

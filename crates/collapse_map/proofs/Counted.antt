@@ -1,4 +1,4 @@
--- What the number of those that look at a net says of the next fault.
+-- What the number of those that look at a net says of the next_fault fault.
 use Rattle.std.proofs.Common.{◌≡◌, ◌≢◌, ◌⊎◌, inl, inr, ℕ, zero, suc, ◌+◌, ◌<◌, ◌≤◌, Bool, true, false, ◌||◌, cond, List, [], ◌∷◌, ◌++◌, length, map, get_or, refl, ap, ap₂, sym, subst, ◌∙◌, arith}
 use Rattle.std.specs.Prelude.{count_by, filter, flat_map, Option, Some, None}
 use Rattle.std.specs.Option.{option_map}
@@ -20,7 +20,7 @@ use Rattle.fm_base.specs.Lists.{below}
 use Rattle.fm_base.proofs.Tests.{clash, or_false}
 use Rattle.collapse_map.specs.Fixed.{fixed_value}
 use Rattle.collapse_map.specs.Looks.{looked_at, looks_for}
-use Rattle.collapse_map.specs.Next.{Reading, behind, is_latched, is_net, is_watched, net_of_table, next, places_of, readings, readings_in}
+use Rattle.collapse_map.specs.Next.{Reading, behind, is_latched, is_net, is_watched, net_of_table, next_fault, net_places, readings, readings_in}
 use Rattle.collapse_map.specs.declared.looks.Looks.TheVariants.{Nobody, One, More}
 use Rattle.collapse_map.proofs.Places.{IsOnePart, flat_none, flat_one, here_or_later, in_below, none_kept, none_mapped}
 
@@ -80,7 +80,7 @@ module _ (c : Circuit) (n : ℕ) where
       in_table : (k : ℕ) → length (readings_in c n k) ≡ count_by (is_net n) (table_at c.tables k).ins
       in_table k =
           let nets : List NetId = (table_at c.tables k).ins in
-          length-map (places_of n nets) (λ place. record { table = k; place = place })
+          length-map (net_places n nets) (λ place. record { table = k; place = place })
           ∙ length-filter (λ place. is_net n (net_at nets place)) (below (length nets))
           ∙ places_counted (is_net n) (λ place. is_net n (net_at nets place)) nets 0 (record { 0 = 0 }) (λ i j lt e. ap (λ p. is_net n (net_at nets p)) (omega arith))
 
@@ -124,7 +124,7 @@ module _ (c : Circuit) (k place : ℕ) (table : k < length c.tables) (within : p
   some_in : readings_in c read.0 k ≢ []
   some_in e =
       clash (is_net read.0 read) passes
-      (none_kept (λ p. is_net read.0 (net_at ins p)) (below (length ins)) place (none_mapped (λ p. record { table = k; place = p }) (places_of read.0 ins) e) (in_below (length ins) place within))
+      (none_kept (λ p. is_net read.0 (net_at ins p)) (below (length ins)) place (none_mapped (λ p. record { table = k; place = p }) (net_places read.0 ins) e) (in_below (length ins) place within))
 
   some_reading : readings c read.0 ≢ []
   unfolding readings
@@ -147,7 +147,7 @@ module _ (c : Circuit) (k place : ℕ) (table : k < length c.tables) (within : p
 
       by_table : (k ≡ one.k) ⊎ (k ≢ one.k) → (r.table ≡ k) × (r.place ≡ place)
       by_table (inl same) =
-          let kept = placed (places_of read.0 ins) k (ap (readings_in c read.0) same ∙ one.part) in (
+          let kept = placed (net_places read.0 ins) k (ap (readings_in c read.0) same ∙ one.part) in (
             kept.1,
             sym (only_kept (λ p. is_net read.0 (net_at ins p)) (below (length ins)) r.place place kept.0 (in_below (length ins) place within) passes),
           )
@@ -157,10 +157,10 @@ module _ (c : Circuit) (k place : ℕ) (table : k < length c.tables) (within : p
     abbrev count : ℕ
     count = count_by (is_net read.0) (looked_at c watched)
 
-    -- WHERE ONE LOOKS at the net, it is this place, and the value there decides on the next fault
+    -- WHERE ONE LOOKS at the net, it is this place, and the value there decides on the next_fault fault
     pub one_next : (v : Bool) → looks_for count ≡ One
-        → next c watched (Stuck read v) ≡ option_map (λ u. Stuck (net_of_table c k) u) (fixed_value (table_at c.tables k) place v)
-    unfolding next
+        → next_fault c watched (Stuck read v) ≡ option_map (λ u. Stuck (net_of_table c k) u) (fixed_value (table_at c.tables k) place v)
+    unfolding next_fault
     one_next v looks = by_readings (readings c read.0) refl
       where
         total : (m : ℕ) → looks_for m ≡ One → m ≡ 1
@@ -191,9 +191,9 @@ module _ (c : Circuit) (k place : ℕ) (table : k < length c.tables) (within : p
             let one = total count looks in
             absurd (omega (arith, size, whole, one))
 
-    -- WHERE MORE LOOK there is no next fault
-    pub more_next : (v : Bool) → looks_for count ≢ One → next c watched (Stuck read v) ≡ None
-    unfolding next
+    -- WHERE MORE LOOK there is no next_fault fault
+    pub more_next : (v : Bool) → looks_for count ≢ One → next_fault c watched (Stuck read v) ≡ None
+    unfolding next_fault
     more_next v looks = by_test (is_watched watched read.0) (is_latched c read.0) refl refl
       where
         by_readings : (rs : List Reading) → readings c read.0 ≡ rs → is_watched watched read.0 ≡ false → is_latched c read.0 ≡ false → behind c rs v ≡ None

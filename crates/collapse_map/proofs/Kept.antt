@@ -8,7 +8,7 @@ use Rattle.circuit.specs.Order.{IsOrder}
 use Rattle.circuit.specs.Sound.{IsNet, IsNetlist}
 use Rattle.fault_list.specs.Faults.{fault_at}
 use Rattle.fm_base.specs.Lists.{below}
-use Rattle.collapse_map.specs.Collapsed.{AreFaultsOf, Collapsed, Holds, number_of, rep_of}
+use Rattle.collapse_map.specs.Collapsed.{AreFaultsOf, Collapsed, HoldsRepresentatives, number_in_list, rep_of}
 use Rattle.collapse_map.specs.Next.{representative}
 use Rattle.collapse_map.specs.Same.{LookSame}
 use Rattle.collapse_map.proofs.Chain.{representative_last, representative_own, representative_same}
@@ -22,10 +22,10 @@ pub record Tells (s : Collapsed) (reps : List ℕ) (i : ℕ) : Type 0 where
   pub fault : fault_at s.faults (rep_of s i) ≡ representative s.circuit s.watched (fault_at s.faults i)
   pub same : LookSame s.circuit s.watched (fault_at s.faults i) (fault_at s.faults (rep_of s i))
 
-pub kept_tells : (s seen : Collapsed) (reps : List ℕ) (count i : ℕ) → s ≡ seen → Holds s reps count → i < length seen.faults → Tells seen reps i
+pub kept_tells : (s seen : Collapsed) (reps : List ℕ) (count i : ℕ) → s ≡ seen → HoldsRepresentatives s reps count → i < length seen.faults → Tells seen reps i
 unfolding below
 kept_tells s seen reps count i same holds lt =
-    let h : Holds seen reps count = subst (λ x. Holds x reps count) same holds in
+    let h : HoldsRepresentatives seen reps count = subst (λ x. HoldsRepresentatives x reps count) same holds in
     let n : ℕ = length seen.faults in
     let there = rep_there seen h.sound h.listed i lt in
     record {
@@ -38,7 +38,7 @@ kept_tells s seen reps count i same holds lt =
     }
 
 -- the same of a slice of these numbers
-pub lent_tells : (s seen : Collapsed) (reps lent : List ℕ) (count i : ℕ) → s ≡ seen → Holds s reps count → lent ≡ reps → i < length seen.faults → Tells seen lent i
+pub lent_tells : (s seen : Collapsed) (reps lent : List ℕ) (count i : ℕ) → s ≡ seen → HoldsRepresentatives s reps count → lent ≡ reps → i < length seen.faults → Tells seen lent i
 lent_tells s seen reps lent count i same holds is lt = subst (λ (ns : List ℕ). Tells seen ns i) (sym is) (kept_tells s seen reps count i same holds lt)
 
 -- the representative of a fault is its own
@@ -46,8 +46,8 @@ pub rep_again : (s : Collapsed) (order : List NetId) → IsNetlist s.circuit →
 unfolding rep_of
 rep_again s order sound ordered listed i lt =
     let f : Fault = fault_at s.faults i in
-    ap (λ (g : Fault). number_of s.faults (representative s.circuit s.watched g)) (rep_there s sound listed i lt).1
-    ∙ ap (number_of s.faults) (representative_own s.circuit s.watched (representative s.circuit s.watched f) (representative_last s.circuit order s.watched sound ordered f))
+    ap (λ (g : Fault). number_in_list s.faults (representative s.circuit s.watched g)) (rep_there s sound listed i lt).1
+    ∙ ap (number_in_list s.faults) (representative_own s.circuit s.watched (representative s.circuit s.watched f) (representative_last s.circuit order s.watched sound ordered f))
 
 -- a fault and its representative look the same
 pub looks_same : (s : Collapsed) (order : List NetId) → IsNetlist s.circuit → IsOrder s.circuit order → AreFaultsOf s.circuit s.faults → All (IsNet s.circuit) s.watched → (i : ℕ) → i < length s.faults

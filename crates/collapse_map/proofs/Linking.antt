@@ -20,11 +20,11 @@ use Rattle.fault_list.specs.Faults.{fault_at, faults_of}
 use Rattle.fault_list.specs.Kept.{count_for, flip_count, stuck_count}
 use Rattle.fault_list.proofs.Numbers.{flip_at, length_faults, pulse_at, stuck_at}
 use Rattle.fm_base.specs.Lists.{below}
-use Rattle.collapse_map.specs.Collapsed.{AreFaultsOf, Collapsed, number_of, rep_of}
+use Rattle.collapse_map.specs.Collapsed.{AreFaultsOf, Collapsed, number_in_list, rep_of}
 use Rattle.collapse_map.specs.Fixed.{fixed_value}
 use Rattle.collapse_map.specs.Looks.{looked_at, looks_for}
-use Rattle.collapse_map.specs.Next.{is_net, net_of_table, next, representative}
-use Rattle.collapse_map.specs.Settled.{AreRight, AreSeen, AreSettled, linked, own_numbers, place_of, stuck_number}
+use Rattle.collapse_map.specs.Next.{is_net, net_of_table, next_fault, representative}
+use Rattle.collapse_map.specs.Settled.{AreRight, AreSeen, AreAllReached, linked, own_numbers, net_place, stuck_number}
 use Rattle.collapse_map.specs.declared.looks.Looks.TheVariants.{One}
 use Rattle.collapse_map.proofs.Chain.{at_place, next_behind, place_least, place_there, representative_next, representative_own}
 use Rattle.collapse_map.proofs.Counted.{more_next, one_next}
@@ -78,7 +78,7 @@ module _ (s : Collapsed) (order : List NetId) (sound : IsNetlist s.circuit) (ord
   IsRight reps n v = get_or reps (stuck_number n.0 v) 0 ≡ rep_of s (stuck_number n.0 v)
 
   abbrev HasNext : NetId → Bool → NetId → Bool → Type 0
-  HasNext n v m u = next s.circuit s.watched (Stuck n v) ≡ Some (Stuck m u)
+  HasNext n v m u = next_fault s.circuit s.watched (Stuck n v) ≡ Some (Stuck m u)
 
   counted : length s.faults ≡ count_for nets (length s.circuit.latches) listed.flips listed.pulses
   counted = ap length listed.listed ∙ length_faults nets (length s.circuit.latches) listed.flips listed.pulses
@@ -104,13 +104,13 @@ module _ (s : Collapsed) (order : List NetId) (sound : IsNetlist s.circuit) (ord
           let odd : (2 * n.0 + 0) % 2 ≡ 0 = omega arith in
           stuck_at nets (length s.circuit.latches) listed.flips listed.pulses (2 * n.0 + 0) (omega arith) ∙ ap₂ stuck_of half (ap (λ r. r == 1) odd)
 
-  -- a fault with a next one has the number of this
+  -- a fault with a next_fault one has the number of this
   same_rep : (n m : NetId) (v u : Bool) → n.0 < nets → m.0 < nets → HasNext n v m u → rep_of s (stuck_number m.0 u) ≡ rep_of s (stuck_number n.0 v)
   unfolding rep_of
   same_rep n m v u inside behind e =
-      ap (λ (f : Fault). number_of s.faults (representative s.circuit s.watched f)) (stuck_numbered m u behind)
-      ∙ ap (number_of s.faults) (sym (representative_next s.circuit order s.watched sound ordered (Stuck n v) (Stuck m u) e))
-      ∙ sym (ap (λ (f : Fault). number_of s.faults (representative s.circuit s.watched f)) (stuck_numbered n v inside))
+      ap (λ (f : Fault). number_in_list s.faults (representative s.circuit s.watched f)) (stuck_numbered m u behind)
+      ∙ ap (number_in_list s.faults) (sym (representative_next s.circuit order s.watched sound ordered (Stuck n v) (Stuck m u) e))
+      ∙ sym (ap (λ (f : Fault). number_in_list s.faults (representative s.circuit s.watched f)) (stuck_numbered n v inside))
 
   -- what is reached by fewer faults is right where it is right for more
   reached_less : (A B : NetId → Bool → NetId → Type 0) (reps : List ℕ)
@@ -143,7 +143,7 @@ module _ (s : Collapsed) (order : List NetId) (sound : IsNetlist s.circuit) (ord
     abbrev Reached : (NetId → Bool → NetId → Type 0) → NetId → Bool → Type 0
     Reached B n v = (m : NetId) (u : Bool) → HasNext n v m u → B n v m
 
-    -- the fault at the place gets the number of its next one
+    -- the fault at the place gets the number of its next_fault one
     set_right : (A B : NetId → Bool → NetId → Type 0) (v u : Bool) (reps : List ℕ) → HasNext read v to u
         → ((n m : NetId) (w : Bool) → B n w m → A n w m ⊎ ((n ≡ read) × (w ≡ v))) → (B read v to → IsRight reps to u)
         → AreRight s A reps → AreRight s B (set reps (stuck_number read.0 v) (get_or reps (stuck_number to.0 u) 0))
@@ -194,14 +194,14 @@ module _ (s : Collapsed) (order : List NetId) (sound : IsNetlist s.circuit) (ord
     link_right A B v reps one more ready right = by_value (fixed_value (table_at s.circuit.tables k) place v) refl
       where
         next_so : (o : Option Bool) → fixed_value (table_at s.circuit.tables k) place v ≡ o
-            → next s.circuit s.watched (Stuck read v) ≡ option_map (λ u. Stuck to u) o
+            → next_fault s.circuit s.watched (Stuck read v) ≡ option_map (λ u. Stuck to u) o
         next_so o e =
             one_next s.circuit k place table within s.watched v one
             ∙ ap₂ (λ (m : NetId) p. option_map (λ u. Stuck m u) p) to_is e
 
-        none_next : next s.circuit s.watched (Stuck read v) ≡ None → (n m : NetId) (w u : Bool) → (n ≡ read) × (w ≡ v) → HasNext n w m u → ⊥
+        none_next : next_fault s.circuit s.watched (Stuck read v) ≡ None → (n m : NetId) (w u : Bool) → (n ≡ read) × (w ≡ v) → HasNext n w m u → ⊥
         none_next none n m w u same e =
-            let clash : next s.circuit s.watched (Stuck n w) ≡ None = ap₂ (λ (x : NetId) y. next s.circuit s.watched (Stuck x y)) same.0 same.1 ∙ none in cc
+            let clash : next_fault s.circuit s.watched (Stuck n w) ≡ None = ap₂ (λ (x : NetId) y. next_fault s.circuit s.watched (Stuck x y)) same.0 same.1 ∙ none in cc
 
         by_value : (o : Option Bool) → fixed_value (table_at s.circuit.tables k) place v ≡ o
             → AreRight s B (option_map_or (λ u. set reps (stuck_number read.0 v) (get_or reps (stuck_number to.0 u) 0)) o reps)
@@ -220,8 +220,8 @@ module _ (s : Collapsed) (order : List NetId) (sound : IsNetlist s.circuit) (ord
         less n m v u e reached = elim (more n m v reached) as (λ _. A n v m) [
           | inl before ↦ before
           | inr same ↦
-              (let none : next s.circuit s.watched (Stuck n v) ≡ None =
-              ap (λ (x : NetId). next s.circuit s.watched (Stuck x v)) same ∙ more_next s.circuit k place table within s.watched v many in
+              (let none : next_fault s.circuit s.watched (Stuck n v) ≡ None =
+              ap (λ (x : NetId). next_fault s.circuit s.watched (Stuck x v)) same ∙ more_next s.circuit k place table within s.watched v many in
               absurd (cc))
         ]
 
@@ -229,30 +229,30 @@ module _ (s : Collapsed) (order : List NetId) (sound : IsNetlist s.circuit) (ord
 
     module _ (at : ℕ) (ordinal : at < length order) (at_is : net_at order at ≡ to) where
       abbrev Seen : List NetId → NetId → Bool → NetId → Type 0
-      Seen seen n v m = (at < place_of order m.0) ⊎ ((place_of order m.0 ≡ at) × Contains seen n)
+      Seen seen n v m = (at < net_place order m.0) ⊎ ((net_place order m.0 ≡ at) × Contains seen n)
 
       -- those and one fault more
       abbrev With : (NetId → Bool → NetId → Type 0) → Bool → NetId → Bool → NetId → Type 0
-      With A v n w m = A n w m ⊎ ((place_of order m.0 ≡ at) × (n ≡ read) × (w ≡ v))
+      With A v n w m = A n w m ⊎ ((net_place order m.0 ≡ at) × (n ≡ read) × (w ≡ v))
 
-      early : place_of order to.0 ≤ at
+      early : net_place order to.0 ≤ at
       early = place_least order to.0 at ordinal (ap (λ (net : NetId). net.0) at_is)
 
       -- the numbers behind the table are right, once the pass comes to its net for the last time
-      behind_right : (A : NetId → Bool → NetId → Type 0) (reps : List ℕ) → ((n m : NetId) (v : Bool) → at < place_of order m.0 → A n v m)
-          → AreRight s A reps → place_of order to.0 ≡ at → (u : Bool) → IsRight reps to u
+      behind_right : (A : NetId → Bool → NetId → Type 0) (reps : List ℕ) → ((n m : NetId) (v : Bool) → at < net_place order m.0 → A n v m)
+          → AreRight s A reps → net_place order to.0 ≡ at → (u : Bool) → IsRight reps to u
       behind_right A reps far right here u = right.stuck to u inside (λ m x e.
           let rises = next_behind s.circuit order s.watched sound ordered to m u x k driven e in
           far to m u (omega (arith, here, rises)))
 
-      one_value : (A : NetId → Bool → NetId → Type 0) (v : Bool) (reps : List ℕ) → looks_for looks ≡ One → ((n m : NetId) (w : Bool) → at < place_of order m.0 → A n w m)
-          → (A read v to → place_of order to.0 ≡ at) → AreRight s A reps → AreRight s (With A v) (linked (table_at s.circuit.tables k) place to v reps)
+      one_value : (A : NetId → Bool → NetId → Type 0) (v : Bool) (reps : List ℕ) → looks_for looks ≡ One → ((n m : NetId) (w : Bool) → at < net_place order m.0 → A n w m)
+          → (A read v to → net_place order to.0 ≡ at) → AreRight s A reps → AreRight s (With A v) (linked (table_at s.circuit.tables k) place to v reps)
       one_value A v reps one far mine right = link_right A (With A v) v reps one
           (λ n m w reached. elim reached as (λ _. A n w m ⊎ ((n ≡ read) × (w ≡ v))) [ inl before ↦ inl before | inr new ↦ inr (new.1, new.2) ])
-          (λ reached. behind_right A reps far right (elim reached as (λ _. place_of order to.0 ≡ at) [ inl before ↦ mine before | inr new ↦ new.0 ]))
+          (λ reached. behind_right A reps far right (elim reached as (λ _. net_place order to.0 ≡ at) [ inl before ↦ mine before | inr new ↦ new.0 ]))
           right
 
-      seen_here : (seen : List NetId) (v : Bool) → Seen seen read v to → place_of order to.0 ≡ at
+      seen_here : (seen : List NetId) (v : Bool) → Seen seen read v to → net_place order to.0 ≡ at
       seen_here seen v (inl after) = let le = early in absurd (omega (arith, le, after))
       seen_here seen v (inr here) = here.0
 
@@ -264,7 +264,7 @@ module _ (s : Collapsed) (order : List NetId) (sound : IsNetlist s.circuit) (ord
           → AreSeen s order at (take (place + 1) ins) (linked (table_at s.circuit.tables k) place to true (linked (table_at s.circuit.tables k) place to false reps))
       one_seen reps one right =
           reached_less (With (With A false) true) (Seen (take (place + 1) ins)) twice less
-          (one_value (With A false) true once one (λ n m w after. inl (inl after)) (λ reached. elim reached as (λ _. place_of order to.0 ≡ at) [ inl before ↦ seen_here (take place ins) true before | inr new ↦ new.0 ])
+          (one_value (With A false) true once one (λ n m w after. inl (inl after)) (λ reached. elim reached as (λ _. net_place order to.0 ≡ at) [ inl before ↦ seen_here (take place ins) true before | inr new ↦ new.0 ])
           (one_value A false reps one (λ n m w after. inl after) (seen_here (take place ins) false) right))
         where
           A : NetId → Bool → NetId → Type 0
@@ -276,7 +276,7 @@ module _ (s : Collapsed) (order : List NetId) (sound : IsNetlist s.circuit) (ord
           twice : List ℕ
           twice = linked (table_at s.circuit.tables k) place to true once
 
-          by_value : (n m : NetId) (v : Bool) → place_of order m.0 ≡ at → n ≡ read → With (With A false) true n v m
+          by_value : (n m : NetId) (v : Bool) → net_place order m.0 ≡ at → n ≡ read → With (With A false) true n v m
           by_value n m true here same = inr (here, same, refl)
           by_value n m false here same = inl (inr (here, same, refl))
 
@@ -301,18 +301,18 @@ module _ (s : Collapsed) (order : List NetId) (sound : IsNetlist s.circuit) (ord
   -- ---- a table
 
   -- at first none of its places was seen
-  pub none_seen : (at : ℕ) (reps : List ℕ) → AreSettled s order (at + 1) reps → AreSeen s order at [] reps
-  none_seen at reps right = reached_less (λ n v m. at + 1 ≤ place_of order m.0) (λ n v m. (at < place_of order m.0) ⊎ ((place_of order m.0 ≡ at) × Contains [] n)) reps less right
+  pub none_seen : (at : ℕ) (reps : List ℕ) → AreAllReached s order (at + 1) reps → AreSeen s order at [] reps
+  none_seen at reps right = reached_less (λ n v m. at + 1 ≤ net_place order m.0) (λ n v m. (at < net_place order m.0) ⊎ ((net_place order m.0 ≡ at) × Contains [] n)) reps less right
     where
-      less : (n m : NetId) (v u : Bool) → HasNext n v m u → (at < place_of order m.0) ⊎ ((place_of order m.0 ≡ at) × Contains [] n) → at + 1 ≤ place_of order m.0
+      less : (n m : NetId) (v u : Bool) → HasNext n v m u → (at < net_place order m.0) ⊎ ((net_place order m.0 ≡ at) × Contains [] n) → at + 1 ≤ net_place order m.0
       less n m v u e (inl after) = omega arith
       less n m v u e (inr (here, (i, lt, same))) = absurd (omega arith)
 
   -- and in the end all
   pub all_seen : (at k : ℕ) (to : NetId) (reps : List ℕ) → net_at order at ≡ to → driver_at s.circuit to.0 ≡ FromTable k
-      → AreSeen s order at (table_at s.circuit.tables k).ins reps → AreSettled s order at reps
+      → AreSeen s order at (table_at s.circuit.tables k).ins reps → AreAllReached s order at reps
   all_seen at k to reps at_is driven right =
-      reached_less (λ n v m. (at < place_of order m.0) ⊎ ((place_of order m.0 ≡ at) × Contains ins n)) (λ n v m. at ≤ place_of order m.0) reps less right
+      reached_less (λ n v m. (at < net_place order m.0) ⊎ ((net_place order m.0 ≡ at) × Contains ins n)) (λ n v m. at ≤ net_place order m.0) reps less right
     where
       ins : List NetId
       ins = (table_at s.circuit.tables k).ins
@@ -320,13 +320,13 @@ module _ (s : Collapsed) (order : List NetId) (sound : IsNetlist s.circuit) (ord
       same_table : (i j : ℕ) → FromTable i ≡ FromTable j → i ≡ j
       same_table i j e = cc
 
-      less : (n m : NetId) (v u : Bool) → HasNext n v m u → at ≤ place_of order m.0 → (at < place_of order m.0) ⊎ ((place_of order m.0 ≡ at) × Contains ins n)
+      less : (n m : NetId) (v u : Bool) → HasNext n v m u → at ≤ net_place order m.0 → (at < net_place order m.0) ⊎ ((net_place order m.0 ≡ at) × Contains ins n)
       less n m v u e le = by_order (grind arith)
         where
           is : IsNext s.circuit s.watched (Stuck n v) (Stuck m u)
           is = next_is s.circuit s.watched (Stuck n v) (Stuck m u) sound e
 
-          by_order : (at < place_of order m.0) ⊎ (place_of order m.0 ≡ at) → (at < place_of order m.0) ⊎ ((place_of order m.0 ≡ at) × Contains ins n)
+          by_order : (at < net_place order m.0) ⊎ (net_place order m.0 ≡ at) → (at < net_place order m.0) ⊎ ((net_place order m.0 ≡ at) × Contains ins n)
           by_order (inl after) = inl after
           by_order (inr here) = inr (here, there)
             where
@@ -336,7 +336,7 @@ module _ (s : Collapsed) (order : List NetId) (sound : IsNetlist s.circuit) (ord
               front : is.n ≡ n
               front = some_stuck is.n n is.v v (sym is.front)
 
-              behind : net_at order (place_of order m.0) ≡ m
+              behind : net_at order (net_place order m.0) ≡ m
               behind = (at_place s.circuit order s.watched sound ordered m.0 is.pair.k (subst (λ (x : NetId). x.0 < nets) back is.pair.net) (ap (λ (x : NetId). driver_at s.circuit x.0) (sym back) ∙ is.pair.driver)).1
 
               table_is : is.pair.k ≡ k
@@ -355,51 +355,51 @@ module _ (s : Collapsed) (order : List NetId) (sound : IsNetlist s.circuit) (ord
 
   -- ---- the whole pass
 
-  numbered_own : (i : ℕ) → i < length s.faults → get_or (own_numbers s.faults) i 0 ≡ number_of s.faults (fault_at s.faults i)
+  numbered_own : (i : ℕ) → i < length s.faults → get_or (own_numbers s.faults) i 0 ≡ number_in_list s.faults (fault_at s.faults i)
   unfolding below
-  numbered_own i lt = get_or-map-range_with_len (λ j. number_of s.faults (fault_at s.faults j)) 0 (length s.faults) i i 0 lt (omega arith)
+  numbered_own i lt = get_or-map-range_with_len (λ j. number_in_list s.faults (fault_at s.faults j)) 0 (length s.faults) i i 0 lt (omega arith)
 
-  -- a fault without a next one has its own number
-  own_right : (i : ℕ) (f : Fault) → i < length s.faults → fault_at s.faults i ≡ f → next s.circuit s.watched f ≡ None → get_or (own_numbers s.faults) i 0 ≡ rep_of s i
+  -- a fault without a next_fault one has its own number
+  own_right : (i : ℕ) (f : Fault) → i < length s.faults → fault_at s.faults i ≡ f → next_fault s.circuit s.watched f ≡ None → get_or (own_numbers s.faults) i 0 ≡ rep_of s i
   unfolding rep_of
   own_right i f lt at none =
       numbered_own i lt
-      ∙ ap (number_of s.faults) (at ∙ sym (representative_own s.circuit s.watched f none) ∙ ap (representative s.circuit s.watched) (sym at))
+      ∙ ap (number_in_list s.faults) (at ∙ sym (representative_own s.circuit s.watched f none) ∙ ap (representative s.circuit s.watched) (sym at))
 
-  transient : (i : ℕ) → 2 * nets ≤ i → i < length s.faults → next s.circuit s.watched (fault_at s.faults i) ≡ None
-  unfolding next
-  transient i le lt = ap (λ (faults : List Fault). next s.circuit s.watched (fault_at faults i)) listed.listed ∙ by_kind (grind arith)
+  transient : (i : ℕ) → 2 * nets ≤ i → i < length s.faults → next_fault s.circuit s.watched (fault_at s.faults i) ≡ None
+  unfolding next_fault
+  transient i le lt = ap (λ (faults : List Fault). next_fault s.circuit s.watched (fault_at faults i)) listed.listed ∙ by_kind (grind arith)
     where
       by_kind : (i - stuck_count nets < flip_count (length s.circuit.latches) listed.flips) ⊎ (stuck_count nets + flip_count (length s.circuit.latches) listed.flips ≤ i)
-          → next s.circuit s.watched (fault_at (faults_of s.circuit listed.flips listed.pulses) i) ≡ None
-      by_kind (inl flips) = ap (next s.circuit s.watched) (flip_at nets (length s.circuit.latches) listed.flips listed.pulses i (omega arith) flips)
+          → next_fault s.circuit s.watched (fault_at (faults_of s.circuit listed.flips listed.pulses) i) ≡ None
+      by_kind (inl flips) = ap (next_fault s.circuit s.watched) (flip_at nets (length s.circuit.latches) listed.flips listed.pulses i (omega arith) flips)
       by_kind (inr pulses) =
           let total = counted in
-          ap (next s.circuit s.watched) (pulse_at nets (length s.circuit.latches) listed.flips listed.pulses i pulses (omega (arith, total, lt)))
+          ap (next_fault s.circuit s.watched) (pulse_at nets (length s.circuit.latches) listed.flips listed.pulses i pulses (omega (arith, total, lt)))
 
   -- IN THE BEGINNING no table was reached
-  pub first_settled : AreSettled s order (length order) (own_numbers s.faults)
+  pub first_settled : AreAllReached s order (length order) (own_numbers s.faults)
   unfolding below
   first_settled = record {
-    size = length-map-range_with_len (λ j. number_of s.faults (fault_at s.faults j)) 0 (length s.faults);
-    stuck = λ n v lt reached. by_next n v lt reached (next s.circuit s.watched (Stuck n v)) refl;
+    size = length-map-range_with_len (λ j. number_in_list s.faults (fault_at s.faults j)) 0 (length s.faults);
+    stuck = λ n v lt reached. by_next n v lt reached (next_fault s.circuit s.watched (Stuck n v)) refl;
     others = λ i le lt. own_right i (fault_at s.faults i) lt refl (transient i le lt);
   }
     where
       low : (n : NetId) (v : Bool) → n.0 < nets → stuck_number n.0 v < length s.faults
       low n v lt = let few = stuck_below n.0 v nets lt in let total = counted in omega arith
 
-      by_next : (n : NetId) (v : Bool) → n.0 < nets → ((m : NetId) (u : Bool) → HasNext n v m u → length order ≤ place_of order m.0)
-          → (o : Option Fault) → next s.circuit s.watched (Stuck n v) ≡ o → get_or (own_numbers s.faults) (stuck_number n.0 v) 0 ≡ rep_of s (stuck_number n.0 v)
+      by_next : (n : NetId) (v : Bool) → n.0 < nets → ((m : NetId) (u : Bool) → HasNext n v m u → length order ≤ net_place order m.0)
+          → (o : Option Fault) → next_fault s.circuit s.watched (Stuck n v) ≡ o → get_or (own_numbers s.faults) (stuck_number n.0 v) 0 ≡ rep_of s (stuck_number n.0 v)
       by_next n v lt reached None e = own_right (stuck_number n.0 v) (Stuck n v) (low n v lt) (stuck_numbered n v lt) e
       by_next n v lt reached (Some g) e =
           let is : IsNext s.circuit s.watched (Stuck n v) g = next_is s.circuit s.watched (Stuck n v) g sound e in
-          let far : length order ≤ place_of order is.m.0 = reached is.m is.u (e ∙ ap Some is.back) in
+          let far : length order ≤ net_place order is.m.0 = reached is.m is.u (e ∙ ap Some is.back) in
           let place = (at_place s.circuit order s.watched sound ordered is.m.0 is.pair.k is.pair.net is.pair.driver).0 in
           absurd (omega (arith, far, place))
 
   -- IN THE END each number is that of the representative
-  pub last_settled : (reps : List ℕ) → AreSettled s order 0 reps → reps ≡ map (rep_of s) (below (length s.faults))
+  pub last_settled : (reps : List ℕ) → AreAllReached s order 0 reps → reps ≡ map (rep_of s) (below (length s.faults))
   unfolding below
   last_settled reps right = same_number_lists reps (map (rep_of s) (below (length s.faults)))
       (right.size ∙ sym (length-map-range_with_len (rep_of s) 0 (length s.faults)))

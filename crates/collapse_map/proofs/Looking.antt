@@ -24,13 +24,13 @@ use Rattle.alarm_points.specs.declared.Points.{Points}
 use Rattle.alarm_points.specs.PointsFile.{observed}
 use Rattle.alarm_points.specs.PointsKept.{ArePointsFor}
 use Rattle.collapse_map.specs.Collapsed.{watched}
-use Rattle.collapse_map.specs.Looks.{AreLooks, looks_for, one_more}
+use Rattle.collapse_map.specs.Looks.{AreLooks, looks_for, one_more_look}
 use Rattle.collapse_map.specs.Next.{is_net}
 use Rattle.collapse_map.specs.declared.looks.Looks.{Looks}
 use Rattle.collapse_map.specs.declared.looks.Looks.TheVariants.{Nobody, One, More}
 use Rattle.fm_base.proofs.Lists.{all_left, all_right}
 
-more_for : (count : ℕ) → one_more (looks_for count) ≡ looks_for (suc count)
+more_for : (count : ℕ) → one_more_look (looks_for count) ≡ looks_for (suc count)
 more_for zero = refl
 more_for (suc zero) = refl
 more_for (suc (suc count)) = refl
@@ -43,17 +43,17 @@ differ a b apart = false_of (a == b) (λ e. apart (eqb-true a b e))
 
 -- THE LOOKS at a net, after one more at a net
 pub looked : (looks : List Looks) (net : NetId) (seen : List NetId) → net.0 < length looks → AreLooks seen looks
-    → AreLooks (seen ++ net ∷ []) (set looks net.0 (one_more (get_or looks net.0 Nobody)))
+    → AreLooks (seen ++ net ∷ []) (set looks net.0 (one_more_look (get_or looks net.0 Nobody)))
 looked looks net seen inside are n lt = by_net (grind arith)
   where
-    by_net : (n ≡ net.0) ⊎ (n ≢ net.0) → get_or (set looks net.0 (one_more (get_or looks net.0 Nobody))) n Nobody ≡ looks_for (count_by (is_net n) (seen ++ net ∷ []))
+    by_net : (n ≡ net.0) ⊎ (n ≢ net.0) → get_or (set looks net.0 (one_more_look (get_or looks net.0 Nobody))) n Nobody ≡ looks_for (count_by (is_net n) (seen ++ net ∷ []))
     by_net (inl same) =
         let count : ℕ = count_by (is_net net.0) seen in
         let grows : count_by (is_net net.0) (seen ++ net ∷ []) ≡ suc count =
         counted_push net.0 seen net ∙ ap (λ b. count + cond b 1 0) (eq-eqb net.0 net.0 refl) ∙ omega arith in
-        ap (λ k. get_or (set looks net.0 (one_more (get_or looks net.0 Nobody))) k Nobody) same
-        ∙ get_or-set_same looks net.0 (one_more (get_or looks net.0 Nobody)) Nobody inside
-        ∙ ap one_more (are net.0 inside)
+        ap (λ k. get_or (set looks net.0 (one_more_look (get_or looks net.0 Nobody))) k Nobody) same
+        ∙ get_or-set_same looks net.0 (one_more_look (get_or looks net.0 Nobody)) Nobody inside
+        ∙ ap one_more_look (are net.0 inside)
         ∙ more_for count
         ∙ ap looks_for (sym grows)
         ∙ ap (λ k. looks_for (count_by (is_net k) (seen ++ net ∷ []))) (sym same)
@@ -61,8 +61,8 @@ looked looks net seen inside are n lt = by_net (grind arith)
         let count : ℕ = count_by (is_net n) seen in
         let stays : count_by (is_net n) (seen ++ net ∷ []) ≡ count =
         counted_push n seen net ∙ ap (λ b. count + cond b 1 0) (differ net.0 n (λ e. apart (sym e))) ∙ omega arith in
-        get_or-set_other looks net.0 n (one_more (get_or looks net.0 Nobody)) Nobody apart
-        ∙ are n (let size = length-set looks net.0 (one_more (get_or looks net.0 Nobody)) in omega arith)
+        get_or-set_other looks net.0 n (one_more_look (get_or looks net.0 Nobody)) Nobody apart
+        ∙ are n (let size = length-set looks net.0 (one_more_look (get_or looks net.0 Nobody)) in omega arith)
         ∙ ap looks_for (sym stays)
 
 -- ---- one more of a list

@@ -1,4 +1,4 @@
--- What it means that a fault has a next one.
+-- What it means that a fault has a next_fault one.
 use Rattle.std.proofs.Common.{◌≡◌, ◌≢◌, ℕ, zero, suc, ◌<◌, Bool, true, false, cond, ◌||◌, List, [], ◌∷◌, length, map, get_or, refl, ap, sym, subst, ◌∙◌, arith}
 use Rattle.std.specs.Prelude.{Option, Some, None}
 use Rattle.std.specs.Option.{option_map}
@@ -19,7 +19,7 @@ use Rattle.circuit.specs.Value.{driver_at, table_at}
 use Rattle.fm_base.specs.Lists.{below}
 use Rattle.fm_base.proofs.Tests.{or_false}
 use Rattle.collapse_map.specs.Fixed.{fixed_value}
-use Rattle.collapse_map.specs.Next.{Reading, behind, is_latched, is_net, is_table, is_watched, net_of_table, next, places_of, readings, readings_in}
+use Rattle.collapse_map.specs.Next.{Reading, behind, is_latched, is_net, is_table, is_watched, net_of_table, next_fault, net_places, readings, readings_in}
 use Rattle.collapse_map.proofs.OneCycle.{Collapses}
 use Rattle.collapse_map.proofs.Places.{IsOnePart, first_kept, flat_one, from_below, in_below, none_kept, none_mapped}
 
@@ -67,10 +67,10 @@ module _ (c : Circuit) (sound : IsNetlist c) where
   unfolding readings
   reading_collapses n r v u e fixed =
       let one : IsOnePart (readings_in c n) (below (length c.tables)) r = flat_one (readings_in c n) (below (length c.tables)) r e in
-      let table_is : one.k ≡ r.table = (placed (places_of n (table_at c.tables one.k).ins) one.k r one.part).1 in
+      let table_is : one.k ≡ r.table = (placed (net_places n (table_at c.tables one.k).ins) one.k r one.part).1 in
       let table : r.table < length c.tables = subst (λ k. k < length c.tables) table_is (from_below (length c.tables) one.k one.there) in
-      let kept : places_of n (table_at c.tables r.table).ins ≡ r.place ∷ [] =
-      subst (λ k. places_of n (table_at c.tables k).ins ≡ r.place ∷ []) table_is (placed (places_of n (table_at c.tables one.k).ins) one.k r one.part).0 in
+      let kept : net_places n (table_at c.tables r.table).ins ≡ r.place ∷ [] =
+      subst (λ k. net_places n (table_at c.tables k).ins ≡ r.place ∷ []) table_is (placed (net_places n (table_at c.tables one.k).ins) one.k r one.part).0 in
       let here = first_kept (λ place. is_net n (net_at (table_at c.tables r.table).ins place)) (below (length (table_at c.tables r.table).ins)) [] r.place kept in
       record {
         k = r.table;
@@ -83,7 +83,7 @@ module _ (c : Circuit) (sound : IsNetlist c) where
         reads = eqb-true (net_at (table_at c.tables r.table).ins r.place).0 n here.1;
         others = λ j lt apart i d within.
             let ins : List NetId = (table_at c.tables j).ins in
-            let empty = none_mapped (λ place. record { table = j; place = place }) (places_of n ins) (one.others j (in_below (length c.tables) j lt) (λ same. apart (same ∙ table_is))) in
+            let empty = none_mapped (λ place. record { table = j; place = place }) (net_places n ins) (one.others j (in_below (length c.tables) j lt) (λ same. apart (same ∙ table_is))) in
             let far = none_kept (λ place. is_net n (net_at ins place)) (below (length ins)) i empty (in_below (length ins) i within) in
             eqb-false (get_or ins i d).0 n (ap (λ (net : NetId). is_net n net) (same_default ins i d within) ∙ far);
         fixed = fixed;
@@ -102,7 +102,7 @@ module _ (c : Circuit) (sound : IsNetlist c) where
       same_default (x ∷ ins) zero d lt = refl
       same_default (x ∷ ins) (suc i) d lt = same_default ins i d (omega arith)
 
--- what a fault and its next one are
+-- what a fault and its next_fault one are
 pub record IsNext (c : Circuit) (watched : List NetId) (f g : Fault) : Type 0 where
   pub n : NetId
   pub v : Bool
@@ -114,8 +114,8 @@ pub record IsNext (c : Circuit) (watched : List NetId) (f g : Fault) : Type 0 wh
   pub unwatched : All (λ (net : NetId). net.0 ≢ n.0) watched
   pub unlatched : All (λ (latch : Latch). latch.from.0 ≢ n.0) c.latches
 
-pub next_is : (c : Circuit) (watched : List NetId) (f g : Fault) → IsNetlist c → next c watched f ≡ Some g → IsNext c watched f g
-unfolding next
+pub next_is : (c : Circuit) (watched : List NetId) (f g : Fault) → IsNetlist c → next_fault c watched f ≡ Some g → IsNext c watched f g
+unfolding next_fault
 next_is c watched (Flip latch cycle) g sound e = cc
 next_is c watched (Pulse n cycle) g sound e = cc
 next_is c watched (Stuck n v) g sound e = by_test (is_watched watched n.0 || is_latched c n.0) refl e

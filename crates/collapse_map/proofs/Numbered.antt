@@ -14,8 +14,8 @@ use Rattle.fault_list.specs.Kept.{count_for}
 use Rattle.fault_list.proofs.Numbers.{length_faults, stuck_at}
 use Rattle.fm_base.specs.Lists.{same_bit}
 use Rattle.fm_base.proofs.Tests.{and_both, both_true, same_bit_true, not_not}
-use Rattle.collapse_map.specs.Collapsed.{AreFaultsOf, Collapsed, number_of, rep_of, same_fault}
-use Rattle.collapse_map.specs.Next.{follow, next, representative}
+use Rattle.collapse_map.specs.Collapsed.{AreFaultsOf, Collapsed, number_in_list, rep_of, same_fault}
+use Rattle.collapse_map.specs.Next.{follow, next_fault, representative}
 use Rattle.collapse_map.proofs.NextFault.{IsNext, next_is}
 
 -- ---- the same fault
@@ -48,19 +48,19 @@ same_fault_self (Pulse n t) = both_true (n.0 == n.0) (t == t) (eq-eqb n.0 n.0 re
 
 -- a fault that stands in a list stands at its number
 pub number_there : (faults : List Fault) (f : Fault) (k : ℕ) → k < length faults → fault_at faults k ≡ f
-    → (number_of faults f < length faults) × (fault_at faults (number_of faults f) ≡ f)
+    → (number_in_list faults f < length faults) × (fault_at faults (number_in_list faults f) ≡ f)
 number_there faults f k lt e =
-    let first : number_of faults f ≤ k = by_order (grind arith) in
-    let within : number_of faults f < length faults = omega arith in (
+    let first : number_in_list faults f ≤ k = by_order (grind arith) in
+    let within : number_in_list faults f < length faults = omega arith in (
       within,
-      sym (same_fault_true f (fault_at faults (number_of faults f)) (not_not (same_fault f (fault_at faults (number_of faults f)))
+      sym (same_fault_true f (fault_at faults (number_in_list faults f)) (not_not (same_fault f (fault_at faults (number_in_list faults f)))
           (prefix_len_stops (λ g. not (same_fault f g)) faults no_fault within))),
     )
   where
     no_fault : Fault
     no_fault = Stuck (record { 0 = 0 }) false
 
-    by_order : (number_of faults f ≤ k) ⊎ (k < number_of faults f) → number_of faults f ≤ k
+    by_order : (number_in_list faults f ≤ k) ⊎ (k < number_in_list faults f) → number_in_list faults f ≤ k
     by_order (inl le) = le
     by_order (inr before) =
         absurd (both_ways (same_fault f (fault_at faults k)) (not-true (same_fault f (fault_at faults k)) (prefix_len_passes (λ g. not (same_fault f g)) faults k no_fault before)) (ap (same_fault f) e ∙ same_fault_self f))
@@ -99,9 +99,9 @@ follow_is : (c : Circuit) (watched : List NetId) → IsNetlist c → (steps : �
     → (follow steps c watched f ≡ f) ⊎ ((m : NetId) × (u : Bool) × (m.0 < length c.drivers) × (follow steps c watched f ≡ Stuck m u))
 unfolding follow
 follow_is c watched sound zero f = inl refl
-follow_is c watched sound (suc steps) f = by_next (next c watched f) refl (follow_is c watched sound steps)
+follow_is c watched sound (suc steps) f = by_next (next_fault c watched f) refl (follow_is c watched sound steps)
   where
-    by_next : (o : Option Fault) → next c watched f ≡ o
+    by_next : (o : Option Fault) → next_fault c watched f ≡ o
         → ((g : Fault) → (follow steps c watched g ≡ g) ⊎ ((m : NetId) × (u : Bool) × (m.0 < length c.drivers) × (follow steps c watched g ≡ Stuck m u)))
         → (option_map_or (follow steps c watched) o f ≡ f) ⊎ ((m : NetId) × (u : Bool) × (m.0 < length c.drivers) × (option_map_or (follow steps c watched) o f ≡ Stuck m u))
     by_next None e more = inl refl
@@ -124,7 +124,7 @@ rep_there s sound listed i lt = by_cases (follow_is s.circuit s.watched sound (l
     r : Fault
     r = representative s.circuit s.watched f
 
-    by_cases : (r ≡ f) ⊎ ((m : NetId) × (u : Bool) × (m.0 < length s.circuit.drivers) × (r ≡ Stuck m u)) → (number_of s.faults r < length s.faults) × (fault_at s.faults (number_of s.faults r) ≡ r)
+    by_cases : (r ≡ f) ⊎ ((m : NetId) × (u : Bool) × (m.0 < length s.circuit.drivers) × (r ≡ Stuck m u)) → (number_in_list s.faults r < length s.faults) × (fault_at s.faults (number_in_list s.faults r) ≡ r)
     by_cases (inl same) = number_there s.faults r i lt (sym same)
     by_cases (inr other) =
         let there = subst (λ (faults : List Fault). (k : ℕ) × (k < length faults) × (fault_at faults k ≡ Stuck other.0 other.1)) (sym listed.listed)

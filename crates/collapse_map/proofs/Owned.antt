@@ -9,7 +9,7 @@ use Rattle.std.specs.List.{All}
 use Rattle.circuit.specs.declared.parts.NetId.{NetId}
 use Rattle.circuit.specs.Order.{IsOrder}
 use Rattle.circuit.specs.Sound.{IsNet, IsNetlist}
-use Rattle.collapse_map.specs.Collapsed.{AreFaultsOf, Collapsed, Holds, rep_count, rep_of}
+use Rattle.collapse_map.specs.Collapsed.{AreFaultsOf, Collapsed, HoldsRepresentatives, rep_count, rep_of}
 use Rattle.fm_base.specs.Lists.{below}
 use Rattle.fm_base.proofs.Below.{below_push, count_below}
 
@@ -28,7 +28,7 @@ counted_no p i e = count_below p i ∙ ap (λ b. count_by p (below i) + cond b 1
 
 -- all that is kept
 pub holds_all : (s : Collapsed) (order : List NetId) (reps : List ℕ) (count : ℕ) → IsNetlist s.circuit → IsOrder s.circuit order → AreFaultsOf s.circuit s.faults → All (IsNet s.circuit) s.watched
-    → reps ≡ map (rep_of s) (below (length s.faults)) → count ≡ count_by (λ i. rep_of s i == i) (below (length s.faults)) → Holds s reps count
+    → reps ≡ map (rep_of s) (below (length s.faults)) → count ≡ count_by (λ i. rep_of s i == i) (below (length s.faults)) → HoldsRepresentatives s reps count
 unfolding rep_count
 holds_all s order reps count sound ordered listed nets numbers own =
     record { sound = sound; order = order; ordered = ordered; listed = listed; nets = nets; numbers = numbers; own = own }

@@ -8,18 +8,18 @@ use Rattle.circuit.specs.Order.{net_at}
 use Rattle.circuit.specs.Sound.{IsNet, IsNetlist}
 use Rattle.circuit.specs.Value.{driver_at, table_at}
 use Rattle.collapse_map.specs.Collapsed.{Collapsed}
-use Rattle.collapse_map.specs.Looks.{is_one, looked_at, looks_for}
-use Rattle.collapse_map.specs.Settled.{AreGiven, AreSeen, AreSettled, linked}
+use Rattle.collapse_map.specs.Looks.{is_one_look, looked_at, looks_for}
+use Rattle.collapse_map.specs.Settled.{AreGiven, AreSeen, AreAllReached, linked}
 use Rattle.collapse_map.specs.declared.looks.Looks.{Looks}
 use Rattle.collapse_map.specs.declared.looks.Looks.TheVariants.{Nobody, One, More}
 use Rattle.collapse_map.proofs.Linking.{all_seen, more_seen, one_seen}
 
-one_is : (looks : Looks) → is_one looks ≡ true → looks ≡ One
+one_is : (looks : Looks) → is_one_look looks ≡ true → looks ≡ One
 one_is One e = refl
 one_is Nobody e = cc
 one_is More e = cc
 
-not_one : (looks : Looks) → is_one looks ≡ false → looks ≢ One
+not_one : (looks : Looks) → is_one_look looks ≡ false → looks ≢ One
 not_one One e = cc
 not_one Nobody e = λ f. cc
 not_one More e = λ f. cc
@@ -36,10 +36,10 @@ module _ (s : Collapsed) (looks : List Looks) (order : List NetId) (at k : ℕ) 
 
   -- a place at whose net no other looks
   pub step_one : (place : ℕ) (table : Table) (reps once twice : List ℕ) → table ≡ table_at s.circuit.tables k → place < length table.ins
-      → is_one (get_or looks (net_at table.ins place).0 Nobody) ≡ true → once ≡ linked table place to false reps → twice ≡ linked table place to true once
+      → is_one_look (get_or looks (net_at table.ins place).0 Nobody) ≡ true → once ≡ linked table place to false reps → twice ≡ linked table place to true once
       → AreSeen s order at (take place table.ins) reps → AreSeen s order at (take (place + 1) table.ins) twice
   step_one place table reps once twice is =
-      subst (λ (t : Table). place < length t.ins → is_one (get_or looks (net_at t.ins place).0 Nobody) ≡ true → once ≡ linked t place to false reps → twice ≡ linked t place to true once
+      subst (λ (t : Table). place < length t.ins → is_one_look (get_or looks (net_at t.ins place).0 Nobody) ≡ true → once ≡ linked t place to false reps → twice ≡ linked t place to true once
       → AreSeen s order at (take place t.ins) reps → AreSeen s order at (take (place + 1) t.ins) twice) (sym is)
       (λ lt one e f seen.
       subst (AreSeen s order at (take (place + 1) (table_at s.circuit.tables k).ins)) (sym (f ∙ ap (linked (table_at s.circuit.tables k) place to true) e))
@@ -48,10 +48,10 @@ module _ (s : Collapsed) (looks : List Looks) (order : List NetId) (at k : ℕ) 
 
   -- a place at whose net others look
   pub step_more : (place : ℕ) (table : Table) (reps : List ℕ) → table ≡ table_at s.circuit.tables k → place < length table.ins
-      → is_one (get_or looks (net_at table.ins place).0 Nobody) ≡ false
+      → is_one_look (get_or looks (net_at table.ins place).0 Nobody) ≡ false
       → AreSeen s order at (take place table.ins) reps → AreSeen s order at (take (place + 1) table.ins) reps
   step_more place table reps is =
-      subst (λ (t : Table). place < length t.ins → is_one (get_or looks (net_at t.ins place).0 Nobody) ≡ false
+      subst (λ (t : Table). place < length t.ins → is_one_look (get_or looks (net_at t.ins place).0 Nobody) ≡ false
       → AreSeen s order at (take place t.ins) reps → AreSeen s order at (take (place + 1) t.ins) reps) (sym is)
       (λ lt many seen.
       more_seen s order sound given.ordered given.listed k place within lt to inside driven at ordinal at_is reps
@@ -60,9 +60,9 @@ module _ (s : Collapsed) (looks : List Looks) (order : List NetId) (at k : ℕ) 
 
   -- the whole table
   pub table_done : (place : ℕ) (table : Table) (reps : List ℕ) → table ≡ table_at s.circuit.tables k → length table.ins ≤ place
-      → AreSeen s order at (take place table.ins) reps → AreSettled s order at reps
+      → AreSeen s order at (take place table.ins) reps → AreAllReached s order at reps
   table_done place table reps is =
-      subst (λ (t : Table). length t.ins ≤ place → AreSeen s order at (take place t.ins) reps → AreSettled s order at reps) (sym is)
+      subst (λ (t : Table). length t.ins ≤ place → AreSeen s order at (take place t.ins) reps → AreAllReached s order at reps) (sym is)
       (λ le seen.
       all_seen s order sound given.ordered given.listed at k to reps at_is driven
       (subst (λ (nets : List NetId). AreSeen s order at nets reps) (take_all place (table_at s.circuit.tables k).ins le) seen))

@@ -7,15 +7,15 @@ use Rattle.std.proofs.lemmas.List.Sums.{sum_by-cons}
 use Rattle.circuit.specs.declared.parts.Lit.{Lit}
 use Rattle.circuit.specs.declared.parts.Lit.TheVariants.{Zero, One, Any}
 use Rattle.fm_base.proofs.Tests.{false_of}
-use Rattle.collapse_map.specs.Fixed.{dashes_but, is_dash, lit_at}
+use Rattle.collapse_map.specs.Fixed.{dashes_but, is_dash_literal, lit_at}
 use Rattle.collapse_map.specs.Wants.{wants}
 
 -- what one literal wants
 abbrev pub own_wants : Lit → ℕ
-own_wants lit = if is_dash lit then 0 else 1
+own_wants lit = if is_dash_literal lit then 0 else 1
 
-wants_cons : (lit : Lit) (row : List Lit) → wants (lit ∷ row) ≡ cond (not (is_dash lit)) 1 0 + wants row
-wants_cons lit row = sum_by-cons (λ l. cond (not (is_dash l)) 1 0) lit row
+wants_cons : (lit : Lit) (row : List Lit) → wants (lit ∷ row) ≡ cond (not (is_dash_literal lit)) 1 0 + wants row
+wants_cons lit row = sum_by-cons (λ l. cond (not (is_dash_literal l)) 1 0) lit row
 
 -- two equations that hold together are one test
 same_test : (a b c d : ℕ) → (a ≡ b → c ≡ d) → (c ≡ d → a ≡ b) → (a == b) ≡ (c == d)
@@ -29,7 +29,7 @@ differ : (a b : ℕ) → a ≢ b → (a == b) ≡ false
 differ a b apart = false_of (a == b) (λ e. apart (eqb-true a b e))
 
 -- a row without wants has dashes alone
-no_wants : (row : List Lit) → list_all is_dash row ≡ (wants row == 0)
+no_wants : (row : List Lit) → list_all is_dash_literal row ≡ (wants row == 0)
 no_wants [] = refl
 no_wants (Any ∷ row) =
     let size = wants_cons Any row in

@@ -21,13 +21,13 @@ abbrev pub AreLooks : List NetId → List Looks → Type 0
 AreLooks seen looks = (n : ℕ) → n < length looks → slice_index_or looks n Nobody ≡ looks_for (count_by (is_net n) seen)
 
 -- one more looks
-abbrev pub one_more : Looks → Looks
-one_more Nobody = One
-one_more One = More
-one_more More = More
+abbrev pub one_more_look : Looks → Looks
+one_more_look Nobody = One
+one_more_look One = More
+one_more_look More = More
 
 -- one looks, and no other
-abbrev pub is_one : Looks → Bool
-is_one Nobody = false
-is_one One = true
-is_one More = false
+abbrev pub is_one_look : Looks → Bool
+is_one_look Nobody = false
+is_one_look One = true
+is_one_look More = false

@@ -34,13 +34,13 @@ pub struct Collapse {
 }
 
 impl Model for Collapse {
-    ghost use Rattle.collapse_map.specs.Collapsed.{Collapsed, Holds, watched};
+    ghost use Rattle.collapse_map.specs.Collapsed.{Collapsed, HoldsRepresentatives, watched};
 
     ghost Value = { Collapsed };
 
     ghost view = { λ c. record { circuit = c.circuit.value; faults = c.faults.value; watched = watched c.points.value } };
 
-    ghost invariant = { λ c. Holds (record { circuit = c.circuit.value; faults = c.faults.value; watched = watched c.points.value }) c.reps c.count };
+    ghost invariant = { λ c. HoldsRepresentatives (record { circuit = c.circuit.value; faults = c.faults.value; watched = watched c.points.value }) c.reps c.count };
 }
 
 // The number of the representative of each fault.

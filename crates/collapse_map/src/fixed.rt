@@ -1,7 +1,7 @@
 // A value at one place of a table that decides by itself what the table gives.
 ghost use Rattle.std.specs.Prelude.{◌≡◌, ◌&&◌, not, map, IfOk, if◌then◌else◌};
 ghost use Rattle.std.specs.List.{list_any};
-ghost use Rattle.collapse_map.specs.Fixed.{lit_at, is_against, is_dash, makes_match, stops_all, fixed_value};
+ghost use Rattle.collapse_map.specs.Fixed.{lit_at, is_against, is_dash_literal, makes_match, stops_all, fixed_value};
 ghost use Rattle.collapse_map.specs.Wants.{wants};
 
 use circuit::parts::{Lit, Row, Table};
@@ -19,7 +19,7 @@ fn is_against(v: bool, lit: Lit) -> bool
 }
 
 fn is_dash(lit: Lit) -> bool
-    ensures { result ≡ is_dash lit }
+    ensures { result ≡ is_dash_literal lit }
 {
     match lit {
         Lit::Any => true,
@@ -69,7 +69,7 @@ fn is_stopping(table: &Table, place: usize, v: bool) -> bool
 
 // How much a literal wants by itself.
 fn own_wants(lit: Lit) -> usize
-    ensures { result ≡ (if is_dash lit then 0 else 1) }
+    ensures { result ≡ (if is_dash_literal lit then 0 else 1) }
 {
     if is_dash(lit) { 0 } else { 1 }
 }

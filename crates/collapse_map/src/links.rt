@@ -4,7 +4,7 @@ ghost use Rattle.circuit.specs.declared.parts.Fault.{Fault as FaultValue};
 ghost use Rattle.circuit.specs.declared.parts.NetId.{NetId as Net};
 ghost use Rattle.circuit.specs.Order.{IsOrder, net_at};
 ghost use Rattle.circuit.specs.Sound.{IsNet};
-ghost use Rattle.collapse_map.specs.Settled.{AreGiven, AreSettled, collapsed, linked, stuck_number};
+ghost use Rattle.collapse_map.specs.Settled.{AreGiven, AreAllReached, collapsed, linked, stuck_number};
 ghost use Rattle.collapse_map.specs.Wants.{wants};
 
 use crate::fixed::{fixed_value, wants_of};
@@ -48,8 +48,8 @@ fn link_table(
     requires looks { length looks.now ≡ length net.now.drivers }
     requires reps { 2 * length net.now.drivers ≤ length reps.old }
     ensures { OnOk result ((faults : List FaultValue) (watched order : List Net) (at : ℕ) → AreGiven (collapsed net.now faults watched) looks.now order
-        → at < length order → net_at order at ≡ to → AreSettled (collapsed net.now faults watched) order (at + 1) reps.old
-        → AreSettled (collapsed net.now faults watched) order at reps.new) }
+        → at < length order → net_at order at ≡ to → AreAllReached (collapsed net.now faults watched) order (at + 1) reps.old
+        → AreAllReached (collapsed net.now faults watched) order at reps.new) }
 {
     let Driver::Table(k) = net.driver(to) else {
         return Ok(());
@@ -78,8 +78,8 @@ pub(crate) fn link_all(
     requires looks { length looks.now ≡ length net.now.drivers }
     requires reps { 2 * length net.now.drivers ≤ length reps.old }
     ensures { OnOk result ((faults : List FaultValue) (watched : List Net) → AreGiven (collapsed net.now faults watched) looks.now order.now
-        → AreSettled (collapsed net.now faults watched) order.now (length order.now) reps.old
-        → AreSettled (collapsed net.now faults watched) order.now 0 reps.new) }
+        → AreAllReached (collapsed net.now faults watched) order.now (length order.now) reps.old
+        → AreAllReached (collapsed net.now faults watched) order.now 0 reps.new) }
 {
     let nets = order.nets();
     for at in (0..nets.len()).rev() {

@@ -5,7 +5,7 @@ ghost use Rattle.circuit.specs.Sound.{IsNetlist};
 ghost use Rattle.alarm_points.specs.PointsFile.{observed};
 ghost use Rattle.alarm_points.specs.PointsKept.{ArePointsFor};
 ghost use Rattle.collapse_map.specs.Collapsed.{watched};
-ghost use Rattle.collapse_map.specs.Looks.{AreLooks, is_one, looked_at, one_more};
+ghost use Rattle.collapse_map.specs.Looks.{AreLooks, is_one_look, looked_at, one_more_look};
 
 use alarm_points::Points;
 use circuit::netlist::Netlist;
@@ -22,7 +22,7 @@ pub(crate) enum Looks {
 
 /// Whether one looks, and no other.
 pub(crate) fn is_one(looks: Looks) -> bool
-    ensures { result ≡ is_one looks }
+    ensures { result ≡ is_one_look looks }
 {
     match looks {
         Looks::One => true,
@@ -33,7 +33,7 @@ pub(crate) fn is_one(looks: Looks) -> bool
 
 // One more than so many.
 fn one_more(looks: Looks) -> Looks
-    ensures { result ≡ one_more looks }
+    ensures { result ≡ one_more_look looks }
 {
     match looks {
         Looks::Nobody => Looks::One,

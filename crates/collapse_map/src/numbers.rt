@@ -4,7 +4,7 @@ ghost use Rattle.circuit.specs.Circuit.{Circuit};
 ghost use Rattle.fault_list.specs.Faults.{fault_at};
 ghost use Rattle.fault_list.specs.Kept.{most_faults};
 ghost use Rattle.fm_base.specs.Lists.{below};
-ghost use Rattle.collapse_map.specs.Collapsed.{AreFaultsOf, number_of, same_fault};
+ghost use Rattle.collapse_map.specs.Collapsed.{AreFaultsOf, number_in_list, same_fault};
 ghost use Rattle.collapse_map.specs.Numbers.{are_beside};
 ghost use Rattle.collapse_map.specs.Settled.{own_numbers};
 
@@ -39,7 +39,7 @@ fn are_beside(a: Fault, b: Fault) -> bool
 // The number of fault i: that of the first like it, should the list have a cycle twice. Only faults beside it are looked at.
 fn first_like(faults: &FaultList, i: u32) -> u32
     requires { i < length faults.now }
-    ensures { (c : Circuit) → AreFaultsOf c faults.now → result ≡ number_of faults.now (fault_at faults.now i) }
+    ensures { (c : Circuit) → AreFaultsOf c faults.now → result ≡ number_in_list faults.now (fault_at faults.now i) }
 {
     let fault = faults.fault(i);
     let mut first = i;

@@ -10,7 +10,7 @@ use Rattle.metric_sums.specs.declared.Asil.{Asil}
 use Rattle.metric_sums.specs.declared.Asil.TheVariants.{B, C, D}
 use Rattle.fmeda_report.specs.Words.{asil_word}
 use Rattle.command_line.specs.Commands.{Command, Classes, Check, Run, Resume, Audit, Gen, Report, Inputs, Shard, Merge, Pairs, Parts, Faults, Progress}
-use Rattle.command_line.specs.Words.{entry, HasAsil, HasCampaign, HasInputs, HasPlan, HasSettings, HasWorkers, IsCommand, IsMet, IsNumber, SaidBy, word_of}
+use Rattle.command_line.specs.Words.{entry, HasAsil, HasCampaign, HasInputs, HasPlan, HasSettings, HasWorkers, IsCommand, IsMet, IsNumber, SaidBy, command_word}
 use Rattle.command_line.specs.Table.{fmeda_app}
 use Rattle.command_line.proofs.CycleLists.{same_cycles}
 use Rattle.std.proofs.lemmas.Option.{same_Some}
@@ -87,7 +87,7 @@ same_leveled : (rows : List Row) (i j : Inputs) (r s : Text) (a b : Settings) �
 same_leveled rows = same_parts rows (HasAsil rows) (λ x y told said. same_asil x y (sym told ∙ said))
 
 -- one command of a word is said
-same_said : (rows : List Row) (a b : Command) → word_of a ≡ word_of b → SaidBy rows a → SaidBy rows b → a ≡ b
+same_said : (rows : List Row) (a b : Command) → command_word a ≡ command_word b → SaidBy rows a → SaidBy rows b → a ≡ b
 same_said rows (Classes netlist workload) (Classes other work) e p q = λ t. Classes ((p.0 ∙ sym q.0) t) ((p.1 ∙ sym q.1) t)
 same_said rows (Check i flips pulses) (Check j others more) e p q =
     let inputs : i ≡ j = same_inputs rows i j p.0 q.0 in
@@ -129,13 +129,13 @@ same_said rows (Faults i r a) (Faults j s b) e p q =
 same_said rows (Progress i r a) (Progress j s b) e p q =
     let same = same_leveled rows i j r s a b p q in
     λ t. Progress (same.inputs t) (same.name t) (same.set t)
-same_said rows a b e p q = absurd (apart (word_of a) (word_of b) refl e)
+same_said rows a b e p q = absurd (apart (command_word a) (command_word b) refl e)
 
 -- what was met is one command at most
 same_met : (met : Option (Text × List Row)) (a b : Command) → IsMet met a → IsMet met b → a ≡ b
 same_met met a b p q =
-    let both : (word_of a, p.0) ≡ (word_of b, q.0) = same_Some (word_of a, p.0) (word_of b, q.0) (sym p.1 ∙ q.1) in
-    let word : word_of a ≡ word_of b = ap (λ (w : Text × List Row). w.0) both in
+    let both : (command_word a, p.0) ≡ (command_word b, q.0) = same_Some (command_word a, p.0) (command_word b, q.0) (sym p.1 ∙ q.1) in
+    let word : command_word a ≡ command_word b = ap (λ (w : Text × List Row). w.0) both in
     let rows : p.0 ≡ q.0 = ap (λ (w : Text × List Row). w.1) both in
     same_said q.0 a b word (subst (λ (r : List Row). SaidBy r a) rows p.2) q.2
 

@@ -9,7 +9,7 @@ use Rattle.command_line.specs.declared.read.PlanWords.{PlanWords}
 use Rattle.command_line.specs.declared.read.WordsRefusal.{WordsRefusal}
 use Rattle.command_line.specs.declared.read.WordsRefusal.TheVariants.{Usage, Memory}
 use Rattle.command_line.specs.Commands.{Command, Classes, Check, Run, Resume, Audit, Gen, Report, Inputs, Shard, Merge, Pairs, Parts, Faults, Progress}
-use Rattle.command_line.specs.Words.{HasCampaign, HasPlan, IsMet, IsNoCommand, SaidBy, word_of}
+use Rattle.command_line.specs.Words.{HasCampaign, HasPlan, IsMet, IsNoCommand, SaidBy, command_word}
 use Rattle.campaign_plan.specs.declared.Settings.{Settings}
 use Rattle.metric_sums.specs.declared.Asil.{Asil}
 
@@ -34,9 +34,9 @@ told_by (asked.Faults inputs result set) = Faults (names_of inputs) result.now s
 told_by (asked.Progress inputs result set) = Progress (names_of inputs) result.now set
 
 -- Usage is the answer where the words are no command; want of memory is free
-abbrev pub IsRefusal : List Text → WordsRefusal → Type 0
-IsRefusal words Usage = IsNoCommand words
-IsRefusal words Memory = Unit {0}
+abbrev pub IsWordsRefusal : List Text → WordsRefusal → Type 0
+IsWordsRefusal words Usage = IsNoCommand words
+IsWordsRefusal words Memory = Unit {0}
 
 -- ---- parts of the words
 
@@ -59,10 +59,10 @@ ArePlanWords rows Fits (Err Usage) = (inputs : Inputs) (name : Text) (set : Sett
 ArePlanWords rows Fits (Err Memory) = Unit {0}
 
 -- the entries say this command of this word, or no command of it
-abbrev pub IsSaid : Text → List Row → Result Asked WordsRefusal → Type 0
-IsSaid word rows (Ok asked) = (word_of (told_by asked) ≡ word) × SaidBy rows (told_by asked)
-IsSaid word rows (Err Usage) = (command : Command) → word_of command ≡ word → ¬ (SaidBy rows command)
-IsSaid word rows (Err Memory) = Unit {0}
+abbrev pub IsCommandOfWord : Text → List Row → Result Asked WordsRefusal → Type 0
+IsCommandOfWord word rows (Ok asked) = (command_word (told_by asked) ≡ word) × SaidBy rows (told_by asked)
+IsCommandOfWord word rows (Err Usage) = (command : Command) → command_word command ≡ word → ¬ (SaidBy rows command)
+IsCommandOfWord word rows (Err Memory) = Unit {0}
 
 -- the subcommand that was met is this command, or none
 abbrev pub AsksMet : Option (Text × List Row) → Result Asked WordsRefusal → Type 0

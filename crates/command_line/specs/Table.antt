@@ -6,8 +6,8 @@ use Rattle.clap.specs.declared.builder.value_parser.ValueParser.TheVariants as v
 -- ---- arguments
 
 -- an argument by its place, which must be given
-abbrev pub named : Text → Rule
-named id = record (new_rule id) { required = true }
+abbrev pub named_argument : Text → Rule
+named_argument id = record (new_rule id) { required = true }
 
 -- an option with a default
 abbrev pub option : Text → Text → Rule
@@ -29,7 +29,7 @@ with_rules a rules = fold with_rule a rules
 
 -- `NETLIST WORKLOAD RATES POINTS`
 abbrev pub input_rules : List Rule
-input_rules = named (codes "netlist") ∷ named (codes "workload") ∷ named (codes "rates") ∷ named (codes "points") ∷ []
+input_rules = named_argument (codes "netlist") ∷ named_argument (codes "workload") ∷ named_argument (codes "rates") ∷ named_argument (codes "points") ∷ []
 
 -- `[--flips LIST] [--pulses LIST]`
 abbrev pub list_rules : List Rule
@@ -37,7 +37,7 @@ list_rules = option (codes "flips") (codes "none") ∷ option (codes "pulses") (
 
 -- `classes NETLIST WORKLOAD`
 abbrev pub classes_app : App
-classes_app = with_rules (new_app (codes "classes")) (named (codes "netlist") ∷ named (codes "workload") ∷ [])
+classes_app = with_rules (new_app (codes "classes")) (named_argument (codes "netlist") ∷ named_argument (codes "workload") ∷ [])
 
 -- `check NETLIST WORKLOAD RATES POINTS [--flips LIST] [--pulses LIST]`
 abbrev pub check_app : App
@@ -53,7 +53,7 @@ asil_rule = option (codes "asil") (codes "D")
 
 -- `RESULT [--ftti F]`
 abbrev pub result_rules : List Rule
-result_rules = named (codes "result") ∷ ftti_rule ∷ []
+result_rules = named_argument (codes "result") ∷ ftti_rule ∷ []
 
 -- `NETLIST WORKLOAD RATES POINTS RESULT [--ftti F] [--flips LIST] [--pulses LIST]`
 abbrev pub with_plan : App → App
@@ -81,7 +81,7 @@ audit_app = with_plan (new_app (codes "audit"))
 
 -- `gen N RESULT [--workers N]`; the first N is the number of stages
 abbrev pub gen_app : App
-gen_app = with_rules (new_app (codes "gen")) (bounded (named (codes "stages")) 1 1000 ∷ named (codes "result") ∷ workers_rule ∷ [])
+gen_app = with_rules (new_app (codes "gen")) (bounded (named_argument (codes "stages")) 1 1000 ∷ named_argument (codes "result") ∷ workers_rule ∷ [])
 
 -- `report NETLIST WORKLOAD RATES POINTS [--ftti F] [--flips LIST] [--pulses LIST] [--asil LEVEL]`
 abbrev pub report_app : App
@@ -97,7 +97,7 @@ shard_app = with_rules (with_plan (new_app (codes "shard"))) part_rules
 
 -- `FIRST SECOND`
 abbrev pub source_rules : List Rule
-source_rules = named (codes "first") ∷ named (codes "second") ∷ []
+source_rules = named_argument (codes "first") ∷ named_argument (codes "second") ∷ []
 
 -- `merge NETLIST WORKLOAD RATES POINTS RESULT FIRST SECOND [--ftti F] [--flips LIST] [--pulses LIST]`
 abbrev pub merge_app : App
@@ -109,7 +109,7 @@ pairs_app = with_rules (with_plan (new_app (codes "pairs"))) (workers_rule ∷ [
 
 -- `parts NETLIST RATES`
 abbrev pub parts_app : App
-parts_app = with_rules (new_app (codes "parts")) (named (codes "netlist") ∷ named (codes "rates") ∷ [])
+parts_app = with_rules (new_app (codes "parts")) (named_argument (codes "netlist") ∷ named_argument (codes "rates") ∷ [])
 
 -- `faults NETLIST WORKLOAD RATES POINTS RESULT [--ftti F] [--flips LIST] [--pulses LIST]`
 abbrev pub faults_app : App
@@ -121,7 +121,7 @@ progress_app = with_rules (with_plan (new_app (codes "progress"))) (asil_rule �
 
 -- ---- the table
 
--- one level of subcommands, of which one must be named
+-- one level of subcommands, of which one must be named_argument
 abbrev pub with_required : App → App
 with_required a = record a { top = record a.top { subcommand_required = true } }
 

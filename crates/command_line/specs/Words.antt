@@ -12,20 +12,20 @@ use Rattle.command_line.specs.Commands.{Command, Classes, Check, Run, Resume, Au
 use Rattle.command_line.specs.Table.{fmeda_app}
 
 -- the command's own word
-abbrev pub word_of : Command → Text
-word_of (Classes netlist workload) = codes "classes"
-word_of (Check inputs flips pulses) = codes "check"
-word_of (Run inputs name set workers) = codes "run"
-word_of (Resume inputs name set workers) = codes "resume"
-word_of (Audit inputs name set) = codes "audit"
-word_of (Gen stages name workers) = codes "gen"
-word_of (Report inputs set) = codes "report"
-word_of (Shard inputs name set part parts) = codes "shard"
-word_of (Merge inputs name first second set) = codes "merge"
-word_of (Pairs inputs name set workers) = codes "pairs"
-word_of (Parts netlist rates) = codes "parts"
-word_of (Faults inputs name set) = codes "faults"
-word_of (Progress inputs name set) = codes "progress"
+abbrev pub command_word : Command → Text
+command_word (Classes netlist workload) = codes "classes"
+command_word (Check inputs flips pulses) = codes "check"
+command_word (Run inputs name set workers) = codes "run"
+command_word (Resume inputs name set workers) = codes "resume"
+command_word (Audit inputs name set) = codes "audit"
+command_word (Gen stages name workers) = codes "gen"
+command_word (Report inputs set) = codes "report"
+command_word (Shard inputs name set part parts) = codes "shard"
+command_word (Merge inputs name first second set) = codes "merge"
+command_word (Pairs inputs name set workers) = codes "pairs"
+command_word (Parts netlist rates) = codes "parts"
+command_word (Faults inputs name set) = codes "faults"
+command_word (Progress inputs name set) = codes "progress"
 
 -- ---- what stands behind it
 
@@ -97,7 +97,7 @@ abbrev pub HasPlanWords : List Row → Inputs → Text → Settings → Type 0
 HasPlanWords rows = HasPlan rows (λ asil. asil ≡ D)
 
 -- which part of how many
-pub record HasPart (rows : List Row) (part parts : ℕ) : Type 0 where
+pub record HasPartWords (rows : List Row) (part parts : ℕ) : Type 0 where
   pub number : HasNumber rows (codes "part") 0 1023 part
   pub many : HasNumber rows (codes "of") 1 1024 parts
   pub one : part < parts
@@ -117,7 +117,7 @@ SaidBy rows (Resume inputs result set workers) = HasCampaign rows inputs result 
 SaidBy rows (Audit inputs result set) = HasPlanWords rows inputs result set
 SaidBy rows (Gen stages result workers) = HasStages rows stages × (result ≡ entry rows (codes "result")) × HasWorkers rows workers
 SaidBy rows (Report inputs set) = HasInputs rows inputs × HasSettings rows (HasAsil rows) set
-SaidBy rows (Shard inputs result set part parts) = HasPlanWords rows inputs result set × HasPart rows part parts
+SaidBy rows (Shard inputs result set part parts) = HasPlanWords rows inputs result set × HasPartWords rows part parts
 SaidBy rows (Merge inputs result first second set) = HasPlanWords rows inputs result set × HasSources rows result first second
 SaidBy rows (Pairs inputs result set workers) = HasPlanWords rows inputs result set × HasWorkers rows workers
 SaidBy rows (Parts netlist rates) = (netlist ≡ entry rows (codes "netlist")) × (rates ≡ entry rows (codes "rates"))
@@ -128,7 +128,7 @@ SaidBy rows (Progress inputs result set) = HasPlan rows (HasAsil rows) inputs re
 
 -- the subcommand that was met is this command
 abbrev pub IsMet : Option (Text × List Row) → Command → Type 0
-IsMet met command = (rows : List Row) × (met ≡ Some (word_of command, rows)) × SaidBy rows command
+IsMet met command = (rows : List Row) × (met ≡ Some (command_word command, rows)) × SaidBy rows command
 
 -- `clap` states no fault of the words, and the subcommand that it states is this command
 abbrev pub IsCommand : List Text → Command → Type 0

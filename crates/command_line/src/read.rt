@@ -2,7 +2,7 @@
 ghost use Rattle.std.specs.Prelude.{◌≡◌, ◌≢◌, IfOk, MatchResult, codes, map, string_bytes};
 ghost use Rattle.clap.specs.Words.{found_of, rows_of, subcommand_rows_of};
 ghost use Rattle.command_line.specs.Words.{HasAsil, IsAlone, IsCommand};
-ghost use Rattle.command_line.specs.Asks.{told_by, AreCampaign, ArePlanWords, AsksMet, IsRefusal, IsSaid};
+ghost use Rattle.command_line.specs.Asks.{told_by, AreCampaign, ArePlanWords, AsksMet, IsWordsRefusal, IsCommandOfWord};
 ghost use Rattle.command_line.specs.declared.read.WordsRefusal.TheVariants.{Memory};
 
 use crate::cycles::read_cycles;
@@ -149,7 +149,7 @@ impl From<AllocError> for WordsRefusal {
 }
 
 fn classes_of<'a>(matches: &ArgMatches<'a>) -> Result<Asked<'a>, WordsRefusal>
-    ensures { IsSaid (codes "classes") (rows_of (found_of matches.now)) result }
+    ensures { IsCommandOfWord (codes "classes") (rows_of (found_of matches.now)) result }
 {
     Ok(Asked::Classes {
         netlist: entry_of(matches, "netlist"),
@@ -158,7 +158,7 @@ fn classes_of<'a>(matches: &ArgMatches<'a>) -> Result<Asked<'a>, WordsRefusal>
 }
 
 fn check_of<'a>(alloc: Global, matches: &ArgMatches<'a>) -> Result<Asked<'a>, WordsRefusal>
-    ensures { IsSaid (codes "check") (rows_of (found_of matches.now)) result }
+    ensures { IsCommandOfWord (codes "check") (rows_of (found_of matches.now)) result }
 {
     let inputs = inputs_of(matches);
     let flips = read_cycles(alloc, entry_of(matches, "flips"), MOST_FLIPS)?;
@@ -226,7 +226,7 @@ fn campaign_of<'a>(
 }
 
 fn run_of<'a>(alloc: Global, matches: &ArgMatches<'a>) -> Result<Asked<'a>, WordsRefusal>
-    ensures { IsSaid (codes "run") (rows_of (found_of matches.now)) result }
+    ensures { IsCommandOfWord (codes "run") (rows_of (found_of matches.now)) result }
 {
     let CampaignWords {
         inputs,
@@ -243,7 +243,7 @@ fn run_of<'a>(alloc: Global, matches: &ArgMatches<'a>) -> Result<Asked<'a>, Word
 }
 
 fn resume_of<'a>(alloc: Global, matches: &ArgMatches<'a>) -> Result<Asked<'a>, WordsRefusal>
-    ensures { IsSaid (codes "resume") (rows_of (found_of matches.now)) result }
+    ensures { IsCommandOfWord (codes "resume") (rows_of (found_of matches.now)) result }
 {
     let CampaignWords {
         inputs,
@@ -260,7 +260,7 @@ fn resume_of<'a>(alloc: Global, matches: &ArgMatches<'a>) -> Result<Asked<'a>, W
 }
 
 fn audit_of<'a>(alloc: Global, matches: &ArgMatches<'a>) -> Result<Asked<'a>, WordsRefusal>
-    ensures { IsSaid (codes "audit") (rows_of (found_of matches.now)) result }
+    ensures { IsCommandOfWord (codes "audit") (rows_of (found_of matches.now)) result }
 {
     let PlanWords {
         inputs,
@@ -275,7 +275,7 @@ fn audit_of<'a>(alloc: Global, matches: &ArgMatches<'a>) -> Result<Asked<'a>, Wo
 }
 
 fn shard_of<'a>(alloc: Global, matches: &ArgMatches<'a>) -> Result<Asked<'a>, WordsRefusal>
-    ensures { IsSaid (codes "shard") (rows_of (found_of matches.now)) result }
+    ensures { IsCommandOfWord (codes "shard") (rows_of (found_of matches.now)) result }
 {
     let PlanWords {
         inputs,
@@ -293,7 +293,7 @@ fn shard_of<'a>(alloc: Global, matches: &ArgMatches<'a>) -> Result<Asked<'a>, Wo
 }
 
 fn merge_of<'a>(alloc: Global, matches: &ArgMatches<'a>) -> Result<Asked<'a>, WordsRefusal>
-    ensures { IsSaid (codes "merge") (rows_of (found_of matches.now)) result }
+    ensures { IsCommandOfWord (codes "merge") (rows_of (found_of matches.now)) result }
 {
     let PlanWords {
         inputs,
@@ -314,7 +314,7 @@ fn merge_of<'a>(alloc: Global, matches: &ArgMatches<'a>) -> Result<Asked<'a>, Wo
 }
 
 fn pairs_of<'a>(alloc: Global, matches: &ArgMatches<'a>) -> Result<Asked<'a>, WordsRefusal>
-    ensures { IsSaid (codes "pairs") (rows_of (found_of matches.now)) result }
+    ensures { IsCommandOfWord (codes "pairs") (rows_of (found_of matches.now)) result }
 {
     let PlanWords {
         inputs,
@@ -331,7 +331,7 @@ fn pairs_of<'a>(alloc: Global, matches: &ArgMatches<'a>) -> Result<Asked<'a>, Wo
 }
 
 fn parts_of<'a>(matches: &ArgMatches<'a>) -> Result<Asked<'a>, WordsRefusal>
-    ensures { IsSaid (codes "parts") (rows_of (found_of matches.now)) result }
+    ensures { IsCommandOfWord (codes "parts") (rows_of (found_of matches.now)) result }
 {
     Ok(Asked::Parts {
         netlist: entry_of(matches, "netlist"),
@@ -340,7 +340,7 @@ fn parts_of<'a>(matches: &ArgMatches<'a>) -> Result<Asked<'a>, WordsRefusal>
 }
 
 fn faults_of<'a>(alloc: Global, matches: &ArgMatches<'a>) -> Result<Asked<'a>, WordsRefusal>
-    ensures { IsSaid (codes "faults") (rows_of (found_of matches.now)) result }
+    ensures { IsCommandOfWord (codes "faults") (rows_of (found_of matches.now)) result }
 {
     let PlanWords {
         inputs,
@@ -355,7 +355,7 @@ fn faults_of<'a>(alloc: Global, matches: &ArgMatches<'a>) -> Result<Asked<'a>, W
 }
 
 fn progress_of<'a>(alloc: Global, matches: &ArgMatches<'a>) -> Result<Asked<'a>, WordsRefusal>
-    ensures { IsSaid (codes "progress") (rows_of (found_of matches.now)) result }
+    ensures { IsCommandOfWord (codes "progress") (rows_of (found_of matches.now)) result }
 {
     let PlanWords {
         inputs,
@@ -370,7 +370,7 @@ fn progress_of<'a>(alloc: Global, matches: &ArgMatches<'a>) -> Result<Asked<'a>,
 }
 
 fn gen_of<'a>(matches: &ArgMatches<'a>) -> Result<Asked<'a>, WordsRefusal>
-    ensures { IsSaid (codes "gen") (rows_of (found_of matches.now)) result }
+    ensures { IsCommandOfWord (codes "gen") (rows_of (found_of matches.now)) result }
 {
     let stages = stages_of(matches)?;
     let workers = workers_of(matches)?;
@@ -382,7 +382,7 @@ fn gen_of<'a>(matches: &ArgMatches<'a>) -> Result<Asked<'a>, WordsRefusal>
 }
 
 fn report_of<'a>(alloc: Global, matches: &ArgMatches<'a>) -> Result<Asked<'a>, WordsRefusal>
-    ensures { IsSaid (codes "report") (rows_of (found_of matches.now)) result }
+    ensures { IsCommandOfWord (codes "report") (rows_of (found_of matches.now)) result }
 {
     let inputs = inputs_of(matches);
     let asil = asil_of(matches)?;
@@ -427,7 +427,7 @@ fn refusal_of(kind: ErrorKind) -> WordsRefusal
 
 /// The command that the words are; the first word is the program's name.
 pub fn read_words<'a>(alloc: Global, words: &'a [String]) -> Result<Asked<'a>, WordsRefusal>
-    ensures reads { MatchResult result (λ a. IsCommand (map string_bytes words.entry.now) (told_by a)) (IsRefusal (map string_bytes words.entry.now)) }
+    ensures reads { MatchResult result (λ a. IsCommand (map string_bytes words.entry.now) (told_by a)) (IsWordsRefusal (map string_bytes words.entry.now)) }
     ensures alone { IfOk result (λ a. IsAlone (map string_bytes words.entry.now) (told_by a)) }
 {
     let Ok(command) = fmeda_command(alloc) else {

@@ -2,13 +2,13 @@
 ghost use Rattle.std.specs.Prelude.{◌≡◌, ◌∷◌, [], IfOk, codes, false};
 ghost use Rattle.clap.specs.Words.{app_of, new_app, rule_of};
 ghost use Rattle.clap.specs.declared.builder.command.Command.TheViews.{out-Command};
-ghost use Rattle.command_line.specs.Table.{asil_rule, bounded, campaign_rows, check_app, classes_app, fmeda_app, ftti_rule, faults_app, gen_app, input_rules, list_rules, merge_app, named, option, pairs_app, parts_app, progress_app, program_with, report_app, required_option, result_rules, shard_app, shared_rows, with_campaign, with_plan, with_rules, workers_rule};
+ghost use Rattle.command_line.specs.Table.{asil_rule, bounded, campaign_rows, check_app, classes_app, fmeda_app, ftti_rule, faults_app, gen_app, input_rules, list_rules, merge_app, named_argument, option, pairs_app, parts_app, progress_app, program_with, report_app, required_option, result_rules, shard_app, shared_rows, with_campaign, with_plan, with_rules, workers_rule};
 
 use clap::{Arg, Command, value_parser};
 use std::alloc::{AllocError, Global};
 
 fn named_arg<'a>(alloc: Global, id: &'a str) -> Arg<'a>
-    ensures rule { rule_of result ≡ named id.entry.now }
+    ensures rule { rule_of result ≡ named_argument id.entry.now }
     ensures local { result.global ≡ false }
 {
     Arg::new(alloc, id).required(true)
@@ -64,7 +64,7 @@ fn workers_arg<'a>(alloc: Global) -> Arg<'a>
 }
 
 fn stages_arg<'a>(alloc: Global) -> Arg<'a>
-    ensures rule { rule_of result ≡ bounded (named (codes "stages")) 1 1000 }
+    ensures rule { rule_of result ≡ bounded (named_argument (codes "stages")) 1 1000 }
     ensures local { result.global ≡ false }
 {
     named_arg(alloc, "stages").value_parser(value_parser!(u32).range(1..=1000))

@@ -17,13 +17,13 @@ use Rattle.refusal_text.specs.declared.status.Status.TheVariants as status
 use Rattle.refusal_text.specs.declared.status.Which.{Which}
 use Rattle.refusal_text.specs.declared.status.Which.TheVariants as which
 use Rattle.command_steps.specs.declared.planned.Planned.{Planned}
-use Rattle.command_steps.specs.Files.{Files, Reads, all_read, files_of}
+use Rattle.command_steps.specs.Files.{Files, FilesRead, all_read, input_bytes}
 use Rattle.refusal_text.specs.NetlistFile.{or_refuse}
 use Rattle.command_steps.specs.FirstRefusal.{plan_of, back_step, result_step, audit_step, pairs_step, kept_of, audited_of, paired_of, own_header, refusal_in, status_of_back, IsPlanOf, ◌>>=◌}
 use Rattle.command_steps.specs.Held.{name_in}
 use Rattle.command_steps.specs.Steps.{StepAs}
 use Rattle.refusal_text.specs.Refusals.{IsPlain}
-use Rattle.command_steps.specs.PlanSteps.{PlanRefused, PlannedAs, bytes_of}
+use Rattle.command_steps.specs.PlanSteps.{PlanRefused, PlannedAs, input_files}
 use Rattle.command_steps.specs.BegunSteps.{KeptRefused, BegunAs}
 use Rattle.command_steps.proofs.Keeping.{had_if_known}
 use Rattle.command_steps.proofs.Taken.{Begins, SaysMore, no_read_fault, step_plain, told_plain, told_given, step_value}
@@ -62,32 +62,32 @@ rows_kept file own p bytes k is =
     told_given status_of_back (kept own p bytes) k (step_value file (back_step file own p) (rows_next own p) bytes k (rows_begin file own p) is)
 
 -- the header of a plan with these settings
-pub header_of : (made : Planned) (set : Settings) (own : Bytes) → own ≡ own_header made.plan.settings (bytes_of made.files) made.plan → made.plan.settings ≡ set
-    → own ≡ own_header set (bytes_of made.files) made.plan
-header_of made set own is same = is ∙ ap (λ s. own_header s (bytes_of made.files) made.plan) same
+pub header_of : (made : Planned) (set : Settings) (own : Bytes) → own ≡ own_header made.plan.settings (input_files made.files) made.plan → made.plan.settings ≡ set
+    → own ≡ own_header set (input_files made.files) made.plan
+header_of made set own is same = is ∙ ap (λ s. own_header s (input_files made.files) made.plan) same
 
 -- ---- the steps
 
-plan_only : (file : Bytes) (walk : Option (List NetId)) (set : Settings) (reads : Reads) (result : Option Bytes)
+plan_only : (file : Bytes) (walk : Option (List NetId)) (set : Settings) (reads : FilesRead) (result : Option Bytes)
     → plan_of file walk set (record reads { result = result }) ≡ plan_of file walk set reads
 plan_only file walk set reads result = plan_is file walk set (record reads { result = result }) ∙ sym (plan_is file walk set reads)
 
-abbrev rows_of : Settings → Reads → Analysis → Result KeptRows Status
-rows_of set reads p = result_step (own_header set (files_of reads) p) p reads.result
+abbrev rows_of : Settings → FilesRead → Analysis → Result KeptRows Status
+rows_of set reads p = result_step (own_header set (input_bytes reads) p) p reads.result
 
-kept_is : (file : Bytes) (walk : Option (List NetId)) (set : Settings) (reads : Reads) → kept_of file walk set reads ≡ (plan_of file walk set reads >>= rows_of set reads)
+kept_is : (file : Bytes) (walk : Option (List NetId)) (set : Settings) (reads : FilesRead) → kept_of file walk set reads ≡ (plan_of file walk set reads >>= rows_of set reads)
 unfolding kept_of
 kept_is file walk set reads = refl
 
-abbrev checked_of : Settings → Reads → Analysis → Result KeptRows Status
+abbrev checked_of : Settings → FilesRead → Analysis → Result KeptRows Status
 checked_of set reads p = rows_of set reads p >>= (λ k. audit_step p k)
 
-audited_is : (file : Bytes) (walk : Option (List NetId)) (set : Settings) (reads : Reads) → audited_of file walk set reads ≡ (plan_of file walk set reads >>= checked_of set reads)
+audited_is : (file : Bytes) (walk : Option (List NetId)) (set : Settings) (reads : FilesRead) → audited_of file walk set reads ≡ (plan_of file walk set reads >>= checked_of set reads)
 unfolding audited_of
 audited_is file walk set reads = refl
 
 -- what is refused before the rows are simulated is refused by an audit too
-pub audited_refused : (file : Bytes) (walk : Option (List NetId)) (set : Settings) (reads : Reads) (ended : Status) → kept_of file walk set reads ≡ Err ended
+pub audited_refused : (file : Bytes) (walk : Option (List NetId)) (set : Settings) (reads : FilesRead) (ended : Status) → kept_of file walk set reads ≡ Err ended
     → audited_of file walk set reads ≡ Err ended
 audited_refused file walk set reads ended is = audited_is file walk set reads ∙ by_plan (plan_of file walk set reads) (sym (kept_is file walk set reads) ∙ is)
   where
@@ -110,28 +110,28 @@ why_refused (Err other) ended e = ap (λ s. Err (some_or other s)) e
 pub kept_made : (file : Bytes) (set : Settings) (files : Files) (p : Analysis) (own : Bytes) (got : Option Bytes) → IsPlanOf file set files p → own ≡ own_header set files p
     → kept_of file None set (record (all_read files []) { result = got }) ≡ result_step own p got
 kept_made file set files p own got plan own_is =
-    let reads : Reads = record (all_read files []) { result = got } in
+    let reads : FilesRead = record (all_read files []) { result = got } in
     kept_is file None set reads ∙ ap (λ r. r >>= rows_of set reads) (plan_only file None set (all_read files []) got ∙ plan.plan) ∙ ap (λ o. result_step o p got) (sym own_is)
 
 -- and these rows, simulated again
 pub audited_made : (file : Bytes) (set : Settings) (files : Files) (p : Analysis) (own : Bytes) (got : Option Bytes) (k : KeptRows) → IsPlanOf file set files p → own ≡ own_header set files p
     → result_step own p got ≡ Ok k → audited_of file None set (record (all_read files []) { result = got }) ≡ audit_step p k
 audited_made file set files p own got k plan own_is is =
-    let reads : Reads = record (all_read files []) { result = got } in
+    let reads : FilesRead = record (all_read files []) { result = got } in
     audited_is file None set reads ∙ ap (λ r. r >>= checked_of set reads) (plan_only file None set (all_read files []) got ∙ plan.plan)
     ∙ ap (λ o. result_step o p got >>= (λ k. audit_step p k)) (sym own_is) ∙ ap (λ r. r >>= (λ k. audit_step p k)) is
 
 -- ---- the pairs
 
-abbrev paired_by : Settings → Reads → Analysis → Result KeptRows Status
+abbrev paired_by : Settings → FilesRead → Analysis → Result KeptRows Status
 paired_by set reads p = rows_of set reads p >>= (λ k. pairs_step p k)
 
-paired_is : (file : Bytes) (walk : Option (List NetId)) (set : Settings) (reads : Reads) → paired_of file walk set reads ≡ (plan_of file walk set reads >>= paired_by set reads)
+paired_is : (file : Bytes) (walk : Option (List NetId)) (set : Settings) (reads : FilesRead) → paired_of file walk set reads ≡ (plan_of file walk set reads >>= paired_by set reads)
 unfolding paired_of
 paired_is file walk set reads = refl
 
 -- what is refused before the pairs are chosen is refused where they are
-pub paired_refused : (file : Bytes) (walk : Option (List NetId)) (set : Settings) (reads : Reads) (ended : Status) → kept_of file walk set reads ≡ Err ended
+pub paired_refused : (file : Bytes) (walk : Option (List NetId)) (set : Settings) (reads : FilesRead) (ended : Status) → kept_of file walk set reads ≡ Err ended
     → paired_of file walk set reads ≡ Err ended
 paired_refused file walk set reads ended is = paired_is file walk set reads ∙ by_plan (plan_of file walk set reads) (sym (kept_is file walk set reads) ∙ is)
   where
@@ -146,7 +146,7 @@ paired_refused file walk set reads ended is = paired_is file walk set reads ∙ 
 pub paired_made : (file : Bytes) (set : Settings) (files : Files) (p : Analysis) (own : Bytes) (got : Option Bytes) (k : KeptRows) → IsPlanOf file set files p → own ≡ own_header set files p
     → result_step own p got ≡ Ok k → paired_of file None set (record (all_read files []) { result = got }) ≡ pairs_step p k
 paired_made file set files p own got k plan own_is is =
-    let reads : Reads = record (all_read files []) { result = got } in
+    let reads : FilesRead = record (all_read files []) { result = got } in
     paired_is file None set reads ∙ ap (λ r. r >>= paired_by set reads) (plan_only file None set (all_read files []) got ∙ plan.plan)
     ∙ ap (λ o. result_step o p got >>= (λ k. pairs_step p k)) (sym own_is) ∙ ap (λ r. r >>= (λ k. pairs_step p k)) is
 
@@ -160,7 +160,7 @@ module _ (inputs : Inputs) (name : Bytes) (set : Settings) (before after : Shelf
   begun_planned ended (inr refused) =
       let checked = refused.checked in
       let rows = some_fit before after name in
-      let reads : Reads = record checked.reads { result = rows.0 } in
+      let reads : FilesRead = record checked.reads { result = rows.0 } in
       inr (record {
         reads = reads;
         fit = record { netlist = checked.fit.netlist; workload = checked.fit.workload; rates = checked.fit.rates; points = checked.fit.points };
@@ -172,10 +172,10 @@ module _ (inputs : Inputs) (name : Bytes) (set : Settings) (before after : Shelf
         fault = refused.fault name [] [];
       })
 
-  module _ (made : Planned) (mid : ShelfState) (own : Bytes) (planned : PlannedAs before after inputs set (Ok made)) (own_is : own ≡ own_header set (bytes_of made.files) made.plan)
+  module _ (made : Planned) (mid : ShelfState) (own : Bytes) (planned : PlannedAs before after inputs set (Ok made)) (own_is : own ≡ own_header set (input_files made.files) made.plan)
       (first : OnlyReadsAny before mid) where
     abbrev files : Files
-    files = bytes_of made.files
+    files = input_files made.files
 
     -- the result file was refused
     pub begun_rows : (ended : Status) → StepAs which.Result (result_step own made.plan) name mid after (Err ended) → Answer ended × IsPlain ended

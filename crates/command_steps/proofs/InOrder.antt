@@ -18,7 +18,7 @@ use Rattle.refusal_text.specs.declared.status.What.TheVariants as what
 use Rattle.refusal_text.specs.Refusals.{IsPlain}
 use Rattle.command_steps.specs.declared.input.Taken.{Taken}
 use Rattle.command_steps.specs.declared.netlist.Ordered.{Ordered}
-use Rattle.command_steps.specs.Files.{Files, Reads, all_read}
+use Rattle.command_steps.specs.Files.{Files, FilesRead, all_read}
 use Rattle.command_steps.specs.FirstRefusal.{unless, workload_step, outputs_step, netlist_step, classes_plan_of, first_refusal, refusal_in, IsLoopAnswer, ◌>>=◌, classes_plan}
 use Rattle.campaign_plan.specs.Analysis.{Analysis}
 use Rattle.command_steps.specs.Held.{name_of}
@@ -79,7 +79,7 @@ held_is content held bytes has is = subst (λ c. HasIfKnown c bytes) is has
 -- ---- `classes`
 
 -- what was read of its two files
-abbrev reads_of : (netlist workload : Option Bytes) → Reads
+abbrev reads_of : (netlist workload : Option Bytes) → FilesRead
 reads_of netlist workload = record { netlist = netlist; workload = workload; rates = None; points = None; result = None; first = None; second = None }
 
 abbrev after_outputs : Option Bytes → Circuit → Result Analysis Status
@@ -88,11 +88,11 @@ after_outputs workload c = workload_step c workload >>= (λ runs. Ok (classes_pl
 abbrev after_netlist : Option Bytes → Circuit → Result Analysis Status
 after_netlist workload c = outputs_step c >>= after_outputs workload
 
-classes_is : (n : Bytes) (walk : Option (List NetId)) (reads : Reads) → classes_plan_of n walk reads ≡ (netlist_step n walk reads.netlist >>= after_netlist reads.workload)
+classes_is : (n : Bytes) (walk : Option (List NetId)) (reads : FilesRead) → classes_plan_of n walk reads ≡ (netlist_step n walk reads.netlist >>= after_netlist reads.workload)
 unfolding classes_plan_of
 classes_is n walk reads = refl
 
-first_is : (walk : Option (List NetId)) (n w : Bytes) (reads : Reads) → first_refusal walk (Classes n w) reads ≡ refusal_in (classes_plan_of n walk reads)
+first_is : (walk : Option (List NetId)) (n w : Bytes) (reads : FilesRead) → first_refusal walk (Classes n w) reads ≡ refusal_in (classes_plan_of n walk reads)
 unfolding first_refusal
 first_is walk n w reads = refl
 
@@ -105,7 +105,7 @@ module _ (n w : Bytes) (before after : ShelfState) where
   classes_netlist ended (inl memory) = inl memory
   classes_netlist ended (inr (got, walk, fits, loops, is, fault)) =
       let other = some_fit before after w in
-      let reads : Reads = reads_of got other.0 in
+      let reads : FilesRead = reads_of got other.0 in
       inr (record {
         checked = record {
           reads = reads;
@@ -122,7 +122,7 @@ module _ (n w : Bytes) (before after : ShelfState) where
     c = made.net
 
     -- the plan of this netlist and what comes of the outputs
-    after_net : (reads : Reads) → reads.netlist ≡ Some made.bytes → classes_plan_of n None reads ≡ after_netlist reads.workload c
+    after_net : (reads : FilesRead) → reads.netlist ≡ Some made.bytes → classes_plan_of n None reads ≡ after_netlist reads.workload c
     after_net reads is = classes_is n None reads ∙ ap (λ r. r >>= after_netlist reads.workload) (ap (netlist_step n None) is ∙ net.1)
 
     -- over this netlist and what was read of the workload, this is the first refusal, or there is none

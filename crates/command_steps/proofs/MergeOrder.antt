@@ -19,12 +19,12 @@ use Rattle.refusal_text.specs.declared.status.Which.{Which}
 use Rattle.refusal_text.specs.declared.status.Which.TheVariants as which
 use Rattle.refusal_text.specs.Refusals.{IsPlain}
 use Rattle.command_steps.specs.declared.planned.Planned.{Planned}
-use Rattle.command_steps.specs.Files.{Files, Reads, all_read, both_read, files_of}
+use Rattle.command_steps.specs.Files.{Files, FilesRead, all_read, both_read, input_bytes}
 use Rattle.command_steps.specs.FirstRefusal.{plan_of, back_step, merge_step, merged_of, own_header, status_of_merge, IsPlanOf, ◌>>=◌}
 use Rattle.command_steps.specs.Held.{name_with}
 use Rattle.command_steps.specs.Checked.{FaultsRose}
 use Rattle.command_steps.specs.Steps.{FaultRose, StepAs, AnswersAs}
-use Rattle.command_steps.specs.PlanSteps.{PlanRefused, PlannedAs, bytes_of}
+use Rattle.command_steps.specs.PlanSteps.{PlanRefused, PlannedAs, input_files}
 use Rattle.command_steps.specs.MergeSteps.{MergeRefused, AreMerged, BothRead, BothRefused, BothAs, both_step}
 use Rattle.command_steps.proofs.Keeping.{had_if_known}
 use Rattle.command_steps.proofs.Taken.{no_read_fault, told_plain}
@@ -119,18 +119,18 @@ module _ (own : Bytes) (p : Analysis) (one two : Bytes) (before after : ShelfSta
 
 -- ---- behind the plan
 
-abbrev both_of : Settings → Reads → Analysis → Result (List Row) Status
-both_of set reads p = both_step (own_header set (files_of reads) p) p reads.first reads.second
+abbrev both_of : Settings → FilesRead → Analysis → Result (List Row) Status
+both_of set reads p = both_step (own_header set (input_bytes reads) p) p reads.first reads.second
 
-merged_is : (file : Bytes) (walk : Option (List NetId)) (set : Settings) (reads : Reads) → merged_of file walk set reads ≡ (plan_of file walk set reads >>= both_of set reads)
+merged_is : (file : Bytes) (walk : Option (List NetId)) (set : Settings) (reads : FilesRead) → merged_of file walk set reads ≡ (plan_of file walk set reads >>= both_of set reads)
 unfolding merged_of
 merged_is file walk set reads = refl
 
 -- the files of a plan, and two more
-abbrev reads_with : Reads → (first second : Option Bytes) → Reads
+abbrev reads_with : FilesRead → (first second : Option Bytes) → FilesRead
 reads_with reads first second = record reads { result = None; first = first; second = second }
 
-plan_only : (file : Bytes) (walk : Option (List NetId)) (set : Settings) (reads : Reads) (first second : Option Bytes)
+plan_only : (file : Bytes) (walk : Option (List NetId)) (set : Settings) (reads : FilesRead) (first second : Option Bytes)
     → plan_of file walk set (reads_with reads first second) ≡ plan_of file walk set reads
 plan_only file walk set reads first second = plan_is file walk set (reads_with reads first second) ∙ sym (plan_is file walk set reads)
 
@@ -138,7 +138,7 @@ plan_only file walk set reads first second = plan_is file walk set (reads_with r
 merged_made : (file : Bytes) (set : Settings) (files : Files) (p : Analysis) (own : Bytes) (first second : Option Bytes) → IsPlanOf file set files p → own ≡ own_header set files p
     → merged_of file None set (reads_with (all_read files []) first second) ≡ both_step own p first second
 merged_made file set files p own first second plan own_is =
-    let reads : Reads = reads_with (all_read files []) first second in
+    let reads : FilesRead = reads_with (all_read files []) first second in
     merged_is file None set reads ∙ ap (λ r. r >>= both_of set reads) (plan_only file None set (all_read files []) first second ∙ plan.plan)
     ∙ ap (λ o. both_step o p first second) (sym own_is)
 
@@ -159,7 +159,7 @@ module _ (inputs : Inputs) (first second : Bytes) (set : Settings) (before after
       let checked = refused.checked in
       let one = some_fit before after first in
       let two = some_fit before after second in
-      let reads : Reads = reads_with checked.reads one.0 two.0 in
+      let reads : FilesRead = reads_with checked.reads one.0 two.0 in
       inr (record {
         reads = reads;
         fit = record { netlist = checked.fit.netlist; workload = checked.fit.workload; rates = checked.fit.rates; points = checked.fit.points };
@@ -173,18 +173,18 @@ module _ (inputs : Inputs) (first second : Bytes) (set : Settings) (before after
       })
 
   -- one of the two files was refused
-  pub merge_both : (made : Planned) (mid : ShelfState) (own : Bytes) → PlannedAs before after inputs set (Ok made) → own ≡ own_header set (bytes_of made.files) made.plan
+  pub merge_both : (made : Planned) (mid : ShelfState) (own : Bytes) → PlannedAs before after inputs set (Ok made) → own ≡ own_header set (input_files made.files) made.plan
       → OnlyReadsAny before mid → (ended : Status) → BothAs own made.plan first second mid after (Err ended) → Answer ended × IsPlain ended
   merge_both made mid own planned own_is only ended (inl memory, plain) = (inl memory, plain)
   merge_both made mid own planned own_is only ended (inr both, plain) = (
     inr (record {
-      reads = reads_with (all_read (bytes_of made.files) []) both.first both.second;
+      reads = reads_with (all_read (input_files made.files) []) both.first both.second;
       fit = record { netlist = planned.0.netlist; workload = planned.0.workload; rates = planned.0.rates; points = planned.0.points };
       one = fits_since first after both.first only both.first_fits;
       two = fits_since second after both.second only both.second_fits;
       walk = None;
       loops = planned.3;
-      refused = merged_made inputs.netlist set (bytes_of made.files) made.plan own both.first both.second planned.1 own_is ∙ both.refused;
+      refused = merged_made inputs.netlist set (input_files made.files) made.plan own both.first both.second planned.1 own_is ∙ both.refused;
       fault = λ result which e. by_file result both.fault which e;
     }),
     plain,
@@ -197,7 +197,7 @@ module _ (inputs : Inputs) (first second : Bytes) (set : Settings) (before after
 
 -- the rows of both files, with the plan's header
 pub merge_made : (first second : Bytes) (set : Settings) {before mid : ShelfState} (made : Planned) (own : Bytes) (rows : List Row) → IsPlan made.plan
-    → own ≡ own_header set (bytes_of made.files) made.plan → length own ≡ 89 → OnlyReadsAny before mid → BothRead own made.plan first second mid rows
+    → own ≡ own_header set (input_files made.files) made.plan → length own ≡ 89 → OnlyReadsAny before mid → BothRead own made.plan first second mid rows
     → AreMerged before first second set (record { planned = made; own = own; rows = rows })
 merge_made first second set made own rows sound own_is len only both = record {
   sound = sound;

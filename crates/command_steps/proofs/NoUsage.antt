@@ -34,7 +34,7 @@ use Rattle.refusal_text.specs.declared.status.Status.TheVariants as status
 use Rattle.refusal_text.specs.declared.status.Which.{Which}
 use Rattle.refusal_text.specs.declared.status.Which.TheVariants as which
 use Rattle.refusal_text.specs.declared.status.What.TheVariants as what
-use Rattle.command_steps.specs.Files.{Reads, all_read, files_of}
+use Rattle.command_steps.specs.Files.{FilesRead, all_read, input_bytes}
 use Rattle.command_steps.specs.FirstRefusal.{at_most, no_name, unless, netlist_step, outputs_step, workload_step, rates_step, points_step, plan_for, plan_of, classes_plan_of, rated_of, status_of_plan, status_of_back, result_step, own_header, is_wrong, disagreement, audit_step, kept_of, audited_of, refusal_in, generated, generated_settings, first_refusal, ◌>>=◌, back_step, status_of_merge, merge_step, merged_of, status_of_pairs, paired_of}
 
 -- ---- no check answers Usage
@@ -103,7 +103,7 @@ refused_spares (Some (plan.MissingRate net name)) p = λ e. let bad : status.Mis
 refused_spares (Some (plan.IdleRate part permanent)) p = λ e. let bad : status.IdleRate part permanent ≡ status.Usage = e in cc bad
 refused_spares (Some plan.Memory) p = λ e. let bad : status.Memory ≡ status.Usage = e in cc bad
 
-plan_for_spares : (c : Circuit) (set : Settings) (reads : Reads) → Spares (plan_for c set reads)
+plan_for_spares : (c : Circuit) (set : Settings) (reads : FilesRead) → Spares (plan_for c set reads)
 unfolding plan_for
 plan_for_spares c set reads =
     then_spares (workload_step c reads.workload) _ (workload_spares c reads.workload)
@@ -111,7 +111,7 @@ plan_for_spares c set reads =
     (λ rates. then_spares (points_step c reads.points) _ (points_spares c reads.points)
     (λ points. let p : Analysis = record { circuit = c; runs = runs; rates = rates; points = points; settings = set } in refused_spares (plan_refusal p) p)))
 
-plan_spares : (name : Bytes) (walk : Option (List NetId)) (set : Settings) (reads : Reads) → Spares (plan_of name walk set reads)
+plan_spares : (name : Bytes) (walk : Option (List NetId)) (set : Settings) (reads : FilesRead) → Spares (plan_of name walk set reads)
 unfolding plan_of
 plan_spares name walk set reads = then_spares (netlist_step name walk reads.netlist) (λ c. plan_for c set reads) (netlist_spares name walk reads.netlist) (λ c. plan_for_spares c set reads)
 
@@ -119,14 +119,14 @@ few_spares : (c : Circuit) (many : Bool) → Spares (unless (if many then Some (
 few_spares c true = λ e. let bad : status.TooLarge what.Outputs ≡ status.Usage = e in cc bad
 few_spares c false = tt
 
-classes_spares : (name : Bytes) (walk : Option (List NetId)) (reads : Reads) → Spares (classes_plan_of name walk reads)
+classes_spares : (name : Bytes) (walk : Option (List NetId)) (reads : FilesRead) → Spares (classes_plan_of name walk reads)
 unfolding classes_plan_of
 classes_spares name walk reads =
     then_spares (netlist_step name walk reads.netlist) _ (netlist_spares name walk reads.netlist)
     (λ c. then_spares (outputs_step c) _ (few_spares c (nat_lt 1024 (length c.outputs)))
     (λ counted. then_spares (workload_step counted reads.workload) _ (workload_spares counted reads.workload) (λ runs. tt)))
 
-parts_spares : (name : Bytes) (walk : Option (List NetId)) (reads : Reads) → Spares (rated_of name walk reads)
+parts_spares : (name : Bytes) (walk : Option (List NetId)) (reads : FilesRead) → Spares (rated_of name walk reads)
 unfolding rated_of
 parts_spares name walk reads =
     then_spares (netlist_step name walk reads.netlist) _ (netlist_spares name walk reads.netlist)
@@ -151,16 +151,16 @@ audit_spares : (p : Analysis) (k : KeptRows) → Spares (audit_step p k)
 unfolding audit_step
 audit_spares p k = row_spares (true_planes p) k (find (is_wrong (true_planes p)) k.rows)
 
-kept_spares : (name : Bytes) (walk : Option (List NetId)) (set : Settings) (reads : Reads) → Spares (kept_of name walk set reads)
+kept_spares : (name : Bytes) (walk : Option (List NetId)) (set : Settings) (reads : FilesRead) → Spares (kept_of name walk set reads)
 unfolding kept_of
 kept_spares name walk set reads =
-    then_spares (plan_of name walk set reads) _ (plan_spares name walk set reads) (λ p. result_spares (own_header set (files_of reads) p) p reads.result)
+    then_spares (plan_of name walk set reads) _ (plan_spares name walk set reads) (λ p. result_spares (own_header set (input_bytes reads) p) p reads.result)
 
-audited_spares : (name : Bytes) (walk : Option (List NetId)) (set : Settings) (reads : Reads) → Spares (audited_of name walk set reads)
+audited_spares : (name : Bytes) (walk : Option (List NetId)) (set : Settings) (reads : FilesRead) → Spares (audited_of name walk set reads)
 unfolding audited_of
 audited_spares name walk set reads =
     then_spares (plan_of name walk set reads) _ (plan_spares name walk set reads)
-    (λ p. then_spares (result_step (own_header set (files_of reads) p) p reads.result) _ (result_spares (own_header set (files_of reads) p) p reads.result) (λ k. audit_spares p k))
+    (λ p. then_spares (result_step (own_header set (input_bytes reads) p) p reads.result) _ (result_spares (own_header set (input_bytes reads) p) p reads.result) (λ k. audit_spares p k))
 
 merge_spares : (p : Analysis) (first second : KeptRows) → Spares (merge_step p first second)
 merge_spares p first second = by_answer (merged p first.rows second.rows)
@@ -169,12 +169,12 @@ merge_spares p first second = by_answer (merged p first.rows second.rows)
     by_answer (Ok rows) = tt
     by_answer (Err (Differs batch one two)) = λ e. let bad : status.Differs batch one two ≡ status.Usage = e in cc bad
 
-merged_spares : (netlist : Bytes) (walk : Option (List NetId)) (set : Settings) (reads : Reads) → Spares (merged_of netlist walk set reads)
+merged_spares : (netlist : Bytes) (walk : Option (List NetId)) (set : Settings) (reads : FilesRead) → Spares (merged_of netlist walk set reads)
 unfolding merged_of
 merged_spares netlist walk set reads =
     then_spares (plan_of netlist walk set reads) _ (plan_spares netlist walk set reads)
-    (λ p. then_spares (back_step which.First (own_header set (files_of reads) p) p reads.first) _ (back_spares which.First (own_header set (files_of reads) p) p reads.first)
-    (λ first. then_spares (back_step which.Second (own_header set (files_of reads) p) p reads.second) _ (back_spares which.Second (own_header set (files_of reads) p) p reads.second)
+    (λ p. then_spares (back_step which.First (own_header set (input_bytes reads) p) p reads.first) _ (back_spares which.First (own_header set (input_bytes reads) p) p reads.first)
+    (λ first. then_spares (back_step which.Second (own_header set (input_bytes reads) p) p reads.second) _ (back_spares which.Second (own_header set (input_bytes reads) p) p reads.second)
     (λ second. merge_spares p first second)))
 
 pairs_spares : (k : KeptRows) (why : Option PairRefusal) → Spares (unless (option_map status_of_pairs why) k)
@@ -182,18 +182,18 @@ pairs_spares k None = tt
 pairs_spares k (Some (Incomplete have batches)) = λ e. let bad : status.Incomplete have batches ≡ status.Usage = e in cc bad
 pairs_spares k (Some TooMany) = λ e. let bad : status.TooLarge what.Pairs ≡ status.Usage = e in cc bad
 
-paired_spares : (netlist : Bytes) (walk : Option (List NetId)) (set : Settings) (reads : Reads) → Spares (paired_of netlist walk set reads)
+paired_spares : (netlist : Bytes) (walk : Option (List NetId)) (set : Settings) (reads : FilesRead) → Spares (paired_of netlist walk set reads)
 unfolding paired_of
 paired_spares netlist walk set reads =
     then_spares (plan_of netlist walk set reads) _ (plan_spares netlist walk set reads)
-    (λ p. then_spares (result_step (own_header set (files_of reads) p) p reads.result) _ (result_spares (own_header set (files_of reads) p) p reads.result)
+    (λ p. then_spares (result_step (own_header set (input_bytes reads) p) p reads.result) _ (result_spares (own_header set (input_bytes reads) p) p reads.result)
     (λ k. pairs_spares k (pair_refusal p k.rows)))
 
 in_other : {A : Type 0} (r : Result A Status) → Spares r → refusal_in r ≢ Some status.Usage
 in_other (Ok x) spares e = cc
 in_other (Err ended) spares e = let same : ended ≡ status.Usage = cc in spares same
 
-pub no_usage : (walk : Option (List NetId)) (command : Command) (reads : Reads) → first_refusal walk command reads ≢ Some status.Usage
+pub no_usage : (walk : Option (List NetId)) (command : Command) (reads : FilesRead) → first_refusal walk command reads ≢ Some status.Usage
 unfolding first_refusal
 no_usage walk (Classes netlist workload) reads = in_other (classes_plan_of netlist walk reads) (classes_spares netlist walk reads)
 no_usage walk (Check inputs flips pulses) reads = in_other (plan_of inputs.netlist walk (settings_of flips pulses) reads) (plan_spares inputs.netlist walk (settings_of flips pulses) reads)

@@ -29,7 +29,7 @@ use Rattle.command_steps.specs.declared.input.Taken.{Taken}
 use Rattle.command_steps.specs.declared.netlist.Ordered.{Ordered}
 use Rattle.command_steps.specs.declared.planned.Planned.{Planned}
 use Rattle.command_steps.specs.declared.planned.Tables.{Tables}
-use Rattle.command_steps.specs.Files.{Files, Reads, all_read}
+use Rattle.command_steps.specs.Files.{Files, FilesRead, all_read}
 use Rattle.command_steps.specs.FirstRefusal.{unless, status_of_plan, workload_step, rates_step, points_step, plan_step, netlist_step, plan_of, plan_for, refusal_in, IsLoopAnswer, IsPlanOf, ◌>>=◌}
 use Rattle.command_steps.specs.Held.{HoldsInputs, name_with}
 use Rattle.command_steps.specs.WasRead.{AreRead}
@@ -67,24 +67,24 @@ plan_same p made e = by_refusal (plan_refusal p) e
 abbrev to_plan : Circuit → Settings → List Run → RateTable → Points → Result Analysis Status
 to_plan c set runs rates points = plan_step (record { circuit = c; runs = runs; rates = rates; points = points; settings = set })
 
-abbrev after_rates : Circuit → Settings → Reads → List Run → RateTable → Result Analysis Status
+abbrev after_rates : Circuit → Settings → FilesRead → List Run → RateTable → Result Analysis Status
 after_rates c set reads runs rates = points_step c reads.points >>= (λ points. to_plan c set runs rates points)
 
-abbrev after_runs : Circuit → Settings → Reads → List Run → Result Analysis Status
+abbrev after_runs : Circuit → Settings → FilesRead → List Run → Result Analysis Status
 after_runs c set reads runs = rates_step reads.rates >>= (λ rates. after_rates c set reads runs rates)
 
-abbrev after_net : Settings → Reads → Circuit → Result Analysis Status
+abbrev after_net : Settings → FilesRead → Circuit → Result Analysis Status
 after_net set reads c = workload_step c reads.workload >>= (λ runs. after_runs c set reads runs)
 
-for_is : (c : Circuit) (set : Settings) (reads : Reads) → plan_for c set reads ≡ after_net set reads c
+for_is : (c : Circuit) (set : Settings) (reads : FilesRead) → plan_for c set reads ≡ after_net set reads c
 unfolding plan_for
 for_is c set reads = refl
 
-of_is : (file : Bytes) (walk : Option (List NetId)) (set : Settings) (reads : Reads) → plan_of file walk set reads ≡ (netlist_step file walk reads.netlist >>= (λ c. plan_for c set reads))
+of_is : (file : Bytes) (walk : Option (List NetId)) (set : Settings) (reads : FilesRead) → plan_of file walk set reads ≡ (netlist_step file walk reads.netlist >>= (λ c. plan_for c set reads))
 unfolding plan_of
 of_is file walk set reads = refl
 
-pub plan_is : (file : Bytes) (walk : Option (List NetId)) (set : Settings) (reads : Reads) → plan_of file walk set reads ≡ (netlist_step file walk reads.netlist >>= after_net set reads)
+pub plan_is : (file : Bytes) (walk : Option (List NetId)) (set : Settings) (reads : FilesRead) → plan_of file walk set reads ≡ (netlist_step file walk reads.netlist >>= after_net set reads)
 plan_is file walk set reads = of_is file walk set reads ∙ (λ j. netlist_step file walk reads.netlist >>= (λ c. for_is c set reads j))
 
 -- ---- the three files behind a netlist
@@ -102,7 +102,7 @@ module _ (inputs : Inputs) (c : Circuit) (before after : ShelfState) where
       by_step (inr (got, fits, is, fault)) =
           let rates = some_fit before after inputs.rates in
           let points = some_fit before after inputs.points in
-          let reads : Reads = record { netlist = None; workload = got; rates = rates.0; points = points.0; result = None; first = None; second = None } in
+          let reads : FilesRead = record { netlist = None; workload = got; rates = rates.0; points = points.0; result = None; first = None; second = None } in
           inr (record {
             reads = reads;
             workload = fits;
@@ -121,7 +121,7 @@ module _ (inputs : Inputs) (c : Circuit) (before after : ShelfState) where
         by_step (inl memory) = inl memory
         by_step (inr (got, fits, is, fault)) =
             let points = some_fit before after inputs.points in
-            let reads : Reads = record { netlist = None; workload = Some work.bytes; rates = got; points = points.0; result = None; first = None; second = None } in
+            let reads : FilesRead = record { netlist = None; workload = Some work.bytes; rates = got; points = points.0; result = None; first = None; second = None } in
             inr (record {
               reads = reads;
               workload = worked.0;
@@ -142,7 +142,7 @@ module _ (inputs : Inputs) (c : Circuit) (before after : ShelfState) where
           by_step : StepAs which.Points (points_step c) inputs.points before after (Err ended) → Refused ended
           by_step (inl memory) = inl memory
           by_step (inr (got, fits, is, fault)) =
-              let reads : Reads = record { netlist = None; workload = Some work.bytes; rates = Some rates.bytes; points = got; result = None; first = None; second = None } in
+              let reads : FilesRead = record { netlist = None; workload = Some work.bytes; rates = Some rates.bytes; points = got; result = None; first = None; second = None } in
               inr (record {
                 reads = reads;
                 workload = worked.0;
@@ -168,7 +168,7 @@ module _ (inputs : Inputs) (set : Settings) (before after : ShelfState) where
       let work = some_fit before after inputs.workload in
       let rates = some_fit before after inputs.rates in
       let points = some_fit before after inputs.points in
-      let reads : Reads = record { netlist = got; workload = work.0; rates = rates.0; points = points.0; result = None; first = None; second = None } in
+      let reads : FilesRead = record { netlist = got; workload = work.0; rates = rates.0; points = points.0; result = None; first = None; second = None } in
       inr (record {
         checked = record {
           reads = reads;
@@ -185,14 +185,14 @@ module _ (inputs : Inputs) (set : Settings) (before after : ShelfState) where
     loops = loops_none inputs.netlist ordered.bytes ordered.net net.1 net.2
 
     -- the plan of this netlist
-    with_net : (reads : Reads) → reads.netlist ≡ Some ordered.bytes → plan_of inputs.netlist None set reads ≡ plan_for ordered.net set reads
+    with_net : (reads : FilesRead) → reads.netlist ≡ Some ordered.bytes → plan_of inputs.netlist None set reads ≡ plan_for ordered.net set reads
     with_net reads is = of_is inputs.netlist None set reads ∙ ap (λ r. r >>= (λ c. plan_for c set reads)) (ap (netlist_step inputs.netlist None) is ∙ net.1)
 
     -- a file behind it was refused
     pub plan_tables : (ended : Status) → TablesAs inputs ordered.net mid after (Err ended) → ((ended ≡ status.Memory) ⊎ PlanRefused inputs set before after ended) × IsPlain ended
     plan_tables ended (inl memory, plain) = (inl memory, plain)
     plan_tables ended (inr r, plain) =
-        let reads : Reads = record r.reads { netlist = Some ordered.bytes } in (
+        let reads : FilesRead = record r.reads { netlist = Some ordered.bytes } in (
           inr (record {
             checked = record {
               reads = reads;
@@ -226,7 +226,7 @@ module _ (inputs : Inputs) (set : Settings) (before after : ShelfState) where
       steps : plan_of inputs.netlist None set (all_read files []) ≡ plan_step (analysis_of ordered tables set)
       steps =
           let c = ordered.net in
-          let reads : Reads = all_read files [] in
+          let reads : FilesRead = all_read files [] in
           with_net reads refl ∙ for_is c set reads ∙ ap (λ r. r >>= after_runs c set reads) read.0.1 ∙ ap (λ r. r >>= after_rates c set reads tables.work.value) read.1.1
           ∙ ap (λ r. r >>= to_plan c set tables.work.value tables.rates.value) read.2.1
 

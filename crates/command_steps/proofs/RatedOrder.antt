@@ -13,7 +13,7 @@ use Rattle.refusal_text.specs.declared.status.Which.TheVariants as which
 use Rattle.refusal_text.specs.Refusals.{IsPlain}
 use Rattle.command_steps.specs.declared.input.Taken.{Taken}
 use Rattle.command_steps.specs.declared.netlist.Ordered.{Ordered}
-use Rattle.command_steps.specs.Files.{Files, Reads, all_read}
+use Rattle.command_steps.specs.Files.{Files, FilesRead, all_read}
 use Rattle.command_steps.specs.FirstRefusal.{netlist_step, rates_step, rated_of, refusal_in, first_refusal, ◌>>=◌}
 use Rattle.command_steps.specs.Held.{name_of}
 use Rattle.command_steps.specs.Checked.{NameFits, Checked}
@@ -23,17 +23,17 @@ use Rattle.command_steps.proofs.Taken.{rates_plain}
 use Rattle.command_steps.proofs.InOrder.{some_fit, loops_none, step_since, rose_of}
 
 -- what was read of its two files
-abbrev reads_of : (netlist rates : Option Bytes) → Reads
+abbrev reads_of : (netlist rates : Option Bytes) → FilesRead
 reads_of netlist rates = record { netlist = netlist; workload = None; rates = rates; points = None; result = None; first = None; second = None }
 
 abbrev after_netlist : Option Bytes → Circuit → Result (Circuit × RateTable) Status
 after_netlist rates c = rates_step rates >>= (λ table. Ok (c, table))
 
-rated_is : (n : Bytes) (walk : Option (List NetId)) (reads : Reads) → rated_of n walk reads ≡ (netlist_step n walk reads.netlist >>= after_netlist reads.rates)
+rated_is : (n : Bytes) (walk : Option (List NetId)) (reads : FilesRead) → rated_of n walk reads ≡ (netlist_step n walk reads.netlist >>= after_netlist reads.rates)
 unfolding rated_of
 rated_is n walk reads = refl
 
-first_is : (walk : Option (List NetId)) (n r : Bytes) (reads : Reads) → first_refusal walk (Parts n r) reads ≡ refusal_in (rated_of n walk reads)
+first_is : (walk : Option (List NetId)) (n r : Bytes) (reads : FilesRead) → first_refusal walk (Parts n r) reads ≡ refusal_in (rated_of n walk reads)
 unfolding first_refusal
 first_is walk n r reads = refl
 
@@ -46,7 +46,7 @@ module _ (n r : Bytes) (before after : ShelfState) where
   rated_netlist ended (inl memory) = inl memory
   rated_netlist ended (inr (got, walk, fits, loops, is, fault)) =
       let other = some_fit before after r in
-      let reads : Reads = reads_of got other.0 in
+      let reads : FilesRead = reads_of got other.0 in
       inr (record {
         checked = record {
           reads = reads;
@@ -60,7 +60,7 @@ module _ (n r : Bytes) (before after : ShelfState) where
 
   module _ (made : Ordered) (net : OrderedAs n before after (Ok made)) (mid : ShelfState) (first : OnlyReadsAny before mid) where
     -- the rates behind this netlist
-    after_net : (reads : Reads) → reads.netlist ≡ Some made.bytes → rated_of n None reads ≡ after_netlist reads.rates made.net
+    after_net : (reads : FilesRead) → reads.netlist ≡ Some made.bytes → rated_of n None reads ≡ after_netlist reads.rates made.net
     after_net reads is = rated_is n None reads ∙ ap (λ s. s >>= after_netlist reads.rates) (ap (netlist_step n None) is ∙ net.1)
 
     -- over this netlist and what was read of the rates, this is the first refusal, or there is none

@@ -9,7 +9,7 @@ use Rattle.refusal_text.specs.declared.status.Status.TheVariants as status
 use Rattle.refusal_text.specs.declared.status.Which.{Which}
 use Rattle.refusal_text.specs.declared.status.Which.TheVariants as which
 use Rattle.command_line.specs.Commands.{Command, Classes, Check, Run, Resume, Audit, Gen, Report, Shard, Merge, Pairs, Parts, Faults, Progress, Inputs}
-use Rattle.command_steps.specs.Files.{Reads, all_read}
+use Rattle.command_steps.specs.Files.{FilesRead, all_read}
 use Rattle.command_steps.specs.FirstRefusal.{IsLoopAnswer, first_refusal, generated}
 use Rattle.command_steps.specs.Held.{name_of}
 use Rattle.fm_base.specs.Names.{Bytes}
@@ -29,14 +29,14 @@ abbrev pub FaultsRose : (name : Which → Bytes) → (before after : ShelfState)
 FaultsRose name before after ended = (which : Which) → ended ≡ status.ReadFault which → CountRose (before.read_faults (name which)) (after.read_faults (name which))
 
 -- what was read of the four inputs fits them
-pub record InputsFit (before after : ShelfState) (inputs : Inputs) (reads : Reads) : Type 0 where
+pub record InputsFit (before after : ShelfState) (inputs : Inputs) (reads : FilesRead) : Type 0 where
   pub netlist : NameFits before after inputs.netlist reads.netlist
   pub workload : NameFits before after inputs.workload reads.workload
   pub rates : NameFits before after inputs.rates reads.rates
   pub points : NameFits before after inputs.points reads.points
 
 -- the same of each file that a command reads; `gen` has the generated texts in their place
-abbrev pub ReadsFit : (before after : ShelfState) → Command → Reads → Type 0
+abbrev pub ReadsFit : (before after : ShelfState) → Command → FilesRead → Type 0
 ReadsFit before after (Classes netlist workload) reads = NameFits before after netlist reads.netlist × NameFits before after workload reads.workload
 ReadsFit before after (Check inputs flips pulses) reads = InputsFit before after inputs reads
 ReadsFit before after (Run inputs name set workers) reads = InputsFit before after inputs reads
@@ -54,7 +54,7 @@ ReadsFit before after (Progress inputs name set) reads = InputsFit before after 
 
 -- THE ORDER OF THE CHECKS: over what the call has read, this is the first refusal, or there is none
 pub record Checked (command : Command) (before after : ShelfState) (refusal : Option Status) : Type 0 where
-  pub reads : Reads
+  pub reads : FilesRead
   pub fit : ReadsFit before after command reads
   pub walk : Option (List NetId)
   pub loops : IsLoopAnswer (name_of command which.Netlist) reads.netlist walk

@@ -36,7 +36,7 @@ use Rattle.refusal_text.specs.declared.status.Which.TheVariants as which
 use Rattle.refusal_text.specs.declared.status.What.TheVariants as what
 use Rattle.refusal_text.specs.NetlistFile.{netlist_in, or_refuse}
 use Rattle.command_line.specs.Commands.{Command, Classes, Check, Run as RunCommand, Resume, Audit, Gen, Report, Shard, Merge, Pairs, Parts, Faults, Progress, settings_of}
-use Rattle.command_steps.specs.Files.{Files, Reads, all_read, files_of}
+use Rattle.command_steps.specs.Files.{Files, FilesRead, all_read, input_bytes}
 use Rattle.fm_base.specs.Names.{Bytes}
 use Rattle.metric_sums.specs.declared.Role.TheVariants.{Mission}
 
@@ -108,7 +108,7 @@ abbrev pub plan_step : Analysis → Result Analysis Status
 plan_step p = unless (option_map status_of_plan (plan_refusal p)) p
 
 -- the plan of a netlist and three more files, or the first refusal
-unfoldable pub plan_for : Circuit → Settings → Reads → Result Analysis Status
+unfoldable pub plan_for : Circuit → Settings → FilesRead → Result Analysis Status
 plan_for c set reads = do
   runs ← workload_step c reads.workload
   rates ← rates_step reads.rates
@@ -116,13 +116,13 @@ plan_for c set reads = do
   plan_step (record { circuit = c; runs = runs; rates = rates; points = points; settings = set })
 
 -- the plan of four files, where the netlist's has this name, or the first refusal
-unfoldable pub plan_of : Bytes → Option (List NetId) → Settings → Reads → Result Analysis Status
+unfoldable pub plan_of : Bytes → Option (List NetId) → Settings → FilesRead → Result Analysis Status
 plan_of netlist walk set reads = do
   c ← netlist_step netlist walk reads.netlist
   plan_for c set reads
 
 -- the plan of `classes`, or the first refusal
-unfoldable pub classes_plan_of : Bytes → Option (List NetId) → Reads → Result Analysis Status
+unfoldable pub classes_plan_of : Bytes → Option (List NetId) → FilesRead → Result Analysis Status
 classes_plan_of netlist walk reads = do
   c ← netlist_step netlist walk reads.netlist
   counted ← outputs_step c
@@ -130,7 +130,7 @@ classes_plan_of netlist walk reads = do
   Ok (classes_plan counted runs)
 
 -- the netlist and the rates of `parts`, or the first refusal; a net that no pattern matches is none
-unfoldable pub rated_of : Bytes → Option (List NetId) → Reads → Result (Circuit × RateTable) Status
+unfoldable pub rated_of : Bytes → Option (List NetId) → FilesRead → Result (Circuit × RateTable) Status
 rated_of netlist walk reads = do
   c ← netlist_step netlist walk reads.netlist
   table ← rates_step reads.rates
@@ -173,16 +173,16 @@ refusal_in (Ok x) = None
 refusal_in (Err refusal) = Some refusal
 
 -- the rows that are kept of the result file, of which `resume` goes on and `faults` and `progress` tell
-unfoldable pub kept_of : Bytes → Option (List NetId) → Settings → Reads → Result KeptRows Status
+unfoldable pub kept_of : Bytes → Option (List NetId) → Settings → FilesRead → Result KeptRows Status
 kept_of netlist walk set reads = do
   p ← plan_of netlist walk set reads
-  result_step (own_header set (files_of reads) p) p reads.result
+  result_step (own_header set (input_bytes reads) p) p reads.result
 
 -- the rows that `audit` has found right
-unfoldable pub audited_of : Bytes → Option (List NetId) → Settings → Reads → Result KeptRows Status
+unfoldable pub audited_of : Bytes → Option (List NetId) → Settings → FilesRead → Result KeptRows Status
 audited_of netlist walk set reads = do
   p ← plan_of netlist walk set reads
-  k ← result_step (own_header set (files_of reads) p) p reads.result
+  k ← result_step (own_header set (input_bytes reads) p) p reads.result
   audit_step p k
 
 -- the status of a refusal to merge
@@ -194,11 +194,11 @@ abbrev pub merge_step : Analysis → (first second : KeptRows) → Result (List 
 merge_step p first second = or_refuse status_of_merge (merged p first.rows second.rows)
 
 -- the rows that `merge` writes; FIRST is judged whole before SECOND
-unfoldable pub merged_of : Bytes → Option (List NetId) → Settings → Reads → Result (List Row) Status
+unfoldable pub merged_of : Bytes → Option (List NetId) → Settings → FilesRead → Result (List Row) Status
 merged_of netlist walk set reads = do
   p ← plan_of netlist walk set reads
-  first ← back_step which.First (own_header set (files_of reads) p) p reads.first
-  second ← back_step which.Second (own_header set (files_of reads) p) p reads.second
+  first ← back_step which.First (own_header set (input_bytes reads) p) p reads.first
+  second ← back_step which.Second (own_header set (input_bytes reads) p) p reads.second
   merge_step p first second
 
 -- the status of why there are no pairs
@@ -211,10 +211,10 @@ abbrev pub pairs_step : Analysis → KeptRows → Result KeptRows Status
 pairs_step p k = unless (option_map status_of_pairs (pair_refusal p k.rows)) k
 
 -- the rows by which `pairs` pairs the faults
-unfoldable pub paired_of : Bytes → Option (List NetId) → Settings → Reads → Result KeptRows Status
+unfoldable pub paired_of : Bytes → Option (List NetId) → Settings → FilesRead → Result KeptRows Status
 paired_of netlist walk set reads = do
   p ← plan_of netlist walk set reads
-  k ← result_step (own_header set (files_of reads) p) p reads.result
+  k ← result_step (own_header set (input_bytes reads) p) p reads.result
   pairs_step p k
 
 -- the generated texts
@@ -230,7 +230,7 @@ abbrev pub generated_settings : Settings
 generated_settings = settings_of (1 ∷ []) []
 
 -- the first refusal of a command, over what was read
-unfoldable pub first_refusal : Option (List NetId) → Command → Reads → Option Status
+unfoldable pub first_refusal : Option (List NetId) → Command → FilesRead → Option Status
 first_refusal walk (Classes netlist workload) reads = refusal_in (classes_plan_of netlist walk reads)
 first_refusal walk (Check inputs flips pulses) reads = refusal_in (plan_of inputs.netlist walk (settings_of flips pulses) reads)
 first_refusal walk (RunCommand inputs name set workers) reads = refusal_in (plan_of inputs.netlist walk set reads)

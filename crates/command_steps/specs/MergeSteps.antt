@@ -15,17 +15,17 @@ use Rattle.refusal_text.specs.declared.status.Which.TheVariants as which
 use Rattle.refusal_text.specs.declared.refused.Refused.{Refused}
 use Rattle.refusal_text.specs.Refusals.{IsPlain, status_of, HasItsNets}
 use Rattle.command_steps.specs.declared.merged.Merged.{Merged}
-use Rattle.command_steps.specs.Files.{Reads}
+use Rattle.command_steps.specs.Files.{FilesRead}
 use Rattle.command_steps.specs.FirstRefusal.{back_step, merge_step, merged_of, own_header, IsLoopAnswer, ◌>>=◌}
 use Rattle.command_steps.specs.Held.{name_with}
 use Rattle.command_steps.specs.Checked.{NameFits, InputsFit, FaultsRose}
 use Rattle.command_steps.specs.Steps.{FaultRose}
-use Rattle.command_steps.specs.PlanSteps.{PlannedAs, bytes_of}
+use Rattle.command_steps.specs.PlanSteps.{PlannedAs, input_files}
 use Rattle.fm_base.specs.Names.{Bytes}
 
 -- over what was read of the six files, this is the first refusal of the rows that `merge` writes
 pub record MergeRefused (inputs : Inputs) (first second : Bytes) (set : Settings) (before after : ShelfState) (ended : Status) : Type 0 where
-  pub reads : Reads
+  pub reads : FilesRead
   pub fit : InputsFit before after inputs reads
   pub one : NameFits before after first reads.first
   pub two : NameFits before after second reads.second
@@ -71,7 +71,7 @@ BothAs own p first second before after (Err ended) = ((ended ≡ status.Memory) 
 -- the header is the plan's own, and these rows are those of both files
 pub record AreMerged (shelf : ShelfState) (first second : Bytes) (set : Settings) (made : Merged) : Type 0 where
   pub sound : IsPlan made.planned.plan
-  pub own : made.own ≡ own_header set (bytes_of made.planned.files) made.planned.plan
+  pub own : made.own ≡ own_header set (input_files made.planned.files) made.planned.plan
   pub header : length made.own ≡ 89
   pub both : BothRead made.own made.planned.plan first second shelf made.rows
 

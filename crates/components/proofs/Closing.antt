@@ -7,15 +7,15 @@ use Rattle.components.specs.declared.scan.Frame.{Frame}
 use Rattle.components.specs.declared.scan.Mark.{Mark}
 use Rattle.components.specs.declared.scan.Mark.TheVariants.{New, Open, Done}
 use Rattle.components.specs.Graph.{Reaches, target, targets}
-use Rattle.components.specs.Kept.{IsSearch, Joined, NoneNew, Pending, Seen, frame_at, mark_at}
+use Rattle.components.specs.Kept.{IsComponentSearch, Joined, NoneNew, Pending, IsVisited, component_frame, node_mark}
 use Rattle.components.proofs.Opening.{not_new_done, not_new_open, not_open_done, same_number, same_place}
 use Rattle.components.proofs.Ways.{along, join}
 
-module _ (edges : List (Vec ℕ Global)) (marks : List Mark) (nodes starts : List ℕ) (path : List Frame) (count : ℕ) (s : IsSearch edges marks nodes starts path count)
-    (b : ℕ) (some : 0 < length starts) (top : b ≡ slice_index starts (length starts - 1)) (frames_below : (j : ℕ) → j < length path → (frame_at path j).place < b)
+module _ (edges : List (Vec ℕ Global)) (marks : List Mark) (nodes starts : List ℕ) (path : List Frame) (count : ℕ) (s : IsComponentSearch edges marks nodes starts path count)
+    (b : ℕ) (some : 0 < length starts) (top : b ≡ slice_index starts (length starts - 1)) (frames_below : (j : ℕ) → j < length path → (component_frame path j).place < b)
     (marks2 : List Mark) (as_long : length marks2 ≡ length marks)
-    (done : (p : ℕ) → b ≤ p → p < length nodes → mark_at marks2 (slice_index nodes p) ≡ Done count)
-    (rest : (x : ℕ) → ((p : ℕ) → b ≤ p → p < length nodes → slice_index nodes p ≡ x → ⊥) → mark_at marks2 x ≡ mark_at marks x) where
+    (done : (p : ℕ) → b ≤ p → p < length nodes → node_mark marks2 (slice_index nodes p) ≡ Done count)
+    (rest : (x : ℕ) → ((p : ℕ) → b ≤ p → p < length nodes → slice_index nodes p ≡ x → ⊥) → node_mark marks2 x ≡ node_mark marks x) where
   abbrev nodes2 : List ℕ
   nodes2 = take b nodes
 
@@ -51,26 +51,26 @@ module _ (edges : List (Vec ℕ Global)) (marks : List Mark) (nodes starts : Lis
 
   -- ---- marks
 
-  old_open : (x p : ℕ) → mark_at marks x ≡ Open p → p < b → mark_at marks2 x ≡ Open p
-  old_open x p o low = rest x (λ r above in_r e. let same : r ≡ p = same_place r p (sym (s.standing r in_r).1 ∙ ap (mark_at marks) e ∙ o) in omega arith) ∙ o
+  old_open : (x p : ℕ) → node_mark marks x ≡ Open p → p < b → node_mark marks2 x ≡ Open p
+  old_open x p o low = rest x (λ r above in_r e. let same : r ≡ p = same_place r p (sym (s.standing r in_r).1 ∙ ap (node_mark marks) e ∙ o) in omega arith) ∙ o
 
-  now_done : (x p : ℕ) → mark_at marks x ≡ Open p → b ≤ p → mark_at marks2 x ≡ Done count
-  now_done x p o above = let at = s.placed x p o in ap (mark_at marks2) (sym at.1) ∙ done p above at.0
+  now_done : (x p : ℕ) → node_mark marks x ≡ Open p → b ≤ p → node_mark marks2 x ≡ Done count
+  now_done x p o above = let at = s.placed x p o in ap (node_mark marks2) (sym at.1) ∙ done p above at.0
 
-  old_done : (x c : ℕ) → mark_at marks x ≡ Done c → mark_at marks2 x ≡ Done c
-  old_done x c d = rest x (λ r above in_r e. not_open_done r c (sym (s.standing r in_r).1 ∙ ap (mark_at marks) e ∙ d)) ∙ d
+  old_done : (x c : ℕ) → node_mark marks x ≡ Done c → node_mark marks2 x ≡ Done c
+  old_done x c d = rest x (λ r above in_r e. not_open_done r c (sym (s.standing r in_r).1 ∙ ap (node_mark marks) e ∙ d)) ∙ d
 
-  old_new : (x : ℕ) → mark_at marks x ≡ New → mark_at marks2 x ≡ New
-  old_new x n = rest x (λ r above in_r e. not_new_open r (sym n ∙ ap (mark_at marks) (sym e) ∙ (s.standing r in_r).1)) ∙ n
+  old_new : (x : ℕ) → node_mark marks x ≡ New → node_mark marks2 x ≡ New
+  old_new x n = rest x (λ r above in_r e. not_new_open r (sym n ∙ ap (node_mark marks) (sym e) ∙ (s.standing r in_r).1)) ∙ n
 
   -- a node of the topmost part
   abbrev Closed : ℕ → Type 0
   Closed x = (p : ℕ) × (b ≤ p) × (p < length nodes) × (slice_index nodes p ≡ x)
 
-  done_back : (x c : ℕ) → mark_at marks2 x ≡ Done c → (mark_at marks x ≡ Done c) ⊎ ((c ≡ count) × Closed x)
-  done_back x c d = by_mark (mark_at marks x) refl
+  done_back : (x c : ℕ) → node_mark marks2 x ≡ Done c → (node_mark marks x ≡ Done c) ⊎ ((c ≡ count) × Closed x)
+  done_back x c d = by_mark (node_mark marks x) refl
     where
-      by_mark : (m : Mark) → mark_at marks x ≡ m → (mark_at marks x ≡ Done c) ⊎ ((c ≡ count) × Closed x)
+      by_mark : (m : Mark) → node_mark marks x ≡ m → (node_mark marks x ≡ Done c) ⊎ ((c ≡ count) × Closed x)
       by_mark New e = absurd (not_new_done c (sym (old_new x e) ∙ d))
       by_mark (Open p) e = elim (cases_lt p b) [
         | inl low ↦ absurd (not_open_done p c (sym (old_open x p e low) ∙ d))
@@ -80,10 +80,10 @@ module _ (edges : List (Vec ℕ Global)) (marks : List Mark) (nodes starts : Lis
       ]
       by_mark (Done k) e = inl (e ∙ ap Done (same_number k c (sym (old_done x k e) ∙ d)))
 
-  open_back : (x p : ℕ) → mark_at marks2 x ≡ Open p → (mark_at marks x ≡ Open p) × (p < b)
-  open_back x p o = by_mark (mark_at marks x) refl
+  open_back : (x p : ℕ) → node_mark marks2 x ≡ Open p → (node_mark marks x ≡ Open p) × (p < b)
+  open_back x p o = by_mark (node_mark marks x) refl
     where
-      by_mark : (m : Mark) → mark_at marks x ≡ m → (mark_at marks x ≡ Open p) × (p < b)
+      by_mark : (m : Mark) → node_mark marks x ≡ m → (node_mark marks x ≡ Open p) × (p < b)
       by_mark New e = absurd (not_new_open p (sym (old_new x e) ∙ o))
       by_mark (Open q) e = elim (cases_lt q b) [
         | inl low ↦
@@ -94,9 +94,9 @@ module _ (edges : List (Vec ℕ Global)) (marks : List Mark) (nodes starts : Lis
       by_mark (Done k) e = absurd (not_open_done p k (sym o ∙ old_done x k e))
 
   pub close_none_new : NoneNew marks marks2
-  close_none_new x ne = by_mark (mark_at marks x) refl
+  close_none_new x ne = by_mark (node_mark marks x) refl
     where
-      by_mark : (m : Mark) → mark_at marks x ≡ m → mark_at marks2 x ≢ New
+      by_mark : (m : Mark) → node_mark marks x ≡ m → node_mark marks2 x ≢ New
       by_mark New e = absurd (ne e)
       by_mark (Open p) e = elim (cases_lt p b) [
         | inl low ↦ λ n. not_new_open p (sym n ∙ old_open x p e low)
@@ -127,7 +127,7 @@ module _ (edges : List (Vec ℕ Global)) (marks : List Mark) (nodes starts : Lis
       let h : p < slice_index starts i = joined i (omega arith) (omega arith) in
       omega arith
 
-  seen2 : (p z : ℕ) → Seen marks starts p z → Seen marks2 starts2 p z
+  seen2 : (p z : ℕ) → IsVisited marks starts p z → IsVisited marks2 starts2 p z
   seen2 p z seen = elim seen [
     | inl d ↦ inl (d.0, old_done z d.0 d.1)
     | inr o ↦ elim (cases_lt o.0 b) [
@@ -136,12 +136,12 @@ module _ (edges : List (Vec ℕ Global)) (marks : List Mark) (nodes starts : Lis
     ]
   ]
 
-  edge_left : (p k : ℕ) → p < length nodes → k < length (targets edges (slice_index nodes p)) → Pending path p k ⊎ Seen marks2 starts2 p (target edges (slice_index nodes p) k)
+  edge_left : (p k : ℕ) → p < length nodes → k < length (targets edges (slice_index nodes p)) → Pending path p k ⊎ IsVisited marks2 starts2 p (target edges (slice_index nodes p) k)
   edge_left p k lp lk = elim (s.edges_seen p k lp lk) [ inl w ↦ inl w | inr o ↦ inr (seen2 p (target edges (slice_index nodes p) k) o) ]
 
   -- an edge of the part leads to a node that was done, or into the part
   down_new : (p k : ℕ) → b ≤ p → p < length nodes → k < length (targets edges (slice_index nodes p))
-      → (d : ℕ) × (mark_at marks2 (target edges (slice_index nodes p) k) ≡ Done d) × (d ≤ count)
+      → (d : ℕ) × (node_mark marks2 (target edges (slice_index nodes p) k) ≡ Done d) × (d ≤ count)
   down_new p k above lp lk = elim (s.edges_seen p k lp lk) [
     | inl w ↦ (let h = frames_below w.0 w.1 in let e = w.2 in absurd (omega arith))
     | inr seen ↦ elim seen [
@@ -153,18 +153,18 @@ module _ (edges : List (Vec ℕ Global)) (marks : List Mark) (nodes starts : Lis
     ]
   ]
 
-  down2 : (x c k : ℕ) → mark_at marks2 x ≡ Done c → k < length (targets edges x) → (d : ℕ) × (mark_at marks2 (target edges x k) ≡ Done d) × (d ≤ c)
+  down2 : (x c k : ℕ) → node_mark marks2 x ≡ Done c → k < length (targets edges x) → (d : ℕ) × (node_mark marks2 (target edges x k) ≡ Done d) × (d ≤ c)
   down2 x c k d lk = elim (done_back x c d) [
     | inl old ↦ (let r = s.down x c k old lk in (r.0, old_done (target edges x k) r.0 r.1, r.2))
     | inr new ↦
-        (let P : ℕ → Type 0 = λ y. (k < length (targets edges y) → (e : ℕ) × (mark_at marks2 (target edges y k) ≡ Done e) × (e ≤ count)) in
+        (let P : ℕ → Type 0 = λ y. (k < length (targets edges y) → (e : ℕ) × (node_mark marks2 (target edges y k) ≡ Done e) × (e ≤ count)) in
         let r = subst P new.1.3 (down_new new.1.0 k new.1.1 new.1.2) lk in
         let same = new.0 in
         let le = r.2 in
         (r.0, r.1, omega arith))
   ]
 
-  ring2 : (x z c : ℕ) → mark_at marks2 x ≡ Done c → mark_at marks2 z ≡ Done c → Reaches edges x z
+  ring2 : (x z c : ℕ) → node_mark marks2 x ≡ Done c → node_mark marks2 z ≡ Done c → Reaches edges x z
   ring2 x z c d e = elim (done_back x c d) [
     | inl old ↦ elim (done_back z c e) [
       | inl as_old ↦ s.ring x z c old as_old
@@ -190,7 +190,7 @@ module _ (edges : List (Vec ℕ Global)) (marks : List Mark) (nodes starts : Lis
       (join edges (slice_index nodes p) (slice_index nodes q) (slice_index nodes2 q) (s.reach p q (omega arith) (omega arith) (joined_back p q low joined))
       (along edges (slice_index nodes q) (slice_index nodes2 q) (sym (node_left q under))))
 
-  standing2 : (p : ℕ) → p < length nodes2 → (slice_index nodes2 p < length marks2) × (mark_at marks2 (slice_index nodes2 p) ≡ Open p)
+  standing2 : (p : ℕ) → p < length nodes2 → (slice_index nodes2 p < length marks2) × (node_mark marks2 (slice_index nodes2 p) ≡ Open p)
   standing2 p lt =
       let l = nodes_long in
       let h = inside in
@@ -198,7 +198,7 @@ module _ (edges : List (Vec ℕ Global)) (marks : List Mark) (nodes starts : Lis
       let old = s.standing p (omega arith) in
       let small = old.0 in
       let e = node_left p low in
-      (omega arith, ap (mark_at marks2) e ∙ old_open (slice_index nodes p) p old.1 low)
+      (omega arith, ap (node_mark marks2) e ∙ old_open (slice_index nodes p) p old.1 low)
 
   bottom2 : 0 < length nodes2 → (0 < length starts2) × (slice_index starts2 0 ≡ 0)
   bottom2 more =
@@ -215,7 +215,7 @@ module _ (edges : List (Vec ℕ Global)) (marks : List Mark) (nodes starts : Lis
             absurd (omega arith))
       ]
 
-  pub close_kept : (more : ℕ) → more ≡ count + 1 → IsSearch edges marks2 nodes2 starts2 path more
+  pub close_kept : (more : ℕ) → more ≡ count + 1 → IsComponentSearch edges marks2 nodes2 starts2 path more
   close_kept more e = record {
     sized = as_long ∙ s.sized;
     placed = λ x p o. let old = open_back x p o in let at = s.placed x p old.0 in let l = nodes_long in let low = old.1 in (omega arith, node_left p low ∙ at.1);
@@ -230,7 +230,7 @@ module _ (edges : List (Vec ℕ Global)) (marks : List Mark) (nodes starts : Lis
         let l = nodes_long in
         let h = inside in
         let low : p < b = omega arith in
-        let P : ℕ → Type 0 = λ x. (k < length (targets edges x) → Pending path p k ⊎ Seen marks2 starts2 p (target edges x k)) in
+        let P : ℕ → Type 0 = λ x. (k < length (targets edges x) → Pending path p k ⊎ IsVisited marks2 starts2 p (target edges x k)) in
         subst P (sym (node_left p low)) (edge_left p k (omega arith)) lk;
     below = λ x c d. elim (done_back x c d) [
       | inl old ↦ (let h = s.below x c old in omega arith)

@@ -7,10 +7,10 @@ use Rattle.components.specs.declared.scan.Frame.{Frame}
 use Rattle.components.specs.declared.scan.Mark.{Mark}
 use Rattle.components.specs.declared.scan.Mark.TheVariants.{Open}
 use Rattle.components.specs.Graph.{Reaches, target, targets}
-use Rattle.components.specs.Kept.{IsCut, IsSearch, Joined, Seen, mark_at}
+use Rattle.components.specs.Kept.{IsCut, IsComponentSearch, Joined, IsVisited, node_mark}
 use Rattle.components.proofs.Ways.{along, edge, join}
 
-module _ (edges : List (Vec ℕ Global)) (marks : List Mark) (nodes starts : List ℕ) (path : List Frame) (count : ℕ) (s : IsSearch edges marks nodes starts path count)
+module _ (edges : List (Vec ℕ Global)) (marks : List Mark) (nodes starts : List ℕ) (path : List Frame) (count : ℕ) (s : IsComponentSearch edges marks nodes starts path count)
     (low : ℕ) (now : List ℕ) (cut : IsCut starts low now) where
   -- the starts that are left are those before
   pub left : (i : ℕ) → i < length now → slice_index now i ≡ slice_index starts i
@@ -44,11 +44,11 @@ module _ (edges : List (Vec ℕ Global)) (marks : List Mark) (nodes starts : Lis
       let h : p < slice_index starts i = joined i (omega arith) (omega arith) in
       omega arith
 
-  seen_now : (p y : ℕ) → Seen marks starts p y → Seen marks now p y
+  seen_now : (p y : ℕ) → IsVisited marks starts p y → IsVisited marks now p y
   seen_now p y seen = elim seen [ inl d ↦ inl d | inr o ↦ inr (o.0, o.1, joined_now p o.0 o.2) ]
 
   module _ (p : ℕ) (within_p : p < length nodes) (top : (i : ℕ) → i < length starts → slice_index starts i ≤ p)
-      (linked : (low ≡ p) ⊎ ((k : ℕ) × (k < length (targets edges (slice_index nodes p))) × (mark_at marks (target edges (slice_index nodes p) k) ≡ Open low))) where
+      (linked : (low ≡ p) ⊎ ((k : ℕ) × (k < length (targets edges (slice_index nodes p))) × (node_mark marks (target edges (slice_index nodes p) k) ≡ Open low))) where
     -- the place is open, and the topmost node reaches it
     link : (low < length nodes) × Reaches edges (slice_index nodes p) (slice_index nodes low)
     link = elim linked [
@@ -78,7 +78,7 @@ module _ (edges : List (Vec ℕ Global)) (marks : List Mark) (nodes starts : Lis
       ])
     ]
 
-    pub cut_kept : IsSearch edges marks nodes now path count
+    pub cut_kept : IsComponentSearch edges marks nodes now path count
     cut_kept = record {
       sized = s.sized;
       placed = s.placed;
@@ -99,5 +99,5 @@ module _ (edges : List (Vec ℕ Global)) (marks : List Mark) (nodes starts : Lis
     }
 
   -- what leads to a place that is left is seen from below it
-  pub passed_now : (p y q : ℕ) → mark_at marks y ≡ Open q → low ≤ q → Seen marks now p y
+  pub passed_now : (p y q : ℕ) → node_mark marks y ≡ Open q → low ≤ q → IsVisited marks now p y
   passed_now p y q e above = inr (q, e, λ i lt beyond. let k = kept i lt in absurd (omega arith))

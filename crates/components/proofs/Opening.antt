@@ -7,7 +7,7 @@ use Rattle.components.specs.declared.scan.Frame.{Frame}
 use Rattle.components.specs.declared.scan.Mark.{Mark}
 use Rattle.components.specs.declared.scan.Mark.TheVariants.{New, Open, Done}
 use Rattle.components.specs.Graph.{Reaches, target, targets}
-use Rattle.components.specs.Kept.{IsSearch, Joined, Pending, Seen, frame_at, mark_at}
+use Rattle.components.specs.Kept.{IsComponentSearch, Joined, Pending, IsVisited, component_frame, node_mark}
 use Rattle.components.proofs.Ways.{along, join}
 
 pub not_new_done : (c : ℕ) → New ≡ Done c → ⊥
@@ -28,11 +28,11 @@ same_number c d e = cc
 abbrev pub no_frame : Frame
 no_frame = record { place = 0; next = 0 }
 
-module _ (edges : List (Vec ℕ Global)) (marks : List Mark) (nodes starts : List ℕ) (path : List Frame) (count : ℕ) (s : IsSearch edges marks nodes starts path count)
-    (y : ℕ) (fits : y < length marks) (new : mark_at marks y ≡ New)
-    (path' : List Frame) (as_long : length path' ≡ length path) (places : (j : ℕ) → (frame_at path' j).place ≡ (frame_at path j).place)
+module _ (edges : List (Vec ℕ Global)) (marks : List Mark) (nodes starts : List ℕ) (path : List Frame) (count : ℕ) (s : IsComponentSearch edges marks nodes starts path count)
+    (y : ℕ) (fits : y < length marks) (new : node_mark marks y ≡ New)
+    (path' : List Frame) (as_long : length path' ≡ length path) (places : (j : ℕ) → (component_frame path' j).place ≡ (component_frame path j).place)
     (covers : (p k : ℕ) → p < length nodes → k < length (targets edges (slice_index nodes p)) → Pending path p k
-    → Pending path' p k ⊎ ((target edges (slice_index nodes p) k ≡ y) ⊎ Seen marks starts p (target edges (slice_index nodes p) k)))
+    → Pending path' p k ⊎ ((target edges (slice_index nodes p) k ≡ y) ⊎ IsVisited marks starts p (target edges (slice_index nodes p) k)))
     (reaches : (p : ℕ) → p < length nodes → Reaches edges (slice_index nodes p) y) where
   abbrev n : ℕ
   n = length nodes
@@ -52,10 +52,10 @@ module _ (edges : List (Vec ℕ Global)) (marks : List Mark) (nodes starts : Lis
   abbrev path2 : List Frame
   path2 = path' ++ frame2 ∷ []
 
-  here : mark_at marks2 y ≡ Open n
+  here : node_mark marks2 y ≡ Open n
   here = get_or-set_same marks y (Open n) New fits
 
-  other : (x : ℕ) → x ≢ y → mark_at marks2 x ≡ mark_at marks x
+  other : (x : ℕ) → x ≢ y → node_mark marks2 x ≡ node_mark marks x
   other x ne = get_or-set_other marks y x (Open n) New ne
 
   node_old : (p : ℕ) → p < n → slice_index nodes2 p ≡ slice_index nodes p
@@ -79,10 +79,10 @@ module _ (edges : List (Vec ℕ Global)) (marks : List Mark) (nodes starts : Lis
   start_new : (i : ℕ) → length starts ≡ i → slice_index starts2 i ≡ n
   start_new i e = get_or_push starts n 0 i e
 
-  frame_old : (j : ℕ) → j < length path' → frame_at path2 j ≡ frame_at path' j
+  frame_old : (j : ℕ) → j < length path' → component_frame path2 j ≡ component_frame path' j
   frame_old j lt = get_or_append_left path' (frame2 ∷ []) no_frame j lt
 
-  frame_new : (j : ℕ) → length path' ≡ j → frame_at path2 j ≡ frame2
+  frame_new : (j : ℕ) → length path' ≡ j → component_frame path2 j ≡ frame2
   frame_new j e = get_or_push path' frame2 no_frame j e
 
   start_most : (i : ℕ) → i < length starts2 → slice_index starts2 i ≤ n
@@ -91,22 +91,22 @@ module _ (edges : List (Vec ℕ Global)) (marks : List Mark) (nodes starts : Lis
     | inr high ↦ (let l = starts_long in let same : length starts ≡ i = omega arith in let e = start_new i same in omega arith)
   ]
 
-  done2 : (x c : ℕ) → mark_at marks x ≡ Done c → mark_at marks2 x ≡ Done c
-  done2 x c d = other x (λ e. not_new_done c (sym new ∙ ap (mark_at marks) (sym e) ∙ d)) ∙ d
+  done2 : (x c : ℕ) → node_mark marks x ≡ Done c → node_mark marks2 x ≡ Done c
+  done2 x c d = other x (λ e. not_new_done c (sym new ∙ ap (node_mark marks) (sym e) ∙ d)) ∙ d
 
-  open2 : (x p : ℕ) → mark_at marks x ≡ Open p → mark_at marks2 x ≡ Open p
-  open2 x p o = other x (λ e. not_new_open p (sym new ∙ ap (mark_at marks) (sym e) ∙ o)) ∙ o
+  open2 : (x p : ℕ) → node_mark marks x ≡ Open p → node_mark marks2 x ≡ Open p
+  open2 x p o = other x (λ e. not_new_open p (sym new ∙ ap (node_mark marks) (sym e) ∙ o)) ∙ o
 
-  done_back : (x c : ℕ) → mark_at marks2 x ≡ Done c → mark_at marks x ≡ Done c
+  done_back : (x c : ℕ) → node_mark marks2 x ≡ Done c → node_mark marks x ≡ Done c
   done_back x c d = elim (cases_eq x y) [
-    | inl e ↦ absurd (not_open_done n c (sym here ∙ ap (mark_at marks2) (sym e) ∙ d))
+    | inl e ↦ absurd (not_open_done n c (sym here ∙ ap (node_mark marks2) (sym e) ∙ d))
     | inr ne ↦ sym (other x ne) ∙ d
   ]
 
-  placed2 : (x p : ℕ) → mark_at marks2 x ≡ Open p → (p < length nodes2) × (slice_index nodes2 p ≡ x)
+  placed2 : (x p : ℕ) → node_mark marks2 x ≡ Open p → (p < length nodes2) × (slice_index nodes2 p ≡ x)
   placed2 x p o = elim (cases_eq x y) [
     | inl e ↦
-        (let at : n ≡ p = same_place n p (sym here ∙ ap (mark_at marks2) (sym e) ∙ o) in
+        (let at : n ≡ p = same_place n p (sym here ∙ ap (node_mark marks2) (sym e) ∙ o) in
         let l = nodes_long in
         (omega arith, node_new p at ∙ sym e))
     | inr ne ↦
@@ -116,20 +116,20 @@ module _ (edges : List (Vec ℕ Global)) (marks : List Mark) (nodes starts : Lis
         (omega arith, node_old p lt ∙ old.1))
   ]
 
-  standing2 : (p : ℕ) → p < length nodes2 → (slice_index nodes2 p < length marks2) × (mark_at marks2 (slice_index nodes2 p) ≡ Open p)
+  standing2 : (p : ℕ) → p < length nodes2 → (slice_index nodes2 p < length marks2) × (node_mark marks2 (slice_index nodes2 p) ≡ Open p)
   standing2 p lt = elim (cases_lt p n) [
     | inl low ↦
         (let old = s.standing p low in
         let small = old.0 in
         let e = node_old p low in
         let l : length marks2 ≡ length marks = length-set marks y (Open n) in
-        (omega arith, ap (mark_at marks2) e ∙ open2 (slice_index nodes p) p old.1))
+        (omega arith, ap (node_mark marks2) e ∙ open2 (slice_index nodes p) p old.1))
     | inr high ↦
         (let l = nodes_long in
         let at : n ≡ p = omega arith in
         let e = node_new p at in
         let m : length marks2 ≡ length marks = length-set marks y (Open n) in
-        (omega arith, ap (mark_at marks2) e ∙ here ∙ ap Open at))
+        (omega arith, ap (node_mark marks2) e ∙ here ∙ ap Open at))
   ]
 
   joined_back : (p q : ℕ) → Joined starts2 p q → Joined starts p q
@@ -181,28 +181,28 @@ module _ (edges : List (Vec ℕ Global)) (marks : List Mark) (nodes starts : Lis
       let h = w.3 in
       (w.0, omega arith, ap (λ (f : Frame). f.place) (frame_old w.0 lt) ∙ w.2, omega arith)
 
-  seen2 : (p z : ℕ) → p < n → Seen marks starts p z → Seen marks2 starts2 p z
+  seen2 : (p z : ℕ) → p < n → IsVisited marks starts p z → IsVisited marks2 starts2 p z
   seen2 p z low seen = elim seen [ inl d ↦ inl (d.0, done2 z d.0 d.1) | inr o ↦ inr (o.0, open2 z o.0 o.1, joined2 p o.0 low o.2) ]
 
-  edge_old : (p k : ℕ) → p < n → k < length (targets edges (slice_index nodes p)) → Pending path2 p k ⊎ Seen marks2 starts2 p (target edges (slice_index nodes p) k)
+  edge_old : (p k : ℕ) → p < n → k < length (targets edges (slice_index nodes p)) → Pending path2 p k ⊎ IsVisited marks2 starts2 p (target edges (slice_index nodes p) k)
   edge_old p k low lk = elim (s.edges_seen p k low lk) [
     | inl pending ↦ elim (covers p k low lk pending) [
       | inl w ↦ inl (pending2 p k w)
       | inr r ↦ elim r [
-        | inl is_y ↦ inr (inr (n, ap (mark_at marks2) is_y ∙ here, λ i lt beyond. let h = start_most i lt in absurd (omega arith)))
+        | inl is_y ↦ inr (inr (n, ap (node_mark marks2) is_y ∙ here, λ i lt beyond. let h = start_most i lt in absurd (omega arith)))
         | inr seen ↦ inr (seen2 p (target edges (slice_index nodes p) k) low seen)
       ]
     ]
     | inr seen ↦ inr (seen2 p (target edges (slice_index nodes p) k) low seen)
   ]
 
-  next_first : (k : ℕ) → (frame_at path2 (length path')).next ≤ k
+  next_first : (k : ℕ) → (component_frame path2 (length path')).next ≤ k
   next_first k = let f = ap (λ (g : Frame). g.next) (frame_new (length path') refl) in omega arith
 
-  edges2 : (p k : ℕ) → p < length nodes2 → k < length (targets edges (slice_index nodes2 p)) → Pending path2 p k ⊎ Seen marks2 starts2 p (target edges (slice_index nodes2 p) k)
+  edges2 : (p k : ℕ) → p < length nodes2 → k < length (targets edges (slice_index nodes2 p)) → Pending path2 p k ⊎ IsVisited marks2 starts2 p (target edges (slice_index nodes2 p) k)
   edges2 p k lp lk = elim (cases_lt p n) [
     | inl low ↦
-        (let P : ℕ → Type 0 = λ x. (k < length (targets edges x) → Pending path2 p k ⊎ Seen marks2 starts2 p (target edges x k)) in
+        (let P : ℕ → Type 0 = λ x. (k < length (targets edges x) → Pending path2 p k ⊎ IsVisited marks2 starts2 p (target edges x k)) in
         subst P (sym (node_old p low)) (edge_old p k low) lk)
     | inr high ↦
         (let l = nodes_long in
@@ -211,7 +211,7 @@ module _ (edges : List (Vec ℕ Global)) (marks : List Mark) (nodes starts : Lis
         inl (length path', omega arith, ap (λ (f : Frame). f.place) (frame_new (length path') refl) ∙ at, next_first k))
   ]
 
-  frames2 : (j : ℕ) → j < length path2 → (frame_at path2 j).place < length nodes2
+  frames2 : (j : ℕ) → j < length path2 → (component_frame path2 j).place < length nodes2
   frames2 j lt = elim (cases_lt j (length path')) [
     | inl low ↦
         (let e = ap (λ (f : Frame). f.place) (frame_old j low) ∙ places j in
@@ -226,7 +226,7 @@ module _ (edges : List (Vec ℕ Global)) (marks : List Mark) (nodes starts : Lis
         omega arith)
   ]
 
-  rise2 : (i j : ℕ) → i < j → j < length path2 → (frame_at path2 i).place < (frame_at path2 j).place
+  rise2 : (i j : ℕ) → i < j → j < length path2 → (component_frame path2 i).place < (component_frame path2 j).place
   rise2 i j lt lj = elim (cases_lt j (length path')) [
     | inl low ↦
         (let e = ap (λ (f : Frame). f.place) (frame_old j low) ∙ places j in
@@ -259,7 +259,7 @@ module _ (edges : List (Vec ℕ Global)) (marks : List Mark) (nodes starts : Lis
         (omega arith, start_new 0 at ∙ empty at))
   ]
 
-  pub open_kept : IsSearch edges marks2 nodes2 starts2 path2 count
+  pub open_kept : IsComponentSearch edges marks2 nodes2 starts2 path2 count
   open_kept = record {
     sized = length-set marks y (Open n) ∙ s.sized;
     placed = placed2;

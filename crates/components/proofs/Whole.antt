@@ -6,11 +6,11 @@ use Rattle.components.specs.declared.scan.Frame.{Frame}
 use Rattle.components.specs.declared.scan.Mark.{Mark}
 use Rattle.components.specs.declared.scan.Mark.TheVariants.{New, Open, Done}
 use Rattle.components.specs.Graph.{AreComponents, target}
-use Rattle.components.specs.Kept.{IsSearch, mark_at}
-use Rattle.components.specs.Numbers.{number_of}
+use Rattle.components.specs.Kept.{IsComponentSearch, node_mark}
+use Rattle.components.specs.Numbers.{node_number}
 use Rattle.components.proofs.Opening.{not_new_done, not_new_open, open_kept}
 
-all_new : (n x : ℕ) → mark_at (replicate n New) x ≡ New
+all_new : (n x : ℕ) → node_mark (replicate n New) x ≡ New
 all_new zero zero = refl
 all_new zero (suc x) = refl
 all_new (suc n) zero = refl
@@ -18,12 +18,12 @@ all_new (suc n) (suc x) = all_new n x
 
 -- nothing is open yet
 pub first_search : (edges : List (Vec ℕ Global)) (marks : List Mark) (nodes starts : List ℕ) (path : List Frame) (count : ℕ) → marks ≡ replicate (length edges) New → nodes ≡ [] → starts ≡ [] → path ≡ []
-    → IsSearch edges marks nodes starts path count
+    → IsComponentSearch edges marks nodes starts path count
 first_search edges marks nodes starts path count e f g h =
     let n0 : length nodes ≡ 0 = ap (λ (xs : List ℕ). length xs) f in
     let s0 : length starts ≡ 0 = ap (λ (xs : List ℕ). length xs) g in
     let p0 : length path ≡ 0 = ap (λ (xs : List Frame). length xs) h in
-    let fresh : (x : ℕ) → mark_at marks x ≡ New = λ x. ap (λ (ms : List Mark). mark_at ms x) e ∙ all_new (length edges) x in
+    let fresh : (x : ℕ) → node_mark marks x ≡ New = λ x. ap (λ (ms : List Mark). node_mark ms x) e ∙ all_new (length edges) x in
     record {
       sized = ap (λ (ms : List Mark). length ms) e ∙ length-replicate (length edges) New;
       placed = λ x p o. absurd (not_new_open p (sym (fresh x) ∙ o));
@@ -40,7 +40,7 @@ first_search edges marks nodes starts path count e f g h =
       ring = λ x y c d e. absurd (not_new_done c (sym (fresh x) ∙ d));
     }
 
-module _ (edges : List (Vec ℕ Global)) (marks : List Mark) (nodes starts : List ℕ) (path : List Frame) (count : ℕ) (s : IsSearch edges marks nodes starts path count) (idle : starts ≡ []) where
+module _ (edges : List (Vec ℕ Global)) (marks : List Mark) (nodes starts : List ℕ) (path : List Frame) (count : ℕ) (s : IsComponentSearch edges marks nodes starts path count) (idle : starts ≡ []) where
   none_open : length nodes ≤ 0
   none_open = let s0 : length starts ≡ 0 = ap (λ (xs : List ℕ). length xs) idle in by_size (length nodes) refl s0
     where
@@ -49,34 +49,34 @@ module _ (edges : List (Vec ℕ Global)) (marks : List Mark) (nodes starts : Lis
       by_size (suc n) e s0 = let h = (s.bottom (omega arith)).0 in absurd (omega arith)
 
   -- a new node is opened where none is
-  pub root_search : (y : ℕ) → y < length edges → mark_at marks y ≡ New
-      → IsSearch edges (slice_set marks y (Open (length nodes))) (nodes ++ y ∷ []) (starts ++ length nodes ∷ []) (path ++ record { place = length nodes; next = 0 } ∷ []) count
+  pub root_search : (y : ℕ) → y < length edges → node_mark marks y ≡ New
+      → IsComponentSearch edges (slice_set marks y (Open (length nodes))) (nodes ++ y ∷ []) (starts ++ length nodes ∷ []) (path ++ record { place = length nodes; next = 0 } ∷ []) count
   root_search y lt new =
       let e = s.sized in
       let none = none_open in
       open_kept edges marks nodes starts path count s y (omega arith) new path refl (λ j. refl) (λ p k lp lk w. inl w) (λ p lp. absurd (omega arith))
 
-  module _ (seen : (x : ℕ) → x < length edges → mark_at marks x ≢ New) where
-    is_done : (x : ℕ) → x < length edges → (c : ℕ) × (mark_at marks x ≡ Done c)
-    is_done x lt = by_mark (mark_at marks x) refl
+  module _ (seen : (x : ℕ) → x < length edges → node_mark marks x ≢ New) where
+    is_done : (x : ℕ) → x < length edges → (c : ℕ) × (node_mark marks x ≡ Done c)
+    is_done x lt = by_mark (node_mark marks x) refl
       where
-        by_mark : (m : Mark) → mark_at marks x ≡ m → (c : ℕ) × (mark_at marks x ≡ Done c)
+        by_mark : (m : Mark) → node_mark marks x ≡ m → (c : ℕ) × (node_mark marks x ≡ Done c)
         by_mark New e = absurd (seen x lt e)
         by_mark (Open p) e = let h = (s.placed x p e).0 in let none = none_open in absurd (omega arith)
         by_mark (Done c) e = (c, e)
 
-    number_read : (ms : List Mark) (x : ℕ) → slice_index (map number_of ms) x ≡ number_of (mark_at ms x)
+    number_read : (ms : List Mark) (x : ℕ) → slice_index (map node_number ms) x ≡ node_number (node_mark ms x)
     number_read [] zero = refl
     number_read [] (suc x) = refl
     number_read (m ∷ ms) zero = refl
     number_read (m ∷ ms) (suc x) = number_read ms x
 
-    number_is : (x c : ℕ) → mark_at marks x ≡ Done c → slice_index (map number_of marks) x ≡ c
-    number_is x c d = number_read marks x ∙ ap number_of d
+    number_is : (x c : ℕ) → node_mark marks x ≡ Done c → slice_index (map node_number marks) x ≡ c
+    number_is x c d = number_read marks x ∙ ap node_number d
 
-    pub are_components : AreComponents edges (map number_of marks)
+    pub are_components : AreComponents edges (map node_number marks)
     are_components = record {
-      sized = length-map marks number_of ∙ s.sized;
+      sized = length-map marks node_number ∙ s.sized;
       down = λ x k lx lk.
           let d = is_done x lx in
           let r = s.down x d.0 k d.1 lk in

@@ -1,14 +1,14 @@
 // The numbers of components.
 ghost use Rattle.std.specs.Prelude.{◌≡◌, IfOk, map};
 ghost use Rattle.components.specs.Graph.{AreComponents, AreEdges};
-ghost use Rattle.components.specs.Numbers.{number_of};
+ghost use Rattle.components.specs.Numbers.{node_number};
 
 use crate::scan::Mark;
 use crate::search::Search;
 use std::alloc::{AllocError, Global};
 
 fn number_of(mark: Mark) -> usize
-    ensures { result ≡ number_of mark }
+    ensures { result ≡ node_number mark }
 {
     match mark {
         Mark::Done(number) => number,
@@ -17,7 +17,7 @@ fn number_of(mark: Mark) -> usize
 }
 
 fn numbers_of(alloc: Global, marks: &[Mark]) -> Result<Vec<usize>, AllocError>
-    ensures { IfOk result (λ v. v.items ≡ map number_of marks.now) }
+    ensures { IfOk result (λ v. v.items ≡ map node_number marks.now) }
 {
     marks.iter().map(|mark| number_of(*mark)).collect(alloc)
 }

@@ -1,6 +1,6 @@
 // The edges of a node, as far as they lead to nodes that were seen.
 ghost use Rattle.std.specs.Prelude.{◌≡◌};
-ghost use Rattle.components.specs.Kept.{IsScan, mark_at};
+ghost use Rattle.components.specs.Kept.{IsScan, node_mark};
 
 /// How far the search has come with a node.
 #[derive(Clone, Copy)]
@@ -27,7 +27,7 @@ pub(crate) struct Scan {
 }
 
 fn mark_of(marks: &[Mark], node: usize) -> Mark
-    ensures { result ≡ mark_at marks.now node }
+    ensures { result ≡ node_mark marks.now node }
 {
     marks.get(node).copied().unwrap_or(Mark::New)
 }

@@ -1,7 +1,7 @@
 // A search in depth for components, on stacks of its own.
 ghost use Rattle.std.specs.Prelude.{◌≡◌, ◌∷◌, ◌++◌, [], ◌+◌, ◌-◌, ◌<◌, ◌≤◌, ℕ, drop, IfOk, OnOk, length, replicate, slice_index, slice_set, sum_by, take};
 ghost use Rattle.components.specs.Graph.{AreEdges};
-ghost use Rattle.components.specs.Kept.{frame_at, IsCut, mark_at, NoneNew, Searches, steps_left, work_left};
+ghost use Rattle.components.specs.Kept.{component_frame, IsCut, node_mark, NoneNew, ComponentSearches, node_steps_left, search_work_left};
 ghost use Rattle.components.specs.declared.scan.Mark.TheVariants.{New, Open, Done};
 
 use crate::scan::{Frame, Mark, look_ahead};
@@ -42,9 +42,9 @@ fn above(nodes: &[usize], start: usize) -> &[usize]
 fn number_nodes(marks: &mut Vec<Mark>, nodes: &[usize], number: usize)
     requires { (i : ℕ) → i < length nodes.now → slice_index nodes.now i < length marks.old.items }
     ensures sized { length marks.new.items ≡ length marks.old.items }
-    ensures done { (i : ℕ) → i < length nodes.now → mark_at marks.new.items (slice_index nodes.now i) ≡ Done number }
-    ensures rest { (x : ℕ) → ((i : ℕ) → i < length nodes.now → slice_index nodes.now i ≡ x → ⊥) → mark_at marks.new.items x ≡ mark_at marks.old.items x }
-    ensures less { sum_by steps_left marks.new.items ≤ sum_by steps_left marks.old.items }
+    ensures done { (i : ℕ) → i < length nodes.now → node_mark marks.new.items (slice_index nodes.now i) ≡ Done number }
+    ensures rest { (x : ℕ) → ((i : ℕ) → i < length nodes.now → slice_index nodes.now i ≡ x → ⊥) → node_mark marks.new.items x ≡ node_mark marks.old.items x }
+    ensures less { sum_by node_steps_left marks.new.items ≤ sum_by node_steps_left marks.old.items }
 {
     for node in nodes {
         marks[*node] = Mark::Done(number);
@@ -93,7 +93,7 @@ impl Search {
         ensures nodes { self.new.nodes.items ≡ self.old.nodes.items }
         ensures starts { self.new.starts.items ≡ self.old.starts.items }
         ensures path { let last = length self.old.path.items - 1 in
-            self.new.path.items ≡ slice_set self.old.path.items last (record (frame_at self.old.path.items last) { next = next }) }
+            self.new.path.items ≡ slice_set self.old.path.items last (record (component_frame self.old.path.items last) { next = next }) }
         ensures roots { self.new.roots.items ≡ self.old.roots.items }
     {
         let last = self.path.len() - 1;
@@ -104,9 +104,9 @@ impl Search {
     fn close(&mut self, start: usize) -> Result<(), AllocError>
         requires start { start < length self.old.nodes.items }
         requires nodes { (i : ℕ) → i < length self.old.nodes.items → slice_index self.old.nodes.items i < length self.old.marks.items }
-        ensures done { OnOk result ((p : ℕ) → start ≤ p → p < length self.old.nodes.items → mark_at self.new.marks.items (slice_index self.old.nodes.items p) ≡ Done (length self.old.roots.items)) }
-        ensures rest { OnOk result ((x : ℕ) → ((p : ℕ) → start ≤ p → p < length self.old.nodes.items → slice_index self.old.nodes.items p ≡ x → ⊥) → mark_at self.new.marks.items x ≡ mark_at self.old.marks.items x) }
-        ensures less { OnOk result (sum_by steps_left self.new.marks.items ≤ sum_by steps_left self.old.marks.items) }
+        ensures done { OnOk result ((p : ℕ) → start ≤ p → p < length self.old.nodes.items → node_mark self.new.marks.items (slice_index self.old.nodes.items p) ≡ Done (length self.old.roots.items)) }
+        ensures rest { OnOk result ((x : ℕ) → ((p : ℕ) → start ≤ p → p < length self.old.nodes.items → slice_index self.old.nodes.items p ≡ x → ⊥) → node_mark self.new.marks.items x ≡ node_mark self.old.marks.items x) }
+        ensures less { OnOk result (sum_by node_steps_left self.new.marks.items ≤ sum_by node_steps_left self.old.marks.items) }
         ensures sized { OnOk result (length self.new.marks.items ≡ length self.old.marks.items) }
         ensures nodes { OnOk result (self.new.nodes.items ≡ take start self.old.nodes.items) }
         ensures starts { OnOk result (self.new.starts.items ≡ take (length self.old.starts.items - 1) self.old.starts.items) }
@@ -124,12 +124,12 @@ impl Search {
     /// Follows the edges of the topmost frame up to a new node, which is opened, or to their end.
     fn explore(&mut self, edges: &[Vec<usize>], frame: Frame) -> Result<(), AllocError>
         requires edges { AreEdges edges.now }
-        requires search { Searches edges.now self.old }
+        requires search { ComponentSearches edges.now self.old }
         requires some { 0 < length self.old.path.items }
-        requires frame { frame ≡ frame_at self.old.path.items (length self.old.path.items - 1) }
+        requires frame { frame ≡ component_frame self.old.path.items (length self.old.path.items - 1) }
         requires top { (i : ℕ) → i < length self.old.starts.items → slice_index self.old.starts.items i ≤ frame.place }
-        ensures search { OnOk result (Searches edges.now self.new) }
-        ensures less { OnOk result (work_left self.new.marks.items self.new.starts.items self.new.path.items < work_left self.old.marks.items self.old.starts.items self.old.path.items) }
+        ensures search { OnOk result (ComponentSearches edges.now self.new) }
+        ensures less { OnOk result (search_work_left self.new.marks.items self.new.starts.items self.new.path.items < search_work_left self.old.marks.items self.old.starts.items self.old.path.items) }
         ensures none_new { OnOk result (NoneNew self.old.marks.items self.new.marks.items) }
     {
         let node = self.nodes[frame.place];
@@ -148,11 +148,11 @@ impl Search {
     /// One step: the topmost frame goes on, or the topmost part, which has no frame left, is a component.
     fn step(&mut self, edges: &[Vec<usize>], start: usize) -> Result<(), AllocError>
         requires edges { AreEdges edges.now }
-        requires search { Searches edges.now self.old }
+        requires search { ComponentSearches edges.now self.old }
         requires some { 0 < length self.old.starts.items }
         requires start { start ≡ slice_index self.old.starts.items (length self.old.starts.items - 1) }
-        ensures search { OnOk result (Searches edges.now self.new) }
-        ensures less { OnOk result (work_left self.new.marks.items self.new.starts.items self.new.path.items < work_left self.old.marks.items self.old.starts.items self.old.path.items) }
+        ensures search { OnOk result (ComponentSearches edges.now self.new) }
+        ensures less { OnOk result (search_work_left self.new.marks.items self.new.starts.items self.new.path.items < search_work_left self.old.marks.items self.old.starts.items self.old.path.items) }
         ensures none_new { OnOk result (NoneNew self.old.marks.items self.new.marks.items) }
     {
         let Some(frame) = self.path.last().copied() else {
@@ -167,8 +167,8 @@ impl Search {
     /// Steps until no node is open.
     fn finish(&mut self, edges: &[Vec<usize>]) -> Result<(), AllocError>
         requires edges { AreEdges edges.now }
-        requires search { Searches edges.now self.old }
-        ensures search { OnOk result (Searches edges.now self.new) }
+        requires search { ComponentSearches edges.now self.old }
+        ensures search { OnOk result (ComponentSearches edges.now self.new) }
         ensures idle { OnOk result (self.new.starts.items ≡ []) }
         ensures none_new { OnOk result (NoneNew self.old.marks.items self.new.marks.items) }
     {
@@ -181,13 +181,13 @@ impl Search {
     /// The component of a node, and those that it reaches.
     pub fn visit(&mut self, edges: &[Vec<usize>], root: usize) -> Result<(), AllocError>
         requires edges { AreEdges edges.now }
-        requires search { Searches edges.now self.old }
+        requires search { ComponentSearches edges.now self.old }
         requires idle { self.old.starts.items ≡ [] }
         requires root { root < length edges.now }
-        ensures search { OnOk result (Searches edges.now self.new) }
+        ensures search { OnOk result (ComponentSearches edges.now self.new) }
         ensures idle { OnOk result (self.new.starts.items ≡ []) }
         ensures none_new { OnOk result (NoneNew self.old.marks.items self.new.marks.items) }
-        ensures seen { OnOk result (mark_at self.new.marks.items root ≡ New → ⊥) }
+        ensures seen { OnOk result (node_mark self.new.marks.items root ≡ New → ⊥) }
     {
         if let Mark::New = self.marks[root] {
             self.open(root)?;

@@ -27,7 +27,7 @@ abbrev pub rows_left : Reader (Bor Bytes) → List Fields
 rows_left r = rest_of (reader_state r) (bytes_left r)
 
 -- a reader between two rows
-pub record IsBetween (r : Reader (Bor Bytes)) : Type 0 where
+pub record IsBetweenRows (r : Reader (Bor Bytes)) : Type 0 where
   pub trims : reader_trim r ≡ trim.None
   pub ready : Ready r
   pub config : reader_config r ≡ default_config
@@ -42,6 +42,6 @@ rows_to_come Failed r = refusing
 
 -- a reader that goes on stands between two rows
 abbrev pub IsSound : Stage → Reader (Bor Bytes) → Type 0
-IsSound Between r = IsBetween r
+IsSound Between r = IsBetweenRows r
 IsSound Ended r = Unit {0}
 IsSound Failed r = Unit {0}

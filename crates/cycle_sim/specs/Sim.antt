@@ -13,7 +13,7 @@ pub record Simulation : Type 0 where
   pub moment : Moment
 
 -- the simulation was made for this circuit and this order of its tables
-pub record IsMadeFor (c : Circuit) (nets : List NetId) (sim : Simulation) : Type 0 where
+pub record IsSimulationFor (c : Circuit) (nets : List NetId) (sim : Simulation) : Type 0 where
   pub circuit : sim.circuit ≡ c
   pub order : sim.order ≡ nets
 

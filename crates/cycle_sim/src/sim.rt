@@ -6,7 +6,7 @@ ghost use Rattle.circuit.specs.Sound.{IsNetlist};
 ghost use Rattle.circuit.specs.Order.{IsOrder};
 ghost use Rattle.circuit.specs.After.{IsAfter};
 ghost use Rattle.circuit.specs.declared.parts.Fault.{Fault};
-ghost use Rattle.cycle_sim.specs.Sim.{IsMadeFor};
+ghost use Rattle.cycle_sim.specs.Sim.{IsSimulationFor};
 
 use crate::walk::walk;
 use circuit::meaning::{bit, is_flipped, turned};
@@ -95,7 +95,7 @@ impl Sim {
     /// A simulation for a netlist and an order of its tables, not yet started.
     pub fn new(alloc: Global, netlist: &Netlist, order: &Order) -> Result<Self, AllocError>
         requires { IsOrder netlist.now order.now }
-        ensures { IfOk result (λ sim. IsMadeFor netlist.now order.now sim) }
+        ensures { IfOk result (λ sim. IsSimulationFor netlist.now order.now sim) }
     {
         let latches = netlist.latches();
         Ok(Sim {
@@ -123,9 +123,9 @@ impl Sim {
     /// Simulates the next cycle with these bits of the inputs, one for each, and with these faults.
     /// There can be 65,536 cycles since the start. It takes no memory.
     pub fn cycle(&mut self, netlist: &Netlist, order: &Order, inputs: &[bool], faults: &[Fault])
-        requires made { IsMadeFor netlist.now order.now self.old }
+        requires made { IsSimulationFor netlist.now order.now self.old }
         requires few { self.old.moment.cycle < 65536 }
-        ensures made { IsMadeFor netlist.now order.now self.new }
+        ensures made { IsSimulationFor netlist.now order.now self.new }
         ensures cycle { self.new.moment.cycle ≡ self.old.moment.cycle + 1 }
         // After cycles with some vectors, it is after those and this one.
         ensures step { (vectors : List (List Bool)) → IsAfter netlist.now faults.now vectors self.old.moment

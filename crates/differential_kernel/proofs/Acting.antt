@@ -8,7 +8,7 @@ use Rattle.circuit.specs.declared.parts.Fault.TheVariants.{Stuck, Flip, Pulse}
 use Rattle.circuit.specs.Effects.{forced, inverted, is_flip_of, is_permanent, is_pulse_on}
 use Rattle.circuit.specs.Trace.{flipped}
 use Rattle.golden_difference.specs.Beside.{DoNothing}
-use Rattle.lane_kernel.specs.Loads.{faults_of, has_pulses, is_pulse_in, somes}
+use Rattle.lane_kernel.specs.Loads.{loaded_faults, has_pulses, is_pulse_in, somes}
 use Rattle.lane_kernel.proofs.Armed.{flipped_same, lane_fails, none_passes}
 use Rattle.differential_kernel.specs.Forces.{acts, has_acts, has_stuck, is_act_in}
 
@@ -29,10 +29,10 @@ no_pulses_now loads t e =
     (λ faults none. none_passes (is_pulse_in t) (is_act_in t) (unpulsed t) (somes faults) none) loads e
 
 -- and no flip
-pub no_flips_now : (loads : List (List (Option Fault))) (k t : ℕ) (bits : List Bool) → has_acts loads t ≡ false → flipped (faults_of loads k) t bits ≡ bits
+pub no_flips_now : (loads : List (List (Option Fault))) (k t : ℕ) (bits : List Bool) → has_acts loads t ≡ false → flipped (loaded_faults loads k) t bits ≡ bits
 no_flips_now loads k t bits e =
-    flipped_same (faults_of loads k) t 0 bits
-    (λ l. none_passes (is_flip_of l t) (is_act_in t) (unflipped l t) (faults_of loads k) (lane_fails (λ faults. acts faults t) refl loads k e))
+    flipped_same (loaded_faults loads k) t 0 bits
+    (λ l. none_passes (is_flip_of l t) (is_act_in t) (unflipped l t) (loaded_faults loads k) (lane_fails (λ faults. acts faults t) refl loads k e))
 
 -- without a stuck-at fault no net is forced
 unforced : (faults : List Fault) (net : ℕ) (own : Bool) → list_any is_permanent faults ≡ false → forced faults net own ≡ own
@@ -47,11 +47,11 @@ off_net net t (Flip latch cycle) e = refl
 off_net net t (Pulse n cycle) e = ap (λ b. (n.0 == net) && b) e ∙ and-false (n.0 == net)
 
 -- and no net is changed
-pub nothing_now : (loads : List (List (Option Fault))) (k t : ℕ) → has_stuck loads ≡ false → has_acts loads t ≡ false → DoNothing (faults_of loads k) t
+pub nothing_now : (loads : List (List (Option Fault))) (k t : ℕ) → has_stuck loads ≡ false → has_acts loads t ≡ false → DoNothing (loaded_faults loads k) t
 nothing_now loads k t loose quiet = record {
   nets = λ net own.
-      ap (λ b. forced (faults_of loads k) net (inverted b own))
-      (none_passes (is_pulse_on net t) (is_act_in t) (off_net net t) (faults_of loads k) (lane_fails (λ faults. acts faults t) refl loads k quiet))
-      ∙ unforced (faults_of loads k) net own (lane_fails (λ faults. list_any is_permanent (somes faults)) refl loads k loose);
+      ap (λ b. forced (loaded_faults loads k) net (inverted b own))
+      (none_passes (is_pulse_on net t) (is_act_in t) (off_net net t) (loaded_faults loads k) (lane_fails (λ faults. acts faults t) refl loads k quiet))
+      ∙ unforced (loaded_faults loads k) net own (lane_fails (λ faults. list_any is_permanent (somes faults)) refl loads k loose);
   latches = λ bits. no_flips_now loads k t bits quiet;
 }

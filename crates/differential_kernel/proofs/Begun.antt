@@ -23,7 +23,7 @@ use Rattle.place_set.specs.Places.{value_in}
 use Rattle.differential_kernel.specs.declared.force.Force.{Force}
 use Rattle.differential_kernel.specs.Differences.{read_in}
 use Rattle.differential_kernel.specs.Forces.{force_value}
-use Rattle.differential_kernel.specs.Places.{ArePlaces}
+use Rattle.differential_kernel.specs.Places.{AreTablePlaces}
 use Rattle.differential_kernel.specs.Walk.{AreForces, IsPair}
 use Rattle.differential_kernel.proofs.Forcing.{forced_in}
 use Rattle.differential_kernel.proofs.Walking.{some_force}
@@ -49,7 +49,7 @@ none_or_some None never = refl
 none_or_some (Some q) never = absurd (never q refl)
 
 -- a net that no table drives has no place
-pub no_place : (c : Circuit) (order : List NetId) (places : List (Option ℕ)) (n : ℕ) → IsOrder c order → ArePlaces c order places
+pub no_place : (c : Circuit) (order : List NetId) (places : List (Option ℕ)) (n : ℕ) → IsOrder c order → AreTablePlaces c order places
     → ((k : ℕ) → driver_at c n ≡ FromTable k → ⊥) → get_or places n None ≡ None
 no_place c order places n ordered are none =
     none_or_some (get_or places n None)
@@ -59,7 +59,7 @@ no_place c order places n ordered are none =
     none table.0 (ap (driver_at c) (sym at.1) ∙ table.1))
 
 module _ {W : Type 0} (lanes : ℕ) (bit : W → ℕ → Bool) (k : ℕ) (lt_k : k < lanes) (c : Circuit) (order : List NetId) (sound : IsNetlist c) (ordered : IsOrder c order)
-    (places : List (Option ℕ)) (are_places : ArePlaces c order places)
+    (places : List (Option ℕ)) (are_places : AreTablePlaces c order places)
     (row : List ℕ) (forces : List (Force W)) (size : length forces ≡ length c.drivers)
     (x golden : Cycle) (pair : IsPair c row x golden) (are : AreForces bit k forces x) where
   -- BEFORE THE FIRST TABLE the nets that no table drives are read with their values

@@ -12,7 +12,7 @@ use Rattle.golden_difference.proofs.NextCycle.{beside_more, flipped_differs}
 use Rattle.lane_kernel.specs.Bank.{Bank}
 use Rattle.lane_kernel.specs.Bits.{either}
 use Rattle.lane_kernel.specs.Gates.{latch_at}
-use Rattle.lane_kernel.specs.Loads.{faults_of}
+use Rattle.lane_kernel.specs.Loads.{loaded_faults}
 use Rattle.differential_kernel.specs.Differences.{read_in}
 use Rattle.differential_kernel.specs.Walk.{IsPair}
 
@@ -43,7 +43,7 @@ stepped c faults vectors inputs row old new sound beside size golden_row each ra
 -- the value of a net, from its golden one and what it differs in
 pub read_value : {W : Type 0} (lanes : ℕ) (bit : W → ℕ → Bool) (bank : Bank W) (vectors : List (List Bool)) (row : List ℕ) (t k n : ℕ)
     → AreBeside lanes bit vectors bank → IsGoldenRow bank.circuit vectors t row → t + 1 ≡ length vectors → k < lanes → n < length bank.circuit.drivers
-    → read_in bit k row bank.words n ≡ trace bank.circuit (faults_of bank.loads k) vectors t n
+    → read_in bit k row bank.words n ≡ trace bank.circuit (loaded_faults bank.loads k) vectors t n
 read_value lanes bit bank vectors row t k n beside golden last lt within =
     ap₂ either (golden n within) ((beside k lt).values t n last within)
-    ∙ either_back (trace bank.circuit [] vectors t n) (trace bank.circuit (faults_of bank.loads k) vectors t n)
+    ∙ either_back (trace bank.circuit [] vectors t n) (trace bank.circuit (loaded_faults bank.loads k) vectors t n)

@@ -5,7 +5,7 @@ use Rattle.circuit.specs.declared.parts.Fault.{Fault}
 use Rattle.circuit.specs.declared.parts.Fault.TheVariants.{Stuck, Flip, Pulse}
 use Rattle.circuit.specs.Effects.{affected, is_permanent}
 use Rattle.lane_kernel.specs.Bits.{either}
-use Rattle.lane_kernel.specs.Loads.{faults_of, has_pulses, named, names, somes}
+use Rattle.lane_kernel.specs.Loads.{loaded_faults, has_pulses, some_names, names, somes}
 use Rattle.place_set.specs.Places.{Places, has}
 use Rattle.differential_kernel.specs.declared.force.Force.{Force}
 
@@ -34,16 +34,16 @@ AreIdle {W} lanes bit loads forces =
 abbrev pub AreSteady : {W : Type 0} → ℕ → (W → ℕ → Bool) → List (List (Option Fault)) → List (Force W) → Type 0
 AreSteady {W} lanes bit loads forces =
     (k n t : ℕ) (d : Force W) (own : Bool) → k < lanes → n < length forces → has_pulses loads t ≡ false
-    → force_value bit k (slice_index_or forces n d) own ≡ affected (faults_of loads k) t n own
+    → force_value bit k (slice_index_or forces n d) own ≡ affected (loaded_faults loads k) t n own
 
 -- in each lane the forces do to each net what the faults of this lane do in this cycle
 abbrev pub AreArmed : {W : Type 0} → ℕ → (W → ℕ → Bool) → List (List (Option Fault)) → ℕ → List (Force W) → Type 0
 AreArmed {W} lanes bit loads t forces =
-    (k n : ℕ) (d : Force W) (own : Bool) → k < lanes → n < length forces → force_value bit k (slice_index_or forces n d) own ≡ affected (faults_of loads k) t n own
+    (k n : ℕ) (d : Force W) (own : Bool) → k < lanes → n < length forces → force_value bit k (slice_index_or forces n d) own ≡ affected (loaded_faults loads k) t n own
 
 -- the set has the nets that faults name, and no others
 abbrev pub AreNamed : List (List (Option Fault)) → ℕ → Places → Type 0
-AreNamed loads nets set = (n : ℕ) → n < nets → has set n ≡ named loads n
+AreNamed loads nets set = (n : ℕ) → n < nets → has set n ≡ some_names loads n
 
 -- the fault is a flip or a pulse of this cycle
 abbrev pub is_act_in : ℕ → Fault → Bool

@@ -8,11 +8,11 @@ use Rattle.lane_kernel.specs.Gates.{AreOps, IsProgram}
 use Rattle.differential_kernel.specs.declared.kernel.Kernel.{Kernel}
 use Rattle.differential_kernel.specs.Differences.{AreSameOff}
 use Rattle.differential_kernel.specs.Forces.{AreActs, AreIdle, AreIdleOff, AreNamed, AreSteady, has_stuck}
-use Rattle.differential_kernel.specs.Places.{ArePlaces}
+use Rattle.differential_kernel.specs.Places.{AreTablePlaces}
 
 -- the simulations as they stand: words and raw hold what differs from the golden run, and the loads are the faults in force
-abbrev pub bank_of : {W : Type 0} → Kernel W → Bank W
-bank_of s = record {
+abbrev pub difference_bank : {W : Type 0} → Kernel W → Bank W
+difference_bank s = record {
   circuit = s.circuit.value;
   order = s.order.value;
   loads = s.in_force.items;
@@ -34,10 +34,10 @@ lanes_of s = record {
 }
 
 -- the nets that differ, and the latches, are in sets; the forces are those of the faults of all lanes once these are noted
-pub record IsKernel {W : Type 0} (lanes : ℕ) (bit : W → ℕ → Bool) (s : Kernel W) : Type 0 where
+pub record IsDifferenceKernel {W : Type 0} (lanes : ℕ) (bit : W → ℕ → Bool) (s : Kernel W) : Type 0 where
   pub sound : IsNetlist s.circuit.value
   pub ordered : IsOrder s.circuit.value s.order.value
-  pub places : ArePlaces s.circuit.value s.order.value s.places.items
+  pub places : AreTablePlaces s.circuit.value s.order.value s.places.items
   pub program : IsProgram s.circuit.value s.order.value s.gates.items
   pub ops : AreOps lanes bit s.ops.items
   pub given : length s.loads.items ≡ lanes

@@ -5,7 +5,7 @@ use Rattle.circuit.specs.Circuit.{Circuit}
 use Rattle.circuit.specs.Order.{net_at}
 
 -- the place of the table that drives each net; nets that no table drives have none
-pub record ArePlaces (c : Circuit) (order : List NetId) (places : List (Option ℕ)) : Type 0 where
+pub record AreTablePlaces (c : Circuit) (order : List NetId) (places : List (Option ℕ)) : Type 0 where
   pub count : length places ≡ length c.drivers
   pub table : (q : ℕ) → q < length order → slice_index_or places (net_at order q).0 None ≡ Some q
   pub each : (n q : ℕ) → slice_index_or places n None ≡ Some q → (q < length order) × ((net_at order q).0 ≡ n)

@@ -3,7 +3,7 @@ ghost use Rattle.std.specs.Prelude.{◌≡◌, ◌≢◌, ◌<◌, ◌≤◌, �
 ghost use Rattle.std.specs.List.{list_any};
 ghost use Rattle.circuit.specs.declared.parts.Fault.{Fault as FaultValue};
 ghost use Rattle.circuit.specs.Effects.{affected};
-ghost use Rattle.lane_kernel.specs.Loads.{faults_of, has_pulses, is_pulse_in, names, somes};
+ghost use Rattle.lane_kernel.specs.Loads.{loaded_faults, has_pulses, is_pulse_in, names, somes};
 ghost use Rattle.differential_kernel.specs.declared.force.Force.{Force as ForceValue};
 ghost use Rattle.differential_kernel.specs.Forces.{AreArmed, AreIdle, AreSteady, force_value, has_acts};
 
@@ -66,7 +66,7 @@ fn arm_all<W: Word>(loads: &[[Option<Fault>; 2]], cycle: u32, forces: &mut [Forc
     requires { length loads.now ≡ W.lanes }
     ensures { (k n : ℕ) (d : ForceValue W) (own : Bool) → k < W.lanes → n < length forces.old
         → force_value W.lane_bit k (slice_index_or forces.new n d) own
-        ≡ (if names (slice_index_or loads.now k []) n then affected (faults_of loads.now k) cycle n own else force_value W.lane_bit k (slice_index_or forces.old n d) own) }
+        ≡ (if names (slice_index_or loads.now k []) n then affected (loaded_faults loads.now k) cycle n own else force_value W.lane_bit k (slice_index_or forces.old n d) own) }
 {
     for lane in 0..W::count() {
         arm_lane(&loads[lane as usize], cycle, lane, forces);

@@ -7,7 +7,7 @@ ghost use Rattle.lane_kernel.specs.Bits.{either};
 ghost use Rattle.lane_kernel.specs.Gates.{AreOps, IsProgram, latch_at, plane};
 ghost use Rattle.differential_kernel.specs.Differences.{AreSameOff};
 ghost use Rattle.differential_kernel.specs.Forces.{AreIdleOff};
-ghost use Rattle.differential_kernel.specs.Places.{ArePlaces};
+ghost use Rattle.differential_kernel.specs.Places.{AreTablePlaces};
 ghost use Rattle.differential_kernel.specs.Walk.{AreForces, IsPair};
 
 use crate::force::Force;
@@ -47,7 +47,7 @@ fn run<W: LaneWord, L: Ledger>(
 ) -> usize
     requires order { IsOrder netlist.now order.now }
     requires fanout { fanout.now ≡ record { circuit = netlist.now; order = order.now } }
-    requires places { ArePlaces netlist.now order.now places.now }
+    requires places { AreTablePlaces netlist.now order.now places.now }
     requires program { IsProgram netlist.now order.now gates.now }
     requires ops { AreOps W.lanes W.lane_bit ops.now }
     requires named { named.now.bound ≡ length netlist.now.drivers }
@@ -100,7 +100,7 @@ fn run_all<W: LaneWord, L: Ledger>(
     steps: &mut Steps<L>,
 )
     requires order { IsOrder netlist.now order.now }
-    requires places { ArePlaces netlist.now order.now places.now }
+    requires places { AreTablePlaces netlist.now order.now places.now }
     requires program { IsProgram netlist.now order.now gates.now }
     requires ops { AreOps W.lanes W.lane_bit ops.now }
     requires named { named.now.bound ≡ length netlist.now.drivers }
@@ -160,7 +160,7 @@ pub fn advance<W: LaneWord, L: Ledger>(
 )
     requires order { IsOrder netlist.now order.now }
     requires fanout { fanout.now ≡ record { circuit = netlist.now; order = order.now } }
-    requires places { ArePlaces netlist.now order.now places.now }
+    requires places { AreTablePlaces netlist.now order.now places.now }
     requires program { IsProgram netlist.now order.now gates.now }
     requires ops { AreOps W.lanes W.lane_bit ops.now }
     requires named { named.now.bound ≡ length netlist.now.drivers }

@@ -2,7 +2,7 @@
 ghost use Rattle.std.specs.Prelude.{◌≡◌, ◌<◌, ◌&&◌, ℕ, true, false, [], not, length};
 ghost use Rattle.circuit.specs.Value.{bit_at};
 ghost use Rattle.lane_kernel.specs.Gates.{plane};
-ghost use Rattle.lane_kernel.specs.Loads.{faults_of, somes};
+ghost use Rattle.lane_kernel.specs.Loads.{loaded_faults, somes};
 ghost use Rattle.differential_kernel.specs.Differences.{AreSameOff};
 
 use circuit::parts::Fault;
@@ -20,8 +20,8 @@ fn unless(out: bool, faults: [Option<Fault>; 2]) -> [Option<Fault>; 2]
 /// Takes the faults away from the lanes whose bit is set.
 pub fn unload<W: Word>(out: W, loads: &mut [[Option<Fault>; 2]])
     requires { length loads.old ≡ W.lanes }
-    ensures dropped { (k : ℕ) → k < W.lanes → W.lane_bit out k ≡ true → faults_of loads.new k ≡ [] }
-    ensures others { (k : ℕ) → k < W.lanes → W.lane_bit out k ≡ false → faults_of loads.new k ≡ faults_of loads.old k }
+    ensures dropped { (k : ℕ) → k < W.lanes → W.lane_bit out k ≡ true → loaded_faults loads.new k ≡ [] }
+    ensures others { (k : ℕ) → k < W.lanes → W.lane_bit out k ≡ false → loaded_faults loads.new k ≡ loaded_faults loads.old k }
 {
     for lane in 0..W::count() {
         let at = lane as usize;

@@ -4,7 +4,7 @@ ghost use Rattle.circuit.specs.Effects.{has_flip, inverted};
 ghost use Rattle.circuit.specs.Value.{bit_at};
 ghost use Rattle.circuit.specs.Trace.{flipped};
 ghost use Rattle.lane_kernel.specs.Gates.{plane};
-ghost use Rattle.lane_kernel.specs.Loads.{faults_of, somes};
+ghost use Rattle.lane_kernel.specs.Loads.{loaded_faults, somes};
 ghost use Rattle.differential_kernel.specs.Differences.{AreSameOff};
 ghost use Rattle.differential_kernel.specs.Forces.{has_acts};
 
@@ -93,7 +93,7 @@ fn flip_lane<W: Word>(
 fn flip_all<W: Word>(loads: &[[Option<Fault>; 2]], cycle: u32, raw: &mut [W], live: &mut PlaceSet)
     requires lanes { length loads.now ≡ W.lanes }
     requires latches { live.old.bound ≡ length raw.old }
-    ensures flipped { (k : ℕ) → k < W.lanes → plane W.lane_bit k raw.new ≡ flipped (faults_of loads.now k) cycle (plane W.lane_bit k raw.old) }
+    ensures flipped { (k : ℕ) → k < W.lanes → plane W.lane_bit k raw.new ≡ flipped (loaded_faults loads.now k) cycle (plane W.lane_bit k raw.old) }
     ensures latches { live.new.bound ≡ live.old.bound }
     ensures same { AreSameOff W.lanes W.lane_bit live.old raw.old → AreSameOff W.lanes W.lane_bit live.new raw.new }
 {
@@ -114,7 +114,7 @@ pub fn flip<W: Word>(
     requires acting { acting ≡ has_acts loads.now cycle }
     requires latches { live.old.bound ≡ length raw.old }
     requires same { AreSameOff W.lanes W.lane_bit live.old raw.old }
-    ensures flipped { (k : ℕ) → k < W.lanes → plane W.lane_bit k raw.new ≡ flipped (faults_of loads.now k) cycle (plane W.lane_bit k raw.old) }
+    ensures flipped { (k : ℕ) → k < W.lanes → plane W.lane_bit k raw.new ≡ flipped (loaded_faults loads.now k) cycle (plane W.lane_bit k raw.old) }
     ensures latches { live.new.bound ≡ live.old.bound }
     ensures same { AreSameOff W.lanes W.lane_bit live.new raw.new }
 {

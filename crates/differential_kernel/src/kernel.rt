@@ -7,11 +7,11 @@ ghost use Rattle.circuit.specs.Value.{bit_at};
 ghost use Rattle.golden_difference.specs.Beside.{AreBeside, DoNothing, IsGoldenRow, IsOver};
 ghost use Rattle.golden_difference.specs.Lanes.{IsMadeFor, KeepsLoads};
 ghost use Rattle.lane_kernel.specs.Gates.{plane};
-ghost use Rattle.lane_kernel.specs.Loads.{faults_of};
+ghost use Rattle.lane_kernel.specs.Loads.{loaded_faults};
 ghost use Rattle.place_set.specs.Places.{has};
 ghost use Rattle.differential_kernel.specs.Differences.{IsSame, read_in};
-ghost use Rattle.differential_kernel.specs.Kernel.{IsKernel, bank_of, lanes_of};
-ghost use Rattle.differential_kernel.specs.Places.{ArePlaces};
+ghost use Rattle.differential_kernel.specs.Kernel.{IsDifferenceKernel, difference_bank, lanes_of};
+ghost use Rattle.differential_kernel.specs.Places.{AreTablePlaces};
 
 use crate::arm::place;
 use crate::cycle::advance;
@@ -79,7 +79,7 @@ fn places_of(
     order: &[NetId],
 ) -> Result<Vec<Option<u32>>, AllocError>
     requires { IsOrder netlist.now order.now }
-    ensures places { IfOk result (λ places. ArePlaces netlist.now order.now places.items) }
+    ensures places { IfOk result (λ places. AreTablePlaces netlist.now order.now places.items) }
     ensures sound { IsNetlist netlist.now }
 {
     let mut places = vec![in alloc; None; netlist.nets()]?;
@@ -103,7 +103,7 @@ impl<W: LaneWord> Kernel<W> {
     /// Lanes for a netlist and an order of its tables, without faults.
     pub fn new(alloc: Global, netlist: &Netlist, order: &Order) -> Result<Self, AllocError>
         requires { IsOrder netlist.now order.now }
-        ensures kernel { IfOk result (λ s. IsKernel W.lanes W.lane_bit s) }
+        ensures kernel { IfOk result (λ s. IsDifferenceKernel W.lanes W.lane_bit s) }
         ensures made { IfOk result (λ s. IsMadeFor netlist.now order.now (lanes_of s)) }
     {
         let nets = netlist.nets();
@@ -149,9 +149,9 @@ impl<W: LaneWord> Kernel<W> {
 
     /// Gives some lanes their faults, from a lane on.
     pub fn load(&mut self, from: usize, faults: &[[Option<Fault>; 2]])
-        requires kernel { IsKernel W.lanes W.lane_bit self.old }
+        requires kernel { IsDifferenceKernel W.lanes W.lane_bit self.old }
         requires lanes { from + length faults.now ≤ W.lanes }
-        ensures kernel { IsKernel W.lanes W.lane_bit self.new }
+        ensures kernel { IsDifferenceKernel W.lanes W.lane_bit self.new }
         ensures made { IsMadeFor self.old.circuit.value self.old.order.value (lanes_of self.new) }
         ensures placed { (k : ℕ) (d : List (Option FaultValue)) → k < length faults.now
             → slice_index_or self.new.loads.items (from + k) d ≡ slice_index_or faults.now k d }
@@ -164,8 +164,8 @@ impl<W: LaneWord> Kernel<W> {
 
     // Puts all that was loaded in force.
     fn take_loads(&mut self)
-        requires { IsKernel W.lanes W.lane_bit self.old }
-        ensures kernel { IsKernel W.lanes W.lane_bit self.new }
+        requires { IsDifferenceKernel W.lanes W.lane_bit self.old }
+        ensures kernel { IsDifferenceKernel W.lanes W.lane_bit self.new }
         ensures keeps { KeepsLoads (lanes_of self.old) (lanes_of self.new) }
         ensures in_force { self.new.in_force.items ≡ self.new.loads.items }
         ensures raw { self.new.raw.items ≡ self.old.raw.items }
@@ -180,12 +180,12 @@ impl<W: LaneWord> Kernel<W> {
 
     /// Goes to the initial state in all lanes, where no latch differs.
     pub fn start(&mut self)
-        requires { IsKernel W.lanes W.lane_bit self.old }
-        ensures kernel { IsKernel W.lanes W.lane_bit self.new }
+        requires { IsDifferenceKernel W.lanes W.lane_bit self.old }
+        ensures kernel { IsDifferenceKernel W.lanes W.lane_bit self.new }
         ensures keeps { KeepsLoads (lanes_of self.old) (lanes_of self.new) }
         ensures in_force { self.new.in_force.items ≡ self.new.loads.items }
         ensures cycle { self.new.cycle ≡ 0 }
-        ensures start { AreBeside W.lanes W.lane_bit [] (bank_of self.new) }
+        ensures start { AreBeside W.lanes W.lane_bit [] (difference_bank self.new) }
     {
         self.take_loads();
         clear(&mut self.live, &mut self.raw);
@@ -195,13 +195,13 @@ impl<W: LaneWord> Kernel<W> {
 
     /// Drops the lanes whose bit is set: until the next start none of their faults is in force, and nothing differs in them.
     pub fn drop_lanes(&mut self, out: W)
-        requires { IsKernel W.lanes W.lane_bit self.old }
-        ensures kernel { IsKernel W.lanes W.lane_bit self.new }
+        requires { IsDifferenceKernel W.lanes W.lane_bit self.old }
+        ensures kernel { IsDifferenceKernel W.lanes W.lane_bit self.new }
         ensures keeps { KeepsLoads (lanes_of self.old) (lanes_of self.new) }
         ensures cycle { self.new.cycle ≡ self.old.cycle }
-        ensures dropped { (k : ℕ) → k < W.lanes → W.lane_bit out k ≡ true → faults_of self.new.in_force.items k ≡ [] }
-        ensures others { (k : ℕ) → k < W.lanes → W.lane_bit out k ≡ false → faults_of self.new.in_force.items k ≡ faults_of self.old.in_force.items k }
-        ensures beside { (vectors : List (List Bool)) → AreBeside W.lanes W.lane_bit vectors (bank_of self.old) → AreBeside W.lanes W.lane_bit vectors (bank_of self.new) }
+        ensures dropped { (k : ℕ) → k < W.lanes → W.lane_bit out k ≡ true → loaded_faults self.new.in_force.items k ≡ [] }
+        ensures others { (k : ℕ) → k < W.lanes → W.lane_bit out k ≡ false → loaded_faults self.new.in_force.items k ≡ loaded_faults self.old.in_force.items k }
+        ensures beside { (vectors : List (List Bool)) → AreBeside W.lanes W.lane_bit vectors (difference_bank self.old) → AreBeside W.lanes W.lane_bit vectors (difference_bank self.new) }
     {
         unload(out, &mut self.in_force);
         keep_lanes(out, &self.live, &mut self.raw);
@@ -219,17 +219,17 @@ impl<W: LaneWord> Kernel<W> {
         row: &[u64],
         steps: &mut Steps<L>,
     )
-        requires kernel { IsKernel W.lanes W.lane_bit self.old }
+        requires kernel { IsDifferenceKernel W.lanes W.lane_bit self.old }
         requires made { IsMadeFor netlist.now order.now (lanes_of self.old) }
         requires fanout { fanout.now ≡ record { circuit = netlist.now; order = order.now } }
         requires few { self.old.cycle < 65536 }
-        ensures kernel { IsKernel W.lanes W.lane_bit self.new }
+        ensures kernel { IsDifferenceKernel W.lanes W.lane_bit self.new }
         ensures keeps { KeepsLoads (lanes_of self.old) (lanes_of self.new) }
         ensures in_force { self.new.in_force.items ≡ self.old.in_force.items }
         ensures cycle { self.new.cycle ≡ self.old.cycle + 1 }
-        ensures step { (vectors : List (List Bool)) (inputs : List Bool) → AreBeside W.lanes W.lane_bit vectors (bank_of self.old)
+        ensures step { (vectors : List (List Bool)) (inputs : List Bool) → AreBeside W.lanes W.lane_bit vectors (difference_bank self.old)
             → IsGoldenRow netlist.now (vectors ++ inputs ∷ []) (length vectors) row.now
-            → AreBeside W.lanes W.lane_bit (vectors ++ inputs ∷ []) (bank_of self.new) }
+            → AreBeside W.lanes W.lane_bit (vectors ++ inputs ∷ []) (difference_bank self.new) }
         ensures cost { steps.new ≤ steps.old + length netlist.now.tables }
     {
         self.stuck = has_some_stuck(&self.in_force, self.noted, self.stuck);
@@ -273,8 +273,8 @@ impl<W: LaneWord> Kernel<W> {
 
     // Whether no fault in force acts in this cycle or in a later one.
     fn is_calm(&self) -> bool
-        requires { IsKernel W.lanes W.lane_bit self.now }
-        ensures { (k t : ℕ) → result ≡ true → self.now.cycle ≤ t → t < 65536 → DoNothing (faults_of self.now.in_force.items k) t }
+        requires { IsDifferenceKernel W.lanes W.lane_bit self.now }
+        ensures { (k t : ℕ) → result ≡ true → self.now.cycle ≤ t → t < 65536 → DoNothing (loaded_faults self.now.in_force.items k) t }
     {
         self.noted && !self.stuck && is_empty_from(&self.acts, self.cycle as usize)
     }
@@ -282,9 +282,9 @@ impl<W: LaneWord> Kernel<W> {
     /// Whether no net differs in any later cycle, of the first 65,536: no latch does, and no fault in force acts any more. It may be so
     /// where the answer is no.
     pub fn is_over(&self) -> bool
-        requires { IsKernel W.lanes W.lane_bit self.now }
-        ensures { (vectors : List (List Bool)) (k : ℕ) → result ≡ true → AreBeside W.lanes W.lane_bit vectors (bank_of self.now) → k < W.lanes
-            → IsOver self.now.circuit.value (faults_of self.now.in_force.items k) vectors 65536 }
+        requires { IsDifferenceKernel W.lanes W.lane_bit self.now }
+        ensures { (vectors : List (List Bool)) (k : ℕ) → result ≡ true → AreBeside W.lanes W.lane_bit vectors (difference_bank self.now) → k < W.lanes
+            → IsOver self.now.circuit.value (loaded_faults self.now.in_force.items k) vectors 65536 }
     {
         self.is_calm() && is_empty_from(&self.live, 0)
     }
@@ -298,7 +298,7 @@ impl<W: LaneWord> Kernel<W> {
 
     /// Whether a net doesn't differ in any lane in the last cycle; it may not differ where the answer is no.
     pub fn is_same(&self, net: NetId) -> bool
-        requires { IsKernel W.lanes W.lane_bit self.now }
+        requires { IsDifferenceKernel W.lanes W.lane_bit self.now }
         ensures { result ≡ true → IsSame W.lanes W.lane_bit self.now.words.items net.0 }
     {
         !self.touched.has(net.0 as usize)

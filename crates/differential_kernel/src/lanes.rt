@@ -6,7 +6,7 @@ ghost use Rattle.fm_base.specs.Planes.{bit};
 ghost use Rattle.golden_difference.specs.Beside.{AreBeside, IsGoldenRow, IsOver, trace_differs};
 ghost use Rattle.golden_difference.specs.Lanes.{IsMadeFor, KeepsLoads, bank_of};
 ghost use Rattle.lane_kernel.specs.Bits.{quad_bit};
-ghost use Rattle.lane_kernel.specs.Loads.{faults_of};
+ghost use Rattle.lane_kernel.specs.Loads.{loaded_faults};
 
 use crate::kernel::Kernel;
 use circuit::netlist::Netlist;
@@ -30,13 +30,13 @@ impl Model for DifferentialLanes {
     ghost use Rattle.std.specs.Prelude.{ℕ};
     ghost use Rattle.fm_base.specs.Planes.{bit};
     ghost use Rattle.golden_difference.specs.Lanes.{Lanes};
-    ghost use Rattle.differential_kernel.specs.Kernel.{IsKernel, lanes_of};
+    ghost use Rattle.differential_kernel.specs.Kernel.{IsDifferenceKernel, lanes_of};
 
     ghost Value = { Lanes ℕ };
 
     ghost view = { λ s. lanes_of s.kernel };
 
-    ghost invariant = { λ s. IsKernel 64 bit s.kernel };
+    ghost invariant = { λ s. IsDifferenceKernel 64 bit s.kernel };
 }
 
 impl DifferentialLanes {
@@ -52,7 +52,7 @@ impl DifferentialLanes {
     /// Gives each lane up to two faults. The lanes have to be started anew.
     pub fn load(&mut self, faults: &[[Option<Fault>; 2]; 64])
         ensures made { IsMadeFor self.old.circuit self.old.order self.new }
-        ensures loads { (k : ℕ) → k < 64 → faults_of self.new.loads k ≡ faults_of faults.now k }
+        ensures loads { (k : ℕ) → k < 64 → loaded_faults self.new.loads k ≡ loaded_faults faults.now k }
     {
         self.kernel.load(0, faults);
     }
@@ -73,8 +73,8 @@ impl DifferentialLanes {
     pub fn drop_lanes(&mut self, out: u64)
         ensures keeps { KeepsLoads self.old self.new }
         ensures cycle { self.new.cycle ≡ self.old.cycle }
-        ensures dropped { (k : ℕ) → k < 64 → bit out k ≡ true → faults_of self.new.in_force k ≡ [] }
-        ensures others { (k : ℕ) → k < 64 → bit out k ≡ false → faults_of self.new.in_force k ≡ faults_of self.old.in_force k }
+        ensures dropped { (k : ℕ) → k < 64 → bit out k ≡ true → loaded_faults self.new.in_force k ≡ [] }
+        ensures others { (k : ℕ) → k < 64 → bit out k ≡ false → loaded_faults self.new.in_force k ≡ loaded_faults self.old.in_force k }
         ensures beside { (vectors : List (List Bool)) → AreBeside 64 bit vectors (bank_of self.old) → AreBeside 64 bit vectors (bank_of self.new) }
     {
         self.kernel.drop_lanes(out);
@@ -110,7 +110,7 @@ impl DifferentialLanes {
     pub fn is_over(&self) -> bool
         // After cycles with these vectors: in no later cycle does a net differ, in any lane.
         ensures { (vectors : List (List Bool)) (k : ℕ) → result ≡ true → AreBeside 64 bit vectors (bank_of self.now) → k < 64
-            → IsOver self.now.circuit (faults_of self.now.in_force k) vectors 65536 }
+            → IsOver self.now.circuit (loaded_faults self.now.in_force k) vectors 65536 }
     {
         self.kernel.is_over()
     }
@@ -120,7 +120,7 @@ impl DifferentialLanes {
         // After cycles with these vectors, t being the last: bit k is the net's trace under the faults in force in lane k alone.
         ensures { (vectors : List (List Bool)) (t k : ℕ) → AreBeside 64 bit vectors (bank_of self.now) → IsGoldenRow self.now.circuit vectors t row.now
             → t + 1 ≡ length vectors → k < 64 → net.0 < length self.now.circuit.drivers
-            → bit result k ≡ trace self.now.circuit (faults_of self.now.in_force k) vectors t net.0 }
+            → bit result k ≡ trace self.now.circuit (loaded_faults self.now.in_force k) vectors t net.0 }
     {
         self.kernel.net(net, row)
     }
@@ -129,7 +129,7 @@ impl DifferentialLanes {
     pub fn differs(&self, net: NetId) -> u64
         ensures { (vectors : List (List Bool)) (t k : ℕ) → AreBeside 64 bit vectors (bank_of self.now) → t + 1 ≡ length vectors → k < 64
             → net.0 < length self.now.circuit.drivers
-            → bit result k ≡ trace_differs self.now.circuit (faults_of self.now.in_force k) vectors t net.0 }
+            → bit result k ≡ trace_differs self.now.circuit (loaded_faults self.now.in_force k) vectors t net.0 }
     {
         self.kernel.differs(net)
     }
@@ -163,13 +163,13 @@ impl Model for DifferentialLanes4 {
     ghost use Rattle.std.specs.Prelude.{ℕ, List};
     ghost use Rattle.golden_difference.specs.Lanes.{Lanes};
     ghost use Rattle.lane_kernel.specs.Bits.{quad_bit};
-    ghost use Rattle.differential_kernel.specs.Kernel.{IsKernel, lanes_of};
+    ghost use Rattle.differential_kernel.specs.Kernel.{IsDifferenceKernel, lanes_of};
 
     ghost Value = { Lanes (List ℕ) };
 
     ghost view = { λ s. lanes_of s.kernel };
 
-    ghost invariant = { λ s. IsKernel 256 quad_bit s.kernel };
+    ghost invariant = { λ s. IsDifferenceKernel 256 quad_bit s.kernel };
 }
 
 impl DifferentialLanes4 {
@@ -186,8 +186,8 @@ impl DifferentialLanes4 {
     pub fn load(&mut self, word: u32, faults: &[[Option<Fault>; 2]; 64])
         requires { word < 4 }
         ensures made { IsMadeFor self.old.circuit self.old.order self.new }
-        ensures loads { (k : ℕ) → k < 64 → faults_of self.new.loads (word * 64 + k) ≡ faults_of faults.now k }
-        ensures others { (j : ℕ) → (j < word * 64) ⊎ (word * 64 + 64 ≤ j) → faults_of self.new.loads j ≡ faults_of self.old.loads j }
+        ensures loads { (k : ℕ) → k < 64 → loaded_faults self.new.loads (word * 64 + k) ≡ loaded_faults faults.now k }
+        ensures others { (j : ℕ) → (j < word * 64) ⊎ (word * 64 + 64 ≤ j) → loaded_faults self.new.loads j ≡ loaded_faults self.old.loads j }
     {
         self.kernel.load(word as usize * 64, faults);
     }
@@ -210,9 +210,9 @@ impl DifferentialLanes4 {
         requires { word < 4 }
         ensures keeps { KeepsLoads self.old self.new }
         ensures cycle { self.new.cycle ≡ self.old.cycle }
-        ensures dropped { (k : ℕ) → k < 64 → bit out k ≡ true → faults_of self.new.in_force (word * 64 + k) ≡ [] }
+        ensures dropped { (k : ℕ) → k < 64 → bit out k ≡ true → loaded_faults self.new.in_force (word * 64 + k) ≡ [] }
         ensures others { (other k : ℕ) → other < 4 → k < 64 → (other ≢ word) ⊎ (bit out k ≡ false)
-            → faults_of self.new.in_force (other * 64 + k) ≡ faults_of self.old.in_force (other * 64 + k) }
+            → loaded_faults self.new.in_force (other * 64 + k) ≡ loaded_faults self.old.in_force (other * 64 + k) }
         ensures beside { (vectors : List (List Bool)) → AreBeside 256 quad_bit vectors (bank_of self.old) → AreBeside 256 quad_bit vectors (bank_of self.new) }
     {
         self.kernel.drop_lanes(word_in(word, out));
@@ -248,7 +248,7 @@ impl DifferentialLanes4 {
     pub fn is_over(&self) -> bool
         // After cycles with these vectors: in no later cycle does a net differ, in any lane of any word.
         ensures { (vectors : List (List Bool)) (k : ℕ) → result ≡ true → AreBeside 256 quad_bit vectors (bank_of self.now) → k < 256
-            → IsOver self.now.circuit (faults_of self.now.in_force k) vectors 65536 }
+            → IsOver self.now.circuit (loaded_faults self.now.in_force k) vectors 65536 }
     {
         self.kernel.is_over()
     }
@@ -260,7 +260,7 @@ impl DifferentialLanes4 {
         // After cycles with these vectors, t being the last: bit k is the net's trace under the faults in force in lane k of the word alone.
         ensures { (vectors : List (List Bool)) (t k : ℕ) → AreBeside 256 quad_bit vectors (bank_of self.now) → IsGoldenRow self.now.circuit vectors t row.now
             → t + 1 ≡ length vectors → k < 64 → net.0 < length self.now.circuit.drivers
-            → bit result k ≡ trace self.now.circuit (faults_of self.now.in_force (word * 64 + k)) vectors t net.0 }
+            → bit result k ≡ trace self.now.circuit (loaded_faults self.now.in_force (word * 64 + k)) vectors t net.0 }
     {
         word_of(self.kernel.net(net, row), word)
     }
@@ -270,7 +270,7 @@ impl DifferentialLanes4 {
         requires { word < 4 }
         ensures { (vectors : List (List Bool)) (t k : ℕ) → AreBeside 256 quad_bit vectors (bank_of self.now) → t + 1 ≡ length vectors → k < 64
             → net.0 < length self.now.circuit.drivers
-            → bit result k ≡ trace_differs self.now.circuit (faults_of self.now.in_force (word * 64 + k)) vectors t net.0 }
+            → bit result k ≡ trace_differs self.now.circuit (loaded_faults self.now.in_force (word * 64 + k)) vectors t net.0 }
     {
         if self.kernel.is_same(net) {
             0

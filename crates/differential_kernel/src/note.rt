@@ -2,7 +2,7 @@
 ghost use Rattle.std.specs.Prelude.{◌≡◌, ◌<◌, ◌≤◌, ◌||◌, ◌==◌, ℕ, Bool, true, false, length, if◌then◌else◌};
 ghost use Rattle.std.specs.List.{list_any};
 ghost use Rattle.circuit.specs.Effects.{is_permanent};
-ghost use Rattle.lane_kernel.specs.Loads.{named, names, somes};
+ghost use Rattle.lane_kernel.specs.Loads.{some_names, names, somes};
 ghost use Rattle.place_set.specs.Places.{has};
 ghost use Rattle.differential_kernel.specs.Differences.{IsEmptySet};
 ghost use Rattle.differential_kernel.specs.Forces.{AreActs, AreAllIdle, AreArmed, AreIdle, AreIdleOff, AreNamed, AreSteady, acts, has_acts, has_stuck};
@@ -53,7 +53,7 @@ fn note_lane(faults: &[Option<Fault>], set: &mut PlaceSet)
 
 fn note_lanes(loads: &[[Option<Fault>; 2]], set: &mut PlaceSet)
     ensures bound { set.new.bound ≡ set.old.bound }
-    ensures has { (n : ℕ) → n < set.old.bound → has set.new n ≡ (named loads.now n || has set.old n) }
+    ensures has { (n : ℕ) → n < set.old.bound → has set.new n ≡ (some_names loads.now n || has set.old n) }
 {
     for faults in loads {
         note_lane(faults, set);
@@ -64,7 +64,7 @@ fn note_lanes(loads: &[[Option<Fault>; 2]], set: &mut PlaceSet)
 pub fn note_all(loads: &[[Option<Fault>; 2]], set: &mut PlaceSet)
     requires { IsEmptySet set.old }
     ensures bound { set.new.bound ≡ set.old.bound }
-    ensures named { AreNamed loads.now set.old.bound set.new }
+    ensures some_names { AreNamed loads.now set.old.bound set.new }
 {
     note_lanes(loads, set);
 }
@@ -156,13 +156,13 @@ fn renew<W: Word>(
 )
     requires bound { set.old.bound ≡ length forces.old }
     requires off { AreIdleOff W.lanes W.lane_bit set.old forces.old }
-    requires named { noted ≡ true → AreNamed loads.now (length forces.old) set.old }
+    requires some_names { noted ≡ true → AreNamed loads.now (length forces.old) set.old }
     requires idle { noted ≡ true → AreIdle W.lanes W.lane_bit loads.now forces.old }
     requires few { cycles.old.bound ≤ 65536 }
     requires acts { noted ≡ true → AreActs loads.now cycles.old }
     ensures bound { set.new.bound ≡ set.old.bound }
     ensures cycles { cycles.new.bound ≡ cycles.old.bound }
-    ensures named { AreNamed loads.now (length forces.old) set.new }
+    ensures some_names { AreNamed loads.now (length forces.old) set.new }
     ensures idle { AreIdle W.lanes W.lane_bit loads.now forces.new }
     ensures acts { AreActs loads.now cycles.new }
     ensures same { noted ≡ true → forces.new ≡ forces.old }
@@ -189,14 +189,14 @@ pub fn prepare<W: Word>(
     requires few { cycles.old.bound ≤ 65536 }
     requires bound { set.old.bound ≡ length forces.old }
     requires off { AreIdleOff W.lanes W.lane_bit set.old forces.old }
-    requires named { noted ≡ true → AreNamed loads.now (length forces.old) set.old }
+    requires some_names { noted ≡ true → AreNamed loads.now (length forces.old) set.old }
     requires idle { noted ≡ true → AreIdle W.lanes W.lane_bit loads.now forces.old }
     requires steady { noted ≡ true → stale ≡ false → AreSteady W.lanes W.lane_bit loads.now forces.old }
     requires acts { noted ≡ true → AreActs loads.now cycles.old }
     ensures bound { set.new.bound ≡ set.old.bound }
     ensures cycles { cycles.new.bound ≡ cycles.old.bound }
     ensures acts { AreActs loads.now cycles.new }
-    ensures named { AreNamed loads.now (length forces.old) set.new }
+    ensures some_names { AreNamed loads.now (length forces.old) set.new }
     ensures idle { AreIdle W.lanes W.lane_bit loads.now forces.new }
     ensures off { AreIdleOff W.lanes W.lane_bit set.new forces.new }
     ensures armed { AreArmed W.lanes W.lane_bit loads.now cycle forces.new }

@@ -4,7 +4,7 @@ ghost use Rattle.alarm_points.specs.FourWatches.{AreAllMadeFor};
 ghost use Rattle.campaign_plan.specs.Analysis.{all_faults};
 ghost use Rattle.classifier.specs.Load.{IsLoadFor, lane_faults};
 ghost use Rattle.classifier.specs.Seen.{KeepSettings};
-ghost use Rattle.lane_kernel.specs.Loads.{faults_of};
+ghost use Rattle.lane_kernel.specs.Loads.{loaded_faults};
 ghost use Rattle.workload.specs.Runs.{all_cycles};
 ghost use Rattle.fault_collapse.specs.Chosen.{AreSimulated, HaveInterval, chosen_at, faults_in};
 
@@ -35,7 +35,7 @@ fn chosen_at(faults: &FaultList, numbers: &[u32], place: usize) -> Option<Fault>
 fn loads_of(faults: &FaultList, numbers: &[u32], group: usize) -> [[Option<Fault>; 2]; 64]
     requires numbers { All (λ number. number < length faults.now) numbers.now }
     requires group { group < 2 ^ 32 }
-    ensures { (k : ℕ) → k < 64 → faults_of result k ≡ faults_in faults.now numbers.now group k }
+    ensures { (k : ℕ) → k < 64 → loaded_faults result k ≡ faults_in faults.now numbers.now group k }
 {
     let mut loads = [[None, None]; 64];
     for lane in 0..LANES {

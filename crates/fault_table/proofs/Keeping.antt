@@ -8,11 +8,11 @@ use Rattle.campaign_plan.specs.declared.Outcome.{Outcome}
 use Rattle.campaign_plan.specs.Analysis.{Analysis, batch_count, fault_count}
 use Rattle.campaign_plan.specs.Batches.{Entry}
 use Rattle.result_merge.specs.Union.{found}
-use Rattle.result_merge.specs.Merged.{planes_of}
-use Rattle.result_merge.specs.Tables.{Table, at_batch, table_of}
+use Rattle.result_merge.specs.Merged.{listed_planes}
+use Rattle.result_merge.specs.Tables.{Table, at_batch, planes_table}
 use Rattle.result_merge.proofs.Tabling.{table_at}
 use Rattle.fault_table.specs.Csv.{csv_row}
-use Rattle.fault_table.specs.FaultTable.{columns, fault_row, fault_table, kept_faults, row_if_kept}
+use Rattle.fault_table.specs.FaultTable.{column_names, fault_row, fault_table, kept_faults, row_if_kept}
 
 flat_range : (f g : ℕ → Bytes) (test : ℕ → Bool) (bound a n : ℕ) → a + n ≤ bound → ((k : ℕ) → k < bound → f k ≡ (if test k then g k else []))
     → flat_map f (range_with_len a n) ≡ flat_map g (filter test (range_with_len a n))
@@ -43,16 +43,16 @@ abbrev pub row_by_table : Analysis → Table → ℕ → Bytes
 row_by_table p table i = row_if_kept p (at_batch table (i / 64)) i
 
 -- the rows by the table of batches are those of the kept faults
-kept_rows : (p : Analysis) (table : Table) (entries : List Entry) → table ≡ table_of (batch_count p) entries
-    → flat_map (row_by_table p table) (below (fault_count p)) ≡ flat_map (λ i. fault_row p (planes_of entries (i / 64)) i) (kept_faults p entries)
+kept_rows : (p : Analysis) (table : Table) (entries : List Entry) → table ≡ planes_table (batch_count p) entries
+    → flat_map (row_by_table p table) (below (fault_count p)) ≡ flat_map (λ i. fault_row p (listed_planes entries (i / 64)) i) (kept_faults p entries)
 kept_rows p table entries e =
-    flat_below (row_by_table p table) (λ i. fault_row p (planes_of entries (i / 64)) i) (λ i. is_some (found entries (i / 64))) (fault_count p)
+    flat_below (row_by_table p table) (λ i. fault_row p (listed_planes entries (i / 64)) i) (λ i. is_some (found entries (i / 64))) (fault_count p)
     (λ k lt.
     let within : k / 64 < batch_count p = omega (arith, lt) in
     ap (λ kept. row_if_kept p kept k) (ap (λ t. at_batch t (k / 64)) e ∙ table_at (batch_count p) entries (k / 64) within)
     ∙ by_planes p (found entries (k / 64)) k)
 
-pub table_is : (p : Analysis) (table : Table) (entries : List Entry) → table ≡ table_of (batch_count p) entries
-    → csv_row columns ++ flat_map (row_by_table p table) (below (fault_count p)) ≡ fault_table p entries
+pub table_is : (p : Analysis) (table : Table) (entries : List Entry) → table ≡ planes_table (batch_count p) entries
+    → csv_row column_names ++ flat_map (row_by_table p table) (below (fault_count p)) ≡ fault_table p entries
 unfolding fault_table
-table_is p table entries e = ap (λ rows. csv_row columns ++ rows) (kept_rows p table entries e)
+table_is p table entries e = ap (λ rows. csv_row column_names ++ rows) (kept_rows p table entries e)

@@ -1,4 +1,4 @@
--- The table of faults: a row for each fault of the kept batches, in the order of the fault list. This project's own columns.
+-- The table of faults: a row for each fault of the kept batches, in the order of the fault list. This project's own column_names.
 use Rattle.std.specs.Prelude.{ℕ, ◌/◌, ◌%◌, List, [], ◌∷◌, ◌++◌, flat_map, filter, Option, Some, None, is_some, codes, decimal}
 use Rattle.circuit.specs.Names.{net_name}
 use Rattle.fm_base.specs.Lists.{below}
@@ -11,13 +11,13 @@ use Rattle.campaign_plan.specs.Batches.{Entry, class_in_lane}
 use Rattle.campaign_plan.specs.Weights.{weight}
 use Rattle.fmeda_report.specs.Words.{role_word, class_word}
 use Rattle.result_merge.specs.Union.{found}
-use Rattle.result_merge.specs.Merged.{planes_of}
+use Rattle.result_merge.specs.Merged.{listed_planes}
 use Rattle.fault_table.specs.Csv.{csv_row}
 use Rattle.fault_table.specs.Words.{kind_word, covered_word, bit_word}
 
--- the names of the columns
-abbrev pub columns : List Bytes
-columns =
+-- the names of the column_names
+abbrev pub column_names : List Bytes
+column_names =
     codes "fault" ∷ codes "net" ∷ codes "kind" ∷ codes "part" ∷ codes "role" ∷ codes "covered" ∷ codes "class" ∷ codes "dangerous"
     ∷ codes "noticed" ∷ codes "weight" ∷ []
 
@@ -38,9 +38,9 @@ fault_row p planes i = csv_row (fault_name p.circuit (fault_numbered p i) ∷ fu
 abbrev pub kept_faults : Analysis → List Entry → List ℕ
 kept_faults p entries = filter (λ i. is_some (found entries (i / lanes))) (below (fault_count p))
 
--- THE TABLE of the faults of these batches: the names of the columns, and a row for each fault
+-- THE TABLE of the faults of these batches: the names of the column_names, and a row for each fault
 unfoldable pub fault_table : Analysis → List Entry → Bytes
-fault_table p entries = csv_row columns ++ flat_map (λ i. fault_row p (planes_of entries (i / lanes)) i) (kept_faults p entries)
+fault_table p entries = csv_row column_names ++ flat_map (λ i. fault_row p (listed_planes entries (i / lanes)) i) (kept_faults p entries)
 
 -- the row of fault i where its batch has planes, and else nothing
 abbrev pub row_if_kept : Analysis → Option Outcome → ℕ → Bytes

@@ -3,10 +3,10 @@ ghost use Rattle.std.specs.Prelude.{◌≡◌, ◌<◌, ◌/◌, List, length, f
 ghost use Rattle.fm_base.specs.Lists.{below};
 ghost use Rattle.campaign_plan.specs.Analysis.{batch_count, fault_count};
 ghost use Rattle.campaign_plan.specs.Batches.{Entry};
-ghost use Rattle.result_merge.specs.Tables.{at_batch, table_of};
+ghost use Rattle.result_merge.specs.Tables.{at_batch, planes_table};
 ghost use Rattle.fm_shelf.specs.Sink.{Sends};
 ghost use Rattle.fault_table.specs.Csv.{csv_row};
-ghost use Rattle.fault_table.specs.FaultTable.{columns, fault_table, row_if_kept};
+ghost use Rattle.fault_table.specs.FaultTable.{column_names, fault_table, row_if_kept};
 
 use crate::row::write_row;
 use campaign_plan::Plan;
@@ -18,7 +18,7 @@ const LANES: u32 = 64;
 
 // Writes the names of the columns.
 fn write_columns<O: Sink>(out: &mut O) -> Result<(), Failed>
-    ensures { Sends (O.seen out.old) (O.seen out.new) (csv_row columns) result }
+    ensures { Sends (O.seen out.old) (O.seen out.new) (csv_row column_names) result }
 {
     write_all(
         out,
@@ -64,7 +64,7 @@ pub fn write_fault_table<O: Sink>(
     out: &mut O,
 ) -> Result<(), Failed>
     requires { length table.now ≡ batch_count plan.now }
-    ensures { (entries : List Entry) → table.now ≡ table_of (batch_count plan.now) entries
+    ensures { (entries : List Entry) → table.now ≡ planes_table (batch_count plan.now) entries
         → Sends (O.seen out.old) (O.seen out.new) (fault_table plan.now entries) result }
 {
     write_columns(out)?;

@@ -19,7 +19,7 @@ pub record Counts (content : List ℕ → Content) (name : List ℕ) (before now
   pub others : (other : List ℕ) → other ≢ name → IsThere (content other) → now other ≡ before other
 
 -- n bytes were read from a place of these bytes
-pub record Reads (bytes : List ℕ) (at n : ℕ) (piece : List ℕ) : Type 0 where
+pub record IsPieceRead (bytes : List ℕ) (at n : ℕ) (piece : List ℕ) : Type 0 where
   pub within : n ≤ length bytes - at
   pub read : take n piece ≡ take n (drop at bytes)
   pub some : 0 < length piece → at < length bytes → 0 < n

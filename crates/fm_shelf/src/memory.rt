@@ -2,10 +2,10 @@
 ghost use Rattle.std.specs.Prelude.{[], false, if◌then◌else◌, ◌++◌, ◌∷◌, MatchBool, OnOk, ◌≡◌, ◌<◌, ◌≤◌, ◌-◌, ℕ, List, Some, None, length, take, drop, IfOk, IfSome, ◌≢◌, MatchOption};
 ghost use Rattle.std.specs.Str.{bytes_eq};
 ghost use Rattle.fm_shelf.specs.Content.{Absent, Held, IfPresent, bytes_of};
-ghost use Rattle.fm_shelf.specs.Shelf.{Reads, CountRose, Counts};
+ghost use Rattle.fm_shelf.specs.Shelf.{IsPieceRead, CountRose, Counts};
 ghost use Rattle.fm_shelf.specs.Edits.{content_of, Edited, IsUncounted};
 ghost use Rattle.fm_shelf.specs.Given.{given_files};
-ghost use Rattle.fm_shelf.specs.Entries.{AllApart, HasName, content_in, files_of, count_of};
+ghost use Rattle.fm_shelf.specs.Entries.{AllApart, HasName, content_in, files_of, entry_count};
 
 use crate::files::{Calls, File, Files};
 use crate::shelf::{Failed, Shelf, Sink};
@@ -117,7 +117,7 @@ fn place_of(entries: &[Entry], name: &str) -> Option<usize>
 // Copies what stands at a place.
 fn copy_from(bytes: &[u8], at: u64, piece: &mut [u8]) -> usize
     ensures fits { result ≤ length piece.new }
-    ensures read { Reads bytes.now at result piece.new }
+    ensures read { IsPieceRead bytes.now at result piece.new }
 {
     if at >= bytes.len() as u64 {
         return 0;
@@ -131,7 +131,7 @@ fn copy_from(bytes: &[u8], at: u64, piece: &mut [u8]) -> usize
 // Reads from the file of a name, where there is one.
 pub(crate) fn read_entry(entries: &[Entry], name: &str, at: u64, piece: &mut [u8]) -> Option<usize>
     ensures fits { IfSome result (λ n. n ≤ length piece.new) }
-    ensures read { IfSome result (λ n. IfPresent (content_in (files_of entries.now) Absent name.now) (λ bytes. Reads bytes at n piece.new)) }
+    ensures read { IfSome result (λ n. IfPresent (content_in (files_of entries.now) Absent name.now) (λ bytes. IsPieceRead bytes at n piece.new)) }
     ensures there { IfSome result (λ _. content_in (files_of entries.now) Absent name.now ≢ Absent) }
     ensures absent { result ≡ None → content_in (files_of entries.now) Absent name.now ≡ Absent }
 {
@@ -150,12 +150,12 @@ fn one_more(count: u64) -> u64
 // Notes that a read of this name failed.
 fn note_read(entries: &mut [Entry], others: &mut u64, name: &str)
     ensures files { files_of entries.new ≡ files_of entries.old }
-    ensures rose { CountRose (count_of (λ entry. entry.reads) others.old entries.old name.now)
-        (count_of (λ entry. entry.reads) others.new entries.new name.now) }
+    ensures rose { CountRose (entry_count (λ entry. entry.reads) others.old entries.old name.now)
+        (entry_count (λ entry. entry.reads) others.new entries.new name.now) }
     ensures counts { Counts (content_in (files_of entries.old) Absent) name.now
-        (count_of (λ entry. entry.reads) others.old entries.old) (count_of (λ entry. entry.reads) others.new entries.new) }
+        (entry_count (λ entry. entry.reads) others.old entries.old) (entry_count (λ entry. entry.reads) others.new entries.new) }
     ensures writes { (rest : ℕ) (other : List ℕ)
-        → count_of (λ entry. entry.writes) rest entries.new other ≡ count_of (λ entry. entry.writes) rest entries.old other }
+        → entry_count (λ entry. entry.writes) rest entries.new other ≡ entry_count (λ entry. entry.writes) rest entries.old other }
 {
     match place_of(entries, name) {
         Some(i) => {
@@ -169,12 +169,12 @@ fn note_read(entries: &mut [Entry], others: &mut u64, name: &str)
 // Notes that a cut of this name or an append to it failed.
 fn note_write(entries: &mut [Entry], others: &mut u64, name: &str)
     ensures files { files_of entries.new ≡ files_of entries.old }
-    ensures rose { CountRose (count_of (λ entry. entry.writes) others.old entries.old name.now)
-        (count_of (λ entry. entry.writes) others.new entries.new name.now) }
+    ensures rose { CountRose (entry_count (λ entry. entry.writes) others.old entries.old name.now)
+        (entry_count (λ entry. entry.writes) others.new entries.new name.now) }
     ensures counts { Counts (content_in (files_of entries.old) Absent) name.now
-        (count_of (λ entry. entry.writes) others.old entries.old) (count_of (λ entry. entry.writes) others.new entries.new) }
+        (entry_count (λ entry. entry.writes) others.old entries.old) (entry_count (λ entry. entry.writes) others.new entries.new) }
     ensures reads { (rest : ℕ) (other : List ℕ)
-        → count_of (λ entry. entry.reads) rest entries.new other ≡ count_of (λ entry. entry.reads) rest entries.old other }
+        → entry_count (λ entry. entry.reads) rest entries.new other ≡ entry_count (λ entry. entry.reads) rest entries.old other }
 {
     match place_of(entries, name) {
         Some(i) => {

@@ -1,7 +1,7 @@
 // A set of named files, and a sink of bytes.
 ghost use Rattle.std.specs.Prelude.{◌≡◌, ◌<◌, ◌≤◌, ℕ, List, length, take, OnOk, OnErr, IfOk, IsErr};
 ghost use Rattle.fm_shelf.specs.Content.{Absent, IfPresent};
-ghost use Rattle.fm_shelf.specs.Shelf.{ShelfState, CountRose, Reads, OnlyReads, OnlyWrites, Becomes, MayBecome, Appends, MayAppend};
+ghost use Rattle.fm_shelf.specs.Shelf.{ShelfState, CountRose, IsPieceRead, OnlyReads, OnlyWrites, Becomes, MayBecome, Appends, MayAppend};
 ghost use Rattle.fm_shelf.specs.Sink.{SinkState, Wrote};
 
 /// The outside has failed: a call on a file or on the output wasn't done, or not wholly.
@@ -22,7 +22,7 @@ pub trait Shelf {
     /// isn't empty is the end of the file. An absent file is `Failed`.
     fn read(&mut self, name: &str, at: u64, piece: &mut [u8]) -> Result<usize, Failed>
         ensures fits { IfOk result (λ n. n ≤ length piece.new) }
-        ensures bytes { IfOk result (λ n. IfPresent ((seen self.old).content name.now) (λ bytes. Reads bytes at n piece.new)) }
+        ensures bytes { IfOk result (λ n. IfPresent ((seen self.old).content name.now) (λ bytes. IsPieceRead bytes at n piece.new)) }
         ensures absent { (seen self.old).content name.now ≡ Absent → IsErr result }
         ensures failed { OnErr result (CountRose ((seen self.old).read_faults name.now) ((seen self.new).read_faults name.now)) }
         ensures rest { OnlyReads (seen self.old) (seen self.new) name.now };

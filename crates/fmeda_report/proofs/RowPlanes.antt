@@ -12,7 +12,7 @@ use Rattle.campaign_plan.specs.Batches.{batches}
 use Rattle.result_file.specs.declared.Row.{Row}
 use Rattle.result_file.specs.KeptRows.{entry_of}
 use Rattle.fmeda_report.specs.Rows.{HoldEachOnce, planes_in}
-use Rattle.fmeda_report.specs.Tallies.{planes_at}
+use Rattle.fmeda_report.specs.Tallies.{planes_in_order}
 
 -- the batches of rows
 abbrev pub row_batches : List Row → List ℕ
@@ -67,7 +67,7 @@ row_at rows k = get_or rows k no_row
 -- ---- the planes by place
 
 abbrev placed : List Outcome → List Row → ℕ → Type 0
-placed planes rows k = planes_at planes (row_at rows k).batch ≡ planes_in rows (row_at rows k).batch
+placed planes rows k = planes_in_order planes (row_at rows k).batch ≡ planes_in rows (row_at rows k).batch
 
 -- one more row's planes stand at its batch
 pub place_more : (rows : List Row) (planes : List Outcome) (i n : ℕ) → IsOnce (row_batches rows) → i < length rows
@@ -98,16 +98,16 @@ rows_below (row ∷ rows) n below =
 
 -- where each row's planes stand at its batch, the planes by place are those of the rows
 pub placed_all : (p : Analysis) (rows : List Row) (planes : List Outcome) → HoldEachOnce p rows → length planes ≡ batch_count p
-    → ((k : ℕ) → k < length rows → placed planes rows k) → (batch : ℕ) → planes_at planes batch ≡ planes_in rows batch
+    → ((k : ℕ) → k < length rows → placed planes rows k) → (batch : ℕ) → planes_in_order planes batch ≡ planes_in rows batch
 placed_all p rows planes hold count each batch = by_cases (nat_lt batch (batch_count p)) refl
   where
-    by_cases : (b : Bool) → nat_lt batch (batch_count p) ≡ b → planes_at planes batch ≡ planes_in rows batch
+    by_cases : (b : Bool) → nat_lt batch (batch_count p) ≡ b → planes_in_order planes batch ≡ planes_in rows batch
     by_cases true e =
         let lt : batch < batch_count p = grind (arith, e) in
         let there = hold.each batch lt in
         let found = row_found rows there.0 batch there.1 there.2 in
         let same : (row_at rows there.0).batch ≡ batch = found.1 no_row in
-        ap (planes_at planes) (sym same) ∙ each there.0 found.0 ∙ ap (planes_in rows) same
+        ap (planes_in_order planes) (sym same) ∙ each there.0 found.0 ∙ ap (planes_in rows) same
     by_cases false e =
         let le : batch_count p ≤ batch = grind (arith, e) in
         let past : length planes ≤ batch = omega (arith, le, count) in

@@ -13,7 +13,7 @@ use Rattle.metric_sums.specs.declared.Class.TheVariants.{Safe, Detected, Residua
 use Rattle.metric_sums.specs.Classes.{is_class}
 use Rattle.fm_base.specs.Lists.{below}
 use Rattle.fm_base.proofs.Below.{below_push}
-use Rattle.rate_table.specs.Table.{IsTable}
+use Rattle.rate_table.specs.Table.{IsRateTable}
 use Rattle.campaign_plan.specs.Analysis.{Analysis, fault_count, fault_numbered, part_of}
 use Rattle.campaign_plan.specs.Batches.{class_of_fault}
 use Rattle.campaign_plan.specs.Weights.{weight}
@@ -22,13 +22,13 @@ use Rattle.fm_base.proofs.SumsBelow.{sum_up-push, sum_up-mono, sum_by-below}
 use Rattle.fmeda_report.specs.Report.{Planes}
 use Rattle.fmeda_report.specs.declared.tally.Amount.{Amount}
 use Rattle.fmeda_report.specs.declared.tally.Tally.{Tally}
-use Rattle.fmeda_report.specs.Tallies.{tally_of, nothing, tally_at, one_more, with_fault, IsSmall, AreSmall}
+use Rattle.fmeda_report.specs.Tallies.{tally_of, empty_tally, tally_at, one_more_fault, with_fault, IsSmall, AreAmountsSmall}
 
 -- ---- one item more
 
 -- one item more where the test is true
 abbrev more_where : Bool → ℕ → Amount → Amount
-more_where test w amount = if test then one_more w amount else amount
+more_where test w amount = if test then one_more_fault w amount else amount
 
 -- those that pass
 abbrev amount_by : (ℕ → Bool) → (ℕ → ℕ) → List ℕ → Amount
@@ -66,7 +66,7 @@ tally_by class w xs = record {
 
 tally_cases : (c : Class) (w : ℕ) (t : Tally)
     → record {
-      all = one_more w t.all;
+      all = one_more_fault w t.all;
       safe = more_where (is_class c Safe) w t.safe;
       detected = more_where (is_class c Detected) w t.detected;
       residual = more_where (is_class c Residual) w t.residual;
@@ -85,7 +85,7 @@ tally_push : (class : ℕ → Class) (w : ℕ → ℕ) (xs : List ℕ) (x : ℕ)
 tally_push class w xs x =
     let longer : length (xs ++ x ∷ []) ≡ length xs + 1 = length-append xs (x ∷ []) in
     let pushed : tally_by class w (xs ++ x ∷ []) ≡ record {
-      all = one_more (w x) (tally_by class w xs).all;
+      all = one_more_fault (w x) (tally_by class w xs).all;
       safe = more_where (is_class (class x) Safe) (w x) (tally_by class w xs).safe;
       detected = more_where (is_class (class x) Detected) (w x) (tally_by class w xs).detected;
       residual = more_where (is_class (class x) Residual) (w x) (tally_by class w xs).residual;
@@ -114,7 +114,7 @@ small_amount test w xs few light = record {
   light = omega (arith, filter_less test w xs, light);
 }
 
-small_tally : (class : ℕ → Class) (w : ℕ → ℕ) (xs : List ℕ) → length xs ≤ 2 ^ 20 → sum_by w xs ≤ 10 ^ 18 → AreSmall (tally_by class w xs)
+small_tally : (class : ℕ → Class) (w : ℕ → ℕ) (xs : List ℕ) → length xs ≤ 2 ^ 20 → sum_by w xs ≤ 10 ^ 18 → AreAmountsSmall (tally_by class w xs)
 small_tally class w xs few light = record {
   all = record { few = few; light = light };
   safe = small_amount (λ i. is_class (class i) Safe) w xs few light;
@@ -142,16 +142,16 @@ unfolding below
 length-below n = length-range_with_len 0 n
 
 -- the first weights sum to at most 10^18
-weights_below : (p : Analysis) → IsTable p.rates → (n : ℕ) → n ≤ fault_count p → sum_by (weight p) (below n) ≤ 10 ^ 18
+weights_below : (p : Analysis) → IsRateTable p.rates → (n : ℕ) → n ≤ fault_count p → sum_by (weight p) (below n) ≤ 10 ^ 18
 weights_below p table n le = omega (arith, sum_by-below n (weight p), sum_up-mono n (fault_count p) (weight p) le, weights_small p table)
 
 -- one weight is at most 10^18
-pub weight_light : (p : Analysis) → IsTable p.rates → (i : ℕ) → i < fault_count p → weight p i ≤ 10 ^ 18
+pub weight_light : (p : Analysis) → IsRateTable p.rates → (i : ℕ) → i < fault_count p → weight p i ≤ 10 ^ 18
 weight_light p table i lt =
     omega (arith, sum_up-push i (weight p), sum_up-mono (suc i) (fault_count p) (weight p) (omega (arith, lt)), weights_small p table)
 
-pub small_part : (p : Analysis) (planes : Planes) (k n : ℕ) → IsTable p.rates → fault_count p ≤ 2 ^ 20 → n ≤ fault_count p
-    → AreSmall (tally_of p planes (first_of_part p k n))
+pub small_part : (p : Analysis) (planes : Planes) (k n : ℕ) → IsRateTable p.rates → fault_count p ≤ 2 ^ 20 → n ≤ fault_count p
+    → AreAmountsSmall (tally_of p planes (first_of_part p k n))
 small_part p planes k n table few le =
     let test : ℕ → Bool = λ i. part_of p (fault_numbered p i) == k in
     let short : length (first_of_part p k n) ≤ 2 ^ 20 = omega (arith, length-filter test (below n), count_by-le-length test (below n), length-below n, few, le) in
@@ -159,7 +159,7 @@ small_part p planes k n table few le =
     small_tally (class_of_fault p planes) (weight p) (first_of_part p k n) short light
 
 -- no fault yet
-pub tally_start : (p : Analysis) (planes : Planes) (k : ℕ) → nothing ≡ tally_of p planes (first_of_part p k 0)
+pub tally_start : (p : Analysis) (planes : Planes) (k : ℕ) → empty_tally ≡ tally_of p planes (first_of_part p k 0)
 unfolding below
 tally_start p planes k = refl
 
@@ -183,7 +183,7 @@ tallied_more p planes tallies i part is lt before k below = by_cases (part_of p 
         let same : k ≡ part = grind (arith, e, is) in
         let more : first_of_part p k (i + 1) ≡ first_of_part p k i ++ i ∷ [] =
         ap (first_of_part p k) (sym next) ∙ first_push p k i ∙ ap (λ b. cond b (first_of_part p k i ++ i ∷ []) (first_of_part p k i)) e in
-        get_or-set_at tallies part k (with_fault (class_of_fault p planes i) (weight p i) (tally_at tallies part)) nothing same lt
+        get_or-set_at tallies part k (with_fault (class_of_fault p planes i) (weight p i) (tally_at tallies part)) empty_tally same lt
         ∙ ap (λ j. with_fault (class_of_fault p planes i) (weight p i) (tally_at tallies j)) (sym same)
         ∙ ap (with_fault (class_of_fault p planes i) (weight p i)) (before k below)
         ∙ sym (tally_push (class_of_fault p planes) (weight p) (first_of_part p k i) i)
@@ -192,5 +192,5 @@ tallied_more p planes tallies i part is lt before k below = by_cases (part_of p 
         let other : k ≢ part = grind (arith, e, is) in
         let same : first_of_part p k (i + 1) ≡ first_of_part p k i =
         ap (first_of_part p k) (sym next) ∙ first_push p k i ∙ ap (λ b. cond b (first_of_part p k i ++ i ∷ []) (first_of_part p k i)) e in
-        get_or-set_other tallies part k (with_fault (class_of_fault p planes i) (weight p i) (tally_at tallies part)) nothing other
+        get_or-set_other tallies part k (with_fault (class_of_fault p planes i) (weight p i) (tally_at tallies part)) empty_tally other
         ∙ before k below ∙ ap (tally_of p planes) (sym same)

@@ -12,8 +12,8 @@ use Rattle.fmeda_report.specs.declared.tally.Amount.{Amount}
 use Rattle.fmeda_report.specs.declared.tally.Tally.{Tally}
 
 -- the planes that stand at the number of each batch
-abbrev pub planes_at : List Outcome → Planes
-planes_at planes batch = slice_index_or planes batch (record { danger = 0; noticed = 0 })
+abbrev pub planes_in_order : List Outcome → Planes
+planes_in_order planes batch = slice_index_or planes batch (record { danger = 0; noticed = 0 })
 
 -- the number and the weight of the faults of a class, among some faults
 abbrev pub amount_of : Analysis → Planes → List ℕ → Class → Amount
@@ -35,8 +35,8 @@ tally_of p planes faults = record {
 }
 
 -- no fault
-abbrev pub nothing : Tally
-nothing = record {
+abbrev pub empty_tally : Tally
+empty_tally = record {
   all = record { faults = 0; weight = 0 };
   safe = record { faults = 0; weight = 0 };
   detected = record { faults = 0; weight = 0 };
@@ -48,20 +48,20 @@ nothing = record {
 
 -- the tally of a part
 abbrev pub tally_at : List Tally → ℕ → Tally
-tally_at tallies k = slice_index_or tallies k nothing
+tally_at tallies k = slice_index_or tallies k empty_tally
 
 -- one fault of this weight more
-abbrev pub one_more : ℕ → Amount → Amount
-one_more weight amount = record { faults = amount.faults + 1; weight = amount.weight + weight }
+abbrev pub one_more_fault : ℕ → Amount → Amount
+one_more_fault weight amount = record { faults = amount.faults + 1; weight = amount.weight + weight }
 
 -- one fault of this class and weight more
 abbrev pub with_fault : Class → ℕ → Tally → Tally
-with_fault Safe w t = record t { all = one_more w t.all; safe = one_more w t.safe }
-with_fault Detected w t = record t { all = one_more w t.all; detected = one_more w t.detected }
-with_fault Residual w t = record t { all = one_more w t.all; residual = one_more w t.residual }
-with_fault SinglePoint w t = record t { all = one_more w t.all; single_point = one_more w t.single_point }
-with_fault Latent w t = record t { all = one_more w t.all; latent = one_more w t.latent }
-with_fault Outside w t = record t { all = one_more w t.all; outside = one_more w t.outside }
+with_fault Safe w t = record t { all = one_more_fault w t.all; safe = one_more_fault w t.safe }
+with_fault Detected w t = record t { all = one_more_fault w t.all; detected = one_more_fault w t.detected }
+with_fault Residual w t = record t { all = one_more_fault w t.all; residual = one_more_fault w t.residual }
+with_fault SinglePoint w t = record t { all = one_more_fault w t.all; single_point = one_more_fault w t.single_point }
+with_fault Latent w t = record t { all = one_more_fault w t.all; latent = one_more_fault w t.latent }
+with_fault Outside w t = record t { all = one_more_fault w t.all; outside = one_more_fault w t.outside }
 
 -- at most 2^20 faults, of at most 10^18 units together
 pub record IsSmall (amount : Amount) : Type 0 where
@@ -69,7 +69,7 @@ pub record IsSmall (amount : Amount) : Type 0 where
   pub light : amount.weight ≤ 10 ^ 18
 
 -- so in all and in each class
-pub record AreSmall (t : Tally) : Type 0 where
+pub record AreAmountsSmall (t : Tally) : Type 0 where
   pub all : IsSmall t.all
   pub safe : IsSmall t.safe
   pub detected : IsSmall t.detected

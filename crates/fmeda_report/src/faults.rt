@@ -5,10 +5,10 @@ ghost use Rattle.fm_base.specs.Text.{line};
 ghost use Rattle.fault_list.specs.Faults.{fault_name};
 ghost use Rattle.campaign_plan.specs.Analysis.{batch_count, fault_count, fault_numbered};
 ghost use Rattle.campaign_plan.specs.Weights.{weight};
-ghost use Rattle.fmeda_report.specs.Report.{fault_line, is_named as is_named_class};
+ghost use Rattle.fmeda_report.specs.Report.{fault_line, names_faults as is_named_class};
 ghost use Rattle.fmeda_report.specs.Words.{class_word as word_of_class};
 ghost use Rattle.fm_shelf.specs.Sink.{Sends};
-ghost use Rattle.fmeda_report.specs.Tallies.{planes_at};
+ghost use Rattle.fmeda_report.specs.Tallies.{planes_in_order};
 
 use crate::planes::class_of_fault;
 use crate::words::{class_word, number_word};
@@ -40,7 +40,7 @@ fn write_fault<O: Sink>(plan: &Plan, planes: &[Outcome], i: u32, out: &mut O) ->
     requires fault { i < fault_count plan.now }
     requires planes { length planes.now ≡ batch_count plan.now }
     ensures { Sends (O.seen out.old) (O.seen out.new)
-        (fault_line plan.now (planes_at planes.now) i) result }
+        (fault_line plan.now (planes_in_order planes.now) i) result }
 {
     let class = class_of_fault(plan, planes, i);
     if is_named(class) {
@@ -58,7 +58,7 @@ pub(crate) fn write_faults<O: Sink>(
 ) -> Result<(), Failed>
     requires { length planes.now ≡ batch_count plan.now }
     ensures { Sends (O.seen out.old) (O.seen out.new)
-        (flat_map (fault_line plan.now (planes_at planes.now)) (below (fault_count plan.now))) result }
+        (flat_map (fault_line plan.now (planes_in_order planes.now)) (below (fault_count plan.now))) result }
 {
     for i in 0..plan.faults().len() {
         write_fault(plan, planes, i, out)?;

@@ -5,7 +5,7 @@ ghost use Rattle.campaign_plan.specs.Analysis.{part_count};
 ghost use Rattle.fmeda_report.specs.Report.{Planes, faults_of_part, part_line};
 ghost use Rattle.fmeda_report.specs.Words.{role_word as word_of_role, covering_word as word_of_covering};
 ghost use Rattle.fm_shelf.specs.Sink.{Sends};
-ghost use Rattle.fmeda_report.specs.Tallies.{tally_at, tally_of, AreSmall, AreTallied};
+ghost use Rattle.fmeda_report.specs.Tallies.{tally_at, tally_of, AreAmountsSmall, AreTallied};
 
 use crate::lines::write_line;
 use crate::tally::Tally;
@@ -31,7 +31,7 @@ fn covering_of(part: &Part) -> &[u8]
 // Writes the line of a part with this tally of its faults.
 fn write_part<O: Sink>(plan: &Plan, number: u32, tally: &Tally, out: &mut O) -> Result<(), Failed>
     requires part { number < part_count plan.now }
-    requires small { AreSmall tally.now }
+    requires small { AreAmountsSmall tally.now }
     ensures { (planes : Planes) → tally.now ≡ tally_of plan.now planes (faults_of_part plan.now number)
         → Sends (O.seen out.old) (O.seen out.new) (part_line plan.now planes number) result }
 {
@@ -74,7 +74,7 @@ pub(crate) fn write_parts<O: Sink>(
     out: &mut O,
 ) -> Result<(), Failed>
     requires parts { length tallies.now ≡ part_count plan.now }
-    requires small { (k : ℕ) → k < part_count plan.now → AreSmall (tally_at tallies.now k) }
+    requires small { (k : ℕ) → k < part_count plan.now → AreAmountsSmall (tally_at tallies.now k) }
     ensures { (planes : Planes) → AreTallied plan.now planes tallies.now
         → Sends (O.seen out.old) (O.seen out.new)
         (flat_map (part_line plan.now planes) (below (part_count plan.now))) result }

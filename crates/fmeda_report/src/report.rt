@@ -5,7 +5,7 @@ ghost use Rattle.fmeda_report.specs.Report.{report, summary};
 ghost use Rattle.fmeda_report.specs.Rooms.{room_for};
 ghost use Rattle.fmeda_report.specs.Rows.{HoldEachOnce, planes_in};
 ghost use Rattle.fm_shelf.specs.Sink.{Sends};
-ghost use Rattle.fmeda_report.specs.Tallies.{planes_at, tally_at, AreSmall, AreTallied};
+ghost use Rattle.fmeda_report.specs.Tallies.{planes_in_order, tally_at, AreAmountsSmall, AreTallied};
 
 use crate::faults::write_faults;
 use crate::lines::write_line;
@@ -48,10 +48,10 @@ fn report_for<O: Sink>(
 ) -> Result<(), Failed>
     requires planes { length planes.now ≡ batch_count plan.now }
     requires parts { length tallies.now ≡ part_count plan.now }
-    requires tallied { AreTallied plan.now (planes_at planes.now) tallies.now }
-    requires small { (k : ℕ) → k < part_count plan.now → AreSmall (tally_at tallies.now k) }
+    requires tallied { AreTallied plan.now (planes_in_order planes.now) tallies.now }
+    requires small { (k : ℕ) → k < part_count plan.now → AreAmountsSmall (tally_at tallies.now k) }
     ensures { Sends (O.seen out.old) (O.seen out.new)
-        (report plan.now (planes_at planes.now)) result }
+        (report plan.now (planes_in_order planes.now)) result }
 {
     write_line(out, &[b"fmeda-report", b"1"])?;
     write_sizes(plan, out)?;
@@ -88,7 +88,7 @@ fn summarize_for<O: Sink>(
 ) -> Result<(), Failed>
     requires { length planes.now ≡ batch_count plan.now }
     ensures { Sends (O.seen out.old) (O.seen out.new)
-        (summary n plan.now (planes_at planes.now)) result }
+        (summary n plan.now (planes_in_order planes.now)) result }
 {
     write_line(out, &[b"gen", number_word(u64::from(n)).bytes()])?;
     write_sizes(plan, out)?;

@@ -2,7 +2,7 @@
 ghost use Rattle.std.specs.Prelude.{◌≡◌, ◌+◌, ◌≤◌, ◌<◌, ◌^◌, ℕ, length};
 ghost use Rattle.metric_sums.specs.Metrics.{fraction};
 ghost use Rattle.campaign_plan.specs.Analysis.{batch_count, part_count};
-ghost use Rattle.fmeda_report.specs.Tallies.{nothing, one_more, planes_at, tally_at, with_fault, AreSmall, AreTallied, IsSmall};
+ghost use Rattle.fmeda_report.specs.Tallies.{empty_tally, one_more_fault, planes_in_order, tally_at, with_fault, AreAmountsSmall, AreTallied, IsSmall};
 
 use crate::planes::class_of_fault;
 use campaign_plan::{Outcome, Plan};
@@ -30,7 +30,7 @@ impl Amount {
     fn add(&mut self, weight: u64)
         requires small { IsSmall self.old }
         requires light { weight ≤ 10 ^ 18 }
-        ensures { self.new ≡ one_more weight self.old }
+        ensures { self.new ≡ one_more_fault weight self.old }
     {
         self.faults += 1;
         self.weight += weight;
@@ -52,7 +52,7 @@ pub(crate) struct Tally {
 impl Tally {
     // No fault.
     pub(crate) fn none() -> Tally
-        ensures { result ≡ nothing }
+        ensures { result ≡ empty_tally }
     {
         Tally {
             all: Amount::none(),
@@ -67,7 +67,7 @@ impl Tally {
 
     // Counts one fault of this class and weight more.
     fn add(&mut self, class: Class, weight: u64)
-        requires small { AreSmall self.old }
+        requires small { AreAmountsSmall self.old }
         requires light { weight ≤ 10 ^ 18 }
         ensures { self.new ≡ with_fault class weight self.old }
     {
@@ -84,7 +84,7 @@ impl Tally {
 
     // Measured coverage: the detected weight over the detected, residual and single-point weight.
     pub(crate) fn coverage(&self) -> Option<Fraction>
-        requires { AreSmall self.now }
+        requires { AreAmountsSmall self.now }
         ensures { result ≡ fraction self.now.detected.weight
             (self.now.detected.weight + self.now.residual.weight + self.now.single_point.weight) }
     {
@@ -101,7 +101,7 @@ impl Tally {
 
 // Counts no fault in each part.
 fn clear(tallies: &mut [Tally])
-    ensures { (k : ℕ) → k < length tallies.new → tally_at tallies.new k ≡ nothing }
+    ensures { (k : ℕ) → k < length tallies.new → tally_at tallies.new k ≡ empty_tally }
 {
     for tally in tallies.iter_mut() {
         *tally = Tally::none();
@@ -112,8 +112,8 @@ fn clear(tallies: &mut [Tally])
 pub(crate) fn tally_faults(plan: &Plan, planes: &[Outcome], tallies: &mut [Tally])
     requires planes { length planes.now ≡ batch_count plan.now }
     requires parts { length tallies.old ≡ part_count plan.now }
-    ensures tallied { AreTallied plan.now (planes_at planes.now) tallies.new }
-    ensures small { (k : ℕ) → k < part_count plan.now → AreSmall (tally_at tallies.new k) }
+    ensures tallied { AreTallied plan.now (planes_in_order planes.now) tallies.new }
+    ensures small { (k : ℕ) → k < part_count plan.now → AreAmountsSmall (tally_at tallies.new k) }
 {
     clear(tallies);
     for i in 0..plan.faults().len() {

@@ -18,12 +18,12 @@ use Rattle.refusal_text.specs.declared.status.Which.TheVariants as which
 use Rattle.refusal_text.specs.declared.refused.Refused.{Refused}
 use Rattle.refusal_text.specs.Refusals.{status_of, HasItsNets, IsSaidOf}
 use Rattle.command_steps.specs.declared.begun.Begun.{Begun}
-use Rattle.command_steps.specs.Files.{Files, Reads, all_read}
+use Rattle.command_steps.specs.Files.{Files, FilesRead, all_read}
 use Rattle.command_steps.specs.FirstRefusal.{first_refusal, refusal_in, kept_of, own_header, IsLoopAnswer, IsPlanOf}
 use Rattle.command_steps.specs.Held.{KeepsAll, name_in, name_of}
 use Rattle.command_steps.specs.Checked.{Checked, InputsFit, NameFits, ReadsFit}
 use Rattle.command_steps.specs.Steps.{RefusedInOrder}
-use Rattle.command_steps.specs.PlanSteps.{bytes_of}
+use Rattle.command_steps.specs.PlanSteps.{input_files}
 use Rattle.command_steps.specs.BegunSteps.{BegunAs, KeptChecked, KeptRefused}
 use Rattle.command_steps.proofs.BegunOrder.{kept_made, rows_kept}
 use Rattle.command_steps.proofs.Distinct.{kept_distinct}
@@ -32,22 +32,22 @@ use Rattle.command_steps.proofs.PlanOrder.{are_held}
 use Rattle.fmeda_top.specs.declared.kept.KeptText.{KeptText}
 use Rattle.fmeda_top.specs.declared.kept.KeptText.TheVariants.{FaultTable, Bounds}
 use Rattle.fmeda_top.specs.Promises.{CommandEnds}
-use Rattle.fmeda_top.specs.Ends.{DoneAs, OfCampaign, ToldOfKept, netlist_of}
-use Rattle.fmeda_top.specs.Kept.{command_of, text_of}
+use Rattle.fmeda_top.specs.Ends.{DoneAs, OfCampaign, ToldOfKept, netlist_known}
+use Rattle.fmeda_top.specs.Kept.{command_of, kept_text}
 use Rattle.fmeda_top.specs.Tried.{AreKeptOf, KeptTextAs, TextAs}
 use Rattle.fmeda_top.proofs.Ending.{text_ends}
 
 -- a command is one over the rows that are kept: its checks, its files, and what it is for
 pub record IsOfKept (command : Command) (text : Analysis → List Entry → Bytes) (inputs : Inputs) (name : Bytes) (set : Settings) : Type 0 where
-  pub first : (walk : Option (List NetId)) (reads : Reads) → first_refusal walk command reads ≡ refusal_in (kept_of inputs.netlist walk set reads)
-  pub fits : (before after : ShelfState) (reads : Reads) → InputsFit before after inputs reads
+  pub first : (walk : Option (List NetId)) (reads : FilesRead) → first_refusal walk command reads ≡ refusal_in (kept_of inputs.netlist walk set reads)
+  pub fits : (before after : ShelfState) (reads : FilesRead) → InputsFit before after inputs reads
       → NameFits before after name reads.result → ReadsFit before after command reads
   pub names : name_of command ≡ name_in inputs name
-  pub netlist : (shelf : ShelfState) → netlist_of command shelf ≡ shelf.content inputs.netlist
+  pub netlist : (shelf : ShelfState) → netlist_known command shelf ≡ shelf.content inputs.netlist
   pub done : (before after : Outside) → KeepsAll before.shelf after.shelf
       → OfCampaign before.shelf inputs name (λ files bytes. ToldOfKept inputs.netlist files set bytes text before.out after.out) → DoneAs command before after
 
-is_of_kept : (own : KeptText) (inputs : Inputs) (name : Bytes) (set : Settings) → IsOfKept (command_of own inputs name set) (text_of own) inputs name set
+is_of_kept : (own : KeptText) (inputs : Inputs) (name : Bytes) (set : Settings) → IsOfKept (command_of own inputs name set) (kept_text own) inputs name set
 unfolding first_refusal
 is_of_kept FaultTable inputs name set = record {
   first = λ walk reads. refl;
@@ -65,7 +65,7 @@ is_of_kept Bounds inputs name set = record {
 }
 
 module _ (command : Command) (text : Analysis → List Entry → Bytes) (inputs : Inputs) (name : Bytes) (set : Settings) (own : IsOfKept command text inputs name set) where
-  loops_of : (reads : Reads) (walk : Option (List NetId)) → IsLoopAnswer inputs.netlist reads.netlist walk → IsLoopAnswer (name_of command which.Netlist) reads.netlist walk
+  loops_of : (reads : FilesRead) (walk : Option (List NetId)) → IsLoopAnswer inputs.netlist reads.netlist walk → IsLoopAnswer (name_of command which.Netlist) reads.netlist walk
   loops_of reads walk loops = subst (λ (f : Which → Bytes). IsLoopAnswer (f which.Netlist) reads.netlist walk) (sym own.names) loops
 
   checked_of : (before after : ShelfState) → KeptChecked inputs name set before after → Checked command before after None
@@ -100,18 +100,18 @@ module _ (command : Command) (text : Analysis → List Entry → Bytes) (inputs 
 
 module _ (own : KeptText) (inputs : Inputs) (name : Bytes) (set : Settings) where
   -- how either command ends
-  pub kept_end : (before after : Outside) (ended : Status) → KeepsAll before.shelf after.shelf → KeptTextAs before after inputs name set (text_of own) (Ok ended)
+  pub kept_end : (before after : Outside) (ended : Status) → KeepsAll before.shelf after.shelf → KeptTextAs before after inputs name set (kept_text own) (Ok ended)
       → CommandEnds (command_of own inputs name set) ended before after
-  kept_end = text_written (command_of own inputs name set) (text_of own) inputs name set (is_of_kept own inputs name set)
+  kept_end = text_written (command_of own inputs name set) (kept_text own) inputs name set (is_of_kept own inputs name set)
 
   pub kept_refused : (before after : ShelfState) (ended : Status) → KeptRefused inputs name set before after ended
       → RefusedInOrder (command_of own inputs name set) before after ended
-  kept_refused = refused_of (command_of own inputs name set) (text_of own) inputs name set (is_of_kept own inputs name set)
+  kept_refused = refused_of (command_of own inputs name set) (kept_text own) inputs name set (is_of_kept own inputs name set)
 
   pub kept_names : name_of (command_of own inputs name set) ≡ name_in inputs name
   kept_names = (is_of_kept own inputs name set).names
 
-  pub kept_netlist : (shelf : ShelfState) → netlist_of (command_of own inputs name set) shelf ≡ shelf.content inputs.netlist
+  pub kept_netlist : (shelf : ShelfState) → netlist_known (command_of own inputs name set) shelf ≡ shelf.content inputs.netlist
   kept_netlist = (is_of_kept own inputs name set).netlist
 
 module _ (inputs : Inputs) (name : Bytes) (set : Settings) (before after : ShelfState) (made : Begun) (begun : BegunAs before after inputs name set (Ok made)) where
@@ -119,7 +119,7 @@ module _ (inputs : Inputs) (name : Bytes) (set : Settings) (before after : Shelf
   p = made.planned.plan
 
   abbrev found : Files
-  found = bytes_of made.planned.files
+  found = input_files made.planned.files
 
   own_kept : kept made.own p begun.1.bytes ≡ Ok made.kept
   own_kept = rows_kept which.Result made.own p begun.1.bytes made.kept begun.1.rows
@@ -148,8 +148,8 @@ module _ (inputs : Inputs) (name : Bytes) (set : Settings) (before after : Shelf
       }
 
   -- the command after its files were read
-  pub kept_told : (own : KeptText) (out now : SinkState) (r : Result Status Refused) → TextAs out now (text_of own p (kept_entries made.kept)) r
-      → KeptTextAs (outside before out) (outside after now) inputs name set (text_of own) r
+  pub kept_told : (own : KeptText) (out now : SinkState) (r : Result Status Refused) → TextAs out now (kept_text own p (kept_entries made.kept)) r
+      → KeptTextAs (outside before out) (outside after now) inputs name set (kept_text own) r
   kept_told own out now (Ok ended) told = (p, made.kept, are_kept, unrefused, told)
   kept_told own out now (Err refused) (memory, written) =
       (inl (ap status_of memory), subst (HasItsNets inputs.netlist (before.content inputs.netlist)) (sym memory) tt, written)

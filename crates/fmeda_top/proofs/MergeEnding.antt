@@ -26,12 +26,12 @@ use Rattle.refusal_text.specs.declared.status.Status.TheVariants as status
 use Rattle.refusal_text.specs.declared.status.Which.{Which}
 use Rattle.refusal_text.specs.declared.status.Which.TheVariants as which
 use Rattle.command_steps.specs.declared.merged.Merged.{Merged as Read}
-use Rattle.command_steps.specs.Files.{Files, Reads, both_read}
+use Rattle.command_steps.specs.Files.{Files, FilesRead, both_read}
 use Rattle.command_steps.specs.FirstRefusal.{first_refusal, refusal_in, merged_of, status_of_merge, IsPlanOf, own_header}
 use Rattle.command_steps.specs.Held.{Holds, HoldsInputs, name_with}
 use Rattle.command_steps.specs.Checked.{Checked}
 use Rattle.command_steps.specs.Steps.{RefusedInOrder}
-use Rattle.command_steps.specs.PlanSteps.{bytes_of}
+use Rattle.command_steps.specs.PlanSteps.{input_files}
 use Rattle.command_steps.specs.MergeSteps.{MergeRefused, MergedAs, BothRead}
 use Rattle.command_steps.proofs.Taken.{told_given}
 use Rattle.command_steps.proofs.InOrder.{held_is}
@@ -39,7 +39,7 @@ use Rattle.command_steps.proofs.PlanOrder.{are_held}
 use Rattle.command_steps.proofs.BegunOrder.{rows_kept}
 use Rattle.command_steps.proofs.MergeOrder.{merged_both}
 use Rattle.command_text.specs.Texts.{merge_text}
-use Rattle.fmeda_top.specs.Ends.{DoneAs, FaultAs, IsStopped, Merged, MergedFiles, StoppedMerging, entries_of, text_of}
+use Rattle.fmeda_top.specs.Ends.{DoneAs, FaultAs, IsStopped, Merged, MergedFiles, StoppedMerging, entries_of, merged_text}
 use Rattle.fmeda_top.specs.Written.{rows_file}
 use Rattle.fmeda_top.specs.Campaigns.{EndSaid, HasEnded}
 use Rattle.fmeda_top.specs.Promises.{CommandEnds}
@@ -72,7 +72,7 @@ module _ (inputs : Inputs) (name first second : Bytes) (set : Settings) where
     p = made.planned.plan
 
     abbrev found : Files
-    found = bytes_of made.planned.files
+    found = input_files made.planned.files
 
     abbrev both : BothRead made.own p first second before.shelf made.rows
     both = begun.1.both
@@ -85,7 +85,7 @@ module _ (inputs : Inputs) (name first second : Bytes) (set : Settings) where
     unfolding first_refusal
     merge_none =
         let read = begun.0.0 in
-        let reads : Reads = both_read found both.first_bytes both.second_bytes in
+        let reads : FilesRead = both_read found both.first_bytes both.second_bytes in
         record {
           reads = reads;
           fit = (
@@ -124,7 +124,7 @@ module _ (inputs : Inputs) (name first second : Bytes) (set : Settings) where
       agreed = agreed ∙ ap (λ rows. Ok rows) rows_are;
     }
 
-    file_is : rows_file made.own made.rows ≡ text_of the_files
+    file_is : rows_file made.own made.rows ≡ merged_text the_files
     unfolding the_files
     file_is = ap₂ rows_file begun.1.own rows_are
 
@@ -132,7 +132,7 @@ module _ (inputs : Inputs) (name first second : Bytes) (set : Settings) where
     unfolding the_files
     many = ap length rows_are ∙ length-result_rows p (entries_of the_files)
 
-    stopped : MergesAreLawful → AreTrue p (kept_entries both.first) → AreTrue p (kept_entries both.second) → IsStopped found set p (Held (text_of the_files))
+    stopped : MergesAreLawful → AreTrue p (kept_entries both.first) → AreTrue p (kept_entries both.second) → IsStopped found set p (Held (merged_text the_files))
     unfolding the_files
     stopped laws one_true two_true =
         let law = (laws p).0 in
@@ -142,7 +142,7 @@ module _ (inputs : Inputs) (name first second : Bytes) (set : Settings) where
             distinct = law.distinct (kept_entries both.first) (kept_entries both.second);
             have = law.have (true_planes p) (kept_entries both.first) (kept_entries both.second) one_true two_true;
           };
-          prefix = (length (text_of the_files), sym (take_all (length (text_of the_files)) (text_of the_files) (omega arith)));
+          prefix = (length (merged_text the_files), sym (take_all (length (merged_text the_files)) (merged_text the_files) (omega arith)));
         }
 
     has_merged : MergesAreLawful → (out : SinkState) → HasIfKnown (after.content name) (rows_file made.own made.rows)

@@ -43,7 +43,7 @@ use Rattle.command_steps.specs.FirstRefusal.{first_refusal, refusal_in, paired_o
 use Rattle.command_steps.specs.Held.{KeepsAll}
 use Rattle.command_steps.specs.Checked.{Checked}
 use Rattle.command_steps.specs.Steps.{RefusedInOrder}
-use Rattle.command_steps.specs.PlanSteps.{bytes_of}
+use Rattle.command_steps.specs.PlanSteps.{input_files}
 use Rattle.command_steps.specs.BegunSteps.{KeptRefused, BegunAs}
 use Rattle.command_steps.proofs.Taken.{why}
 use Rattle.command_steps.proofs.InOrder.{held_is}
@@ -160,7 +160,7 @@ module _ (inputs : Inputs) (name : Bytes) (set : Settings) (workers : ℕ) where
     p = made.planned.plan
 
     abbrev found : Files
-    found = bytes_of made.planned.files
+    found = input_files made.planned.files
 
     -- the kept rows are of distinct batches
     pub rows_distinct : AreDistinct p (map entry_of made.kept.rows)

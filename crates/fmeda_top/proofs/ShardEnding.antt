@@ -23,7 +23,7 @@ use Rattle.command_steps.specs.FirstRefusal.{first_refusal, refusal_in, plan_of,
 use Rattle.command_steps.specs.Held.{HoldsInputs, name_in, name_of}
 use Rattle.command_steps.specs.Checked.{Checked}
 use Rattle.command_steps.specs.Steps.{RefusedInOrder}
-use Rattle.command_steps.specs.PlanSteps.{PlanChecked, PlanRefused, PlannedAs, bytes_of}
+use Rattle.command_steps.specs.PlanSteps.{PlanChecked, PlanRefused, PlannedAs, input_files}
 use Rattle.command_steps.proofs.PlanOrder.{are_held, plan_checked}
 use Rattle.fmeda_top.specs.Campaigns.{EndSaid, HasEnded}
 use Rattle.fmeda_top.specs.Promises.{CommandEnds, result_of}
@@ -31,7 +31,7 @@ use Rattle.refusal_text.specs.declared.status.Which.{Which}
 use Rattle.refusal_text.specs.declared.status.Which.TheVariants as which
 use Rattle.fmeda_top.proofs.Naming.{same_names}
 use Rattle.fmeda_top.proofs.CampaignEnding.{file_ends}
-use Rattle.fmeda_top.specs.Ends.{DoneAs, FaultAs, StoppedCampaign}
+use Rattle.fmeda_top.specs.Ends.{DoneAs, FaultAs, LeavesPrefix}
 
 -- how a part may leave a file that it couldn't write
 abbrev pub PartLeft : PartCampaign → (before after : ShelfState) → Type 0
@@ -74,13 +74,13 @@ module _ (inputs : Inputs) (name : Bytes) (set : Settings) (part parts : ℕ) wh
   shard_refused before after ended refused = record { checked = shard_checked before after (Some ended) refused.checked; fault = refused.fault name [] [] }
 
   module _ (before : Outside) (mid after : ShelfState) (made : Planned) (own : Bytes) (reads : OnlyReadsAny before.shelf mid)
-      (planned : PlannedAs before.shelf after inputs set (Ok made)) (own_is : own ≡ own_header set (bytes_of made.files) made.plan) where
+      (planned : PlannedAs before.shelf after inputs set (Ok made)) (own_is : own ≡ own_header set (input_files made.files) made.plan) where
     -- the part that runs
     abbrev pub part_of : PartCampaign
     part_of = record { name = name; own = own; p = made.plan; part = part; parts = parts }
 
     abbrev files : Files
-    files = bytes_of made.files
+    files = input_files made.files
 
     pub shard_none : Checked command before.shelf after None
     shard_none = shard_checked before.shelf after None (plan_checked inputs set before.shelf after files made.plan planned.0 planned.1 planned.3)
@@ -108,7 +108,7 @@ module _ (inputs : Inputs) (name : Bytes) (set : Settings) (part parts : ℕ) wh
     pub shard_left : KeepsOthers before.shelf after name → PartLeft part_of mid after → FaultAs command before.shelf after
     shard_left keeps left = (files, planned.0, (keeps, by_left left))
       where
-        by_left : PartLeft part_of mid after → (after.content name ≡ before.shelf.content name) ⊎ StoppedCampaign inputs.netlist files set (after.content name)
+        by_left : PartLeft part_of mid after → (after.content name ≡ before.shelf.content name) ⊎ LeavesPrefix inputs.netlist files set (after.content name)
         by_left (inl same) = inl (same ∙ ap (λ (content : Bytes → Content). content name) reads.content)
         by_left (inr prefix) = inr (record {
           p = made.plan;

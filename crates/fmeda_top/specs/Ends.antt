@@ -33,7 +33,7 @@ use Rattle.command_text.specs.Texts.{classes_text, check_text, audit_text, shard
 use Rattle.command_steps.specs.FirstRefusal.{IsPlanOf, audited_of, own_header, generated, generated_settings, no_name, merged_of, paired_of}
 use Rattle.fm_base.specs.Names.{Bytes}
 use Rattle.campaign_run.specs.Outside.{KeepsOthers, had_written}
-use Rattle.campaign_run.specs.Found.{kept_or_true}
+use Rattle.campaign_run.specs.Found.{checkpointed_or_true}
 use Rattle.campaign_run.specs.Reported.{HasReported, ResumedAs}
 use Rattle.campaign_run.specs.Left.{IsPrefixOf, LeftPrefix, BeginsAs}
 use Rattle.command_steps.specs.Held.{KeepsAll, name_of}
@@ -52,7 +52,7 @@ pub record Resumed (netlist : Bytes) (files : Files) (set : Settings) (bytes nam
   pub plan : IsPlanOf netlist set files p
   pub k : KeptRows
   pub kept_rows : kept (own_header set files p) p bytes ≡ Ok k
-  pub resumed : ResumedAs (own_header set files p) (report p (kept_or_true p k)) p (kept_or_true p k) bytes name before after
+  pub resumed : ResumedAs (own_header set files p) (report p (checkpointed_or_true p k)) p (checkpointed_or_true p k) bytes name before after
 
 -- what is known of a file is a byte prefix of a result file of the plan: a campaign over these inputs was stopped at any byte
 abbrev pub IsStopped : Files → Settings → Analysis → Content → Type 0
@@ -88,16 +88,16 @@ abbrev pub entries_of : {netlist : Bytes} {files : Files} {set : Settings} {one 
 entries_of m = merged_entries m.p (kept_entries m.first) (kept_entries m.second)
 
 -- the result file of these
-abbrev pub text_of : {netlist : Bytes} {files : Files} {set : Settings} {one two : Bytes} → Merged netlist files set one two → Bytes
-text_of {netlist} {files} {set} m = result_text (own_header set files m.p) m.p (entries_of m)
+abbrev pub merged_text : {netlist : Bytes} {files : Files} {set : Settings} {one two : Bytes} → Merged netlist files set one two → Bytes
+merged_text {netlist} {files} {set} m = result_text (own_header set files m.p) m.p (entries_of m)
 
 -- MERGING: the file holds the union of both files' rows, with sums from scratch.
 -- stopped: where both have true planes, it is such a file as a campaign leaves that was stopped, so that `resume` reports the campaign
 pub record MergedFiles (netlist : Bytes) (files : Files) (set : Settings) (one two name : Bytes) (before after : Outside) : Type 0 where
   pub merged : Merged netlist files set one two
-  pub result : HasIfKnown (after.shelf.content name) (text_of merged)
+  pub result : HasIfKnown (after.shelf.content name) (merged_text merged)
   pub wrote : Wrote before.out after.out (merge_text (length (entries_of merged)) merged.p)
-  pub stopped : AreTrue merged.p (kept_entries merged.first) → AreTrue merged.p (kept_entries merged.second) → IsStopped files set merged.p (Held (text_of merged))
+  pub stopped : AreTrue merged.p (kept_entries merged.first) → AreTrue merged.p (kept_entries merged.second) → IsStopped files set merged.p (Held (merged_text merged))
 
 -- PAIRING: the text is that of the pairs by the kept planes.
 -- truly: where these are true, it is that of the true planes
@@ -178,7 +178,7 @@ DoneAs (Progress inputs name set) before after =
     × OfCampaign before.shelf inputs name (λ files bytes. ToldOfKept inputs.netlist files set bytes progress before.out after.out)
 
 -- a campaign was stopped
-pub record StoppedCampaign (netlist : Bytes) (files : Files) (set : Settings) (after : Content) : Type 0 where
+pub record LeavesPrefix (netlist : Bytes) (files : Files) (set : Settings) (after : Content) : Type 0 where
   pub p : Analysis
   pub plan : IsPlanOf netlist set files p
   pub stopped : IsStopped files set p after
@@ -189,13 +189,13 @@ pub record StoppedResuming (netlist : Bytes) (files : Files) (set : Settings) (b
   pub plan : IsPlanOf netlist set files p
   pub k : KeptRows
   pub kept_rows : kept (own_header set files p) p bytes ≡ Ok k
-  pub left : LeftPrefix (own_header set files p) p (kept_or_true p k) after
+  pub left : LeftPrefix (own_header set files p) p (checkpointed_or_true p k) after
   pub begins : BeginsAs after (take k.whole (bytes_of before))
 
 -- the file is a byte prefix of the one that `merge` leaves at Done
 pub record StoppedMerging (netlist : Bytes) (files : Files) (set : Settings) (one two : Bytes) (after : Content) : Type 0 where
   pub merged : Merged netlist files set one two
-  pub prefix : IsPrefixOf after (text_of merged)
+  pub prefix : IsPrefixOf after (merged_text merged)
 
 -- other files stay, and the result file is as at entry, or so
 abbrev pub LeavesResult : (before after : ShelfState) → (name : Bytes) → Type 0 → Type 0
@@ -205,13 +205,13 @@ LeavesResult before after name IsSo = KeepsOthers before after name × ((after.c
 -- of the one that Done would leave. No other command writes a result file
 abbrev pub FaultAs : Command → (before after : ShelfState) → Type 0
 FaultAs (Run inputs name set workers) before after =
-    OfInputs before inputs (λ files. LeavesResult before after name (StoppedCampaign inputs.netlist files set (after.content name)))
+    OfInputs before inputs (λ files. LeavesResult before after name (LeavesPrefix inputs.netlist files set (after.content name)))
 FaultAs (Resume inputs name set workers) before after =
     OfCampaign before inputs name (λ files bytes. LeavesResult before after name (StoppedResuming inputs.netlist files set bytes (before.content name) (after.content name)))
 FaultAs (Gen n name workers) before after =
-    LeavesResult before after name (StoppedCampaign no_name (generated n) generated_settings (after.content name))
+    LeavesResult before after name (LeavesPrefix no_name (generated n) generated_settings (after.content name))
 FaultAs (Shard inputs name set part parts) before after =
-    OfInputs before inputs (λ files. LeavesResult before after name (StoppedCampaign inputs.netlist files set (after.content name)))
+    OfInputs before inputs (λ files. LeavesResult before after name (LeavesPrefix inputs.netlist files set (after.content name)))
 FaultAs (Merge inputs name first second set) before after =
     OfInputs before inputs (λ files. OfFile before first (λ one. OfFile before second (λ two.
     LeavesResult before after name (StoppedMerging inputs.netlist files set one two (after.content name)))))
@@ -233,9 +233,9 @@ IsRefusal (status.WriteFault to) = ⊥
 IsRefusal _ = Unit {0}
 
 -- the netlist of a command, as far as it is known: the generated one, or that of its file
-abbrev pub netlist_of : Command → ShelfState → Content
-netlist_of (Gen n name workers) shelf = Held (generated n).netlist
-netlist_of command shelf = shelf.content (name_of command which.Netlist)
+abbrev pub netlist_known : Command → ShelfState → Content
+netlist_known (Gen n name workers) shelf = Held (generated n).netlist
+netlist_known command shelf = shelf.content (name_of command which.Netlist)
 
 -- AFTER A REFUSAL: no file has changed, and the refusal's line was written, or a prefix of it where `out` failed
 pub record RefusedAs (names : Which → Bytes) (netlist : Content) (ended : Status) (before after : Outside) : Type 0 where

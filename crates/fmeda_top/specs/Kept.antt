@@ -16,6 +16,6 @@ command_of FaultTable = Faults
 command_of Bounds = Progress
 
 -- the text of a plan and of the batches that are kept
-abbrev pub text_of : KeptText → Analysis → List Entry → Bytes
-text_of FaultTable = fault_table
-text_of Bounds = progress
+abbrev pub kept_text : KeptText → Analysis → List Entry → Bytes
+kept_text FaultTable = fault_table
+kept_text Bounds = progress

@@ -12,7 +12,7 @@ use Rattle.command_line.specs.Commands.{Command, Run, Resume, Gen, Shard, Merge}
 use Rattle.command_line.specs.Words.{IsAlone, IsCommand, IsNoCommand}
 use Rattle.command_steps.specs.Held.{name_of}
 use Rattle.command_steps.specs.Checked.{Checked, FaultsRose}
-use Rattle.fmeda_top.specs.Ends.{IsRefusal, DoneAs, netlist_of, RefusedAs, FaultAs, FaultSaid, OutFaultAs}
+use Rattle.fmeda_top.specs.Ends.{IsRefusal, DoneAs, netlist_known, RefusedAs, FaultAs, FaultSaid, OutFaultAs}
 
 -- the result file that a command writes
 abbrev pub result_of : Command → Option Bytes
@@ -48,7 +48,7 @@ pub record EndsInOrder (command : Command) (ended : Status) (before after : Outs
 pub record CommandEnds (command : Command) (ended : Status) (before after : Outside) : Type 0 where
   pub cause : EndsInOrder command ended before after ⊎ (ended ≡ status.Memory)
   pub done : ended ≡ status.Done → DoneAs command before after
-  pub refusal : IsRefusal ended → RefusedAs (name_of command) (netlist_of command before.shelf) ended before after
+  pub refusal : IsRefusal ended → RefusedAs (name_of command) (netlist_known command before.shelf) ended before after
   pub result_fault : ended ≡ status.WriteFault to.Result → FaultAs command before.shelf after.shelf × FaultSaid (name_of command) before.out after.out
   pub out_fault : ended ≡ status.WriteFault to.Out → OutFaultAs command before after
 

@@ -7,10 +7,10 @@ ghost use Rattle.campaign_plan.specs.Analysis.{batch_count};
 ghost use Rattle.campaign_plan.specs.Batches.{AreDistinct};
 ghost use Rattle.campaign_plan.specs.Kept.{AreSettings};
 ghost use Rattle.result_file.specs.KeptRows.{entry_of, kept_entries};
-ghost use Rattle.result_merge.specs.Tables.{table_of};
-ghost use Rattle.command_steps.specs.PlanSteps.{names_of};
+ghost use Rattle.result_merge.specs.Tables.{planes_table};
+ghost use Rattle.command_line.specs.Asks.{names_of};
 ghost use Rattle.fmeda_top.specs.Promises.{CommandEnds};
-ghost use Rattle.fmeda_top.specs.Kept.{command_of, text_of};
+ghost use Rattle.fmeda_top.specs.Kept.{command_of, kept_text};
 ghost use Rattle.fmeda_top.specs.Tried.{KeptTextAs, TextAs};
 
 use campaign_plan::{Plan, Settings};
@@ -45,9 +45,9 @@ fn write_kept<O: Sink>(
     out: &mut O,
 ) -> Result<(), Failed>
     requires distinct { AreDistinct plan.now (map entry_of rows.now) }
-    requires table { table.now ≡ table_of (batch_count plan.now) (map entry_of rows.now) }
+    requires table { table.now ≡ planes_table (batch_count plan.now) (map entry_of rows.now) }
     ensures { Sends (O.seen out.old) (O.seen out.new)
-        (text_of text plan.now (map entry_of rows.now)) result }
+        (kept_text text plan.now (map entry_of rows.now)) result }
 {
     match text {
         KeptText::FaultTable => write_fault_table(plan, table, out),
@@ -64,7 +64,7 @@ fn tell_kept<O: Sink>(
 ) -> Result<Status, Refused>
     requires { AreDistinct begun.now.planned.plan (kept_entries begun.now.kept) }
     ensures { TextAs (O.seen out.old) (O.seen out.new)
-        (text_of text begun.now.planned.plan (kept_entries begun.now.kept)) result }
+        (kept_text text begun.now.planned.plan (kept_entries begun.now.kept)) result }
 {
     let (plan, rows) = (&begun.planned.plan, begun.kept.rows.as_slice());
     let table = PlanesTable::new(alloc, plan, rows)?;
@@ -83,7 +83,7 @@ fn try_kept<F: Shelf, O: Sink>(
 ) -> Result<Status, Refused>
     requires settings { AreSettings settings }
     ensures tried { KeptTextAs (outside (F.seen shelf.old) (O.seen out.old)) (outside (F.seen shelf.new) (O.seen out.new))
-        (names_of inputs.now) rows.now settings (text_of text) result }
+        (names_of inputs.now) rows.now settings (kept_text text) result }
     ensures rest { OnlyReadsAny (F.seen shelf.old) (F.seen shelf.new) }
 {
     let begun = read_begun(alloc, shelf, inputs, rows, settings)?;

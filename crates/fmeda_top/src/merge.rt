@@ -7,7 +7,7 @@ ghost use Rattle.campaign_plan.specs.Kept.{AreSettings};
 ghost use Rattle.result_file.specs.ResultText.{row_text};
 ghost use Rattle.campaign_run.specs.Left.{IsPrefixOf};
 ghost use Rattle.command_line.specs.Commands.{Merge};
-ghost use Rattle.command_steps.specs.PlanSteps.{names_of};
+ghost use Rattle.command_line.specs.Asks.{names_of};
 ghost use Rattle.command_text.specs.Texts.{merge_text};
 ghost use Rattle.fmeda_top.specs.Campaigns.{HasEnded};
 ghost use Rattle.fmeda_top.specs.Promises.{CommandEnds};

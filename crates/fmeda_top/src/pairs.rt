@@ -7,7 +7,7 @@ ghost use Rattle.campaign_plan.specs.Batches.{AreDistinct};
 ghost use Rattle.campaign_plan.specs.Kept.{AreSettings};
 ghost use Rattle.result_file.specs.KeptRows.{entry_of};
 ghost use Rattle.command_line.specs.Commands.{Pairs as PairsCommand};
-ghost use Rattle.command_steps.specs.PlanSteps.{names_of};
+ghost use Rattle.command_line.specs.Asks.{names_of};
 ghost use Rattle.fmeda_top.specs.Promises.{CommandEnds};
 ghost use Rattle.fmeda_top.specs.Tried.{ChoosesAs, PairsAs, PairsTold};
 

@@ -6,7 +6,7 @@ ghost use Rattle.circuit.specs.Order.{IsOrder};
 ghost use Rattle.campaign_plan.specs.Kept.{AreSettings};
 ghost use Rattle.fmeda_report.specs.Report.{true_report};
 ghost use Rattle.command_line.specs.Commands.{Report};
-ghost use Rattle.command_steps.specs.PlanSteps.{names_of};
+ghost use Rattle.command_line.specs.Asks.{names_of};
 ghost use Rattle.fmeda_top.specs.Promises.{CommandEnds};
 ghost use Rattle.fmeda_top.specs.Tried.{PlanTextAs, TextAs};
 

@@ -3,7 +3,7 @@ ghost use Rattle.std.specs.Prelude.{◌<◌, ◌≤◌};
 ghost use Rattle.fm_shelf.specs.Outside.{outside};
 ghost use Rattle.campaign_plan.specs.Kept.{AreSettings};
 ghost use Rattle.command_line.specs.Commands.{Shard as ShardCommand};
-ghost use Rattle.command_steps.specs.PlanSteps.{names_of};
+ghost use Rattle.command_line.specs.Asks.{names_of};
 ghost use Rattle.fmeda_top.specs.Promises.{CommandEnds};
 
 use crate::ended::Ended;

@@ -11,7 +11,7 @@ use Rattle.circuit.specs.Trace.{flipped, raw_state, trace}
 use Rattle.circuit.specs.Value.{bit_at}
 use Rattle.lane_kernel.specs.Bank.{Bank, lane_of}
 use Rattle.lane_kernel.specs.Bits.{either}
-use Rattle.lane_kernel.specs.Loads.{faults_of}
+use Rattle.lane_kernel.specs.Loads.{loaded_faults}
 use Rattle.place_set.specs.Places.{value_in}
 
 -- what a latch has at the start of cycle t, with these faults, differs from what it has without them
@@ -32,7 +32,7 @@ pub record IsBeside (c : Circuit) (faults : List Fault) (vectors : List (List Bo
 
 -- the same in each lane, with its own faults alone
 abbrev pub AreBeside : {W : Type 0} → ℕ → (W → ℕ → Bool) → List (List Bool) → Bank W → Type 0
-AreBeside lanes bit vectors bank = (k : ℕ) → k < lanes → IsBeside bank.circuit (faults_of bank.loads k) vectors (lane_of bit k bank)
+AreBeside lanes bit vectors bank = (k : ℕ) → k < lanes → IsBeside bank.circuit (loaded_faults bank.loads k) vectors (lane_of bit k bank)
 
 -- in cycle t the faults change no net and flip no latch
 pub record DoNothing (faults : List Fault) (t : ℕ) : Type 0 where

@@ -11,7 +11,7 @@ use Rattle.fm_base.specs.Planes.{bit}
 use Rattle.golden_difference.specs.Beside.{IsGoldenRow}
 use Rattle.workload.specs.declared.run.Run.{Run}
 use Rattle.workload.specs.Runs.{cycles_of, run_at}
-use Rattle.golden_rows.specs.Recorded.{AreRows, AreRowsOf, Recorded}
+use Rattle.golden_rows.specs.Recorded.{AreGoldenRows, AreRowsOf, Recorded}
 
 -- no rows
 pub no_rows : (c : Circuit) (run : Run) (width : ℕ) (words : List ℕ) → words ≡ [] → AreRowsOf c run width 0 words
@@ -42,8 +42,8 @@ row_more c run width t words next rows wide size kept last = record {
 }
 
 -- the rows of one run more
-pub run_more : (r : Recorded) (width n : ℕ) (rows : List (List ℕ)) (words : List ℕ) → AreRows r width n rows
-    → AreRowsOf r.circuit (run_at r.runs n) width (cycles_of (run_at r.runs n)) words → AreRows r width (n + 1) (rows ++ words ∷ [])
+pub run_more : (r : Recorded) (width n : ℕ) (rows : List (List ℕ)) (words : List ℕ) → AreGoldenRows r width n rows
+    → AreRowsOf r.circuit (run_at r.runs n) width (cycles_of (run_at r.runs n)) words → AreGoldenRows r width (n + 1) (rows ++ words ∷ [])
 run_more r width n rows words before own = record {
   count = length_push rows words ∙ ap (λ m. m + 1) before.count;
   each = λ run lt. elim (cases_eq run n) [

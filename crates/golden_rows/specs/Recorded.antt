@@ -17,11 +17,11 @@ pub record AreRowsOf (c : Circuit) (run : Run) (width n : ℕ) (words : List ℕ
   pub values : (t net : ℕ) → t < n → net < length c.drivers → bit (slice_index words (t * width + net / 64)) (net % 64) ≡ trace c [] run.vectors t net
 
 -- rows for each of the first n runs
-pub record AreRows (r : Recorded) (width n : ℕ) (rows : List (List ℕ)) : Type 0 where
+pub record AreGoldenRows (r : Recorded) (width n : ℕ) (rows : List (List ℕ)) : Type 0 where
   pub count : length rows ≡ n
   pub each : (run : ℕ) → run < n → AreRowsOf r.circuit (run_at r.runs run) width (cycles_of (run_at r.runs run)) (slice_index_or rows run [])
 
 -- rows for all runs, wide enough for all nets
 pub record HoldsRows (r : Recorded) (width : ℕ) (rows : List (List ℕ)) : Type 0 where
   pub wide : width ≡ length r.circuit.drivers / 64 + 1
-  pub each : AreRows r width (length r.runs) rows
+  pub each : AreGoldenRows r width (length r.runs) rows

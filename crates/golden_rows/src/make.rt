@@ -4,11 +4,11 @@ ghost use Rattle.circuit.specs.Order.{IsOrder};
 ghost use Rattle.circuit.specs.Sound.{IsNetlist};
 ghost use Rattle.circuit.specs.Trace.{vector_at};
 ghost use Rattle.golden_difference.specs.Bare.{IsGoldenAfter};
-ghost use Rattle.lane_kernel.specs.Bank.{IsMadeFor};
-ghost use Rattle.lane_kernel.specs.Loads.{faults_of};
+ghost use Rattle.lane_kernel.specs.Bank.{IsBankFor};
+ghost use Rattle.lane_kernel.specs.Loads.{loaded_faults};
 ghost use Rattle.workload.specs.Runs.{cycles_of, run_at};
 ghost use Rattle.workload.specs.declared.run.Run.{Run as RunValue};
-ghost use Rattle.golden_rows.specs.Recorded.{AreRows, AreRowsOf};
+ghost use Rattle.golden_rows.specs.Recorded.{AreGoldenRows, AreRowsOf};
 
 use crate::pack::push_row;
 use circuit::netlist::Netlist;
@@ -26,8 +26,8 @@ pub(crate) type Words = Seq<u64>;
 // Lanes without faults.
 fn bare_lanes(alloc: Global, net: &Netlist, order: &Order) -> Result<Lanes, AllocError>
     requires { IsOrder net.now order.now }
-    ensures made { IfOk result (λ lanes. IsMadeFor net.now order.now lanes) }
-    ensures bare { IfOk result (λ lanes. faults_of lanes.loads 0 ≡ []) }
+    ensures made { IfOk result (λ lanes. IsBankFor net.now order.now lanes) }
+    ensures bare { IfOk result (λ lanes. loaded_faults lanes.loads 0 ≡ []) }
 {
     let mut lanes = Lanes::new(alloc, net, order)?;
     lanes.load(&[[None, None]; 64]);
@@ -42,10 +42,10 @@ fn run_next<L: Ledger>(
     lanes: &mut Lanes,
     steps: &mut Steps<L>,
 )
-    requires made { IsMadeFor net.now order.now lanes.old }
+    requires made { IsBankFor net.now order.now lanes.old }
     requires few { lanes.old.cycle < 65536 }
-    ensures made { IsMadeFor net.now order.now lanes.new }
-    ensures bare { faults_of lanes.old.loads 0 ≡ [] → faults_of lanes.new.loads 0 ≡ [] }
+    ensures made { IsBankFor net.now order.now lanes.new }
+    ensures bare { loaded_faults lanes.old.loads 0 ≡ [] → loaded_faults lanes.new.loads 0 ≡ [] }
     ensures cycle { lanes.new.cycle ≡ lanes.old.cycle + 1 }
     ensures step { (run : RunValue) (t : ℕ) → t < cycles_of run → vector.now ≡ vector_at run.vectors t → IsGoldenAfter (take t run.vectors) lanes.old
         → IsGoldenAfter (take (t + 1) run.vectors) lanes.new }
@@ -65,12 +65,12 @@ fn rows_of<L: Ledger>(
     steps: &mut Steps<L>,
 ) -> Result<Vec<u64>, AllocError>
     requires sound { IsNetlist net.now }
-    requires made { IsMadeFor net.now order.now lanes.old }
-    requires bare { faults_of lanes.old.loads 0 ≡ [] }
+    requires made { IsBankFor net.now order.now lanes.old }
+    requires bare { loaded_faults lanes.old.loads 0 ≡ [] }
     requires run { run < length work.now }
     requires width { width ≡ length net.now.drivers / 64 + 1 }
-    ensures made { IsMadeFor net.now order.now lanes.new }
-    ensures bare { faults_of lanes.new.loads 0 ≡ [] }
+    ensures made { IsBankFor net.now order.now lanes.new }
+    ensures bare { loaded_faults lanes.new.loads 0 ≡ [] }
     ensures rows { IfOk result (λ words. AreRowsOf net.now (run_at work.now run) width (cycles_of (run_at work.now run)) words.items) }
 {
     let cycles = work.cycles(run);
@@ -96,7 +96,7 @@ fn rows_for<L: Ledger>(
     requires order { IsOrder net.now order.now }
     requires width { width ≡ length net.now.drivers / 64 + 1 }
     requires blank { (blank.name ≡ L.name) × (blank.parts ≡ L.parts) × (0 < blank.parts) }
-    ensures { IfOk result (λ rows. AreRows (record { circuit = net.now; runs = work.now }) width (length work.now) rows.items) }
+    ensures { IfOk result (λ rows. AreGoldenRows (record { circuit = net.now; runs = work.now }) width (length work.now) rows.items) }
 {
     let mut steps: Steps<L> = Steps::fresh(blank);
     let mut lanes = bare_lanes(alloc, net, order)?;
@@ -119,7 +119,7 @@ pub(crate) fn all_rows(
     requires sound { IsNetlist net.now }
     requires order { IsOrder net.now order.now }
     requires width { width ≡ length net.now.drivers / 64 + 1 }
-    ensures { IfOk result (λ rows. AreRows (record { circuit = net.now; runs = work.now }) width (length work.now) rows.items) }
+    ensures { IfOk result (λ rows. AreGoldenRows (record { circuit = net.now; runs = work.now }) width (length work.now) rows.items) }
 {
     rows_for::<std::marker::Brand>(alloc, net, order, work, width, Blank::new(1))
 }

@@ -7,7 +7,7 @@ use Rattle.circuit.specs.declared.parts.Fault.{Fault}
 use Rattle.circuit.specs.declared.parts.Fault.TheVariants.{Stuck, Flip, Pulse}
 use Rattle.circuit.specs.Effects.{affected, forced, has_flip, has_pulse, inverted, is_flip_of, is_permanent, is_pulse_on}
 use Rattle.circuit.specs.Trace.{flipped, flipped_from}
-use Rattle.lane_kernel.specs.Loads.{somes, faults_of, is_on, is_pulse_in, names, named, has_pulses, has_transients}
+use Rattle.lane_kernel.specs.Loads.{somes, loaded_faults, is_on, is_pulse_in, names, some_names, has_pulses, has_transients}
 use Rattle.std.proofs.Math.Bool.{and-false}
 
 pub merged : (a b s f : Bool) → cond b s (cond a s f) ≡ cond (a || b) s f
@@ -30,8 +30,8 @@ stored_same value xs at n old new d within same =
     ]
 
 pub named_more : (loads : List (List (Option Fault))) (i n : ℕ) → i < length loads
-    → named (drop i loads) n ≡ (names (get_or loads i []) n || named (drop (i + 1) loads) n)
-named_more loads i n lt = ap (λ xs. named xs n) (drop_more loads i [] lt)
+    → some_names (drop i loads) n ≡ (names (get_or loads i []) n || some_names (drop (i + 1) loads) n)
+named_more loads i n lt = ap (λ xs. some_names xs n) (drop_more loads i [] lt)
 
 -- where no item passes a test, none passes a stricter one
 pub none_passes : {X : Type 0} (p q : X → Bool) → ((x : X) → q x ≡ false → p x ≡ false) → (xs : List X) → list_any q xs ≡ false → list_any p xs ≡ false
@@ -63,27 +63,27 @@ pub lane_free : (faults : List Fault) (t n : ℕ) (own : Bool) → list_any (is_
 lane_free faults t n own e =
     ap (λ b. forced faults n (inverted b own)) (none_passes (is_pulse_on n t) (is_on n) (off_pulse n t) faults e) ∙ forced_free faults n own e
 
-pub lane_unnamed : (loads : List (List (Option Fault))) (k n : ℕ) → named loads n ≡ false → names (get_or loads k []) n ≡ false
+pub lane_unnamed : (loads : List (List (Option Fault))) (k n : ℕ) → some_names loads n ≡ false → names (get_or loads k []) n ≡ false
 lane_unnamed loads k n e = lane_fails (λ faults. names faults n) refl loads k e
 
-pub affected_free : (loads : List (List (Option Fault))) (k t n : ℕ) (own : Bool) → named loads n ≡ false → affected (faults_of loads k) t n own ≡ own
-affected_free loads k t n own e = lane_free (faults_of loads k) t n own (lane_unnamed loads k n e)
+pub affected_free : (loads : List (List (Option Fault))) (k t n : ℕ) (own : Bool) → some_names loads n ≡ false → affected (loaded_faults loads k) t n own ≡ own
+affected_free loads k t n own e = lane_free (loaded_faults loads k) t n own (lane_unnamed loads k n e)
 
 other_cycle : (n t : ℕ) (fault : Fault) → is_pulse_in t fault ≡ false → is_pulse_on n t fault ≡ false
 other_cycle n t (Stuck net value) e = refl
 other_cycle n t (Flip latch cycle) e = refl
 other_cycle n t (Pulse net cycle) e = ap (λ b. (net.0 == n) && b) e ∙ and-false (net.0 == n)
 
-lane_steady : (loads : List (List (Option Fault))) (k n t : ℕ) → has_pulses loads t ≡ false → has_pulse (faults_of loads k) n t ≡ false
+lane_steady : (loads : List (List (Option Fault))) (k n t : ℕ) → has_pulses loads t ≡ false → has_pulse (loaded_faults loads k) n t ≡ false
 lane_steady loads k n t e =
-    none_passes (is_pulse_on n t) (is_pulse_in t) (other_cycle n t) (faults_of loads k)
+    none_passes (is_pulse_on n t) (is_pulse_in t) (other_cycle n t) (loaded_faults loads k)
     (lane_fails (λ faults. list_any (is_pulse_in t) (somes faults)) refl loads k e)
 
 -- in all cycles without a pulse a net is changed in the same way
 pub affected_steady : (loads : List (List (Option Fault))) (k n s t : ℕ) (own : Bool) → has_pulses loads s ≡ false → has_pulses loads t ≡ false
-    → affected (faults_of loads k) s n own ≡ affected (faults_of loads k) t n own
+    → affected (loaded_faults loads k) s n own ≡ affected (loaded_faults loads k) t n own
 affected_steady loads k n s t own e f =
-    ap (λ b. forced (faults_of loads k) n (inverted b own)) (lane_steady loads k n s e ∙ sym (lane_steady loads k n t f))
+    ap (λ b. forced (loaded_faults loads k) n (inverted b own)) (lane_steady loads k n s e ∙ sym (lane_steady loads k n t f))
 
 stays_unpulsed : (t : ℕ) (fault : Fault) → not (is_permanent fault) ≡ false → is_pulse_in t fault ≡ false
 stays_unpulsed t (Stuck net value) e = refl
@@ -107,8 +107,8 @@ flipped_same faults t latch (bit ∷ bits) none =
     ap (λ b. inverted b bit ∷ flipped_from faults t (latch + 1) bits) (none latch) ∙ ap (λ xs. bit ∷ xs) (flipped_same faults t (latch + 1) bits none)
 
 -- and the latches stay as they are
-pub flipped_free : (loads : List (List (Option Fault))) (k t : ℕ) (bits : List Bool) → has_transients loads ≡ false → flipped (faults_of loads k) t bits ≡ bits
+pub flipped_free : (loads : List (List (Option Fault))) (k t : ℕ) (bits : List Bool) → has_transients loads ≡ false → flipped (loaded_faults loads k) t bits ≡ bits
 flipped_free loads k t bits e =
-    flipped_same (faults_of loads k) t 0 bits
-    (λ l. none_passes (is_flip_of l t) (λ fault. not (is_permanent fault)) (stays_unflipped l t) (faults_of loads k)
+    flipped_same (loaded_faults loads k) t 0 bits
+    (λ l. none_passes (is_flip_of l t) (λ fault. not (is_permanent fault)) (stays_unflipped l t) (loaded_faults loads k)
     (lane_fails (λ faults. list_any (λ fault. not (is_permanent fault)) (somes faults)) refl loads k e))

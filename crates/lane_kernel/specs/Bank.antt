@@ -5,7 +5,7 @@ use Rattle.circuit.specs.declared.parts.Fault.{Fault}
 use Rattle.circuit.specs.Circuit.{Circuit}
 use Rattle.circuit.specs.After.{Moment, IsAfter}
 use Rattle.lane_kernel.specs.Gates.{plane}
-use Rattle.lane_kernel.specs.Loads.{faults_of}
+use Rattle.lane_kernel.specs.Loads.{loaded_faults}
 
 -- the circuit and the order of its tables that the lanes were made for, the faults of each lane, the number of cycles
 -- since the start, the words of the latches and, in the last cycle, those of the nets
@@ -18,16 +18,16 @@ pub record Bank (W : Type 0) : Type 0 where
   pub words : List W
 
 -- the lanes were made for this circuit and this order of its tables
-pub record IsMadeFor {W : Type 0} (c : Circuit) (nets : List NetId) (bank : Bank W) : Type 0 where
+pub record IsBankFor {W : Type 0} (c : Circuit) (nets : List NetId) (bank : Bank W) : Type 0 where
   pub circuit : bank.circuit ≡ c
   pub order : bank.order ≡ nets
 
 -- no lane has a fault
 abbrev pub AreUnloaded : {W : Type 0} → Bank W → Type 0
-AreUnloaded bank = (k : ℕ) → faults_of bank.loads k ≡ []
+AreUnloaded bank = (k : ℕ) → loaded_faults bank.loads k ≡ []
 
 -- nothing was loaded in between
-pub record KeepsLoads {W : Type 0} (old new : Bank W) : Type 0 where
+pub record KeepsBankLoads {W : Type 0} (old new : Bank W) : Type 0 where
   pub circuit : new.circuit ≡ old.circuit
   pub order : new.order ≡ old.order
   pub loads : new.loads ≡ old.loads
@@ -38,4 +38,4 @@ lane_of bit k bank = record { cycle = bank.cycle; raw = plane bit k bank.raw; va
 
 -- since the start each lane has run cycles with these vectors, with its own faults alone
 abbrev pub AreAfter : {W : Type 0} → ℕ → (W → ℕ → Bool) → List (List Bool) → Bank W → Type 0
-AreAfter lanes bit vectors bank = (k : ℕ) → k < lanes → IsAfter bank.circuit (faults_of bank.loads k) vectors (lane_of bit k bank)
+AreAfter lanes bit vectors bank = (k : ℕ) → k < lanes → IsAfter bank.circuit (loaded_faults bank.loads k) vectors (lane_of bit k bank)

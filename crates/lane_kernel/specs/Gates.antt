@@ -87,7 +87,7 @@ abbrev pub IsPaused : List Gate → List ℕ → Cycle → Type 0
 IsPaused gates next x = (from : ℕ) → from < length gates → IsQuiet gates x from (slice_index_or next from 0)
 
 -- the next pause at or behind each place; the end is one too
-pub record IsNext (n : ℕ) (next : List ℕ) : Type 0 where
+pub record IsNextPause (n : ℕ) (next : List ℕ) : Type 0 where
   pub count : length next ≡ n
   pub least : (from : ℕ) → from < n → from ≤ slice_index_or next from 0
   pub most : (from : ℕ) → from < n → slice_index_or next from 0 ≤ n

@@ -3,12 +3,12 @@ use Rattle.std.specs.Prelude.{◌≡◌, ℕ, Bool, false, length}
 use Rattle.circuit.specs.Trace.{first_state}
 use Rattle.lane_kernel.specs.declared.kernel.Kernel.{Kernel}
 use Rattle.lane_kernel.specs.Bank.{Bank}
-use Rattle.lane_kernel.specs.Gates.{AreNarrowRuns, AreOps, IsNext, IsProgram}
-use Rattle.lane_kernel.specs.Loads.{AreIdle, AreMarks, AreSteady, IsUnnamed, has_transients}
+use Rattle.lane_kernel.specs.Gates.{AreNarrowRuns, AreOps, IsNextPause, IsProgram}
+use Rattle.lane_kernel.specs.Loads.{AreIdle, AreFaultMarks, AreSteady, IsUnnamed, has_transients}
 
 -- a kernel as contracts see it
-abbrev pub bank_of : {W : Type 0} → Kernel W → Bank W
-bank_of s = record {
+abbrev pub kernel_bank : {W : Type 0} → Kernel W → Bank W
+kernel_bank s = record {
   circuit = s.circuit.value;
   order = s.order.value;
   loads = s.loads.items;
@@ -18,15 +18,15 @@ bank_of s = record {
 }
 
 -- flat arrays of the circuit, with pauses and forces for the faults of all lanes
-pub record IsKernel {W : Type 0} (lanes : ℕ) (bit : W → ℕ → Bool) (s : Kernel W) : Type 0 where
+pub record IsLaneKernel {W : Type 0} (lanes : ℕ) (bit : W → ℕ → Bool) (s : Kernel W) : Type 0 where
   pub program : IsProgram s.circuit.value s.order.value s.gates.items
   pub ops : AreOps lanes bit s.masks.items
   pub starts : s.starts.items ≡ first_state s.circuit.value
   pub loads : length s.loads.items ≡ lanes
   pub transient : s.transient ≡ has_transients s.loads.items
   pub marks : length s.marks.items ≡ length s.circuit.value.drivers
-  pub marked : AreMarks s.loads.items s.marks.items
-  pub next : IsNext (length s.gates.items) s.next.items
+  pub marked : AreFaultMarks s.loads.items s.marks.items
+  pub next : IsNextPause (length s.gates.items) s.next.items
   pub narrow : AreNarrowRuns s.gates.items s.next.items
   pub quiet : IsUnnamed s.loads.items s.gates.items s.next.items
   pub forces : length s.forces.items ≡ length s.circuit.value.drivers

@@ -16,8 +16,8 @@ somes (None ∷ faults) = somes faults
 somes (Some fault ∷ faults) = fault ∷ somes faults
 
 -- the faults of a lane, in the order given
-abbrev pub faults_of : List (List (Option Fault)) → ℕ → List Fault
-faults_of loads k = somes (slice_index_or loads k [])
+abbrev pub loaded_faults : List (List (Option Fault)) → ℕ → List Fault
+loaded_faults loads k = somes (slice_index_or loads k [])
 
 -- the fault may change what is read of this net
 abbrev pub is_on : ℕ → Fault → Bool
@@ -30,17 +30,17 @@ abbrev pub names : List (Option Fault) → ℕ → Bool
 names faults net = list_any (is_on net) (somes faults)
 
 -- some fault of some lane may
-abbrev pub named : List (List (Option Fault)) → ℕ → Bool
-named loads net = list_any (λ faults. names faults net) loads
+abbrev pub some_names : List (List (Option Fault)) → ℕ → Bool
+some_names loads net = list_any (λ faults. names faults net) loads
 
 -- no fault names the net of a gate between a place and the next pause
 abbrev pub IsUnnamed : List (List (Option Fault)) → List Gate → List ℕ → Type 0
 IsUnnamed loads gates next =
-    (from j : ℕ) → from < length gates → from ≤ j → j < slice_index_or next from 0 → named loads (gate_at gates j).to ≡ false
+    (from j : ℕ) → from < length gates → from ≤ j → j < slice_index_or next from 0 → some_names loads (gate_at gates j).to ≡ false
 
 -- marks stand at the nets that faults name, and at no others
-abbrev pub AreMarks : List (List (Option Fault)) → List Bool → Type 0
-AreMarks loads marks = (n : ℕ) → n < length marks → bit_at marks n ≡ named loads n
+abbrev pub AreFaultMarks : List (List (Option Fault)) → List Bool → Type 0
+AreFaultMarks loads marks = (n : ℕ) → n < length marks → bit_at marks n ≡ some_names loads n
 
 -- in each lane the forces leave each net as it is that no fault of this lane names
 abbrev pub AreIdle : {W : Type 0} → ℕ → (W → ℕ → Bool) → List (List (Option Fault)) → List (Force W) → Type 0
@@ -65,4 +65,4 @@ has_transients loads = list_any (λ faults. list_any (λ fault. not (is_permanen
 abbrev pub AreSteady : {W : Type 0} → ℕ → (W → ℕ → Bool) → List (List (Option Fault)) → List (Force W) → Type 0
 AreSteady {W} lanes bit loads forces =
     (k n t : ℕ) (d : Force W) (own : Bool) → k < lanes → n < length forces → has_pulses loads t ≡ false
-    → force_value bit k (slice_index_or forces n d) own ≡ affected (faults_of loads k) t n own
+    → force_value bit k (slice_index_or forces n d) own ≡ affected (loaded_faults loads k) t n own

@@ -4,8 +4,8 @@ ghost use Rattle.circuit.specs.declared.parts.NetId.{NetId};
 ghost use Rattle.circuit.specs.Value.{bit_at, cycle_of, net_value};
 ghost use Rattle.circuit.specs.Trace.{flipped};
 ghost use Rattle.circuit.specs.Sound.{IsNetlist};
-ghost use Rattle.lane_kernel.specs.Gates.{AreForces, AreGates, AreNarrowRuns, AreOps, IsNext, IsPaused, IsProgram, plane};
-ghost use Rattle.lane_kernel.specs.Loads.{faults_of, has_transients};
+ghost use Rattle.lane_kernel.specs.Gates.{AreForces, AreGates, AreNarrowRuns, AreOps, IsNextPause, IsPaused, IsProgram, plane};
+ghost use Rattle.lane_kernel.specs.Loads.{loaded_faults, has_transients};
 
 use crate::force::Force;
 use crate::gate::{Gate, Masks};
@@ -34,7 +34,7 @@ pub fn run<W: Word, L: Ledger>(
 )
     requires ops { AreOps W.lanes W.lane_bit masks.now }
     requires gates { AreGates netlist.now gates.now }
-    requires next { IsNext (length gates.now) next.now }
+    requires next { IsNextPause (length gates.now) next.now }
     requires narrow { AreNarrowRuns gates.now next.now }
     requires forces { length forces.now ≡ length netlist.now.drivers }
     requires lanes { length loads.now ≡ W.lanes }
@@ -42,11 +42,11 @@ pub fn run<W: Word, L: Ledger>(
     requires latches { length raw.old ≡ length netlist.now.latches }
     requires size { length words.old ≡ length netlist.now.drivers }
     ensures values { (k : ℕ) (order : List NetId) → k < W.lanes → IsProgram netlist.now order gates.now
-        → AreForces W.lane_bit k forces.now (cycle_of netlist.now (faults_of loads.now k) cycle (flipped (faults_of loads.now k) cycle (plane W.lane_bit k raw.old)) inputs.now)
-        → IsPaused gates.now next.now (cycle_of netlist.now (faults_of loads.now k) cycle (flipped (faults_of loads.now k) cycle (plane W.lane_bit k raw.old)) inputs.now)
+        → AreForces W.lane_bit k forces.now (cycle_of netlist.now (loaded_faults loads.now k) cycle (flipped (loaded_faults loads.now k) cycle (plane W.lane_bit k raw.old)) inputs.now)
+        → IsPaused gates.now next.now (cycle_of netlist.now (loaded_faults loads.now k) cycle (flipped (loaded_faults loads.now k) cycle (plane W.lane_bit k raw.old)) inputs.now)
         → (m : ℕ) → m < length netlist.now.drivers
         → bit_at (plane W.lane_bit k words.new) m
-        ≡ net_value (cycle_of netlist.now (faults_of loads.now k) cycle (flipped (faults_of loads.now k) cycle (plane W.lane_bit k raw.old)) inputs.now) m }
+        ≡ net_value (cycle_of netlist.now (loaded_faults loads.now k) cycle (flipped (loaded_faults loads.now k) cycle (plane W.lane_bit k raw.old)) inputs.now) m }
     ensures raw { (k : ℕ) → k < W.lanes → plane W.lane_bit k raw.new ≡ map (λ latch. bit_at (plane W.lane_bit k words.new) latch.from.0) netlist.now.latches }
     ensures sound { IsNetlist netlist.now }
     ensures cost { steps.new ≡ steps.old + length gates.now }

@@ -2,10 +2,10 @@
 ghost use Rattle.std.specs.Prelude.{◌≡◌, ◌<◌, ◌≤◌, ◌+◌, ◌⊎◌, ◌++◌, ◌∷◌, [], ℕ, Bool, List, Option, IfOk, length, map, slice_index_or};
 ghost use Rattle.circuit.specs.declared.parts.Fault.{Fault};
 ghost use Rattle.circuit.specs.Order.{IsOrder};
-ghost use Rattle.lane_kernel.specs.Bank.{AreAfter, AreUnloaded, IsMadeFor, KeepsLoads};
+ghost use Rattle.lane_kernel.specs.Bank.{AreAfter, AreUnloaded, IsBankFor, KeepsBankLoads};
 ghost use Rattle.lane_kernel.specs.Gates.{plane};
-ghost use Rattle.lane_kernel.specs.Kernel.{IsKernel, bank_of};
-ghost use Rattle.lane_kernel.specs.Loads.{faults_of};
+ghost use Rattle.lane_kernel.specs.Kernel.{IsLaneKernel, kernel_bank};
+ghost use Rattle.lane_kernel.specs.Loads.{loaded_faults};
 ghost use Rattle.circuit.specs.Value.{bit_at};
 
 use crate::cycle::run;
@@ -51,7 +51,7 @@ fn first_state_of(alloc: Global, latches: &[Latch]) -> Result<Vec<bool>, AllocEr
 // Lanes, so many of them, without faults.
 fn no_faults(alloc: Global, lanes: u32) -> Result<Vec<[Option<Fault>; 2]>, AllocError>
     ensures count { IfOk result (λ loads. length loads.items ≡ lanes) }
-    ensures none { IfOk result (λ loads. (k : ℕ) → faults_of loads.items k ≡ []) }
+    ensures none { IfOk result (λ loads. (k : ℕ) → loaded_faults loads.items k ≡ []) }
 {
     let mut loads = Vec::new(alloc);
     for _ in 0..lanes {
@@ -64,9 +64,9 @@ impl<W: Word> Kernel<W> {
     /// Lanes for a netlist and an order of its tables, without faults.
     pub fn new(alloc: Global, netlist: &Netlist, order: &Order) -> Result<Self, AllocError>
         requires { IsOrder netlist.now order.now }
-        ensures kernel { IfOk result (λ s. IsKernel W.lanes W.lane_bit s) }
-        ensures made { IfOk result (λ s. IsMadeFor netlist.now order.now (bank_of s)) }
-        ensures unloaded { IfOk result (λ s. AreUnloaded (bank_of s)) }
+        ensures kernel { IfOk result (λ s. IsLaneKernel W.lanes W.lane_bit s) }
+        ensures made { IfOk result (λ s. IsBankFor netlist.now order.now (kernel_bank s)) }
+        ensures unloaded { IfOk result (λ s. AreUnloaded (kernel_bank s)) }
     {
         let nets = netlist.nets();
         let gates = make_gates(alloc, netlist, order.nets())?;
@@ -100,10 +100,10 @@ impl<W: Word> Kernel<W> {
 
     /// Gives some lanes their faults, from a lane on.
     pub fn load(&mut self, from: usize, faults: &[[Option<Fault>; 2]])
-        requires kernel { IsKernel W.lanes W.lane_bit self.old }
+        requires kernel { IsLaneKernel W.lanes W.lane_bit self.old }
         requires lanes { from + length faults.now ≤ W.lanes }
-        ensures kernel { IsKernel W.lanes W.lane_bit self.new }
-        ensures made { IsMadeFor self.old.circuit.value self.old.order.value (bank_of self.new) }
+        ensures kernel { IsLaneKernel W.lanes W.lane_bit self.new }
+        ensures made { IsBankFor self.old.circuit.value self.old.order.value (kernel_bank self.new) }
         ensures placed { (k : ℕ) (d : List (Option Fault)) → k < length faults.now
             → slice_index_or self.new.loads.items (from + k) d ≡ slice_index_or faults.now k d }
         ensures others { (j : ℕ) (d : List (Option Fault)) → (j < from) ⊎ (from + length faults.now ≤ j)
@@ -119,11 +119,11 @@ impl<W: Word> Kernel<W> {
 
     /// Goes to the initial state in all lanes.
     pub fn start(&mut self)
-        requires { IsKernel W.lanes W.lane_bit self.old }
-        ensures kernel { IsKernel W.lanes W.lane_bit self.new }
-        ensures keeps { KeepsLoads (bank_of self.old) (bank_of self.new) }
+        requires { IsLaneKernel W.lanes W.lane_bit self.old }
+        ensures kernel { IsLaneKernel W.lanes W.lane_bit self.new }
+        ensures keeps { KeepsBankLoads (kernel_bank self.old) (kernel_bank self.new) }
         ensures cycle { self.new.cycle ≡ 0 }
-        ensures start { AreAfter W.lanes W.lane_bit [] (bank_of self.new) }
+        ensures start { AreAfter W.lanes W.lane_bit [] (kernel_bank self.new) }
     {
         take_first(&self.starts, &mut self.raw);
         self.cycle = 0;
@@ -131,14 +131,14 @@ impl<W: Word> Kernel<W> {
 
     /// Runs the next cycle in all lanes.
     pub fn cycle<L: Ledger>(&mut self, netlist: &Netlist, inputs: &[bool], steps: &mut Steps<L>)
-        requires kernel { IsKernel W.lanes W.lane_bit self.old }
+        requires kernel { IsLaneKernel W.lanes W.lane_bit self.old }
         requires made { self.old.circuit.value ≡ netlist.now }
         requires few { self.old.cycle < 65536 }
-        ensures kernel { IsKernel W.lanes W.lane_bit self.new }
-        ensures keeps { KeepsLoads (bank_of self.old) (bank_of self.new) }
+        ensures kernel { IsLaneKernel W.lanes W.lane_bit self.new }
+        ensures keeps { KeepsBankLoads (kernel_bank self.old) (kernel_bank self.new) }
         ensures cycle { self.new.cycle ≡ self.old.cycle + 1 }
-        ensures step { (vectors : List (List Bool)) → AreAfter W.lanes W.lane_bit vectors (bank_of self.old)
-            → AreAfter W.lanes W.lane_bit (vectors ++ inputs.now ∷ []) (bank_of self.new) }
+        ensures step { (vectors : List (List Bool)) → AreAfter W.lanes W.lane_bit vectors (kernel_bank self.old)
+            → AreAfter W.lanes W.lane_bit (vectors ++ inputs.now ∷ []) (kernel_bank self.new) }
         ensures cost { steps.new ≡ steps.old + length netlist.now.tables }
     {
         self.stale = arm_for(

@@ -3,9 +3,9 @@ ghost use Rattle.std.specs.Prelude.{◌≡◌, ◌<◌, ◌≤◌, ◌+◌, ◌*
 ghost use Rattle.circuit.specs.Order.{IsOrder};
 ghost use Rattle.circuit.specs.Trace.{trace};
 ghost use Rattle.fm_base.specs.Planes.{bit};
-ghost use Rattle.lane_kernel.specs.Bank.{AreAfter, AreUnloaded, IsMadeFor, KeepsLoads};
+ghost use Rattle.lane_kernel.specs.Bank.{AreAfter, AreUnloaded, IsBankFor, KeepsBankLoads};
 ghost use Rattle.lane_kernel.specs.Bits.{quad_bit};
-ghost use Rattle.lane_kernel.specs.Loads.{faults_of};
+ghost use Rattle.lane_kernel.specs.Loads.{loaded_faults};
 
 use crate::kernel::Kernel;
 use crate::quad;
@@ -29,20 +29,20 @@ impl Model for Lanes {
     ghost use Rattle.std.specs.Prelude.{ℕ};
     ghost use Rattle.fm_base.specs.Planes.{bit};
     ghost use Rattle.lane_kernel.specs.Bank.{Bank};
-    ghost use Rattle.lane_kernel.specs.Kernel.{IsKernel, bank_of};
+    ghost use Rattle.lane_kernel.specs.Kernel.{IsLaneKernel, kernel_bank};
 
     ghost Value = { Bank ℕ };
 
-    ghost view = { λ s. bank_of s.kernel };
+    ghost view = { λ s. kernel_bank s.kernel };
 
-    ghost invariant = { λ s. IsKernel 64 bit s.kernel };
+    ghost invariant = { λ s. IsLaneKernel 64 bit s.kernel };
 }
 
 impl Lanes {
     /// Lanes for a netlist and an order of its tables, without faults and not yet started.
     pub fn new(alloc: Global, netlist: &Netlist, order: &Order) -> Result<Self, AllocError>
         requires { IsOrder netlist.now order.now }
-        ensures made { IfOk result (λ lanes. IsMadeFor netlist.now order.now lanes) }
+        ensures made { IfOk result (λ lanes. IsBankFor netlist.now order.now lanes) }
         ensures unloaded { IfOk result (λ lanes. AreUnloaded lanes) }
     {
         let kernel = Kernel::new(alloc, netlist, order)?;
@@ -51,15 +51,15 @@ impl Lanes {
 
     /// Gives each lane up to two faults. The lanes have to be started anew.
     pub fn load(&mut self, faults: &[[Option<Fault>; 2]; 64])
-        ensures made { IsMadeFor self.old.circuit self.old.order self.new }
-        ensures loads { (k : ℕ) → k < 64 → faults_of self.new.loads k ≡ faults_of faults.now k }
+        ensures made { IsBankFor self.old.circuit self.old.order self.new }
+        ensures loads { (k : ℕ) → k < 64 → loaded_faults self.new.loads k ≡ loaded_faults faults.now k }
     {
         self.kernel.load(0, faults);
     }
 
     /// Goes to the initial state in all lanes, before the cycle of number 0.
     pub fn start(&mut self)
-        ensures keeps { KeepsLoads self.old self.new }
+        ensures keeps { KeepsBankLoads self.old self.new }
         ensures cycle { self.new.cycle ≡ 0 }
         // No cycle was simulated yet.
         ensures start { AreAfter 64 bit [] self.new }
@@ -76,9 +76,9 @@ impl Lanes {
         inputs: &[bool],
         steps: &mut Steps<L>,
     )
-        requires made { IsMadeFor netlist.now order.now self.old }
+        requires made { IsBankFor netlist.now order.now self.old }
         requires few { self.old.cycle < 65536 }
-        ensures keeps { KeepsLoads self.old self.new }
+        ensures keeps { KeepsBankLoads self.old self.new }
         ensures cycle { self.new.cycle ≡ self.old.cycle + 1 }
         // After cycles with some vectors, each lane is after those and this one, with its own faults alone.
         ensures step { (vectors : List (List Bool)) → AreAfter 64 bit vectors self.old → AreAfter 64 bit (vectors ++ inputs.now ∷ []) self.new }
@@ -93,7 +93,7 @@ impl Lanes {
         // After cycles with these vectors, t being the last: bit k is the net's trace under the faults of lane k alone.
         ensures { (vectors : List (List Bool)) (t k : ℕ) → AreAfter 64 bit vectors self.now → t + 1 ≡ length vectors → k < 64
             → net.0 < length self.now.circuit.drivers
-            → bit result k ≡ trace self.now.circuit (faults_of self.now.loads k) vectors t net.0 }
+            → bit result k ≡ trace self.now.circuit (loaded_faults self.now.loads k) vectors t net.0 }
     {
         self.kernel.net(net)
     }
@@ -116,20 +116,20 @@ impl Model for Lanes4 {
     ghost use Rattle.std.specs.Prelude.{ℕ, List};
     ghost use Rattle.lane_kernel.specs.Bank.{Bank};
     ghost use Rattle.lane_kernel.specs.Bits.{quad_bit};
-    ghost use Rattle.lane_kernel.specs.Kernel.{IsKernel, bank_of};
+    ghost use Rattle.lane_kernel.specs.Kernel.{IsLaneKernel, kernel_bank};
 
     ghost Value = { Bank (List ℕ) };
 
-    ghost view = { λ s. bank_of s.kernel };
+    ghost view = { λ s. kernel_bank s.kernel };
 
-    ghost invariant = { λ s. IsKernel 256 quad_bit s.kernel };
+    ghost invariant = { λ s. IsLaneKernel 256 quad_bit s.kernel };
 }
 
 impl Lanes4 {
     /// Lanes for a netlist and an order of its tables, without faults and not yet started.
     pub fn new(alloc: Global, netlist: &Netlist, order: &Order) -> Result<Self, AllocError>
         requires { IsOrder netlist.now order.now }
-        ensures made { IfOk result (λ lanes. IsMadeFor netlist.now order.now lanes) }
+        ensures made { IfOk result (λ lanes. IsBankFor netlist.now order.now lanes) }
         ensures unloaded { IfOk result (λ lanes. AreUnloaded lanes) }
     {
         let kernel = Kernel::new(alloc, netlist, order)?;
@@ -139,16 +139,16 @@ impl Lanes4 {
     /// Gives each lane of a word up to two faults. The lanes have to be started anew.
     pub fn load(&mut self, word: u32, faults: &[[Option<Fault>; 2]; 64])
         requires { word < 4 }
-        ensures made { IsMadeFor self.old.circuit self.old.order self.new }
-        ensures loads { (k : ℕ) → k < 64 → faults_of self.new.loads (word * 64 + k) ≡ faults_of faults.now k }
-        ensures others { (j : ℕ) → (j < word * 64) ⊎ (word * 64 + 64 ≤ j) → faults_of self.new.loads j ≡ faults_of self.old.loads j }
+        ensures made { IsBankFor self.old.circuit self.old.order self.new }
+        ensures loads { (k : ℕ) → k < 64 → loaded_faults self.new.loads (word * 64 + k) ≡ loaded_faults faults.now k }
+        ensures others { (j : ℕ) → (j < word * 64) ⊎ (word * 64 + 64 ≤ j) → loaded_faults self.new.loads j ≡ loaded_faults self.old.loads j }
     {
         self.kernel.load(word as usize * 64, faults);
     }
 
     /// Goes to the initial state in all lanes, before the cycle of number 0.
     pub fn start(&mut self)
-        ensures keeps { KeepsLoads self.old self.new }
+        ensures keeps { KeepsBankLoads self.old self.new }
         ensures cycle { self.new.cycle ≡ 0 }
         // No cycle was simulated yet.
         ensures start { AreAfter 256 quad_bit [] self.new }
@@ -165,9 +165,9 @@ impl Lanes4 {
         inputs: &[bool],
         steps: &mut Steps<L>,
     )
-        requires made { IsMadeFor netlist.now order.now self.old }
+        requires made { IsBankFor netlist.now order.now self.old }
         requires few { self.old.cycle < 65536 }
-        ensures keeps { KeepsLoads self.old self.new }
+        ensures keeps { KeepsBankLoads self.old self.new }
         ensures cycle { self.new.cycle ≡ self.old.cycle + 1 }
         // After cycles with some vectors, each lane is after those and this one, with its own faults alone.
         ensures step { (vectors : List (List Bool)) → AreAfter 256 quad_bit vectors self.old → AreAfter 256 quad_bit (vectors ++ inputs.now ∷ []) self.new }
@@ -183,7 +183,7 @@ impl Lanes4 {
         // After cycles with these vectors, t being the last: bit k is the net's trace under the faults of lane k of the word alone.
         ensures { (vectors : List (List Bool)) (t k : ℕ) → AreAfter 256 quad_bit vectors self.now → t + 1 ≡ length vectors → k < 64
             → net.0 < length self.now.circuit.drivers
-            → bit result k ≡ trace self.now.circuit (faults_of self.now.loads (word * 64 + k)) vectors t net.0 }
+            → bit result k ≡ trace self.now.circuit (loaded_faults self.now.loads (word * 64 + k)) vectors t net.0 }
     {
         word_of(self.kernel.net(net), word)
     }

@@ -5,8 +5,8 @@ ghost use Rattle.circuit.specs.declared.parts.Fault.{Fault};
 ghost use Rattle.circuit.specs.Effects.{affected, is_permanent};
 ghost use Rattle.circuit.specs.Value.{bit_at};
 ghost use Rattle.lane_kernel.specs.declared.force.Force.{Force};
-ghost use Rattle.lane_kernel.specs.Gates.{AreInside, AreNarrowRuns, IsNext, force_value, gate_at};
-ghost use Rattle.lane_kernel.specs.Loads.{AreIdle, AreMarks, AreSteady, IsUnnamed, faults_of, has_pulses, has_transients, is_pulse_in, named, names, somes};
+ghost use Rattle.lane_kernel.specs.Gates.{AreInside, AreNarrowRuns, IsNextPause, force_value, gate_at};
+ghost use Rattle.lane_kernel.specs.Loads.{AreIdle, AreFaultMarks, AreSteady, IsUnnamed, loaded_faults, has_pulses, has_transients, is_pulse_in, some_names, names, somes};
 
 use crate::force::{Force, idle, with_lane};
 use crate::gate::Gate;
@@ -47,7 +47,7 @@ fn mark_lane(faults: &[Option<Fault>], marks: &mut [bool])
 }
 
 fn mark_all(loads: &[[Option<Fault>; 2]], marks: &mut [bool])
-    ensures { (n : ℕ) → n < length marks.old → bit_at marks.new n ≡ (named loads.now n || bit_at marks.old n) }
+    ensures { (n : ℕ) → n < length marks.old → bit_at marks.new n ≡ (some_names loads.now n || bit_at marks.old n) }
 {
     for faults in loads {
         mark_lane(faults, marks);
@@ -77,8 +77,8 @@ fn unmark_lane(faults: &[Option<Fault>], marks: &mut [bool])
 
 /// Takes the marks of all faults away.
 pub fn unmark_all(loads: &[[Option<Fault>; 2]], marks: &mut [bool])
-    requires { AreMarks loads.now marks.old }
-    ensures { AreMarks [] marks.new }
+    requires { AreFaultMarks loads.now marks.old }
+    ensures { AreFaultMarks [] marks.new }
 {
     for faults in loads {
         unmark_lane(faults, marks);
@@ -88,7 +88,7 @@ pub fn unmark_all(loads: &[[Option<Fault>; 2]], marks: &mut [bool])
 // Sets the places where a walk pauses: those of marked nets and of wide tables.
 fn fill_next(gates: &[Gate], marks: &[bool], next: &mut [usize])
     requires { length next.old ≡ length gates.now }
-    ensures next { IsNext (length gates.now) next.new }
+    ensures next { IsNextPause (length gates.now) next.new }
     ensures quiet { (from j : ℕ) → from < length gates.now → from ≤ j → j < slice_index_or next.new from 0
         → bit_at marks.now (gate_at gates.now j).to ≡ false }
     ensures narrow { AreNarrowRuns gates.now next.new }
@@ -147,7 +147,7 @@ fn arm_all<W: Word>(loads: &[[Option<Fault>; 2]], cycle: u32, forces: &mut [Forc
     requires { length loads.now ≡ W.lanes }
     ensures { (k n : ℕ) (d : Force W) (own : Bool) → k < W.lanes → n < length forces.old
         → force_value W.lane_bit k (slice_index_or forces.new n d) own
-        ≡ (if names (slice_index_or loads.now k []) n then affected (faults_of loads.now k) cycle n own else force_value W.lane_bit k (slice_index_or forces.old n d) own) }
+        ≡ (if names (slice_index_or loads.now k []) n then affected (loaded_faults loads.now k) cycle n own else force_value W.lane_bit k (slice_index_or forces.old n d) own) }
 {
     for lane in 0..W::count() {
         arm_lane(&loads[lane as usize], cycle, lane, forces);
@@ -250,7 +250,7 @@ pub fn arm_for<W: Word>(
     requires idle { AreIdle W.lanes W.lane_bit loads.now forces.old }
     requires steady { stale ≡ false → AreSteady W.lanes W.lane_bit loads.now forces.old }
     ensures armed { (k n : ℕ) (d : Force W) (own : Bool) → k < W.lanes → n < length forces.new
-        → force_value W.lane_bit k (slice_index_or forces.new n d) own ≡ affected (faults_of loads.now k) cycle n own }
+        → force_value W.lane_bit k (slice_index_or forces.new n d) own ≡ affected (loaded_faults loads.now k) cycle n own }
     ensures idle { AreIdle W.lanes W.lane_bit loads.now forces.new }
     ensures steady { result ≡ false → AreSteady W.lanes W.lane_bit loads.now forces.new }
 {
@@ -265,9 +265,9 @@ pub fn arm_for<W: Word>(
 pub fn prepare(gates: &[Gate], loads: &[[Option<Fault>; 2]], marks: &mut [bool], next: &mut [usize])
     requires inside { AreInside (length marks.old) gates.now }
     requires same { length next.old ≡ length gates.now }
-    requires bare { AreMarks [] marks.old }
-    ensures marks { AreMarks loads.now marks.new }
-    ensures next { IsNext (length gates.now) next.new }
+    requires bare { AreFaultMarks [] marks.old }
+    ensures marks { AreFaultMarks loads.now marks.new }
+    ensures next { IsNextPause (length gates.now) next.new }
     ensures quiet { IsUnnamed loads.now gates.now next.new }
     ensures narrow { AreNarrowRuns gates.now next.new }
 {

@@ -5,7 +5,7 @@ ghost use Rattle.circuit.specs.Value.{Cycle, bit_at, driven, driver_at};
 ghost use Rattle.circuit.specs.Trace.{flipped};
 ghost use Rattle.circuit.specs.Order.{net_at};
 ghost use Rattle.lane_kernel.specs.Gates.{AreForces, AreInputs, AreLatches, IsRight, latch_at, plane};
-ghost use Rattle.lane_kernel.specs.Loads.{faults_of, has_transients, somes};
+ghost use Rattle.lane_kernel.specs.Loads.{loaded_faults, has_transients, somes};
 
 use crate::force::{Force, forced_at};
 use crate::word::Word;
@@ -152,7 +152,7 @@ fn flip_lane<W: Word>(faults: &[Option<Fault>], cycle: u32, lane: u32, raw: &mut
 
 fn flip_all<W: Word>(loads: &[[Option<Fault>; 2]], cycle: u32, raw: &mut [W])
     requires { length loads.now ≡ W.lanes }
-    ensures { (k : ℕ) → k < W.lanes → plane W.lane_bit k raw.new ≡ flipped (faults_of loads.now k) cycle (plane W.lane_bit k raw.old) }
+    ensures { (k : ℕ) → k < W.lanes → plane W.lane_bit k raw.new ≡ flipped (loaded_faults loads.now k) cycle (plane W.lane_bit k raw.old) }
 {
     for lane in 0..W::count() {
         flip_lane(&loads[lane as usize], cycle, lane, raw);
@@ -163,7 +163,7 @@ fn flip_all<W: Word>(loads: &[[Option<Fault>; 2]], cycle: u32, raw: &mut [W])
 pub fn flip<W: Word>(loads: &[[Option<Fault>; 2]], transient: bool, cycle: u32, raw: &mut [W])
     requires lanes { length loads.now ≡ W.lanes }
     requires transient { transient ≡ has_transients loads.now }
-    ensures { (k : ℕ) → k < W.lanes → plane W.lane_bit k raw.new ≡ flipped (faults_of loads.now k) cycle (plane W.lane_bit k raw.old) }
+    ensures { (k : ℕ) → k < W.lanes → plane W.lane_bit k raw.new ≡ flipped (loaded_faults loads.now k) cycle (plane W.lane_bit k raw.old) }
 {
     if transient {
         flip_all(loads, cycle, raw);

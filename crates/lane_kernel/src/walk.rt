@@ -3,7 +3,7 @@ ghost use Rattle.std.specs.Prelude.{◌≡◌, ◌<◌, ◌+◌, ℕ, List, [], 
 ghost use Rattle.circuit.specs.declared.parts.NetId.{NetId};
 ghost use Rattle.circuit.specs.Value.{Cycle};
 ghost use Rattle.circuit.proofs.Walks.{Holds};
-ghost use Rattle.lane_kernel.specs.Gates.{AreForces, AreGates, AreNarrowRuns, AreOps, IsNext, IsPaused, IsProgram, plane};
+ghost use Rattle.lane_kernel.specs.Gates.{AreForces, AreGates, AreNarrowRuns, AreOps, IsNextPause, IsPaused, IsProgram, plane};
 
 use crate::force::{Force, forced_at};
 use crate::gate::{Gate, Masks, run_plain, store};
@@ -52,7 +52,7 @@ pub fn walk<W: Word, L: Ledger>(
 )
     requires ops { AreOps W.lanes W.lane_bit masks.now }
     requires gates { AreGates netlist.now gates.now }
-    requires next { IsNext (length gates.now) next.now }
+    requires next { IsNextPause (length gates.now) next.now }
     requires narrow { AreNarrowRuns gates.now next.now }
     requires forces { length forces.now ≡ length netlist.now.drivers }
     requires size { length words.old ≡ length netlist.now.drivers }

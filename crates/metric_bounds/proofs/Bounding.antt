@@ -13,7 +13,7 @@ use Rattle.fmeda_report.specs.Report.{Planes, all_sums}
 use Rattle.metric_bounds.specs.declared.End.{End}
 use Rattle.metric_bounds.specs.declared.End.TheVariants.{Best, Worst, MostLatent}
 use Rattle.metric_bounds.specs.declared.EndSums.{EndSums}
-use Rattle.metric_bounds.specs.Missing.{AgreeWith, missing, planes_at_end}
+use Rattle.metric_bounds.specs.Missing.{AgreeWith, planes_when_missing, planes_at_end}
 use Rattle.metric_bounds.specs.Bounds.{end_sums, lfm_ends, spfm_permanent_ends, spfm_transient_ends}
 use Rattle.metric_bounds.specs.Laws.{BoundsHold, IsBetween, IsReached}
 use Rattle.metric_bounds.proofs.Comparing.{Compared, subst_four, sums_compared}
@@ -143,7 +143,7 @@ module _ (e : EndSums) (s : Sums) (moved : ℕ) (are : Compared e.best e.worst e
 
 module _ (p : Analysis) (entries : List Entry) where
   at_end : (end : End) → AgreeWith entries (planes_at_end p entries end)
-  at_end end batch own e = ap (λ o. unwrap_or o (missing p end batch)) e
+  at_end end batch own e = ap (λ o. unwrap_or o (planes_when_missing p end batch)) e
 
   reached : {X : Type 0} (metric : Sums → X) (end : End) → IsReached p entries metric (metric (all_sums p (planes_at_end p entries end)))
   reached metric end = (planes_at_end p entries end, at_end end, refl)

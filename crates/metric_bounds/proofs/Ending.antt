@@ -11,14 +11,14 @@ use Rattle.fault_list.specs.Faults.{fault_number, is_used}
 use Rattle.campaign_plan.specs.Analysis.{Analysis, batch_count, fault_count}
 use Rattle.campaign_plan.specs.Batches.{Entry, total}
 use Rattle.fmeda_report.specs.Report.{Planes, all_sums}
-use Rattle.result_merge.specs.Tables.{Table, at_batch, table_of}
+use Rattle.result_merge.specs.Tables.{Table, at_batch, planes_table}
 use Rattle.result_merge.proofs.Tabling.{table_at}
 use Rattle.metric_bounds.specs.declared.End.{End}
-use Rattle.metric_bounds.specs.Missing.{is_on_mechanism, missing, planes_at_end}
+use Rattle.metric_bounds.specs.Missing.{is_on_mechanism, planes_when_missing, planes_at_end}
 
 -- the planes of a batch by the table, or else those at the end
 abbrev pub planes_by : Analysis → Table → End → Planes
-planes_by p table end batch = unwrap_or (at_batch table batch) (missing p end batch)
+planes_by p table end batch = unwrap_or (at_batch table batch) (planes_when_missing p end batch)
 
 pub same_below : {X : Type 0} (f g : ℕ → X) (n : ℕ) → ((k : ℕ) → k < n → f k ≡ g k) → map f (below n) ≡ map g (below n)
 unfolding below
@@ -26,11 +26,11 @@ same_below f g zero each = refl
 same_below f g (suc n) each =
     map-below f n ∙ ap₂ (λ xs x. xs ++ x ∷ []) (same_below f g n (λ k lt. each k (omega (arith, lt)))) (each n (omega arith)) ∙ sym (map-below g n)
 
-pub same_sums : (p : Analysis) (table : Table) (entries : List Entry) (end : End) → table ≡ table_of (batch_count p) entries
+pub same_sums : (p : Analysis) (table : Table) (entries : List Entry) (end : End) → table ≡ planes_table (batch_count p) entries
     → all_sums p (planes_by p table end) ≡ all_sums p (planes_at_end p entries end)
 same_sums p table entries end e =
     ap (total p) (same_below (λ batch. (batch, planes_by p table end batch)) (λ batch. (batch, planes_at_end p entries end batch)) (batch_count p)
-    (λ k lt. ap (λ kept. (k, unwrap_or kept (missing p end k))) (ap (λ t. at_batch t k) e ∙ table_at (batch_count p) entries k lt)))
+    (λ k lt. ap (λ kept. (k, unwrap_or kept (planes_when_missing p end k))) (ap (λ t. at_batch t k) e ∙ table_at (batch_count p) entries k lt)))
 
 -- ---- a plane, lane by lane
 

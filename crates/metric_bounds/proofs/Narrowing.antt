@@ -11,7 +11,7 @@ use Rattle.fmeda_report.specs.Report.{Planes, all_sums}
 use Rattle.metric_bounds.specs.declared.End.{End}
 use Rattle.metric_bounds.specs.declared.End.TheVariants.{Best, Worst, MostLatent}
 use Rattle.metric_bounds.specs.declared.Ends.{Ends}
-use Rattle.metric_bounds.specs.Missing.{AgreeWith, missing, planes_at_end}
+use Rattle.metric_bounds.specs.Missing.{AgreeWith, planes_when_missing, planes_at_end}
 use Rattle.metric_bounds.specs.Laws.{AreEnds, AreWithin, BoundsEndExact, BoundsNarrow, IsKeptIn}
 use Rattle.metric_bounds.proofs.Bounding.{bounds}
 use Rattle.metric_bounds.proofs.Ending.{same_below}
@@ -56,4 +56,4 @@ exact p entries planes each = record {
     at : (end : End) → all_sums p (planes_at_end p entries end) ≡ all_sums p planes
     at end =
         ap (total p) (same_below (λ batch. (batch, planes_at_end p entries end batch)) (λ batch. (batch, planes batch)) (batch_count p)
-        (λ k lt. ap (λ kept. (k, unwrap_or kept (missing p end k))) (each k lt)))
+        (λ k lt. ap (λ kept. (k, unwrap_or kept (planes_when_missing p end k))) (each k lt)))

@@ -21,7 +21,7 @@ use Rattle.fmeda_report.specs.Report.{Planes}
 use Rattle.result_merge.specs.Union.{found}
 use Rattle.metric_bounds.specs.declared.End.{End}
 use Rattle.metric_bounds.specs.declared.End.TheVariants.{Best, Worst, MostLatent}
-use Rattle.metric_bounds.specs.Missing.{AgreeWith, is_on_mechanism, missing, planes_at_end}
+use Rattle.metric_bounds.specs.Missing.{AgreeWith, is_on_mechanism, planes_when_missing, planes_at_end}
 use Rattle.metric_bounds.proofs.Comparing.{Compared, subst_four}
 
 -- ---- whether a mechanism covers the part is no matter to the sums
@@ -35,7 +35,7 @@ same_share true n Mechanism true permanent w = refl
 same_share false n Mission true permanent w = refl
 same_share false n Mechanism true permanent w = refl
 
--- ---- a fault of a missing batch
+-- ---- a fault of a planes_when_missing batch
 
 missing_compared : (d n : Bool) (role : Role) (permanent : Bool) (w : ℕ) → (moved : ℕ) × Compared
     (share_of (class_of false true role false permanent) permanent w) (share_of (class_of true false role false permanent) permanent w)
@@ -570,23 +570,23 @@ module _ (p : Analysis) (i : ℕ) where
   used_bit : i < fault_count p → bit (used_plane (fault_count p) (i / 64)) (i % 64) ≡ true
   used_bit lt = bit-plane_of (is_used (fault_count p) (i / 64)) (i % 64) lane_is ∙ used lt
 
-  other_bit : i < fault_count p → bit (missing p MostLatent (i / 64)).danger (i % 64) ≡ not (is_mechanism role)
+  other_bit : i < fault_count p → bit (planes_when_missing p MostLatent (i / 64)).danger (i % 64) ≡ not (is_mechanism role)
   other_bit lt =
       bit-plane_of (λ lane. is_used (fault_count p) (i / 64) lane && not (is_on_mechanism p (fault_number (i / 64) lane))) (i % 64) lane_is
       ∙ ap (λ b. b && not (is_on_mechanism p (fault_number (i / 64) (i % 64)))) (used lt)
       ∙ ap (λ j. not (is_on_mechanism p j)) number
 
   of_missing : (own : Outcome) → i < fault_count p → (moved : ℕ) × Compared
-      (share_by (missing p Best (i / 64))) (share_by (missing p Worst (i / 64))) (share_by (missing p MostLatent (i / 64))) (share_by own) moved
+      (share_by (planes_when_missing p Best (i / 64))) (share_by (planes_when_missing p Worst (i / 64))) (share_by (planes_when_missing p MostLatent (i / 64))) (share_by own) moved
   of_missing own lt =
       let d = bit own.danger (i % 64) in
       let n = bit own.noticed (i % 64) in
       let compared = missing_compared d n role permanent (weight p i) in (
         compared.0,
         subst_four (λ b w m s. Compared b w m s compared.0)
-            (share_is (missing p Best (i / 64)) false true (no_bit (i % 64) lane_is) (used_bit lt))
-            (share_is (missing p Worst (i / 64)) true false (used_bit lt) (no_bit (i % 64) lane_is))
-            (share_is (missing p MostLatent (i / 64)) (not (is_mechanism role)) false (other_bit lt) (no_bit (i % 64) lane_is))
+            (share_is (planes_when_missing p Best (i / 64)) false true (no_bit (i % 64) lane_is) (used_bit lt))
+            (share_is (planes_when_missing p Worst (i / 64)) true false (used_bit lt) (no_bit (i % 64) lane_is))
+            (share_is (planes_when_missing p MostLatent (i / 64)) (not (is_mechanism role)) false (other_bit lt) (no_bit (i % 64) lane_is))
             (share_is own d n refl refl) compared.1,
       )
 
@@ -599,8 +599,8 @@ module _ (p : Analysis) (i : ℕ) where
       (fault_share p (class_of_fault p (planes_at_end p entries MostLatent)) i) (fault_share p (class_of_fault p planes) i) moved
   fault_compared entries planes agree lt = by_found (found entries (i / 64)) refl
     where
-      at : (end : End) (kept : Option Outcome) → found entries (i / 64) ≡ kept → share_by (unwrap_or kept (missing p end (i / 64))) ≡ share_by (planes_at_end p entries end (i / 64))
-      at end kept e = sym (ap (λ o. share_by (unwrap_or o (missing p end (i / 64)))) e)
+      at : (end : End) (kept : Option Outcome) → found entries (i / 64) ≡ kept → share_by (unwrap_or kept (planes_when_missing p end (i / 64))) ≡ share_by (planes_at_end p entries end (i / 64))
+      at end kept e = sym (ap (λ o. share_by (unwrap_or o (planes_when_missing p end (i / 64)))) e)
 
       by_found : (kept : Option Outcome) → found entries (i / 64) ≡ kept → (moved : ℕ) × Compared
           (share_by (planes_at_end p entries Best (i / 64))) (share_by (planes_at_end p entries Worst (i / 64)))

@@ -100,7 +100,7 @@ BoundsEndExact = (p : Analysis) (entries : List Entry) (planes : Planes)
 -- ---- how the targets stand
 
 -- some planes that agree with what is kept give the metric a value that meets the percentage, or that misses it
-pub record Gives (p : Analysis) (entries : List Entry) (metric : Sums → Option Fraction) (percent : ℕ) (answer : Bool) : Type 0 where
+pub record MayGive (p : Analysis) (entries : List Entry) (metric : Sums → Option Fraction) (percent : ℕ) (answer : Bool) : Type 0 where
   pub planes : Planes
   pub agree : AgreeWith entries planes
   pub value : Fraction
@@ -114,7 +114,7 @@ pub record Gives (p : Analysis) (entries : List Entry) (metric : Sums → Option
 pub record StandsSo (p : Analysis) (entries : List Entry) (metric : Sums → Option Fraction) (percent : ℕ) (stands : Option Standing) : Type 0 where
   pub met : stands ≡ Some Met → (planes : Planes) → AgreeWith entries planes → (value : Fraction) → metric (all_sums p planes) ≡ Some value → meets percent value ≡ true
   pub missed : stands ≡ Some Missed → (planes : Planes) → AgreeWith entries planes → (value : Fraction) → metric (all_sums p planes) ≡ Some value → meets percent value ≡ false
-  pub left_open : stands ≡ Some Open → Gives p entries metric percent true × Gives p entries metric percent false
+  pub left_open : stands ≡ Some Open → MayGive p entries metric percent true × MayGive p entries metric percent false
   pub none : stands ≡ None → (planes : Planes) → AgreeWith entries planes → metric (all_sums p planes) ≡ None
 
 -- so of each target of a percentage

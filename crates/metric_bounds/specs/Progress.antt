@@ -23,8 +23,8 @@ standing_word (Some Missed) = codes "missed"
 standing_word (Some Open) = codes "open"
 
 -- so much of so much
-abbrev pub part_line : Bytes → (part whole : ℕ) → Bytes
-part_line label part whole = line (label ∷ decimal part ∷ codes "of" ∷ decimal whole ∷ [])
+abbrev pub share_line : Bytes → (part whole : ℕ) → Bytes
+share_line label part whole = line (label ∷ decimal part ∷ codes "of" ∷ decimal whole ∷ [])
 
 -- the ends of a metric
 abbrev pub ends_line : Bytes → Ends → Bytes
@@ -41,9 +41,9 @@ standing_line label stands = line (codes "target" ∷ label ∷ standing_word st
 -- the kept rows, and the weights without class outside: of the kept batches, and of all
 unfoldable pub judged_lines : (rows batches : ℕ) → (judged all : Sums) → Bytes
 judged_lines rows batches judged all =
-    part_line (codes "rows") rows batches
-    ++ part_line (codes "judged permanent") judged.permanent_all all.permanent_all
-    ++ part_line (codes "judged transient") judged.transient_all all.transient_all
+    share_line (codes "rows") rows batches
+    ++ share_line (codes "judged permanent") judged.permanent_all all.permanent_all
+    ++ share_line (codes "judged transient") judged.transient_all all.transient_all
 
 -- the bounds of the metrics
 unfoldable pub bound_lines : EndSums → Bytes

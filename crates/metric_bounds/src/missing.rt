@@ -3,7 +3,7 @@ ghost use Rattle.std.specs.Prelude.{◌≡◌, ◌<◌, ◌&&◌, not};
 ghost use Rattle.fm_base.specs.Planes.{plane_of};
 ghost use Rattle.fault_list.specs.Faults.{fault_number, is_used};
 ghost use Rattle.campaign_plan.specs.Analysis.{batch_count, fault_count};
-ghost use Rattle.metric_bounds.specs.Missing.{is_on_mechanism as is_of_mechanism, missing};
+ghost use Rattle.metric_bounds.specs.Missing.{is_on_mechanism as is_of_mechanism, planes_when_missing};
 
 use crate::End;
 use campaign_plan::{Outcome, Plan};
@@ -47,7 +47,7 @@ fn other_lanes(plan: &Plan, batch: u32) -> u64
 /// The planes that a missing batch is taken to have at an end.
 pub(crate) fn missing_planes(plan: &Plan, end: End, batch: u32) -> Outcome
     requires { batch < batch_count plan.now }
-    ensures { result ≡ missing plan.now end batch }
+    ensures { result ≡ planes_when_missing plan.now end batch }
 {
     match end {
         End::Best => Outcome {

@@ -6,10 +6,10 @@ ghost use Rattle.campaign_plan.specs.Batches.{total, AreDistinct, Entry};
 ghost use Rattle.campaign_plan.specs.Kept.{IsPlan};
 ghost use Rattle.result_file.specs.KeptRows.{entry_of};
 ghost use Rattle.fmeda_report.specs.Report.{all_sums};
-ghost use Rattle.result_merge.specs.Tables.{at_batch, table_of};
+ghost use Rattle.result_merge.specs.Tables.{at_batch, planes_table};
 ghost use Rattle.metric_bounds.specs.Bounds.{end_sums};
 ghost use Rattle.metric_bounds.specs.Progress.{AreAllConsistent};
-ghost use Rattle.metric_bounds.specs.Missing.{missing, planes_at_end};
+ghost use Rattle.metric_bounds.specs.Missing.{planes_when_missing, planes_at_end};
 
 use crate::missing::missing_planes;
 use crate::{End, EndSums};
@@ -22,7 +22,7 @@ use result_merge::PlanesTable;
 fn planes_of(plan: &Plan, table: &PlanesTable, end: End, batch: u32) -> Outcome
     requires table { length table.now ≡ batch_count plan.now }
     requires batch { batch < batch_count plan.now }
-    ensures { result ≡ unwrap_or (at_batch table.now batch) (missing plan.now end batch) }
+    ensures { result ≡ unwrap_or (at_batch table.now batch) (planes_when_missing plan.now end batch) }
 {
     match table.get(batch) {
         Some(planes) => planes,
@@ -33,7 +33,7 @@ fn planes_of(plan: &Plan, table: &PlanesTable, end: End, batch: u32) -> Outcome
 // The five sums over all batches at an end.
 fn sums_at(plan: &Plan, table: &PlanesTable, end: End) -> Sums
     requires { length table.now ≡ batch_count plan.now }
-    ensures sums { (entries : List Entry) → table.now ≡ table_of (batch_count plan.now) entries
+    ensures sums { (entries : List Entry) → table.now ≡ planes_table (batch_count plan.now) entries
         → result ≡ all_sums plan.now (planes_at_end plan.now entries end) }
     ensures consistent { AreConsistent result }
 {
@@ -47,7 +47,7 @@ fn sums_at(plan: &Plan, table: &PlanesTable, end: End) -> Sums
 /// The five sums over all batches at each end.
 pub(crate) fn sums_at_ends(plan: &Plan, table: &PlanesTable) -> EndSums
     requires { length table.now ≡ batch_count plan.now }
-    ensures sums { (entries : List Entry) → table.now ≡ table_of (batch_count plan.now) entries → result ≡ end_sums plan.now entries }
+    ensures sums { (entries : List Entry) → table.now ≡ planes_table (batch_count plan.now) entries → result ≡ end_sums plan.now entries }
     ensures consistent { AreAllConsistent result }
 {
     EndSums {

@@ -3,10 +3,10 @@ ghost use Rattle.std.specs.Prelude.{◌≡◌, ◌++◌, codes, decimal, map};
 ghost use Rattle.campaign_plan.specs.Analysis.{batch_count};
 ghost use Rattle.campaign_plan.specs.Batches.{AreDistinct};
 ghost use Rattle.result_file.specs.KeptRows.{entry_of};
-ghost use Rattle.result_merge.specs.Tables.{table_of};
+ghost use Rattle.result_merge.specs.Tables.{planes_table};
 ghost use Rattle.fm_shelf.specs.Sink.{Sends};
 ghost use Rattle.fmeda_report.specs.Words.{fraction_word as word_of_fraction};
-ghost use Rattle.metric_bounds.specs.Progress.{bound_lines, ends_line, judged_lines, part_line, progress, standing_line, standing_lines, standing_word as word_of_standing, term_line, AreAllConsistent};
+ghost use Rattle.metric_bounds.specs.Progress.{bound_lines, ends_line, judged_lines, share_line, progress, standing_line, standing_lines, standing_word as word_of_standing, term_line, AreAllConsistent};
 
 use crate::sums::{kept_sums, sums_at_ends};
 use crate::{EndSums, Ends, Standing};
@@ -63,7 +63,7 @@ fn fraction_word(fraction: Option<Fraction>) -> Line
 
 // Writes a label and how much there is of how much.
 fn write_part<O: Sink>(label: &[u8], part: u64, whole: u64, out: &mut O) -> Result<(), Failed>
-    ensures { Sends (O.seen out.old) (O.seen out.new) (part_line label.now part whole) result }
+    ensures { Sends (O.seen out.old) (O.seen out.new) (share_line label.now part whole) result }
 {
     write_line(
         out,
@@ -177,7 +177,7 @@ pub fn write_progress<O: Sink>(
     out: &mut O,
 ) -> Result<(), Failed>
     requires distinct { AreDistinct plan.now (map entry_of rows.now) }
-    requires table { table.now ≡ table_of (batch_count plan.now) (map entry_of rows.now) }
+    requires table { table.now ≡ planes_table (batch_count plan.now) (map entry_of rows.now) }
     ensures { Sends (O.seen out.old) (O.seen out.new)
         (progress plan.now (map entry_of rows.now)) result }
 {

@@ -10,7 +10,7 @@ use Rattle.fm_base.specs.Names.{Name, is_one_of}
 use Rattle.fm_base.proofs.Tests.{or_false, false_of}
 use Rattle.fm_base.proofs.Distinct.{is_same, bytes_eq-sym}
 use Rattle.net_names.specs.Nets.{driver_of}
-use Rattle.net_names.specs.Driven.{all_drivers, drives, times}
+use Rattle.net_names.specs.Driven.{all_drivers, drives, name_count}
 use Rattle.net_names.proofs.Times.{times-append, times-found, at-found}
 
 -- names beside drivers, numbered from n
@@ -26,7 +26,7 @@ entry_none n driver (x ∷ xs) name e =
     let parts = or_false (bytes_eq name x) (is_one_of xs name) e in
     rw (bytes_eq-sym x name ∙ parts.0) (entry_none (n + 1) driver xs name parts.1)
 
-pub entry_at : (n : ℕ) (driver : ℕ → Driver) (names : List Name) (k : ℕ) (name : Name) → times name names ≤ 1 → slice_get names k ≡ Some name
+pub entry_at : (n : ℕ) (driver : ℕ → Driver) (names : List Name) (k : ℕ) (name : Name) → name_count name names ≤ 1 → slice_get names k ≡ Some name
     → find (is_of name) (entries n driver names) ≡ Some (name, driver (n + k))
 entry_at n driver [] k name h e = cc
 entry_at n driver (x ∷ xs) zero name h e =
@@ -35,15 +35,15 @@ entry_at n driver (x ∷ xs) zero name h e =
     rw (ap (bytes_eq x) (sym same) ∙ is_same x) (ap (λ (m : Name). Some (m, driver n)) same ∙ ap (λ j. Some (name, driver j)) first)
 entry_at n driver (x ∷ xs) (suc k) name h e = by_cases (bytes_eq name x) refl h (λ g. entry_at (n + 1) driver xs k name g e)
   where
-    by_cases : (b : Bool) → bytes_eq name x ≡ b → cond b 1 0 + times name xs ≤ 1
-        → (times name xs ≤ 1 → find (is_of name) (entries (n + 1) driver xs) ≡ Some (name, driver ((n + 1) + k)))
+    by_cases : (b : Bool) → bytes_eq name x ≡ b → cond b 1 0 + name_count name xs ≤ 1
+        → (name_count name xs ≤ 1 → find (is_of name) (entries (n + 1) driver xs) ≡ Some (name, driver ((n + 1) + k)))
         → find (is_of name) (entries n driver (x ∷ xs)) ≡ Some (name, driver (n + suc k))
-    by_cases true f g more = let twice : 1 ≤ times name xs = times-found name xs (at-found xs k name e) in absurd (omega arith)
+    by_cases true f g more = let twice : 1 ≤ name_count name xs = times-found name xs (at-found xs k name e) in absurd (omega arith)
     by_cases false f g more =
         let next : (n + 1) + k ≡ n + suc k = omega arith in
         rw (bytes_eq-sym x name ∙ f) (more (omega arith) ∙ ap (λ j. Some (name, driver j)) next)
 
-pub none_of : (name : Name) (names : List Name) → times name names ≡ 0 → is_one_of names name ≡ false
+pub none_of : (name : Name) (names : List Name) → name_count name names ≡ 0 → is_one_of names name ≡ false
 none_of name names h = false_of (is_one_of names name) (λ e. let some = times-found name names e in omega arith)
 
 -- the names of inputs, of the nets of tables and of those of latches, in which a name stands once at most
@@ -64,17 +64,17 @@ module _ (inputs tables latches : List Name) where
   pub driver-table : (k : ℕ) (name : Name) → drives inputs tables latches name ≤ 1 → slice_get tables k ≡ Some name → driver_of (all_drivers inputs tables latches) name ≡ FromTable k
   driver-table k name h e =
       let first : 0 + k ≡ k = omega arith in
-      let here : 1 ≤ times name tables = times-found name tables (at-found tables k name e) in
-      let no_input : times name inputs ≡ 0 = omega arith in
+      let here : 1 ≤ name_count name tables = times-found name tables (at-found tables k name e) in
+      let no_input : name_count name inputs ≡ 0 = omega arith in
       found_in name
       ∙ rw (entry_none 0 Input inputs name (none_of name inputs no_input), entry_at 0 FromTable tables k name (omega arith) e) (ap FromTable first)
 
   pub driver-latch : (k : ℕ) (name : Name) → drives inputs tables latches name ≤ 1 → slice_get latches k ≡ Some name → driver_of (all_drivers inputs tables latches) name ≡ FromLatch k
   driver-latch k name h e =
       let first : 0 + k ≡ k = omega arith in
-      let here : 1 ≤ times name latches = times-found name latches (at-found latches k name e) in
-      let no_input : times name inputs ≡ 0 = omega arith in
-      let no_table : times name tables ≡ 0 = omega arith in
+      let here : 1 ≤ name_count name latches = times-found name latches (at-found latches k name e) in
+      let no_input : name_count name inputs ≡ 0 = omega arith in
+      let no_table : name_count name tables ≡ 0 = omega arith in
       found_in name
       ∙ rw (
         entry_none 0 Input inputs name (none_of name inputs no_input),
@@ -83,8 +83,8 @@ module _ (inputs tables latches : List Name) where
       ) (ap FromLatch first)
 
 -- where each line drives what it has as inputs, as nets of tables and as nets of latches, all lines do
-pub drives-of-lines : {S : Type 0} (driven inputs tables latches : S → List Name) (name : Name) → ((s : S) → times name (driven s) ≡ drives (inputs s) (tables s) (latches s) name) → (lines : List S)
-    → times name (flat_map driven lines) ≡ drives (flat_map inputs lines) (flat_map tables lines) (flat_map latches lines) name
+pub drives-of-lines : {S : Type 0} (driven inputs tables latches : S → List Name) (name : Name) → ((s : S) → name_count name (driven s) ≡ drives (inputs s) (tables s) (latches s) name) → (lines : List S)
+    → name_count name (flat_map driven lines) ≡ drives (flat_map inputs lines) (flat_map tables lines) (flat_map latches lines) name
 drives-of-lines driven inputs tables latches name each [] = refl
 drives-of-lines driven inputs tables latches name each (s ∷ lines) =
     sum_up _ _ _ _ _ _ _ _ _ _ _ _ (drives-of-lines driven inputs tables latches name each lines) (times-append name (driven s) (flat_map driven lines)) (each s)

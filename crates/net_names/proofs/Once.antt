@@ -6,7 +6,7 @@ use Rattle.circuit.specs.declared.parts.Driver.{Driver}
 use Rattle.circuit.specs.declared.parts.Driver.TheVariants.{Input, Table as FromTable, Latch as FromLatch}
 use Rattle.fm_base.specs.Names.{Name, is_one_of, has_repeat}
 use Rattle.net_names.specs.Nets.{driver_of}
-use Rattle.net_names.specs.Driven.{all_drivers, drives, times, IsDrivenBy, IsDrivenOnce}
+use Rattle.net_names.specs.Driven.{all_drivers, drives, name_count, IsDrivenBy, IsDrivenOnce}
 use Rattle.net_names.proofs.Driven.{driver-input, driver-table, driver-latch}
 use Rattle.net_names.proofs.Few.{no_more}
 use Rattle.net_names.proofs.Times.{at-found, found-at, once_no_repeat, times-found, times-none, times-once, times-there}
@@ -15,7 +15,7 @@ some_same : (a b : Name) → Some a ≡ Some b → a ≡ b
 some_same a b e = cc
 
 -- where the names that are driven, by whatever, differ and are the nets, each net is driven once
-pub driven-once : (nets inputs tables latches driven : List Name) → ((name : Name) → times name driven ≡ drives inputs tables latches name)
+pub driven-once : (nets inputs tables latches driven : List Name) → ((name : Name) → name_count name driven ≡ drives inputs tables latches name)
     → has_repeat nets ≡ false → has_repeat driven ≡ false → ((name : Name) → is_one_of nets name ≡ true → is_one_of driven name ≡ true)
     → ((name : Name) → is_one_of driven name ≡ true → is_one_of nets name ≡ true) → IsDrivenOnce nets inputs tables latches
 driven-once nets inputs tables latches driven count apart once there net = record {
@@ -61,7 +61,7 @@ module _ (nets inputs tables latches : List Name) (once : IsDrivenOnce nets inpu
   one-name a b (FromLatch k) (FromLatch j) same p q = let here : k ≡ j = cc in some_same a b (sym p ∙ ap (slice_get latches) here ∙ q)
   one-name a b d e same p q = cc
 
-  few : (names : List Name) → ((name : Name) → times name names ≤ 1) → ((name : Name) → 1 ≤ times name names → is_one_of nets name ≡ true) → length names ≤ length nets
+  few : (names : List Name) → ((name : Name) → name_count name names ≤ 1) → ((name : Name) → 1 ≤ name_count name names → is_one_of nets name ≡ true) → length names ≤ length nets
   few names single among = no_more names nets (once_no_repeat names single) (λ name e. among name (times-found name names e))
 
   -- inputs, tables and latches are no more than nets

@@ -13,7 +13,7 @@ use Rattle.fm_base.specs.Names.{Name, is_one_of, has_repeat}
 use Rattle.fm_base.proofs.Tests.{false_of, clash}
 use Rattle.fm_base.proofs.Distinct.{same_name, bytes_eq-sym}
 use Rattle.net_names.specs.Nets.{net_id, driver_of}
-use Rattle.net_names.specs.Driven.{all_drivers, drives, times, IsDrivenBy, IsDrivenOnce}
+use Rattle.net_names.specs.Driven.{all_drivers, drives, name_count, IsDrivenBy, IsDrivenOnce}
 use Rattle.net_names.specs.Drivers.{drivers_by, put_drivers}
 use Rattle.net_names.proofs.Times.{times-found, at-found, place, place-at}
 use Rattle.net_names.proofs.Driven.{entries, is_of, entry_at, entry_none, none_of}
@@ -37,7 +37,7 @@ module _ (nets : List Name) (apart : has_repeat nets ≡ false) where
       clash (bytes_eq x name) (bytes_eq-sym x name ∙ ap (λ (n : Name). bytes_eq n x) (sym is_name) ∙ there) f
 
   put_at : (z : Driver) (driver : ℕ → Driver) (n : ℕ) (names : List Name) (drivers : List Driver) (k : ℕ) (name : Name) → slice_get nets k ≡ Some name
-      → length drivers ≡ length nets → times name names ≤ 1
+      → length drivers ≡ length nets → name_count name names ≤ 1
       → get_or (put_drivers driver n (map (net_id nets) names) drivers) k z ≡ option_map_or second (find (is_of name) (entries n driver names)) (get_or drivers k z)
   put_at z driver n [] drivers k name e size h = refl
   put_at z driver n (x ∷ xs) drivers k name e size h =
@@ -54,8 +54,8 @@ module _ (nets : List Name) (apart : has_repeat nets ≡ false) where
       by_cases true f more =
           let same : x ≡ name = same_name x name f in
           let at : place nets x ≡ k = ap (place nets) same ∙ place-at nets k name apart e in
-          let once : cond true 1 0 + times name xs ≤ 1 = subst (λ (b : Bool). cond b 1 0 + times name xs ≤ 1) (bytes_eq-sym name x ∙ f) h in
-          let gone : times name xs ≡ 0 = omega arith in
+          let once : cond true 1 0 + name_count name xs ≤ 1 = subst (λ (b : Bool). cond b 1 0 + name_count name xs ≤ 1) (bytes_eq-sym name x ∙ f) h in
+          let gone : name_count name xs ≡ 0 = omega arith in
           let absent : is_one_of xs name ≡ false = false_of (is_one_of xs name) (λ g. let some = times-found name xs g in omega arith) in
           more ∙ rw (entry_none (n + 1) driver xs name absent, at) (get_or-set_same drivers k (driver n) z within)
       by_cases false f more =
@@ -68,22 +68,22 @@ module _ (nets inputs tables latches : List Name) (once : IsDrivenOnce nets inpu
       → option_map_or second (find (is_of name) (entries 0 FromLatch latches))
       (option_map_or second (find (is_of name) (entries 0 FromTable tables)) (option_map_or second (find (is_of name) (entries 0 Input inputs)) z)) ≡ d
   read_at z k name (Input j) e h by =
-      let here : 1 ≤ times name inputs = times-found name inputs (at-found inputs j name by) in
+      let here : 1 ≤ name_count name inputs = times-found name inputs (at-found inputs j name by) in
       let first : 0 + j ≡ j = omega arith in
-      let no_table : times name tables ≡ 0 = omega arith in
-      let no_latch : times name latches ≡ 0 = omega arith in
+      let no_table : name_count name tables ≡ 0 = omega arith in
+      let no_latch : name_count name latches ≡ 0 = omega arith in
       rw (
         entry_none 0 FromLatch latches name (none_of name latches no_latch),
         entry_none 0 FromTable tables name (none_of name tables no_table),
         entry_at 0 Input inputs j name (omega arith) by,
       ) (ap Input first)
   read_at z k name (FromTable j) e h by =
-      let here : 1 ≤ times name tables = times-found name tables (at-found tables j name by) in
+      let here : 1 ≤ name_count name tables = times-found name tables (at-found tables j name by) in
       let first : 0 + j ≡ j = omega arith in
-      let no_latch : times name latches ≡ 0 = omega arith in
+      let no_latch : name_count name latches ≡ 0 = omega arith in
       rw (entry_none 0 FromLatch latches name (none_of name latches no_latch), entry_at 0 FromTable tables j name (omega arith) by) (ap FromTable first)
   read_at z k name (FromLatch j) e h by =
-      let here : 1 ≤ times name latches = times-found name latches (at-found latches j name by) in
+      let here : 1 ≤ name_count name latches = times-found name latches (at-found latches j name by) in
       let first : 0 + j ≡ j = omega arith in
       rw (entry_at 0 FromLatch latches j name (omega arith) by) (ap FromLatch first)
 

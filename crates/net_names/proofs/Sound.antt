@@ -19,7 +19,7 @@ use Rattle.fm_base.specs.Names.{Name, is_one_of, has_repeat}
 use Rattle.fm_base.proofs.Tests.{and_both, or_second}
 use Rattle.fm_base.proofs.Distinct.{is_same}
 use Rattle.net_names.specs.Nets.{driver_of, net_id}
-use Rattle.net_names.specs.Driven.{all_drivers, AreBeside, circuit_with, IsDrivenBy, IsDrivenOnce}
+use Rattle.net_names.specs.Driven.{all_drivers, AreAligned, circuit_with, IsDrivenBy, IsDrivenOnce}
 use Rattle.net_names.proofs.Driven.{driver-input, driver-table, driver-latch}
 use Rattle.net_names.proofs.Once.{driver-by, few-latches, input-net, latch-net, one-name, table-net}
 use Rattle.net_names.proofs.Times.{at-found, image-at, names-apart, place, place-at, place-found}
@@ -59,7 +59,7 @@ numbered k = record { 0 = k }
 
 -- ---- the netlist
 
-module _ (nets ins tabs lats outs : List Name) (tables : List Table) (latches : List Latch) (once : IsDrivenOnce nets ins tabs lats) (beside : AreBeside nets tabs lats tables latches) where
+module _ (nets ins tabs lats outs : List Name) (tables : List Table) (latches : List Latch) (once : IsDrivenOnce nets ins tabs lats) (beside : AreAligned nets tabs lats tables latches) where
   abbrev drivers : List (Name × Driver)
   drivers = all_drivers ins tabs lats
 

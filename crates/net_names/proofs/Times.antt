@@ -9,58 +9,58 @@ use Rattle.fm_base.specs.Names.{Name, is_one_of, has_repeat}
 use Rattle.fm_base.proofs.Tests.{or_false, both_false, false_of, clash}
 use Rattle.fm_base.proofs.Distinct.{same_name, is_same, bytes_eq-sym}
 use Rattle.circuit.specs.Sound.{AreApart}
-use Rattle.net_names.specs.Driven.{times}
+use Rattle.net_names.specs.Driven.{name_count}
 
 -- ---- how often
 
-pub times-append : (name : Name) (xs ys : List Name) → times name (xs ++ ys) ≡ times name xs + times name ys
+pub times-append : (name : Name) (xs ys : List Name) → name_count name (xs ++ ys) ≡ name_count name xs + name_count name ys
 times-append name [] ys = omega arith
 times-append name (x ∷ xs) ys = let more = times-append name xs ys in omega arith
 
 -- a name stands in a list at least once exactly where it is found in it
-pub times-found : (name : Name) (xs : List Name) → is_one_of xs name ≡ true → 1 ≤ times name xs
+pub times-found : (name : Name) (xs : List Name) → is_one_of xs name ≡ true → 1 ≤ name_count name xs
 times-found name [] e = cc
 times-found name (x ∷ xs) e = by_cases (bytes_eq name x) e (times-found name xs)
   where
-    by_cases : (b : Bool) → (b || is_one_of xs name) ≡ true → (is_one_of xs name ≡ true → 1 ≤ times name xs) → 1 ≤ cond b 1 0 + times name xs
+    by_cases : (b : Bool) → (b || is_one_of xs name) ≡ true → (is_one_of xs name ≡ true → 1 ≤ name_count name xs) → 1 ≤ cond b 1 0 + name_count name xs
     by_cases true e more = omega arith
     by_cases false e more = let h = more e in omega arith
 
-pub times-there : (name : Name) (xs : List Name) → 1 ≤ times name xs → is_one_of xs name ≡ true
+pub times-there : (name : Name) (xs : List Name) → 1 ≤ name_count name xs → is_one_of xs name ≡ true
 times-there name [] h = absurd (omega arith)
 times-there name (x ∷ xs) h = by_cases (bytes_eq name x) h (times-there name xs)
   where
-    by_cases : (b : Bool) → 1 ≤ cond b 1 0 + times name xs → (1 ≤ times name xs → is_one_of xs name ≡ true) → (b || is_one_of xs name) ≡ true
+    by_cases : (b : Bool) → 1 ≤ cond b 1 0 + name_count name xs → (1 ≤ name_count name xs → is_one_of xs name ≡ true) → (b || is_one_of xs name) ≡ true
     by_cases true h more = refl
     by_cases false h more = more (omega arith)
 
-pub times-none : (name : Name) (xs : List Name) → is_one_of xs name ≡ false → times name xs ≡ 0
-times-none name xs e = none (times name xs) (λ h. clash (is_one_of xs name) (times-there name xs h) e)
+pub times-none : (name : Name) (xs : List Name) → is_one_of xs name ≡ false → name_count name xs ≡ 0
+times-none name xs e = none (name_count name xs) (λ h. clash (is_one_of xs name) (times-there name xs h) e)
   where
     none : (n : ℕ) → (1 ≤ n → ⊥) → n ≡ 0
     none zero h = refl
     none (suc n) h = absurd (h (omega arith))
 
 -- without a repeat it stands there once at most
-pub times-once : (name : Name) (xs : List Name) → has_repeat xs ≡ false → times name xs ≤ 1
+pub times-once : (name : Name) (xs : List Name) → has_repeat xs ≡ false → name_count name xs ≤ 1
 times-once name [] e = omega arith
 times-once name (x ∷ xs) e =
     let parts = or_false (is_one_of xs x) (has_repeat xs) e in
     by_cases (bytes_eq name x) refl parts.0 (times-once name xs parts.1)
   where
-    by_cases : (b : Bool) → bytes_eq name x ≡ b → is_one_of xs x ≡ false → times name xs ≤ 1 → cond b 1 0 + times name xs ≤ 1
+    by_cases : (b : Bool) → bytes_eq name x ≡ b → is_one_of xs x ≡ false → name_count name xs ≤ 1 → cond b 1 0 + name_count name xs ≤ 1
     by_cases true f none more =
-        let zero_times : times name xs ≡ 0 = times-none name xs (ap (is_one_of xs) (same_name name x f) ∙ none) in
+        let zero_times : name_count name xs ≡ 0 = times-none name xs (ap (is_one_of xs) (same_name name x f) ∙ none) in
         omega arith
     by_cases false f none more = omega arith
 
 -- and so the other way round
-pub once_no_repeat : (xs : List Name) → ((name : Name) → times name xs ≤ 1) → has_repeat xs ≡ false
+pub once_no_repeat : (xs : List Name) → ((name : Name) → name_count name xs ≤ 1) → has_repeat xs ≡ false
 once_no_repeat [] h = refl
 once_no_repeat (x ∷ xs) h =
-    let here : 1 + times x xs ≤ 1 = subst (λ (b : Bool). cond b 1 0 + times x xs ≤ 1) (is_same x) (h x) in
+    let here : 1 + name_count x xs ≤ 1 = subst (λ (b : Bool). cond b 1 0 + name_count x xs ≤ 1) (is_same x) (h x) in
     both_false (is_one_of xs x) (has_repeat xs) (false_of (is_one_of xs x) (λ e. let twice = times-found x xs e in omega arith))
-    (once_no_repeat xs (λ name. less (times name xs) (cond (bytes_eq name x) 1 0) (h name)))
+    (once_no_repeat xs (λ name. less (name_count name xs) (cond (bytes_eq name x) 1 0) (h name)))
   where
     less : (n m : ℕ) → m + n ≤ 1 → n ≤ 1
     less n m h = omega arith

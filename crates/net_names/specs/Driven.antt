@@ -10,9 +10,9 @@ use Rattle.fm_base.specs.Names.{Name, is_one_of, has_repeat}
 use Rattle.net_names.specs.Nets.{driver_of, net_id, with_drivers}
 
 -- how often a name stands in a list
-abbrev pub times : Name → List Name → ℕ
-times name [] = 0
-times name (x ∷ xs) = (if bytes_eq name x then 1 else 0) + times name xs
+abbrev pub name_count : Name → List Name → ℕ
+name_count name [] = 0
+name_count name (x ∷ xs) = (if bytes_eq name x then 1 else 0) + name_count name xs
 
 -- the nets that inputs, tables and latches drive, beside their drivers
 abbrev pub all_drivers : (inputs tables latches : List Name) → List (Name × Driver)
@@ -20,7 +20,7 @@ all_drivers inputs tables latches = with_drivers Input inputs ++ with_drivers Fr
 
 -- how often a net is driven
 abbrev pub drives : (inputs tables latches : List Name) → Name → ℕ
-drives inputs tables latches name = times name inputs + times name tables + times name latches
+drives inputs tables latches name = name_count name inputs + name_count name tables + name_count name latches
 
 -- the name stands at the place that its driver says
 abbrev pub IsDrivenBy : (inputs tables latches : List Name) → Name → Driver → Type 0
@@ -36,7 +36,7 @@ pub record IsDrivenOnce (nets inputs tables latches : List Name) : Type 0 where
   pub net : (name : Name) → 1 ≤ drives inputs tables latches name → is_one_of nets name ≡ true
 
 -- there are as many tables as nets that tables drive, and latches stand in the order of the nets that they drive
-pub record AreBeside (nets table_nets latch_nets : List Name) (tables : List Table) (latches : List Latch) : Type 0 where
+pub record AreAligned (nets table_nets latch_nets : List Name) (tables : List Table) (latches : List Latch) : Type 0 where
   pub counted : length tables ≡ length table_nets
   pub ordered : map (λ latch. latch.to) latches ≡ map (net_id nets) latch_nets
 

@@ -5,7 +5,7 @@ ghost use Rattle.circuit.specs.Value.{driver_at, table_at};
 ghost use Rattle.circuit.specs.Sound.{IsNet};
 ghost use Rattle.netlist_levels.specs.declared.search.Mark.TheVariants.{New, Open, Done};
 ghost use Rattle.netlist_levels.specs.Levels.{IsWhy, AnswersLevels};
-ghost use Rattle.netlist_levels.specs.Search.{mark_at, frame_at, ins_of, steps_left, NoneGoesBack, IsDone, Searches, IsUnready};
+ghost use Rattle.netlist_levels.specs.Search.{mark_at, frame_at, ins_of, steps_left, NoneGoesBack, IsOrdered, Searches, IsUnready};
 
 use crate::found::LoopFound;
 use crate::order::Order;
@@ -167,7 +167,7 @@ impl Search {
         ensures search { OnOk result (Searches net.now self.new) }
         ensures empty { OnOk result (self.new.stack.items ≡ []) }
         ensures none_back { OnOk result (NoneGoesBack self.old.marks.items self.new.marks.items) }
-        ensures done { OnOk result (IsDone net.now self.new.marks.items root) }
+        ensures done { OnOk result (IsOrdered net.now self.new.marks.items root) }
         ensures why { IfErr result (IsWhy net.now) }
     {
         if let Driver::Table(table) = net.driver(root) {

@@ -6,7 +6,8 @@ use Rattle.fault_list.specs.Faults.{batches_for}
 use Rattle.campaign_plan.specs.Analysis.{Analysis}
 use Rattle.pair_list.specs.Chosen.{Chosen, AreFaults, pair_count}
 use Rattle.pair_campaign.specs.declared.worker.PairWorker.{PairWorker}
-use Rattle.pair_campaign.specs.Work.{golden_of, IsEquippedFor}
+use Rattle.pair_campaign.specs.Work.{IsEquippedFor}
+use Rattle.classifier.specs.Tools.{golden_of}
 
 -- the plan, an order of its tables, and the pairs
 pub record MadeFor : Type 0 where

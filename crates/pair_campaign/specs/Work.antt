@@ -8,6 +8,7 @@ use Rattle.golden_run.specs.Recording.{Recording}
 use Rattle.fault_list.specs.Faults.{batches_for, fault_number, is_used}
 use Rattle.fm_base.specs.Planes.{bit}
 use Rattle.campaign_plan.specs.Analysis.{Analysis}
+use Rattle.classifier.specs.Tools.{AreToolsFor}
 use Rattle.campaign_plan.specs.Danger.{is_dangerous}
 use Rattle.campaign_plan.specs.declared.Outcome.{Outcome}
 use Rattle.classifier.specs.Planes.{outcome_at}
@@ -20,10 +21,6 @@ use Rattle.pair_campaign.specs.PairPlanes.{pair_plane}
 abbrev pub faults_in_lane : Analysis → Chosen → ℕ → ℕ → List Fault
 faults_in_lane p c plane lane = if is_used (pair_count c) plane lane then both_faults p (pair_numbered c (fault_number plane lane)) else []
 
--- the golden run of a plan, by an order of its tables
-abbrev pub golden_of : Analysis → List NetId → Recording
-golden_of p order = record { circuit = p.circuit; order = order; runs = p.runs }
-
 -- the danger of each lane is that of the faults there, as a plane of pairs is loaded
 abbrev pub ShowsPlane : Analysis → Chosen → ℕ → Outcome → Type 0
 ShowsPlane p c plane outcome =
@@ -32,12 +29,6 @@ ShowsPlane p c plane outcome =
 -- so in each of four words: the first is of plane `first`, and each other of the plane `apart` further
 abbrev pub ShowPlanes : Analysis → Chosen → (first apart : ℕ) → List Outcome → Type 0
 ShowPlanes p c first apart outcomes = (word : ℕ) → word < 4 → ShowsPlane p c (first + word * apart) (outcome_at outcomes word)
-
--- four words of lanes and of windows for a plan, by an order of its tables
-pub record AreToolsFor (p : Analysis) (order : List NetId) (lanes : Lanes (List ℕ)) (windows : FourWatches) : Type 0 where
-  pub lanes_made : IsMadeFor p.circuit order lanes
-  pub windows_made : AreFourMadeFor p.points windows
-  pub ftti : windows.ftti ≡ p.settings.ftti
 
 -- a worker with such tools, and with room for so many planes
 pub record IsEquippedFor (p : Analysis) (order : List NetId) (planes : ℕ) (worker : PairWorker) : Type 0 where

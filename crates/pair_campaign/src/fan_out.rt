@@ -4,7 +4,8 @@ ghost use Rattle.fault_list.specs.Faults.{batches_for};
 ghost use Rattle.pair_list.specs.Chosen.{AreFaults, pair_count};
 ghost use Rattle.pair_campaign.specs.declared.worker.PairWorker.{PairWorker as Worker};
 ghost use Rattle.pair_campaign.specs.PairPlanes.{pair_planes};
-ghost use Rattle.pair_campaign.specs.Work.{golden_of, HasJudged, IsEquippedFor};
+ghost use Rattle.pair_campaign.specs.Work.{HasJudged, IsEquippedFor};
+ghost use Rattle.classifier.specs.Tools.{golden_of};
 
 use crate::crew::{PairCrew, PairPlanes};
 use crate::worker::{PairWorker, work};

@@ -4,7 +4,7 @@ ghost use Rattle.fault_list.specs.Faults.{batches_for, is_used};
 ghost use Rattle.fm_base.specs.Planes.{bit};
 ghost use Rattle.classifier.specs.Load.{lane_faults, load_of};
 ghost use Rattle.golden_difference.specs.Lanes.{IsMadeFor};
-ghost use Rattle.lane_kernel.specs.Loads.{faults_of, somes};
+ghost use Rattle.lane_kernel.specs.Loads.{loaded_faults, somes};
 ghost use Rattle.pair_list.specs.Chosen.{AreFaults, pair_count};
 ghost use Rattle.pair_campaign.specs.Work.{faults_in_lane};
 
@@ -43,7 +43,7 @@ fn both_in(plan: &Plan, pairs: &Pairs, plane: u32, lane: u32) -> [Option<Fault>;
 // Both faults of each pair of a plane, the latent one first.
 fn loads_of(plan: &Plan, pairs: &Pairs, plane: u32) -> [[Option<Fault>; 2]; 64]
     requires { AreFaults plan.now pairs.now }
-    ensures { (k : ℕ) → k < 64 → faults_of result k ≡ faults_in_lane plan.now pairs.now plane k }
+    ensures { (k : ℕ) → k < 64 → loaded_faults result k ≡ faults_in_lane plan.now pairs.now plane k }
 {
     let mut loads = [[None, None]; 64];
     for lane in 0..LANES {

@@ -7,7 +7,8 @@ ghost use Rattle.classifier.specs.Load.{lane_faults, load_of};
 ghost use Rattle.classifier.specs.Planes.{outcome_at, planes_of};
 ghost use Rattle.pair_list.specs.Chosen.{AreFaults, pair_count};
 ghost use Rattle.pair_campaign.specs.PairPlanes.{pair_plane};
-ghost use Rattle.pair_campaign.specs.Work.{golden_of, AreToolsFor, IsEquippedFor, HasJudged, ShowPlanes, ShowsPlane};
+ghost use Rattle.pair_campaign.specs.Work.{IsEquippedFor, HasJudged, ShowPlanes, ShowsPlane};
+ghost use Rattle.classifier.specs.Tools.{golden_of, AreToolsFor};
 
 use crate::load::{load_planes, planes_for, used_lanes};
 use alarm_points::windows4::Windows4;

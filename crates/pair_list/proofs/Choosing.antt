@@ -21,7 +21,7 @@ use Rattle.fmeda_report.specs.Report.{Planes}
 use Rattle.fmeda_report.specs.Rows.{planes_in}
 use Rattle.fmeda_report.proofs.RowPlanes.{rows_below, planes_in-none}
 use Rattle.result_merge.specs.Union.{found}
-use Rattle.result_merge.specs.Tables.{Table, table_of, planes_at}
+use Rattle.result_merge.specs.Tables.{Table, planes_table, planes_at}
 use Rattle.result_merge.proofs.Tabling.{length-table, table_at}
 use Rattle.pair_list.specs.declared.pairs.PairRefusal.TheVariants.{Incomplete, TooMany}
 use Rattle.pair_list.specs.Pairs.{faults_in_class}
@@ -30,7 +30,7 @@ use Rattle.pair_list.proofs.Placing.{count_is}
 
 -- the table of the rows
 abbrev pub table : Analysis → List Row → Table
-table p rows = table_of (batch_count p) (map entry_of rows)
+table p rows = planes_table (batch_count p) (map entry_of rows)
 
 -- ---- the planes
 

@@ -1,4 +1,4 @@
--- The rows of nets and of latches, in the words of the table.
+-- The rows of net_numbers and of latches, in the words of the table.
 use Rattle.std.proofs.Common.{◌≡◌, ◌∙◌, ap, ap₂, sym, refl, subst, ℕ, ◌+◌, ◌<◌, Bool, false, cond, List, [], ◌∷◌, ◌++◌, length, map, take, get_or, add-one, append_assoc, arith}
 use Rattle.std.specs.Prelude.{count_by, find, Option, Some, None, is_none, IfSome, codes}
 use Rattle.std.proofs.lemmas.List.{get_or-map, length-map, map-append, take_more}
@@ -16,8 +16,8 @@ use Rattle.fm_base.specs.Text.{line}
 use Rattle.fm_base.proofs.Below.{map-below}
 use Rattle.rate_table.specs.declared.Pattern.{Pattern}
 use Rattle.rate_table.specs.Table.{RateTable, matches}
-use Rattle.part_table.specs.PartTable.{is_row, is_unmatched, nets, row_of_net, takes}
-use Rattle.part_table.specs.Counted.{latch_rows, net_rows, row_at, AreCounts, AreFirsts, AreRowsBelow}
+use Rattle.part_table.specs.PartTable.{is_at_row, is_unmatched, net_numbers, row_of_net, row_takes}
+use Rattle.part_table.specs.Counted.{latch_rows, net_rows, row_in_list, AreRowCounts, AreFirsts, AreRowsBelow}
 use Rattle.part_table.proofs.Counting.{find_same, has_row}
 
 -- ---- one net, or one latch, more
@@ -55,7 +55,7 @@ module _ (c : Circuit) (table : RateTable) where
   unfolding below
   length_rows = length-map-range_with_len (row_of_net c table) 0 (length c.drivers)
 
-  pub row_there : (net : ℕ) → net < length c.drivers → row_at (net_rows c table) net ≡ row_of_net c table net
+  pub row_there : (net : ℕ) → net < length c.drivers → row_in_list (net_rows c table) net ≡ row_of_net c table net
   unfolding below
   row_there net lt = get_or-map-range_with_len (row_of_net c table) 0 (length c.drivers) net net None lt (omega arith)
 
@@ -82,26 +82,26 @@ module _ (c : Circuit) (table : RateTable) where
 
   -- ---- what is counted, in the words of the table
 
-  pub net_count : (counts : List ℕ) (k : ℕ) → AreCounts (length table.patterns) (net_rows c table) counts → k < length table.patterns
-      → get_or counts k 0 ≡ count_by (takes c table k) (nets c)
-  net_count counts k are lt = are.each k lt ∙ count_map (is_row k) (row_of_net c table) (nets c)
+  pub net_count : (counts : List ℕ) (k : ℕ) → AreRowCounts (length table.patterns) (net_rows c table) counts → k < length table.patterns
+      → get_or counts k 0 ≡ count_by (row_takes c table k) (net_numbers c)
+  net_count counts k are lt = are.each k lt ∙ count_map (is_at_row k) (row_of_net c table) (net_numbers c)
 
-  pub latch_count : (counts : List ℕ) (k : ℕ) → AreCounts (length table.patterns) (latch_rows c table) counts → k < length table.patterns
-      → get_or counts k 0 ≡ count_by (λ latch. takes c table k latch.to.0) c.latches
-  latch_count counts k are lt = are.each k lt ∙ count_map (is_row k) (λ (latch : Latch). row_of_net c table latch.to.0) c.latches
+  pub latch_count : (counts : List ℕ) (k : ℕ) → AreRowCounts (length table.patterns) (latch_rows c table) counts → k < length table.patterns
+      → get_or counts k 0 ≡ count_by (λ latch. row_takes c table k latch.to.0) c.latches
+  latch_count counts k are lt = are.each k lt ∙ count_map (is_at_row k) (λ (latch : Latch). row_of_net c table latch.to.0) c.latches
 
   pub first_net : (firsts : List (Option ℕ)) (k : ℕ) → AreFirsts (length table.patterns) (length c.drivers) (net_rows c table) firsts → k < length table.patterns
-      → row_at firsts k ≡ find (takes c table k) (nets c)
+      → row_in_list firsts k ≡ find (row_takes c table k) (net_numbers c)
   first_net firsts k are lt =
-      are.each k lt ∙ find_same (has_row (net_rows c table) k) (takes c table k) (length c.drivers) (λ net less. ap (is_row k) (row_there net less))
+      are.each k lt ∙ find_same (has_row (net_rows c table) k) (row_takes c table k) (length c.drivers) (λ net less. ap (is_at_row k) (row_there net less))
 
-  pub unmatched_count : count_by is_none (net_rows c table) ≡ count_by (is_unmatched c table) (nets c)
-  unmatched_count = count_map is_none (row_of_net c table) (nets c)
+  pub unmatched_count : count_by is_none (net_rows c table) ≡ count_by (is_unmatched c table) (net_numbers c)
+  unmatched_count = count_map is_none (row_of_net c table) (net_numbers c)
 
-  pub first_unmatched : find (λ i. is_none (row_at (net_rows c table) i)) (below (length (net_rows c table))) ≡ find (is_unmatched c table) (nets c)
+  pub first_unmatched : find (λ i. is_none (row_in_list (net_rows c table) i)) (below (length (net_rows c table))) ≡ find (is_unmatched c table) (net_numbers c)
   first_unmatched =
-      ap (λ n. find (λ i. is_none (row_at (net_rows c table) i)) (below n)) length_rows
-      ∙ find_same (λ i. is_none (row_at (net_rows c table) i)) (is_unmatched c table) (length c.drivers) (λ net less. ap is_none (row_there net less))
+      ap (λ n. find (λ i. is_none (row_in_list (net_rows c table) i)) (below n)) length_rows
+      ∙ find_same (λ i. is_none (row_in_list (net_rows c table) i)) (is_unmatched c table) (length c.drivers) (λ net less. ap is_none (row_there net less))
 
 -- ---- the pieces of a line
 

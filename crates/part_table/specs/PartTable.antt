@@ -1,4 +1,4 @@
--- The nets and the latches that each row of a rates file takes: those whose first match it is. This project's own rule and form.
+-- The net_numbers and the latches that each row of a rates file row_takes: those whose first match it is. This project's own rule and form.
 use Rattle.std.specs.Prelude.{ℕ, Bool, true, false, List, [], ◌∷◌, ◌++◌, flat_map, length, count_by, find, position, Option, Some, None, is_none, slice_index_or, ◌==◌, codes, decimal}
 use Rattle.circuit.specs.Circuit.{Circuit}
 use Rattle.circuit.specs.Names.{net_name}
@@ -12,26 +12,26 @@ use Rattle.fm_base.specs.Text.{line}
 use Rattle.fmeda_report.specs.Words.{role_word}
 use Rattle.fault_table.specs.Words.{covered_word}
 
--- the row that takes a net: the first one whose pattern matches its name, by its number from 0
+-- the row that row_takes a net: the first one whose pattern matches its name, by its number from 0
 abbrev pub row_of_net : Circuit → RateTable → ℕ → Option ℕ
 row_of_net c table net = position (λ pattern. matches pattern (net_name c net)) table.patterns
 
 -- it is row k
-abbrev pub is_row : ℕ → Option ℕ → Bool
-is_row k None = false
-is_row k (Some row) = row == k
+abbrev pub is_at_row : ℕ → Option ℕ → Bool
+is_at_row k None = false
+is_at_row k (Some row) = row == k
 
--- row k takes a net
-abbrev pub takes : Circuit → RateTable → ℕ → ℕ → Bool
-takes c table k net = is_row k (row_of_net c table net)
+-- row k row_takes a net
+abbrev pub row_takes : Circuit → RateTable → ℕ → ℕ → Bool
+row_takes c table k net = is_at_row k (row_of_net c table net)
 
--- no row takes a net
+-- no row row_takes a net
 abbrev pub is_unmatched : Circuit → RateTable → ℕ → Bool
 is_unmatched c table net = is_none (row_of_net c table net)
 
--- all nets by their numbers
-abbrev pub nets : Circuit → List ℕ
-nets c = below (length c.drivers)
+-- all net_numbers by their numbers
+abbrev pub net_numbers : Circuit → List ℕ
+net_numbers c = below (length c.drivers)
 
 -- the name of a net, or `-` where there is none
 abbrev pub name_or_dash : Circuit → Option ℕ → Bytes
@@ -51,21 +51,21 @@ abbrev pub star_word : Bool → Bytes
 star_word true = codes "*"
 star_word false = []
 
--- the line of row k: its pattern and part, how many nets and latches it takes (a latch goes with its output net), and the first of these nets
+-- the line of row k: its pattern and part, how many net_numbers and latches it row_takes (a latch goes with its output net), and the first of these net_numbers
 unfoldable pub row_line : Circuit → RateTable → ℕ → Bytes
 row_line c table k =
     let pattern = pattern_numbered table k in
     let part = part_of_pattern table pattern in
     line (
     codes "pattern" ∷ (pattern.name ++ star_word pattern.star) ∷ codes "part" ∷ part.name ∷ codes "role" ∷ role_word part.role
-    ∷ codes "covered" ∷ covered_word part.covered ∷ codes "nets" ∷ decimal (count_by (takes c table k) (nets c))
-    ∷ codes "latches" ∷ decimal (count_by (λ latch. takes c table k latch.to.0) c.latches)
-    ∷ codes "first" ∷ name_or_dash c (find (takes c table k) (nets c)) ∷ [])
+    ∷ codes "covered" ∷ covered_word part.covered ∷ codes "net_numbers" ∷ decimal (count_by (row_takes c table k) (net_numbers c))
+    ∷ codes "latches" ∷ decimal (count_by (λ latch. row_takes c table k latch.to.0) c.latches)
+    ∷ codes "first" ∷ name_or_dash c (find (row_takes c table k) (net_numbers c)) ∷ [])
 
--- the last line: how many nets no row takes, and the first of them
+-- the last line: how many net_numbers no row row_takes, and the first of them
 unfoldable pub unmatched_line : Circuit → RateTable → Bytes
 unmatched_line c table =
-    line (codes "unmatched" ∷ decimal (count_by (is_unmatched c table) (nets c)) ∷ codes "first" ∷ name_or_dash c (find (is_unmatched c table) (nets c)) ∷ [])
+    line (codes "unmatched" ∷ decimal (count_by (is_unmatched c table) (net_numbers c)) ∷ codes "first" ∷ name_or_dash c (find (is_unmatched c table) (net_numbers c)) ∷ [])
 
 -- THE TEXT of `parts`: a line for each row in order, and the last line
 unfoldable pub part_table : Circuit → RateTable → Bytes

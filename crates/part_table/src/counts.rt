@@ -1,7 +1,7 @@
 // How many of some rows are each row, and which is the first.
 ghost use Rattle.std.specs.Prelude.{◌≡◌, ◌≤◌, ◌<◌, ◌^◌, IfOk, count_by, find, is_none, length, set, unwrap_or};
 ghost use Rattle.fm_base.specs.Lists.{below};
-ghost use Rattle.part_table.specs.Counted.{row_at, AreCounts, AreFirsts, AreRowsBelow};
+ghost use Rattle.part_table.specs.Counted.{row_in_list, AreRowCounts, AreFirsts, AreRowsBelow};
 
 use std::alloc::{AllocError, Global};
 
@@ -13,7 +13,7 @@ pub(crate) fn counts_of(
 ) -> Result<Vec<u32>, AllocError>
     requires below { AreRowsBelow n rows.now }
     requires few { length rows.now ≤ 2 ^ 18 }
-    ensures { IfOk result (λ counts. AreCounts n rows.now counts.items) }
+    ensures { IfOk result (λ counts. AreRowCounts n rows.now counts.items) }
 {
     let mut counts = vec![in alloc; 0; n]?;
     for row in rows {
@@ -27,7 +27,7 @@ pub(crate) fn counts_of(
 // Notes the place of a row, where none was noted.
 fn note_first(firsts: &mut [Option<u32>], row: usize, place: u32)
     requires { row < length firsts.old }
-    ensures { firsts.new ≡ set firsts.old row (Some (unwrap_or (row_at firsts.old row) place)) }
+    ensures { firsts.new ≡ set firsts.old row (Some (unwrap_or (row_in_list firsts.old row) place)) }
 {
     if firsts[row].is_none() {
         firsts[row] = Some(place);
@@ -63,7 +63,7 @@ pub(crate) fn count_none(rows: &[Option<usize>]) -> usize
 /// The first place where there is no row.
 pub(crate) fn first_none(rows: &[Option<usize>]) -> Option<u32>
     requires { length rows.now ≤ 2 ^ 18 }
-    ensures { result ≡ find (λ i. is_none (row_at rows.now i)) (below (length rows.now)) }
+    ensures { result ≡ find (λ i. is_none (row_in_list rows.now i)) (below (length rows.now)) }
 {
     for (i, row) in rows.iter().enumerate() {
         if row.is_none() {

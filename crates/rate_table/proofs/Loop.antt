@@ -10,24 +10,24 @@ use Rattle.rate_table.specs.declared.RatesKind.{RatesKind}
 use Rattle.fm_base.specs.declared.refusal.Refusal.{Refusal}
 use Rattle.fm_base.specs.declared.refusal.Refusal.TheVariants.{Fault, Memory}
 use Rattle.fm_base.specs.Answers.{Gives}
-use Rattle.rate_table.specs.Table.{IsTable}
-use Rattle.rate_table.specs.RatesFile.{row_fault, parts_of, pattern_of, rates_unless, rates_under, rates_of_rows, rates_of, header}
-use Rattle.rate_table.specs.Reading.{Holds, IsReading, Reads, at_row}
+use Rattle.rate_table.specs.Table.{IsRateTable}
+use Rattle.rate_table.specs.RatesFile.{row_fault, rate_parts, pattern_of, rates_unless, rates_under, rates_of_rows, rates_of, header}
+use Rattle.rate_table.specs.Reading.{HoldsReadRows, IsReading, RowIsRead, at_row}
 
 -- the rows that are done, and those that are left
 pub record Stands (all left : List Fields) (table : Reading) (number : ℕ) : Type 0 where
   pub before : List Fields
-  pub holds : Holds before table
+  pub holds : HoldsReadRows before table
   pub counted : number ≡ length before + 2
   pub split : all ≡ before ++ left
   pub decides : first_after (numbered_fault row_fault) before left ≡ first_after (numbered_fault row_fault) [] all
 
-pub stands_first : (all : List Fields) (table : Reading) → Holds [] table → Stands all all table 2
+pub stands_first : (all : List Fields) (table : Reading) → HoldsReadRows [] table → Stands all all table 2
 stands_first all table h = record { before = []; holds = h; counted = refl; split = refl; decides = refl }
 
 -- one row more
 pub stands_more : (all left more : List Fields) (row : Fields) (old new : Reading) (number : ℕ) → Stands all left old number → left ≡ row ∷ more
-    → ((before : List Fields) → Holds before old → (row_fault before row ≡ None) × (length before < 4096) × Holds (before ++ row ∷ []) new)
+    → ((before : List Fields) → HoldsReadRows before old → (row_fault before row ≡ None) × (length before < 4096) × HoldsReadRows (before ++ row ∷ []) new)
     → Stands all more new (number + 1)
 stands_more all left more row old new number s e reads =
     let r = reads s.before s.holds in
@@ -48,7 +48,7 @@ reading_is all left table number s = record { names = s.holds.names; small = s.h
 
 -- a row's fault is the file's
 pub stands_fault : (all left more : List Fields) (row : Fields) (old new : Reading) (number : ℕ) (refusal : Refusal RatesKind) → Stands all left old number
-    → left ≡ row ∷ more → ((before : List Fields) → Holds before old → Reads before row new (Err refusal))
+    → left ≡ row ∷ more → ((before : List Fields) → HoldsReadRows before old → RowIsRead before row new (Err refusal))
     → Gives (rates_under true all) (Err (at_row refusal number))
 stands_fault all left more row old new number Memory s e reads = tt
 stands_fault all left more row old new number (Fault kind) s e reads =
@@ -65,14 +65,14 @@ unfolding first_after
 stands_end all left table number s e =
     let none : first_after (numbered_fault row_fault) [] all ≡ None = sym s.decides ∙ ap (first_after (numbered_fault row_fault) s.before) e in
     let whole : s.before ≡ all = sym (s.split ∙ ap (λ l. s.before ++ l) e ∙ append-nil s.before) in
-    let parts : table.parts ≡ parts_of all = s.holds.parts_are ∙ ap parts_of whole in
-    let patterns : table.patterns ≡ map (pattern_of (parts_of all)) all =
+    let parts : table.parts ≡ rate_parts all = s.holds.parts_are ∙ ap rate_parts whole in
+    let patterns : table.patterns ≡ map (pattern_of (rate_parts all)) all =
     s.holds.patterns_are [] ∙ (λ i. map (pattern_of ((append-nil table.parts ∙ parts) i)) (whole i)) in
     ap (λ (o : Option (ℕ × RatesKind)). rates_unless (option_map (λ found. (found.0 + 1, found.1)) o) all) none
     ∙ (λ i. Ok (record { patterns = sym patterns i; parts = sym parts i }))
 
 pub table_is : (all left : List Fields) (table : Reading) (number : ℕ) → Stands all left table number
-    → IsTable (record { patterns = table.patterns; parts = table.parts })
+    → IsRateTable (record { patterns = table.patterns; parts = table.parts })
 table_is all left table number s = record {
   numbers = s.holds.numbers;
   few = omega (arith, s.holds.fewer, s.holds.few);

@@ -25,8 +25,8 @@ use Rattle.rate_table.specs.declared.RatesKind.{RatesKind}
 use Rattle.rate_table.specs.declared.RatesKind.TheVariants.{BadCsv, BadPart, BadRole, BadCovered, BadRate, TwoMeanings, TooLarge}
 use Rattle.rate_table.specs.Rate.{units_of}
 use Rattle.rate_table.specs.Table.{all_rates, part_names}
-use Rattle.rate_table.specs.RatesFile.{role_of, covered_of, part_of, same_part, same_meaning, first_row, parts_of, is_past, row_fault, has_star, without_star, pattern_of}
-use Rattle.rate_table.specs.Reading.{is_named, is_role, is_same, own_fault, Says, IsTold, HasRead, TakesPart, numbered}
+use Rattle.rate_table.specs.RatesFile.{role_of, covered_of, row_part, same_part, same_meaning, first_row, rate_parts, is_past, row_fault, has_star, without_star, pattern_of}
+use Rattle.rate_table.specs.Reading.{is_named_part, is_role, is_same, own_row_fault, Says, IsTold, HasRead, TakesPart, row_pattern}
 use Rattle.rate_table.proofs.Numbers.{position_some, position_none, any_or_none}
 use Rattle.std.proofs.Math.Bool.{or-false}
 use Rattle.fm_base.proofs.Finding.{find-none, list_any-map, find-filter, position_or_len-map}
@@ -71,25 +71,25 @@ find_holds p P (first ∷ xs) x e all = by_cases (p first) refl e (λ later. fin
 record Finds (name : Bytes) (rows : List Fields) (n : ℕ) : Type 0 where
   first : Fields
   found : find (tells_of name) rows ≡ Some first
-  part : (d : Part) → get_or (parts_of rows) n d ≡ part_of first
-  within : n < length (parts_of rows)
+  part : (d : Part) → get_or (rate_parts rows) n d ≡ row_part first
+  within : n < length (rate_parts rows)
 
-named_same : (name : Bytes) (row : Fields) → is_named name (part_of row) ≡ tells_of name row
+named_same : (name : Bytes) (row : Fields) → is_named_part name (row_part row) ≡ tells_of name row
 named_same name row = bytes_eq-sym (field row 1) name
 
-part_found : (name : Bytes) (rows : List Fields) (n : ℕ) → position (is_named name) (parts_of rows) ≡ Some n → Finds name rows n
+part_found : (name : Bytes) (rows : List Fields) (n : ℕ) → position (is_named_part name) (rate_parts rows) ≡ Some n → Finds name rows n
 part_found name rows n h =
-    let at = position_some (is_named name) (parts_of rows) n h in
-    let lt : n < length (firsts same_part rows) = subst (λ k. n < k) (length-map (firsts same_part rows) part_of) at.2 in
-    let place : position_or_len (λ row. is_named name (part_of row)) (firsts same_part rows) ≡ n =
-    sym (position_or_len-map (is_named name) part_of (firsts same_part rows)) ∙ at.1 in
+    let at = position_some (is_named_part name) (rate_parts rows) n h in
+    let lt : n < length (firsts same_part rows) = subst (λ k. n < k) (length-map (firsts same_part rows) row_part) at.2 in
+    let place : position_or_len (λ row. is_named_part name (row_part row)) (firsts same_part rows) ≡ n =
+    sym (position_or_len-map (is_named_part name) row_part (firsts same_part rows)) ∙ at.1 in
     let first = get_or (firsts same_part rows) n [] in
     record {
       first = first;
-      found = sym (find-firsts name rows) ∙ sym (find_same (λ row. is_named name (part_of row)) (tells_of name) (firsts same_part rows) (named_same name))
-          ∙ find_at (λ row. is_named name (part_of row)) (firsts same_part rows)
+      found = sym (find-firsts name rows) ∙ sym (find_same (λ row. is_named_part name (row_part row)) (tells_of name) (firsts same_part rows) (named_same name))
+          ∙ find_at (λ row. is_named_part name (row_part row)) (firsts same_part rows)
           ∙ ap (slice_get (firsts same_part rows)) place ∙ slice_get-get_or (firsts same_part rows) n [] lt;
-      part = λ d. get_or-map part_of (firsts same_part rows) n [] d lt;
+      part = λ d. get_or-map row_part (firsts same_part rows) n [] d lt;
       within = at.2;
     }
 
@@ -111,22 +111,22 @@ some_found p xs x e = by_cases (list_any p xs) refl
     by_cases true f = f
     by_cases false f = let none : find p xs ≡ None = find-none p xs f in absurd (cc)
 
-pub part_missing : (name : Bytes) (rows : List Fields) → position (is_named name) (parts_of rows) ≡ None → find (tells_of name) rows ≡ None
+pub part_missing : (name : Bytes) (rows : List Fields) → position (is_named_part name) (rate_parts rows) ≡ None → find (tells_of name) rows ≡ None
 part_missing name rows h =
-    let none : list_any (is_named name) (parts_of rows) ≡ false = position_none (is_named name) (parts_of rows) h in
+    let none : list_any (is_named_part name) (rate_parts rows) ≡ false = position_none (is_named_part name) (rate_parts rows) h in
     sym (find-firsts name rows) ∙ find-none (tells_of name) (firsts same_part rows)
-    (sym (any_same (λ row. is_named name (part_of row)) (tells_of name) (firsts same_part rows) (named_same name))
-    ∙ sym (list_any-map (is_named name) part_of (firsts same_part rows)) ∙ none)
+    (sym (any_same (λ row. is_named_part name (row_part row)) (tells_of name) (firsts same_part rows) (named_same name))
+    ∙ sym (list_any-map (is_named_part name) row_part (firsts same_part rows)) ∙ none)
 
 -- ---- one row more
 
 -- a row of a part that is there adds no part, and a row of another adds its own
-parts_same : (rows : List Fields) (row first : Fields) → first_row rows row ≡ Some first → parts_of (rows ++ row ∷ []) ≡ parts_of rows
-parts_same rows row first e = ap (map part_of) (firsts-snoc same_part rows row ∙ rw (some_found (same_part row) rows first e) refl)
+parts_same : (rows : List Fields) (row first : Fields) → first_row rows row ≡ Some first → rate_parts (rows ++ row ∷ []) ≡ rate_parts rows
+parts_same rows row first e = ap (map row_part) (firsts-snoc same_part rows row ∙ rw (some_found (same_part row) rows first e) refl)
 
-parts_more : (rows : List Fields) (row : Fields) → first_row rows row ≡ None → parts_of (rows ++ row ∷ []) ≡ parts_of rows ++ part_of row ∷ []
+parts_more : (rows : List Fields) (row : Fields) → first_row rows row ≡ None → rate_parts (rows ++ row ∷ []) ≡ rate_parts rows ++ row_part row ∷ []
 parts_more rows row e =
-    ap (map part_of) (firsts-snoc same_part rows row ∙ rw (none_found (same_part row) rows e) refl) ∙ map-append part_of (firsts same_part rows) (row ∷ [])
+    ap (map row_part) (firsts-snoc same_part rows row ∙ rw (none_found (same_part row) rows e) refl) ∙ map-append row_part (firsts same_part rows) (row ∷ [])
 
 -- what was found stays where it was found
 pub position_kept : {X : Type 0} (p : X → Bool) (xs more : List X) (n : ℕ) → position p xs ≡ Some n → position p (xs ++ more) ≡ Some n
@@ -187,7 +187,7 @@ answers_two None None None None (Some e) rest = refl
 answers_two None None None None None rest = refl
 
 -- a row's checks are its own and then those after others
-pub row_fault_is : (before : List Fields) (row : Fields) → row_fault before row ≡ option_or (own_fault row) (shared_fault before row)
+pub row_fault_is : (before : List Fields) (row : Fields) → row_fault before row ≡ option_or (own_row_fault row) (shared_fault before row)
 unfolding row_fault
 row_fault_is before row = answers_two
     (given (not (length row == 6)) BadCsv) (given (not (is_label (field row 1))) BadPart) (given (is_none (role_of row)) BadRole)
@@ -197,7 +197,7 @@ row_fault_is before row = answers_two
     ∷ [])
 
 pub said_part : (row : Fields) (r : Role) (c : Bool) (p t : ℕ) → Says row r c p t
-    → part_of row ≡ record { name = field row 1; role = r; covered = c; permanent = p; transient = t }
+    → row_part row ≡ record { name = field row 1; role = r; covered = c; permanent = p; transient = t }
 said_part row r c p t h = rw (h.role, h.covered, h.permanent, h.transient) refl
 
 same_text : (a b : Bytes) → bytes_eq a b ≡ true → a ≡ b
@@ -246,16 +246,16 @@ words_same Other Other false true rest = refl
 words_same Other Other false false rest = refl
 
 -- two rows mean the same where the one says what the part of the other has
-meaning_same : (row first : Fields) (r : Role) (c : Bool) (p t : ℕ) → Says row r c p t → IsTold first → same_meaning row first ≡ is_same r c p t (part_of first)
+meaning_same : (row first : Fields) (r : Role) (c : Bool) (p t : ℕ) → Says row r c p t → IsTold first → same_meaning row first ≡ is_same r c p t (row_part first)
 meaning_same row first r c p t h told =
     let ra = role_text row r h.role in
     let rb = role_text first told.r told.says.role in
     let ca = covered_text row c h.covered in
     let cb = covered_text first told.c told.says.covered in
-    let pa : (part_of row).permanent ≡ p = ap (λ o. unwrap_or o 0) h.permanent in
-    let pb : (part_of first).permanent ≡ told.p = ap (λ o. unwrap_or o 0) told.says.permanent in
-    let ta : (part_of row).transient ≡ t = ap (λ o. unwrap_or o 0) h.transient in
-    let tb : (part_of first).transient ≡ told.t = ap (λ o. unwrap_or o 0) told.says.transient in
+    let pa : (row_part row).permanent ≡ p = ap (λ o. unwrap_or o 0) h.permanent in
+    let pb : (row_part first).permanent ≡ told.p = ap (λ o. unwrap_or o 0) told.says.permanent in
+    let ta : (row_part row).transient ≡ t = ap (λ o. unwrap_or o 0) h.transient in
+    let tb : (row_part first).transient ≡ told.t = ap (λ o. unwrap_or o 0) told.says.transient in
     let words : same_meaning row first
     ≡ (bytes_eq (role_word r) (role_word told.r) && bytes_eq (covered_word c) (covered_word told.c) && (p == told.p) && (t == told.t)) =
     λ i. bytes_eq (ra i) (rb i) && bytes_eq (ca i) (cb i) && (pa i == pb i) && (ta i == tb i) in
@@ -267,7 +267,7 @@ meaning_same row first r c p t h told =
 -- with its pattern the row is read
 pub row_read : (before : List Fields) (row : Fields) (keys0 keys : List Bytes) (sum0 sum : ℕ) (patterns : List Pattern) (old parts : List Part) (n : ℕ)
     → HasRead before keys0 sum0 patterns old → TakesPart before row keys sum old parts n
-    → HasRead (before ++ row ∷ []) keys sum (patterns ++ numbered row n ∷ []) parts
+    → HasRead (before ++ row ∷ []) keys sum (patterns ++ row_pattern row n ∷ []) parts
 row_read before row keys0 keys sum0 sum patterns old parts n h part = record {
   names = part.names;
   total = part.total;
@@ -276,19 +276,19 @@ row_read before row keys0 keys sum0 sum patterns old parts n h part = record {
   parts_are = part.parts_are;
   patterns_are = λ more.
       (let (rest, same) = part.grown more in
-      let kept : position (is_named (field row 1)) (parts ++ more) ≡ Some n = position_kept (is_named (field row 1)) parts more n part.found in
-      let last : pattern_of (parts ++ more) row ≡ numbered row n = λ i. record { name = without_star (field row 0); star = has_star (field row 0); part = unwrap_or (kept i) 0 } in
+      let kept : position (is_named_part (field row 1)) (parts ++ more) ≡ Some n = position_kept (is_named_part (field row 1)) parts more n part.found in
+      let last : pattern_of (parts ++ more) row ≡ row_pattern row n = λ i. record { name = without_star (field row 0); star = has_star (field row 0); part = unwrap_or (kept i) 0 } in
       let others : patterns ≡ map (pattern_of (parts ++ more)) before = h.patterns_are rest ∙ ap (λ all. map (pattern_of all) before) (sym same) in
       sym (map-append (pattern_of (parts ++ more)) before (row ∷ []) ∙ ap (λ p. map (pattern_of (parts ++ more)) before ++ p ∷ []) last
-      ∙ ap (λ (ps : List Pattern). ps ++ numbered row n ∷ []) (sym others)));
+      ∙ ap (λ (ps : List Pattern). ps ++ row_pattern row n ∷ []) (sym others)));
   told = All-push IsTold before row h.told part.told;
   numbers =
       (let (rest, same) = part.grown [] in
       let same' : parts ≡ old ++ rest = sym (append-nil parts) ∙ same in
       let sizes : length parts ≡ length old + length rest = ap length same' ∙ length-append old rest in
       let wide : All (λ (pattern : Pattern). pattern.part < length parts) patterns = λ k d lt. omega (arith, h.numbers k d lt, sizes) in
-      let within : n < length parts = (position_some (is_named (field row 1)) parts n part.found).2 in
-      All-push (λ (pattern : Pattern). pattern.part < length parts) patterns (numbered row n) wide within);
+      let within : n < length parts = (position_some (is_named_part (field row 1)) parts n part.found).2 in
+      All-push (λ (pattern : Pattern). pattern.part < length parts) patterns (row_pattern row n) wide within);
   fewer = (let longer : length (before ++ row ∷ []) ≡ length before + 1 = length-append before (row ∷ []) in omega (arith, longer, part.fewer));
   apart = part.apart;
 }
@@ -300,37 +300,37 @@ shared_old : (before : List Fields) (row first : Fields) (same : Bool) → first
     → shared_fault before row ≡ first_answer (given (not same) TwoMeanings ∷ given (nat_le 4096 (length before)) TooLarge ∷ [])
 shared_old before row first same e f =
     (λ i. first_answer (given (not (option_map_or (same_meaning row) (e i) true)) TwoMeanings
-    ∷ given (nat_le 4096 (length before) || (is_none (e i) && nat_lt (10 ^ 18) (all_rates (parts_of before) + ((part_of row).permanent + (part_of row).transient)))) TooLarge ∷ []))
+    ∷ given (nat_le 4096 (length before) || (is_none (e i) && nat_lt (10 ^ 18) (all_rates (rate_parts before) + ((row_part row).permanent + (row_part row).transient)))) TooLarge ∷ []))
     ∙ (λ i. first_answer (given (not (f i)) TwoMeanings ∷ given (or-false (nat_le 4096 (length before)) i) TooLarge ∷ []))
 
 -- the checks of a row whose part is new
 shared_new : (before : List Fields) (row : Fields) (large : Bool) → first_row before row ≡ None
-    → (nat_le 4096 (length before) || nat_lt (10 ^ 18) (all_rates (parts_of before) + ((part_of row).permanent + (part_of row).transient))) ≡ large
+    → (nat_le 4096 (length before) || nat_lt (10 ^ 18) (all_rates (rate_parts before) + ((row_part row).permanent + (row_part row).transient))) ≡ large
     → shared_fault before row ≡ first_answer (given large TooLarge ∷ [])
 shared_new before row large e f =
     (λ i. first_answer (given (not (option_map_or (same_meaning row) (e i) true)) TwoMeanings
-    ∷ given (nat_le 4096 (length before) || (is_none (e i) && nat_lt (10 ^ 18) (all_rates (parts_of before) + ((part_of row).permanent + (part_of row).transient)))) TooLarge ∷ []))
+    ∷ given (nat_le 4096 (length before) || (is_none (e i) && nat_lt (10 ^ 18) (all_rates (rate_parts before) + ((row_part row).permanent + (row_part row).transient)))) TooLarge ∷ []))
     ∙ (λ i. first_answer (given (f i) TooLarge ∷ []))
 
 -- what the checks say where the row has no fault of its own
-fault_shared : (before : List Fields) (row : Fields) → own_fault row ≡ None → row_fault before row ≡ shared_fault before row
+fault_shared : (before : List Fields) (row : Fields) → own_row_fault row ≡ None → row_fault before row ≡ shared_fault before row
 fault_shared before row e = row_fault_is before row ∙ ap (λ o. option_or o (shared_fault before row)) e
 
-pub fault_own : (before : List Fields) (row : Fields) (kind : RatesKind) → own_fault row ≡ Some kind → row_fault before row ≡ Some kind
+pub fault_own : (before : List Fields) (row : Fields) (kind : RatesKind) → own_row_fault row ≡ Some kind → row_fault before row ≡ Some kind
 fault_own before row kind e = row_fault_is before row ∙ ap (λ o. option_or o (shared_fault before row)) e
 
 -- the terms of a row are those of its part, or they aren't
 pub meaning_known : (before : List Fields) (row : Fields) (parts : List Part) (n : ℕ) (d : Part) (r : Role) (c : Bool) (p t : ℕ)
-    → parts ≡ parts_of before → All IsTold before → Says row r c p t → position (is_named (field row 1)) parts ≡ Some n
+    → parts ≡ rate_parts before → All IsTold before → Says row r c p t → position (is_named_part (field row 1)) parts ≡ Some n
     → (first : Fields) × (first_row before row ≡ Some first) × (same_meaning row first ≡ is_same r c p t (get_or parts n d)) × (n < length parts)
 meaning_known before row parts n d r c p t same told says found =
-    let at : position (is_named (field row 1)) (parts_of before) ≡ Some n = ap (position (is_named (field row 1))) (sym same) ∙ found in
+    let at : position (is_named_part (field row 1)) (rate_parts before) ≡ Some n = ap (position (is_named_part (field row 1))) (sym same) ∙ found in
     let f = part_found (field row 1) before n at in
     let told_first = find_holds (tells_of (field row 1)) IsTold before f.first f.found told in
-    let here : part_of f.first ≡ get_or parts n d = sym (f.part d) ∙ ap (λ ps. get_or ps n d) (sym same) in
+    let here : row_part f.first ≡ get_or parts n d = sym (f.part d) ∙ ap (λ ps. get_or ps n d) (sym same) in
     (f.first, f.found, meaning_same row f.first r c p t says told_first ∙ ap (is_same r c p t) here, subst (λ ps. n < length ps) (sym same) f.within)
 
-pub two_meanings : (before : List Fields) (row first : Fields) → own_fault row ≡ None → first_row before row ≡ Some first → same_meaning row first ≡ false
+pub two_meanings : (before : List Fields) (row first : Fields) → own_row_fault row ≡ None → first_row before row ≡ Some first → same_meaning row first ≡ false
     → row_fault before row ≡ Some TwoMeanings
 two_meanings before row first own e f = fault_shared before row own ∙ shared_old before row first false e f
 
@@ -340,19 +340,19 @@ large_old b e = rw e refl
 not_large : (b : Bool) → b ≡ false → first_answer (given b TooLarge ∷ []) ≡ None
 not_large b e = rw e refl
 
-pub too_large_old : (before : List Fields) (row first : Fields) → own_fault row ≡ None → first_row before row ≡ Some first → same_meaning row first ≡ true
+pub too_large_old : (before : List Fields) (row first : Fields) → own_row_fault row ≡ None → first_row before row ≡ Some first → same_meaning row first ≡ true
     → 4096 ≤ length before → row_fault before row ≡ Some TooLarge
 too_large_old before row first own e f le =
     fault_shared before row own ∙ shared_old before row first true e f ∙ large_old (nat_le 4096 (length before)) (grind (arith, le))
 
-pub too_large_new : (before : List Fields) (row : Fields) → own_fault row ≡ None → first_row before row ≡ None
-    → (nat_le 4096 (length before) || nat_lt (10 ^ 18) (all_rates (parts_of before) + ((part_of row).permanent + (part_of row).transient))) ≡ true
+pub too_large_new : (before : List Fields) (row : Fields) → own_row_fault row ≡ None → first_row before row ≡ None
+    → (nat_le 4096 (length before) || nat_lt (10 ^ 18) (all_rates (rate_parts before) + ((row_part row).permanent + (row_part row).transient))) ≡ true
     → row_fault before row ≡ Some TooLarge
 too_large_new before row own e large = fault_shared before row own ∙ shared_new before row true e large
 
 -- a row of a part that is there
 pub takes_old : (before : List Fields) (row first : Fields) (keys : List Bytes) (sum : ℕ) (patterns : List Pattern) (parts : List Part) (n : ℕ)
-    → HasRead before keys sum patterns parts → own_fault row ≡ None → IsTold row → position (is_named (field row 1)) parts ≡ Some n
+    → HasRead before keys sum patterns parts → own_row_fault row ≡ None → IsTold row → position (is_named_part (field row 1)) parts ≡ Some n
     → first_row before row ≡ Some first → same_meaning row first ≡ true → length before < 4096 → TakesPart before row keys sum parts parts n
 takes_old before row first keys sum patterns parts n h own told found e f lt = record {
   faultless = fault_shared before row own ∙ shared_old before row first true e f ∙ not_large (nat_le 4096 (length before)) (grind (arith, lt));
@@ -383,19 +383,19 @@ apart_more (first ∷ names) name e f =
 
 -- a row of a new part
 pub takes_new : (before : List Fields) (row : Fields) (keys : List Bytes) (sum : ℕ) (patterns : List Pattern) (parts : List Part) (part : Part)
-    → HasRead before keys sum patterns parts → own_fault row ≡ None → IsTold row → position (is_named (field row 1)) parts ≡ None
-    → part ≡ part_of row
-    → (nat_le 4096 (length before) || nat_lt (10 ^ 18) (all_rates (parts_of before) + ((part_of row).permanent + (part_of row).transient))) ≡ false
+    → HasRead before keys sum patterns parts → own_row_fault row ≡ None → IsTold row → position (is_named_part (field row 1)) parts ≡ None
+    → part ≡ row_part row
+    → (nat_le 4096 (length before) || nat_lt (10 ^ 18) (all_rates (rate_parts before) + ((row_part row).permanent + (row_part row).transient))) ≡ false
     → TakesPart before row (keys ++ field row 1 ∷ []) (sum + (part.permanent + part.transient)) parts (parts ++ part ∷ []) (length parts)
 takes_new before row keys sum patterns parts part h own told found is large =
-    let missing : first_row before row ≡ None = part_missing (field row 1) before (ap (position (is_named (field row 1))) (sym h.parts_are) ∙ found) in
-    let bounds = or_false (nat_le 4096 (length before)) (nat_lt (10 ^ 18) (all_rates (parts_of before) + ((part_of row).permanent + (part_of row).transient))) large in
+    let missing : first_row before row ≡ None = part_missing (field row 1) before (ap (position (is_named_part (field row 1))) (sym h.parts_are) ∙ found) in
+    let bounds = or_false (nat_le 4096 (length before)) (nat_lt (10 ^ 18) (all_rates (rate_parts before) + ((row_part row).permanent + (row_part row).transient))) large in
     let few : length before < 4096 = grind (arith, bounds.0) in
-    let total : all_rates (parts_of before) + ((part_of row).permanent + (part_of row).transient) ≤ 10 ^ 18 = grind (arith, bounds.1) in
-    let sums : sum + (part.permanent + part.transient) ≡ all_rates (parts_of before) + ((part_of row).permanent + (part_of row).transient) =
+    let total : all_rates (rate_parts before) + ((row_part row).permanent + (row_part row).transient) ≤ 10 ^ 18 = grind (arith, bounds.1) in
+    let sums : sum + (part.permanent + part.transient) ≡ all_rates (rate_parts before) + ((row_part row).permanent + (row_part row).transient) =
     λ i. (h.total ∙ ap all_rates h.parts_are) i + ((is i).permanent + (is i).transient) in
     let name : part.name ≡ field row 1 = ap (λ (p : Part). p.name) is in
-    let none : list_any (is_named (field row 1)) parts ≡ false = position_none (is_named (field row 1)) parts found in
+    let none : list_any (is_named_part (field row 1)) parts ≡ false = position_none (is_named_part (field row 1)) parts found in
     let longer : length (parts ++ part ∷ []) ≡ length parts + 1 = length-append parts (part ∷ []) in
     record {
       faultless = fault_shared before row own ∙ shared_new before row false missing large;
@@ -405,14 +405,14 @@ takes_new before row keys sum patterns parts part h own told found is large =
           ∙ sym (map-append (λ (p : Part). p.name) parts (part ∷ []));
       total = ap (λ s. s + (part.permanent + part.transient)) h.total ∙ sym (sum_by_push (λ (p : Part). p.permanent + p.transient) parts part);
       small = subst (λ s. s ≤ 10 ^ 18) (sym sums) total;
-      parts_are = ap (λ (ps : List Part). ps ++ part ∷ []) h.parts_are ∙ ap (λ p. parts_of before ++ p ∷ []) is ∙ sym (parts_more before row missing);
+      parts_are = ap (λ (ps : List Part). ps ++ part ∷ []) h.parts_are ∙ ap (λ p. rate_parts before ++ p ∷ []) is ∙ sym (parts_more before row missing);
       grown = λ more. (part ∷ more, append_assoc parts (part ∷ []) more);
-      found = position_last (is_named (field row 1)) parts part none (rw name ((bytes_eq-Decides (field row 1) (field row 1)).1 refl));
+      found = position_last (is_named_part (field row 1)) parts part none (rw name ((bytes_eq-Decides (field row 1) (field row 1)).1 refl));
       fewer = omega (arith, longer, h.fewer);
       apart = ap has_repeat (map-append (λ (p : Part). p.name) parts (part ∷ []) ∙ ap (λ n. part_names parts ++ n ∷ []) name)
           ∙ apart_more (part_names parts) (field row 1) h.apart
           (list_any-map (bytes_eq (field row 1)) (λ (p : Part). p.name) parts
-          ∙ any_same (λ (p : Part). bytes_eq (field row 1) p.name) (is_named (field row 1)) parts (λ p. bytes_eq-sym (field row 1) p.name) ∙ none);
+          ∙ any_same (λ (p : Part). bytes_eq (field row 1) p.name) (is_named_part (field row 1)) parts (λ p. bytes_eq-sym (field row 1) p.name) ∙ none);
     }
 
 -- before any row
@@ -432,5 +432,5 @@ holds_none keys patterns parts a b c =
       apart = refl;
     })))
   where
-    none_of : [] ≡ parts_of []
+    none_of : [] ≡ rate_parts []
     none_of = refl

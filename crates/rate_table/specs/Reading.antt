@@ -19,11 +19,11 @@ use Rattle.rate_table.specs.declared.reading.Reading.{Reading}
 use Rattle.rate_table.specs.declared.reading.Terms.{Terms}
 use Rattle.rate_table.specs.Rate.{units_of}
 use Rattle.rate_table.specs.Table.{all_rates, part_names}
-use Rattle.rate_table.specs.RatesFile.{role_of, covered_of, parts_of, row_fault, has_star, without_star, pattern_of}
+use Rattle.rate_table.specs.RatesFile.{role_of, covered_of, rate_parts, row_fault, has_star, without_star, pattern_of}
 
 -- a part has this name
-abbrev pub is_named : Bytes → Part → Bool
-is_named name part = bytes_eq part.name name
+abbrev pub is_named_part : Bytes → Part → Bool
+is_named_part name part = bytes_eq part.name name
 
 -- two roles are one
 abbrev pub is_role : Role → Role → Bool
@@ -37,8 +37,8 @@ abbrev pub is_same : Role → Bool → ℕ → ℕ → Part → Bool
 is_same r c p t part = is_role r part.role && same_bit c part.covered && (p == part.permanent) && (t == part.transient)
 
 -- the checks of a row alone
-abbrev pub own_fault : Fields → Option RatesKind
-own_fault row = first_answer (
+abbrev pub own_row_fault : Fields → Option RatesKind
+own_row_fault row = first_answer (
     given (not (length row == 6)) BadCsv
     ∷ given (not (is_label (field row 1))) BadPart
     ∷ given (is_none (role_of row)) BadRole
@@ -67,7 +67,7 @@ pub record HasRead (before : List Fields) (keys : List Bytes) (sum : ℕ) (patte
   pub total : sum ≡ all_rates parts
   pub small : sum ≤ 10 ^ 18
   pub few : length before ≤ 4096
-  pub parts_are : parts ≡ parts_of before
+  pub parts_are : parts ≡ rate_parts before
   pub patterns_are : (more : List Part) → patterns ≡ map (pattern_of (parts ++ more)) before
   pub told : All IsTold before
   pub numbers : All (λ pattern. pattern.part < length parts) patterns
@@ -82,27 +82,27 @@ pub record TakesPart (before : List Fields) (row : Fields) (keys : List Bytes) (
   pub names : keys ≡ part_names parts
   pub total : sum ≡ all_rates parts
   pub small : sum ≤ 10 ^ 18
-  pub parts_are : parts ≡ parts_of (before ++ row ∷ [])
+  pub parts_are : parts ≡ rate_parts (before ++ row ∷ [])
   pub grown : (more : List Part) → (rest : List Part) × (parts ++ more ≡ old ++ rest)
-  pub found : position (is_named (field row 1)) parts ≡ Some n
+  pub found : position (is_named_part (field row 1)) parts ≡ Some n
   pub fewer : length parts ≤ length before + 1
   pub apart : has_repeat (part_names parts) ≡ false
 
 -- the pattern of a row
-abbrev pub numbered : Fields → ℕ → Pattern
-numbered row n = record { name = without_star (field row 0); star = has_star (field row 0); part = n }
+abbrev pub row_pattern : Fields → ℕ → Pattern
+row_pattern row n = record { name = without_star (field row 0); star = has_star (field row 0); part = n }
 
--- the texts of owned names
-abbrev pub texts : List (Vec ℕ Global) → List Bytes
-texts names = map (λ name. name.items) names
+-- the name_texts of owned names
+abbrev pub name_texts : List (Vec ℕ Global) → List Bytes
+name_texts names = map (λ name. name.items) names
 
 -- what a reader holds after these rows
-abbrev pub Holds : List Fields → Reading → Type 0
-Holds before r = HasRead before (texts r.names.keys) r.sum r.patterns r.parts
+abbrev pub HoldsReadRows : List Fields → Reading → Type 0
+HoldsReadRows before r = HasRead before (name_texts r.names.keys) r.sum r.patterns r.parts
 
 -- what it holds after any rows
 pub record IsReading (r : Reading) : Type 0 where
-  pub names : texts r.names.keys ≡ part_names r.parts
+  pub names : name_texts r.names.keys ≡ part_names r.parts
   pub small : r.sum ≤ 10 ^ 18
   pub few : length r.parts ≤ 4096
 
@@ -112,7 +112,7 @@ part_with name terms = record { name = name; role = terms.role; covered = terms.
 
 -- a part is added, with its name and its rates
 pub record AddsPart (old new : Reading) (name : Bytes) (terms : Terms) : Type 0 where
-  pub names : texts new.names.keys ≡ texts old.names.keys ++ name ∷ []
+  pub names : name_texts new.names.keys ≡ name_texts old.names.keys ++ name ∷ []
   pub total : new.sum ≡ old.sum + (terms.permanent + terms.transient)
   pub patterns : new.patterns ≡ old.patterns
   pub parts : new.parts ≡ old.parts ++ part_with name terms ∷ []
@@ -139,18 +139,18 @@ at_row (Fault kind) row = Fault (record { row = row; kind = kind })
 at_row Memory row = Memory
 
 -- what a row alone says, or its fault
-abbrev pub Tells : Fields → Result Terms RatesKind → Type 0
-Tells row (Ok terms) = (own_fault row ≡ None) × Says row terms.role terms.covered terms.permanent terms.transient
-Tells row (Err kind) = own_fault row ≡ Some kind
+abbrev pub TellsRow : Fields → Result Terms RatesKind → Type 0
+TellsRow row (Ok terms) = (own_row_fault row ≡ None) × Says row terms.role terms.covered terms.permanent terms.transient
+TellsRow row (Err kind) = own_row_fault row ≡ Some kind
 
 -- the number of a row's part, or the row's fault
 abbrev pub Numbers : List Fields → Fields → Reading → Reading → Result ℕ (Refusal RatesKind) → Type 0
-Numbers before row old new (Ok n) = (new.patterns ≡ old.patterns) × TakesPart before row (texts new.names.keys) new.sum old.parts new.parts n
+Numbers before row old new (Ok n) = (new.patterns ≡ old.patterns) × TakesPart before row (name_texts new.names.keys) new.sum old.parts new.parts n
 Numbers before row old new (Err (Fault kind)) = row_fault before row ≡ Some kind
 Numbers before row old new (Err Memory) = Unit {0}
 
 -- the row is read, or its fault
-abbrev pub Reads : List Fields → Fields → Reading → Result (Unit {0}) (Refusal RatesKind) → Type 0
-Reads before row new (Ok done) = (row_fault before row ≡ None) × (length before < 4096) × Holds (before ++ row ∷ []) new
-Reads before row new (Err (Fault kind)) = row_fault before row ≡ Some kind
-Reads before row new (Err Memory) = Unit {0}
+abbrev pub RowIsRead : List Fields → Fields → Reading → Result (Unit {0}) (Refusal RatesKind) → Type 0
+RowIsRead before row new (Ok done) = (row_fault before row ≡ None) × (length before < 4096) × HoldsReadRows (before ++ row ∷ []) new
+RowIsRead before row new (Err (Fault kind)) = row_fault before row ≡ Some kind
+RowIsRead before row new (Err Memory) = Unit {0}

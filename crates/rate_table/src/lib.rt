@@ -2,7 +2,7 @@
 #![tactic(auto)]
 
 ghost use Rattle.std.specs.Prelude.{◌≡◌, IfOk};
-ghost use Rattle.rate_table.specs.Table.{matches, part_named, IsTable};
+ghost use Rattle.rate_table.specs.Table.{matches, part_named, IsRateTable};
 
 mod index;
 mod reading;
@@ -74,7 +74,7 @@ impl Model for Rates {
 impl Rates {
     // A table of these patterns and parts.
     fn new(alloc: Global, patterns: Patterns, parts: Parts) -> Result<Self, AllocError>
-        requires { IsTable (record { patterns = patterns; parts = parts }) }
+        requires { IsRateTable (record { patterns = patterns; parts = parts }) }
         ensures { IfOk result (λ rates. rates ≡ record { patterns = patterns; parts = parts }) }
     {
         let index = PatternIndex::new(alloc, patterns.as_slice())?;
@@ -88,7 +88,7 @@ impl Rates {
     /// The patterns, in order of rows.
     pub fn patterns(&self) -> &[Pattern]
         ensures value { result.now ≡ self.now.patterns }
-        ensures sound { IsTable self.now }
+        ensures sound { IsRateTable self.now }
     {
         self.patterns.as_slice()
     }
@@ -96,7 +96,7 @@ impl Rates {
     /// The parts, in order of first row.
     pub fn parts(&self) -> &[Part]
         ensures value { result.now ≡ self.now.parts }
-        ensures sound { IsTable self.now }
+        ensures sound { IsRateTable self.now }
     {
         self.parts.as_slice()
     }
@@ -104,7 +104,7 @@ impl Rates {
     /// The number of the part of the first pattern that matches a net's name; `None` where none does.
     pub fn part_of(&self, name: &[u8]) -> Option<u32>
         ensures value { result ≡ part_named self.now name.now }
-        ensures sound { IsTable self.now }
+        ensures sound { IsRateTable self.now }
     {
         let patterns = self.patterns.as_slice();
         let row = self.index.first_row(patterns, name);

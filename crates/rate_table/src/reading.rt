@@ -5,7 +5,7 @@ ghost use Rattle.std.specs.Str.{bytes_eq};
 ghost use Rattle.csv_rows.specs.Rows.{Fields, field, is_row};
 ghost use Rattle.fm_base.specs.Answers.{Gives};
 ghost use Rattle.rate_table.specs.RatesFile.{header, role_of, covered_of, has_star, without_star, rates_under, rates_of};
-ghost use Rattle.rate_table.specs.Reading.{is_same, texts, Holds, IsReading, AddsPart, AddsOrIsPast, Tells, Numbers, Reads, known, is_too_large, at_row};
+ghost use Rattle.rate_table.specs.Reading.{is_same, name_texts, HoldsReadRows, IsReading, AddsPart, AddsOrIsPast, TellsRow, Numbers, RowIsRead, known, is_too_large, at_row};
 
 use crate::units::units_of;
 use crate::{Part, Parts, Pattern, Patterns, Rates, RatesFault, RatesKind};
@@ -74,7 +74,7 @@ fn covered_of(row: &Row) -> Option<bool>
 
 // What a row says, or its first fault, by itself.
 fn read_terms(row: &Row) -> Result<Terms, RatesKind>
-    ensures told { Tells row.now result }
+    ensures told { TellsRow row.now result }
     ensures small { IfOk result (λ terms. terms.permanent + terms.transient < 4 * 10 ^ 18) }
 {
     if row.len() != 6 {
@@ -150,14 +150,14 @@ fn pattern_of(alloc: Global, text: &[u8], number: usize) -> Result<Pattern, Allo
 }
 
 fn number_of(names: &IndexSet<Vec<u8>>, name: &[u8]) -> Option<usize>
-    ensures { result ≡ position (bytes_eq name.now) (texts names.now.keys) }
+    ensures { result ≡ position (bytes_eq name.now) (name_texts names.now.keys) }
 {
     names.get_index_of(name)
 }
 
 fn add_name(alloc: Global, names: &mut IndexSet<Vec<u8>>, name: &[u8]) -> Result<(), AllocError>
-    requires { list_any (bytes_eq name.now) (texts names.old.keys) ≡ false }
-    ensures { OnOk result (texts names.new.keys ≡ texts names.old.keys ++ name.now ∷ []) }
+    requires { list_any (bytes_eq name.now) (name_texts names.old.keys) ≡ false }
+    ensures { OnOk result (name_texts names.new.keys ≡ name_texts names.old.keys ++ name.now ∷ []) }
 {
     let name = Vec::from_slice(alloc, name)?;
     names.insert(name)?;
@@ -175,7 +175,7 @@ pub(crate) struct Reading {
 
 impl Reading {
     fn new(alloc: Global) -> Self
-        ensures { Holds [] result }
+        ensures { HoldsReadRows [] result }
     {
         Reading {
             names: IndexSet::new(alloc),
@@ -187,7 +187,7 @@ impl Reading {
 
     fn add_part(&mut self, alloc: Global, name: &[u8], terms: Terms) -> Result<(), AllocError>
         requires room { self.old.sum + (terms.permanent + terms.transient) < 2 ^ 64 }
-        requires fresh { list_any (bytes_eq name.now) (texts self.old.names.keys) ≡ false }
+        requires fresh { list_any (bytes_eq name.now) (name_texts self.old.names.keys) ≡ false }
         ensures { OnOk result (AddsPart self.old self.new name.now terms) }
     {
         add_name(alloc, &mut self.names, name)?;
@@ -231,7 +231,7 @@ impl Reading {
     ) -> Result<usize, Refusal<RatesKind>>
         requires sum { self.old.sum ≤ 10 ^ 18 }
         requires small { terms.permanent + terms.transient < 4 * 10 ^ 18 }
-        requires fresh { list_any (bytes_eq name.now) (texts self.old.names.keys) ≡ false }
+        requires fresh { list_any (bytes_eq name.now) (name_texts self.old.names.keys) ≡ false }
         ensures { AddsOrIsPast (is_too_large self.old terms) self.old self.new name.now terms result }
     {
         if self.is_full() || self.sum + (terms.permanent + terms.transient) > MOST_UNITS {
@@ -245,7 +245,7 @@ impl Reading {
     // The number of the part that a row tells of; a new part is added.
     fn take_part(&mut self, alloc: Global, row: &Row) -> Result<usize, Refusal<RatesKind>>
         requires { IsReading self.old }
-        ensures part { (before : List Fields) → Holds before self.old → Numbers before row.now self.old self.new result }
+        ensures part { (before : List Fields) → HoldsReadRows before self.old → Numbers before row.now self.old self.new result }
         ensures few { IfOk result (λ number. number ≤ 4096) }
     {
         let terms = match read_terms(row) {
@@ -262,7 +262,7 @@ impl Reading {
     // Reads one row more, or tells its first fault.
     fn take_row(&mut self, alloc: Global, row: &Row) -> Result<(), Refusal<RatesKind>>
         requires { IsReading self.old }
-        ensures { (before : List Fields) → Holds before self.old → Reads before row.now self.new result }
+        ensures { (before : List Fields) → HoldsReadRows before self.old → RowIsRead before row.now self.new result }
     {
         let number = self.take_part(alloc, row)?;
         let pattern = pattern_of(alloc, row.field(0), number)?;

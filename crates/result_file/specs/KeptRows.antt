@@ -32,21 +32,21 @@ unfoldable pub hex_value : Bytes → ℕ
 hex_value digits = fold (λ n digit. 16 * n + position_or_len (nat_eq digit) (codes "0123456789abcdef")) 0 digits
 
 -- the number in so many digits from a place of a piece on
-abbrev pub number_at : Bytes → ℕ → ℕ → ℕ
-number_at piece from digits = hex_value (slice_range piece from (from + digits))
+abbrev pub digits_at : Bytes → ℕ → ℕ → ℕ
+digits_at piece from digits = hex_value (slice_range piece from (from + digits))
 
 -- the row that a piece of 130 bytes reads as
 abbrev pub row_read : Bytes → Row
 row_read piece = record {
-  batch = number_at piece 2 8;
-  danger = number_at piece 11 16;
-  noticed = number_at piece 28 16;
+  batch = digits_at piece 2 8;
+  danger = digits_at piece 11 16;
+  noticed = digits_at piece 28 16;
   sums = record {
-    permanent_all = number_at piece 45 16;
-    permanent_danger = number_at piece 62 16;
-    latent = number_at piece 79 16;
-    transient_all = number_at piece 96 16;
-    transient_danger = number_at piece 113 16;
+    permanent_all = digits_at piece 45 16;
+    permanent_danger = digits_at piece 62 16;
+    latent = digits_at piece 79 16;
+    transient_all = digits_at piece 96 16;
+    transient_danger = digits_at piece 113 16;
   };
 }
 

@@ -13,8 +13,8 @@ use Rattle.result_file.specs.ResultText.{result_rows}
 use Rattle.result_merge.specs.declared.merge.MergeRefusal.{MergeRefusal}
 use Rattle.result_merge.specs.declared.merge.MergeRefusal.TheVariants.{Differs}
 use Rattle.result_merge.specs.Union.{found_in_either, rising}
-use Rattle.result_merge.specs.Merged.{are_other, is_other_in, first_other, planes_of, merged_unless, merged}
-use Rattle.result_merge.specs.Tables.{Table, table_of, at_batch, planes_at, at_either, first_other_at, difference}
+use Rattle.result_merge.specs.Merged.{are_other, is_other_in, first_other, listed_planes, merged_unless, merged}
+use Rattle.result_merge.specs.Tables.{Table, planes_table, at_batch, planes_at, at_either, first_other_at, difference}
 use Rattle.result_merge.proofs.Spans.{same_span}
 use Rattle.result_merge.proofs.Unions.{is_span}
 use Rattle.result_merge.proofs.Looking.{passes_none}
@@ -61,10 +61,10 @@ same_find f g a (suc n) same =
     let rest : find f (range_with_len (a + 1) n) ≡ find g (range_with_len (a + 1) n) = same_find f g (a + 1) n (λ k le lt. same k (omega (arith, le)) (omega (arith, lt))) in
     ap₂ {C = Option ℕ} (λ (b : Bool) (o : Option ℕ). if b then Some a else o) (same a (omega arith) (omega arith)) rest
 
-same_first : (n : ℕ) (a b : List Entry) → first_other_at n (table_of n a) (table_of n b) ≡ first_other n a b
+same_first : (n : ℕ) (a b : List Entry) → first_other_at n (planes_table n a) (planes_table n b) ≡ first_other n a b
 unfolding below first_other
 same_first n a b =
-    same_find (other_at (table_of n a) (table_of n b)) (is_other_in a b) 0 n
+    same_find (other_at (planes_table n a) (planes_table n b)) (is_other_in a b) 0 n
     (λ k le lt. ap₂ are_other (table_at n a k (omega (arith, lt))) (table_at n b k (omega (arith, lt))))
 
 least_within : (n : ℕ) (first second : Table) (batch : ℕ) → first_other_at n first second ≡ Some batch → batch < n
@@ -82,36 +82,36 @@ module _ (p : Analysis) (first second : List Row) where
   n = batch_count p
 
   -- the refusal that the tables give is that of the lists
-  pub refused : (firsts seconds : Table) (refusal : MergeRefusal) → firsts ≡ table_of n a → seconds ≡ table_of n b → Some refusal ≡ difference n firsts seconds → merged p first second ≡ Err refusal
+  pub refused : (firsts seconds : Table) (refusal : MergeRefusal) → firsts ≡ planes_table n a → seconds ≡ planes_table n b → Some refusal ≡ difference n firsts seconds → merged p first second ≡ Err refusal
   unfolding merged
   refused firsts seconds refusal e f is =
-      let here : Some refusal ≡ difference n (table_of n a) (table_of n b) = is ∙ ap₂ (difference n) e f in
-      by_first (first_other_at n (table_of n a) (table_of n b)) refl here
+      let here : Some refusal ≡ difference n (planes_table n a) (planes_table n b) = is ∙ ap₂ (difference n) e f in
+      by_first (first_other_at n (planes_table n a) (planes_table n b)) refl here
     where
-      by_first : (o : Option ℕ) → first_other_at n (table_of n a) (table_of n b) ≡ o
-          → Some refusal ≡ option_map (λ k. Differs k (planes_at (table_of n a) k) (planes_at (table_of n b) k)) o → merged_unless (first_other n a b) p a b ≡ Err refusal
+      by_first : (o : Option ℕ) → first_other_at n (planes_table n a) (planes_table n b) ≡ o
+          → Some refusal ≡ option_map (λ k. Differs k (planes_at (planes_table n a) k) (planes_at (planes_table n b) k)) o → merged_unless (first_other n a b) p a b ≡ Err refusal
       by_first None is got = absurd (cc)
       by_first (Some batch) is got =
-          let range = least_within n (table_of n a) (table_of n b) batch is in
-          let one : planes_at (table_of n a) batch ≡ planes_of a batch = ap (λ o. unwrap_or o (record { danger = 0; noticed = 0 })) (table_at n a batch range) in
-          let two : planes_at (table_of n b) batch ≡ planes_of b batch = ap (λ o. unwrap_or o (record { danger = 0; noticed = 0 })) (table_at n b batch range) in
-          let named : Differs batch (planes_at (table_of n a) batch) (planes_at (table_of n b) batch) ≡ refusal = cc in
+          let range = least_within n (planes_table n a) (planes_table n b) batch is in
+          let one : planes_at (planes_table n a) batch ≡ listed_planes a batch = ap (λ o. unwrap_or o (record { danger = 0; noticed = 0 })) (table_at n a batch range) in
+          let two : planes_at (planes_table n b) batch ≡ listed_planes b batch = ap (λ o. unwrap_or o (record { danger = 0; noticed = 0 })) (table_at n b batch range) in
+          let named : Differs batch (planes_at (planes_table n a) batch) (planes_at (planes_table n b) batch) ≡ refusal = cc in
           ap (λ o. merged_unless o p a b) (sym (same_first n a b) ∙ is)
           ∙ ap (λ r. Err r) (sym (ap₂ {C = MergeRefusal} (Differs batch) one two) ∙ named)
 
   -- the rows that the tables give are those of the lists
-  pub gives_rows : (firsts seconds : Table) (rows : List Row) → firsts ≡ table_of n a → seconds ≡ table_of n b → None ≡ difference n firsts seconds
+  pub gives_rows : (firsts seconds : Table) (rows : List Row) → firsts ≡ planes_table n a → seconds ≡ planes_table n b → None ≡ difference n firsts seconds
       → rows ≡ result_rows p (rising n (at_either firsts seconds)) → merged p first second ≡ Ok rows
   unfolding merged
   gives_rows firsts seconds rows e f is made =
-      let here : None ≡ difference n (table_of n a) (table_of n b) = is ∙ ap₂ (difference n) e f in
-      let none : first_other n a b ≡ None = sym (same_first n a b) ∙ no_first (first_other_at n (table_of n a) (table_of n b)) here in
+      let here : None ≡ difference n (planes_table n a) (planes_table n b) = is ∙ ap₂ (difference n) e f in
+      let none : first_other n a b ≡ None = sym (same_first n a b) ∙ no_first (first_other_at n (planes_table n a) (planes_table n b)) here in
       let same : rising n (at_either firsts seconds) ≡ rising n (found_in_either a b) =
-      ap₂ (λ s t. rising n (at_either s t)) e f ∙ is_span n (at_either (table_of n a) (table_of n b))
-      ∙ same_span 0 n (at_either (table_of n a) (table_of n b)) (found_in_either a b) (λ k le lt. ap₂ option_or (table_at n a k (omega (arith, lt))) (table_at n b k (omega (arith, lt))))
+      ap₂ (λ s t. rising n (at_either s t)) e f ∙ is_span n (at_either (planes_table n a) (planes_table n b))
+      ∙ same_span 0 n (at_either (planes_table n a) (planes_table n b)) (found_in_either a b) (λ k le lt. ap₂ option_or (table_at n a k (omega (arith, lt))) (table_at n b k (omega (arith, lt))))
       ∙ sym (is_span n (found_in_either a b)) in
       ap (λ o. merged_unless o p a b) none ∙ ap (λ es. Ok (result_rows p es)) (sym same) ∙ ap (λ rs. Ok rs) (sym made)
     where
-      no_first : (o : Option ℕ) → None ≡ option_map (λ k. Differs k (planes_at (table_of n a) k) (planes_at (table_of n b) k)) o → o ≡ None
+      no_first : (o : Option ℕ) → None ≡ option_map (λ k. Differs k (planes_at (planes_table n a) k) (planes_at (planes_table n b) k)) o → o ≡ None
       no_first None got = refl
       no_first (Some batch) got = absurd (cc)

@@ -14,7 +14,7 @@ use Rattle.campaign_plan.specs.Batches.{Entry, batches}
 use Rattle.result_file.specs.declared.Row.{Row}
 use Rattle.result_file.specs.KeptRows.{entry_of}
 use Rattle.result_merge.specs.Union.{found}
-use Rattle.result_merge.specs.Tables.{Table, at_batch, table_of}
+use Rattle.result_merge.specs.Tables.{Table, at_batch, planes_table}
 
 abbrev pub row_batches : List Row → List ℕ
 row_batches rows = batches (map entry_of rows)
@@ -98,17 +98,17 @@ batch_within (row ∷ rows) n all (suc i) lt = batch_within rows n (λ k d low. 
 
 -- ---- the table
 
-pub length-table : (n : ℕ) (entries : List Entry) → length (table_of n entries) ≡ n
+pub length-table : (n : ℕ) (entries : List Entry) → length (planes_table n entries) ≡ n
 unfolding below
 length-table n entries = length-map-range_with_len (found entries) 0 n
 
-pub table_at : (n : ℕ) (entries : List Entry) (batch : ℕ) → batch < n → at_batch (table_of n entries) batch ≡ found entries batch
+pub table_at : (n : ℕ) (entries : List Entry) (batch : ℕ) → batch < n → at_batch (planes_table n entries) batch ≡ found entries batch
 unfolding below
 table_at n entries batch lt = get_or-map-range_with_len (found entries) 0 n batch batch None lt (omega arith)
 
 -- a table that has at each place what the list has
 pub table_is : (n : ℕ) (entries : List Entry) (table : Table) → length table ≡ n → ((batch : ℕ) → batch < n → at_batch table batch ≡ found entries batch)
-    → table ≡ table_of n entries
+    → table ≡ planes_table n entries
 table_is n entries table count has =
-    ext_get_or None table (table_of n entries) (count ∙ sym (length-table n entries))
+    ext_get_or None table (planes_table n entries) (count ∙ sym (length-table n entries))
     (λ batch lt. (let under : batch < n = omega (arith, lt, count) in has batch under ∙ sym (table_at n entries batch under)))

@@ -14,8 +14,8 @@ abbrev pub Table : Type 0
 Table = List (Option Outcome)
 
 -- for each batch below n what a list has of it
-abbrev pub table_of : ℕ → List Entry → Table
-table_of n entries = map (found entries) (below n)
+abbrev pub planes_table : ℕ → List Entry → Table
+planes_table n entries = map (found entries) (below n)
 
 -- what a table has of a batch
 abbrev pub at_batch : Table → ℕ → Option Outcome

@@ -4,7 +4,7 @@ ghost use Rattle.std.specs.List.{list_all};
 ghost use Rattle.campaign_plan.specs.Analysis.{batch_count};
 ghost use Rattle.campaign_plan.specs.Batches.{AreDistinct};
 ghost use Rattle.result_file.specs.KeptRows.{entry_of};
-ghost use Rattle.result_merge.specs.Tables.{at_batch, planes_at, table_of};
+ghost use Rattle.result_merge.specs.Tables.{at_batch, planes_at, planes_table};
 
 use campaign_plan::{Outcome, Plan};
 use result_file::Row;
@@ -29,7 +29,7 @@ impl PlanesTable {
     /// The table of these rows, each of another batch, in the time of the rows and of the plan's batches.
     pub fn new(alloc: Global, plan: &Plan, rows: &[Row]) -> Result<PlanesTable, AllocError>
         requires { AreDistinct plan.now (map entry_of rows.now) }
-        ensures { IfOk result (λ table. table ≡ table_of (batch_count plan.now) (map entry_of rows.now)) }
+        ensures { IfOk result (λ table. table ≡ planes_table (batch_count plan.now) (map entry_of rows.now)) }
     {
         let mut planes = vec![in alloc; None; plan.batches() as usize]?;
         for row in rows {

@@ -7,24 +7,24 @@ use Rattle.fm_base.specs.Lists.{below}
 use Rattle.fm_base.specs.Names.{Bytes}
 use Rattle.fm_base.specs.Text.{line, spaced}
 use Rattle.fm_base.proofs.Below.{below_push}
-use Rattle.sample_gen.specs.Spaces.{behind_space}
+use Rattle.sample_gen.specs.Spaces.{after_space}
 
 -- the texts of words
 abbrev pub texts : List (Bor Bytes) → List Bytes
 texts words = map (λ word. word.now) words
 
 -- words are the first of them, and each other behind a space
-spaced_from : (first : Bor Bytes) (others : List (Bor Bytes)) → spaced (texts (first ∷ others)) ≡ first.now ++ flat_map behind_space others
+spaced_from : (first : Bor Bytes) (others : List (Bor Bytes)) → spaced (texts (first ∷ others)) ≡ first.now ++ flat_map after_space others
 spaced_from first [] = sym (append-nil first.now)
 spaced_from first (word ∷ others) = ap (λ rest. first.now ++ (32 ∷ rest)) (spaced_from word others)
 
 -- a text with a line more, after its words one by one
 pub line_added : (text one two three : Bytes) (words : List (Bor Bytes)) (first : Bor Bytes) (others : List (Bor Bytes))
-    → words ≡ first ∷ others → one ≡ text ++ first.now → two ≡ one ++ flat_map behind_space others → three ≡ two ++ 10 ∷ []
+    → words ≡ first ∷ others → one ≡ text ++ first.now → two ≡ one ++ flat_map after_space others → three ≡ two ++ 10 ∷ []
     → three ≡ text ++ line (texts words)
 line_added text one two three words first others parts added more last =
     last
-    ∙ ap (λ t. t ++ 10 ∷ []) (more ∙ ap (λ t. t ++ flat_map behind_space others) added ∙ append_assoc text first.now (flat_map behind_space others)
+    ∙ ap (λ t. t ++ 10 ∷ []) (more ∙ ap (λ t. t ++ flat_map after_space others) added ∙ append_assoc text first.now (flat_map after_space others)
     ∙ ap (λ t. text ++ t) (sym (ap (λ ws. spaced (texts ws)) parts ∙ spaced_from first others)))
     ∙ append_assoc text (spaced (texts words)) (10 ∷ [])
 

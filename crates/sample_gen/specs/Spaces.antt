@@ -4,5 +4,5 @@ use Rattle.std.specs.Borrow.{Bor}
 use Rattle.fm_base.specs.Names.{Bytes}
 
 -- a space, and a word behind it
-abbrev pub behind_space : Bor Bytes → Bytes
-behind_space word = 32 ∷ word.now
+abbrev pub after_space : Bor Bytes → Bytes
+after_space word = 32 ∷ word.now

@@ -2,13 +2,13 @@
 ghost use Rattle.std.specs.Prelude.{◌≡◌, ◌++◌, map, OnOk};
 ghost use Rattle.std.specs.List.{flat_map};
 ghost use Rattle.fm_base.specs.Text.{line};
-ghost use Rattle.sample_gen.specs.Spaces.{behind_space};
+ghost use Rattle.sample_gen.specs.Spaces.{after_space};
 
 use std::alloc::AllocError;
 
 // Adds words, each behind a space.
 fn put_others(text: &mut Vec<u8>, words: &[&[u8]]) -> Result<(), AllocError>
-    ensures { OnOk result (text.new.items ≡ text.old.items ++ flat_map behind_space words.now) }
+    ensures { OnOk result (text.new.items ≡ text.old.items ++ flat_map after_space words.now) }
 {
     for word in words {
         text.push(b' ')?;

@@ -9,7 +9,7 @@ use Rattle.campaign_plan.specs.Batches.{Entry, AreTrue, true_planes}
 use Rattle.result_file.specs.declared.KeptRows.{KeptRows}
 use Rattle.result_file.specs.KeptRows.{kept, kept_entries}
 use Rattle.fmeda_report.specs.Report.{report}
-use Rattle.campaign_run.specs.Found.{kept_or_true, IsWhole}
+use Rattle.campaign_run.specs.Found.{checkpointed_or_true, IsWhole}
 use Rattle.campaign_run.specs.Reported.{ResumedAs}
 use Rattle.stopped_file.specs.Prefixes.{PrefixesKeepWholeRows}
 use Rattle.stopped_file.specs.Stopped.{GoesOnTruly, StoppedAreTakenUp}
@@ -33,7 +33,7 @@ found_true p (entry ∷ entries) batch are =
 
 goes_on : (own : List ℕ) (p : Analysis) (bytes : List ℕ) (k : KeptRows) → AreTrue p (kept_entries k) → GoesOnTruly own p bytes k
 goes_on own p bytes k are =
-    let same : kept_or_true p k ≡ true_planes p = λ j batch. found_true p (kept_entries k) batch are j in
+    let same : checkpointed_or_true p k ≡ true_planes p = λ j batch. found_true p (kept_entries k) batch are j in
     record {
       entries = are;
       planes = same;

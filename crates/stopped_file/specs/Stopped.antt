@@ -9,16 +9,16 @@ use Rattle.result_file.specs.declared.KeptRows.{KeptRows}
 use Rattle.result_file.specs.ResultText.{result_text}
 use Rattle.result_file.specs.KeptRows.{header_len, kept, kept_entries}
 use Rattle.fmeda_report.specs.Report.{report, true_report}
-use Rattle.campaign_run.specs.Found.{kept_or_true, IsPart, IsWhole}
+use Rattle.campaign_run.specs.Found.{checkpointed_or_true, IsPart, IsWhole}
 use Rattle.campaign_run.specs.Reported.{ResumedAs}
 
 -- a campaign that goes on from these kept rows of a file finds of each batch what it truly has, and reports it
 pub record GoesOnTruly (own : Bytes) (p : Analysis) (bytes : Bytes) (k : KeptRows) : Type 0 where
   pub entries : AreTrue p (kept_entries k)
-  pub planes : kept_or_true p k ≡ true_planes p
-  pub same_report : report p (kept_or_true p k) ≡ true_report p
-  pub whole : (entries : List Entry) → IsWhole p (kept_or_true p k) entries → IsWhole p (true_planes p) entries
-  pub resumed : (name : Bytes) (before after : Outside) → ResumedAs own (report p (kept_or_true p k)) p (kept_or_true p k) bytes name before after
+  pub planes : checkpointed_or_true p k ≡ true_planes p
+  pub same_report : report p (checkpointed_or_true p k) ≡ true_report p
+  pub whole : (entries : List Entry) → IsWhole p (checkpointed_or_true p k) entries → IsWhole p (true_planes p) entries
+  pub resumed : (name : Bytes) (before after : Outside) → ResumedAs own (report p (checkpointed_or_true p k)) p (checkpointed_or_true p k) bytes name before after
       → ResumedAs own (true_report p) p (true_planes p) bytes name before after
 
 -- the file is accepted, and whatever rows are kept of it are such

@@ -11,12 +11,12 @@ use Rattle.fm_base.proofs.Distinct.{distinct-found, distinct-snoc, is_same}
 use Rattle.fm_base.proofs.Distinct as dis
 use Rattle.fm_base.proofs.Tests.{and_both, not_not}
 use Rattle.name_index.specs.Index.{with_name}
-use Rattle.workload.specs.Built.{AreGrouped, IsAdded, IsBuilt, IsLayout, begun, bits_at, done_with, fault_by, grown, is_kind, keeps_kind, last_after, last_says, name_in, place_of, row_says, word_of}
+use Rattle.workload.specs.Built.{AreGrouped, IsAdded, IsBuilt, IsLayout, begun, bits_at, done_with, fault_by, with_vector, is_kind, keeps_kind, last_after, last_says, workload_name, column_place, row_says, kind_of_word}
 use Rattle.workload.specs.declared.builder.Builder.{Builder}
 use Rattle.workload.specs.declared.builder.Last.{Last}
 use Rattle.workload.specs.declared.header.Layout.{Layout}
 use Rattle.workload.specs.declared.run.Run.{Run}
-use Rattle.workload.specs.WorkloadFile.{columns, input_names, kind_of, has_kind, run_of, same_name, vector_of, workloads}
+use Rattle.workload.specs.WorkloadFile.{header_columns, input_names, run_kind, has_kind, run_of, same_name, vector_of, workloads}
 use Rattle.workload.proofs.Groups.{extend_last, extend_last-snoc, workloads-joins, workloads-parts, workloads-one}
 use Rattle.workload.proofs.RowFaults.{fault_by-is, first_of-none, kinds_step, last_or-snoc, row_fault-is}
 
@@ -24,13 +24,13 @@ use Rattle.workload.proofs.RowFaults.{fault_by-is, first_of-none, kinds_step, la
 bits_are : (c : Circuit) (header row : Fields) (layout : Layout) → IsLayout c header layout → bits_at layout.places.items row ≡ vector_of c header row
 bits_are c header row layout w =
     ap (λ (places : List ℕ). bits_at places row) w.places
-    ∙ map-map (λ place. has_word (codes "1") place row) (place_of (columns header)) (input_names c)
+    ∙ map-map (λ place. has_word (codes "1") place row) (column_place (header_columns header)) (input_names c)
 
 -- a row that is of a kind says its word
-word_said : (row : Fields) → is_kind row ≡ true → word_of (kind_of row) ≡ field row 1
+word_said : (row : Fields) → is_kind row ≡ true → kind_of_word (run_kind row) ≡ field row 1
 word_said row h = by_cases (has_word (codes "test") 1 row) (has_word (codes "mission") 1 row) refl refl
   where
-    by_cases : (t m : Bool) → has_word (codes "test") 1 row ≡ t → has_word (codes "mission") 1 row ≡ m → word_of (kind_of row) ≡ field row 1
+    by_cases : (t m : Bool) → has_word (codes "test") 1 row ≡ t → has_word (codes "mission") 1 row ≡ m → kind_of_word (run_kind row) ≡ field row 1
     by_cases true m et em = rw et (sym (dis.same_name (field row 1) (codes "test") et))
     by_cases false true et em = rw et (sym (dis.same_name (field row 1) (codes "mission") em))
     by_cases false false et em = absurd (cc (rw (em, et) at h))
@@ -53,7 +53,7 @@ grouped_step c header before row runs None bits w says e =
 grouped_step c header before row runs (Some last) bits w says e = found (last_or None before) refl
   where
     new : (r : Fields) → last_or None before ≡ Some r → last.name ≡ field r 0 → (b : Bool) → bytes_eq (field row 0) last.name ≡ b
-        → AreGrouped c header (before ++ row ∷ []) (runs ++ (if b then [] else last.run ∷ [])) (Some (if b then grown last bits else begun row bits))
+        → AreGrouped c header (before ++ row ∷ []) (runs ++ (if b then [] else last.run ∷ [])) (Some (if b then with_vector last bits else begun row bits))
     new r er name true same =
         let is : field row 0 ≡ last.name = dis.same_name (field row 0) last.name same in
         let both : same_name r row ≡ true = rw (sym name, is) (is_same last.name) in
@@ -86,16 +86,16 @@ says_step : (row : Fields) (last : Option Last) (bits : List Bool) → keeps_kin
 says_step row None bits h = let k : is_kind row ≡ true = (and_both (is_kind row) _ h).0 in rw (word_said row k) refl
 says_step row (Some last) bits h = by_cases (bytes_eq (field row 0) last.name) refl
   where
-    by_cases : (b : Bool) → bytes_eq (field row 0) last.name ≡ b → Some (row_says row) ≡ Some (last_says (if b then grown last bits else begun row bits))
+    by_cases : (b : Bool) → bytes_eq (field row 0) last.name ≡ b → Some (row_says row) ≡ Some (last_says (if b then with_vector last bits else begun row bits))
     by_cases true e =
-        let rest : bytes_eq (field row 1) (word_of last.run.kind) ≡ true = (and_both (is_kind row) _ (rw e at h)).1 in
-        rw (sym (dis.same_name (field row 0) last.name e), sym (dis.same_name (field row 1) (word_of last.run.kind) rest)) refl
+        let rest : bytes_eq (field row 1) (kind_of_word last.run.kind) ≡ true = (and_both (is_kind row) _ (rw e at h)).1 in
+        rw (sym (dis.same_name (field row 0) last.name e), sym (dis.same_name (field row 1) (kind_of_word last.run.kind) rest)) refl
     by_cases false e = let k : is_kind row ≡ true = (and_both (is_kind row) _ h).0 in rw (word_said row k) refl
 
-names_step : (names : List Name) (before : List Fields) (row : Fields) → names ≡ distinct (map name_in before)
-    → with_name names (field row 0) ≡ distinct (map name_in (before ++ row ∷ []))
+names_step : (names : List Name) (before : List Fields) (row : Fields) → names ≡ distinct (map workload_name before)
+    → with_name names (field row 0) ≡ distinct (map workload_name (before ++ row ∷ []))
 names_step names before row e =
-    rw (e, map-append name_in before (row ∷ []), distinct-snoc (map name_in before) (field row 0), distinct-found (map name_in before) (field row 0)) refl
+    rw (e, map-append workload_name before (row ∷ []), distinct-snoc (map workload_name before) (field row 0), distinct-found (map workload_name before) (field row 0)) refl
 
 few_step : (n : ℕ) → nat_le 65536 n ≡ false → n < 65536
 few_step n h = grind arith

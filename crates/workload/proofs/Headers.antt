@@ -1,4 +1,4 @@
--- The columns and the places of the inputs, one more at a time.
+-- The header_columns and the places of the inputs, one more at a time.
 use Rattle.std.proofs.Common.{◌≡◌, ◌∙◌, ℕ, zero, suc, ◌+◌, ◌<◌, ◌≤◌, Bool, true, false, not, ◌&&◌, ◌||◌, List, [], ◌∷◌, ◌++◌, length, take, drop, map, get_or, sym, refl, ap, arith}
 use Rattle.std.specs.Prelude.{bytes_eq, codes}
 use Rattle.std.proofs.Common.{◌⊎◌, inl, inr}
@@ -16,7 +16,7 @@ use Rattle.fm_base.proofs.Distinct as dis
 use Rattle.fm_base.proofs.Tests.{both_false, or_false, or_second}
 use Rattle.name_index.specs.Index.{with_name}
 use Rattle.workload.specs.Built.{are_bad}
-use Rattle.workload.specs.WorkloadFile.{columns, header_fault, input_names}
+use Rattle.workload.specs.WorkloadFile.{header_columns, header_fault, input_names}
 use Rattle.workload.specs.declared.file.WorkloadKind.TheVariants.{BadCsv, BadColumn, MissingInput}
 
 -- a test of what is left of a list
@@ -35,7 +35,7 @@ pub with_taken : {X : Type 0} (f : X → Name) (xs : List X) (i : ℕ) (d : X) (
 with_taken f xs i d names lt e =
     rw (e, take_more xs i d lt, map-append f (take i xs) (get_or xs i d ∷ []), distinct-snoc (map f (take i xs)) (f (get_or xs i d)), distinct-found (map f (take i xs)) (f (get_or xs i d))) refl
 
--- ---- columns
+-- ---- header_columns
 
 is_one_of-snoc : (names : List Name) (x name : Name) → is_one_of (names ++ x ∷ []) name ≡ (is_one_of names name || bytes_eq name x)
 is_one_of-snoc [] x name = or_none (bytes_eq name x)
@@ -146,11 +146,11 @@ begins_not header (inr e) = ap (λ b. has_word (codes "workload") 0 header && b)
     and_none false = refl
 
 -- the fault by the answers of the checks
-pub header_fault-by : (c : Circuit) (header : Fields) (words bad all : Bool) → begins header ≡ words → are_bad (input_names c) (columns header) ≡ bad
-    → list_all (is_one_of (columns header)) (input_names c) ≡ all
+pub header_fault-by : (c : Circuit) (header : Fields) (words bad all : Bool) → begins header ≡ words → are_bad (input_names c) (header_columns header) ≡ bad
+    → list_all (is_one_of (header_columns header)) (input_names c) ≡ all
     → header_fault c header ≡ first_answer (given (not words) BadCsv ∷ given bad BadColumn ∷ given (not all) MissingInput ∷ [])
 unfolding header_fault
 header_fault-by c header words bad all ew eb ea =
-    ap (λ w. first_answer (given (not w) BadCsv ∷ given (are_bad (input_names c) (columns header)) BadColumn ∷ given (not (list_all (is_one_of (columns header)) (input_names c))) MissingInput ∷ [])) ew
-    ∙ ap (λ b. first_answer (given (not words) BadCsv ∷ given b BadColumn ∷ given (not (list_all (is_one_of (columns header)) (input_names c))) MissingInput ∷ [])) eb
+    ap (λ w. first_answer (given (not w) BadCsv ∷ given (are_bad (input_names c) (header_columns header)) BadColumn ∷ given (not (list_all (is_one_of (header_columns header)) (input_names c))) MissingInput ∷ [])) ew
+    ∙ ap (λ b. first_answer (given (not words) BadCsv ∷ given b BadColumn ∷ given (not (list_all (is_one_of (header_columns header)) (input_names c))) MissingInput ∷ [])) eb
     ∙ ap (λ a. first_answer (given (not words) BadCsv ∷ given bad BadColumn ∷ given (not a) MissingInput ∷ [])) ea

@@ -11,7 +11,7 @@ use Rattle.fm_base.specs.Text.{is_bit}
 use Rattle.fm_base.proofs.Distinct.{distinct-found, is_same}
 use Rattle.fm_base.proofs.Distinct as dis
 use Rattle.fm_base.proofs.Tests.{and_both}
-use Rattle.workload.specs.Built.{IsBuilt, KeepsKind, fault_by, first_of, is_kind, joins, keeps_kind, last_says, name_in, row_says, word_of}
+use Rattle.workload.specs.Built.{IsBuilt, KeepsKind, fault_by, first_of, is_kind, joins, keeps_kind, last_says, workload_name, row_says, kind_of_word}
 use Rattle.workload.specs.declared.builder.Builder.{Builder}
 use Rattle.workload.specs.declared.builder.Last.{Last}
 use Rattle.workload.specs.WorkloadFile.{has_kind, is_split, row_fault, same_name}
@@ -79,7 +79,7 @@ kind-is before row (Some r) None eo says kept e = absurd (cc)
 kind-is before row (Some r) (Some l) eo says kept e =
     let pair : row_says r ≡ last_says l = cc in
     let name : l.name ≡ field r 0 = sym (ap (λ (p : Name × Bytes). p.0) pair) in
-    let kind : word_of l.run.kind ≡ field r 1 = sym (ap (λ (p : Name × Bytes). p.1) pair) in
+    let kind : kind_of_word l.run.kind ≡ field r 1 = sym (ap (λ (p : Name × Bytes). p.1) pair) in
     rw (name, kind) (by_cases (bytes_eq (field row 0) (field r 0)) refl)
   where
     by_cases : (b : Bool) → bytes_eq (field row 0) (field r 0) ≡ b
@@ -91,7 +91,7 @@ split-is : (c : Circuit) (header : Fields) (before : List Fields) (b : Builder) 
     → (is_one_of b.names (field row 0) && not (joins b.last row)) ≡ is_split before row
 split-is c header before b row w =
     let known : is_one_of b.names (field row 0) ≡ list_any (same_name row) before =
-    ap (λ (names : List Name). is_one_of names (field row 0)) w.names ∙ distinct-found (map name_in before) (field row 0) ∙ list_any-map (bytes_eq (field row 0)) name_in before in
+    ap (λ (names : List Name). is_one_of names (field row 0)) w.names ∙ distinct-found (map workload_name before) (field row 0) ∙ list_any-map (bytes_eq (field row 0)) workload_name before in
     rw (known, joins-is row (last_or None before) b.last w.last) refl
 
 past_split : (w split k k2 bits many : Bool) → (split ≡ false → k ≡ k2) → first_of w split k bits many ≡ first_of w split k2 bits many

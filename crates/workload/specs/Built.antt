@@ -14,7 +14,7 @@ use Rattle.workload.specs.declared.file.WorkloadFault.{WorkloadFault}
 use Rattle.workload.specs.declared.run.Run.{Run}
 use Rattle.workload.specs.declared.run.Kind.{Kind}
 use Rattle.workload.specs.declared.run.Kind.TheVariants.{Mission, Test}
-use Rattle.workload.specs.WorkloadFile.{columns, header_fault, input_names, kind_of, refused, row_fault, run_of, same_name, workloads}
+use Rattle.workload.specs.WorkloadFile.{header_columns, header_fault, input_names, run_kind, workload_refusal, row_fault, run_of, same_name, workloads}
 use Rattle.csv_rows.specs.Rows.{Fields, field, has_word, rows_of}
 use Rattle.fm_base.specs.Firsts.{first_after, first_answer, first_fault, given, numbered_fault}
 use Rattle.fm_base.specs.Names.{Name, Bytes, distinct, has_repeat, is_one_of}
@@ -29,24 +29,24 @@ use Rattle.fm_base.specs.declared.refusal.Refusal.TheVariants.{Fault, Memory}
 abbrev pub are_bad : List Name → List Name → Bool
 are_bad inputs names = not (list_all (is_one_of inputs) names) || has_repeat names
 
--- the columns of the header, or none where they are bad
+-- the header_columns of the header, or none where they are bad
 abbrev pub AreColumns : List Name → Fields → Option (List Name) → Type 0
-AreColumns inputs header None = are_bad inputs (columns header) ≡ true
-AreColumns inputs header (Some names) = (are_bad inputs (columns header) ≡ false) × (names ≡ columns header)
+AreColumns inputs header None = are_bad inputs (header_columns header) ≡ true
+AreColumns inputs header (Some names) = (are_bad inputs (header_columns header) ≡ false) × (names ≡ header_columns header)
 
 -- the place in a row of the column of an input
-abbrev pub place_of : List Name → Name → ℕ
-place_of names name = unwrap_or (position (bytes_eq name) names) 0 + 2
+abbrev pub column_place : List Name → Name → ℕ
+column_place names name = unwrap_or (position (bytes_eq name) names) 0 + 2
 
 -- the places of the inputs, or none where one has no column
-abbrev pub ArePlaces : List Name → List Name → Option (Vec ℕ Global) → Type 0
-ArePlaces names inputs None = list_all (is_one_of names) inputs ≡ false
-ArePlaces names inputs (Some places) = (list_all (is_one_of names) inputs ≡ true) × (places.items ≡ map (place_of names) inputs)
+abbrev pub AreColumnPlaces : List Name → List Name → Option (Vec ℕ Global) → Type 0
+AreColumnPlaces names inputs None = list_all (is_one_of names) inputs ≡ false
+AreColumnPlaces names inputs (Some places) = (list_all (is_one_of names) inputs ≡ true) × (places.items ≡ map (column_place names) inputs)
 
 -- the rows are laid out as the header says
 pub record IsLayout (c : Circuit) (header : Fields) (layout : Layout) : Type 0 where
   pub width : layout.width ≡ length header
-  pub places : layout.places.items ≡ map (place_of (columns header)) (input_names c)
+  pub places : layout.places.items ≡ map (column_place (header_columns header)) (input_names c)
 
 -- the layout of a header, or its first fault
 abbrev pub LaysOut : Circuit → Fields → Result Layout (Refusal WorkloadFault) → Type 0
@@ -57,13 +57,13 @@ LaysOut c header (Err Memory) = Unit {0}
 -- ---- the rows
 
 -- the word of a kind
-abbrev pub word_of : Kind → Bytes
-word_of Mission = codes "mission"
-word_of Test = codes "test"
+abbrev pub kind_of_word : Kind → Bytes
+kind_of_word Mission = codes "mission"
+kind_of_word Test = codes "test"
 
 -- the name of a row's workload
-abbrev pub name_in : Fields → Name
-name_in row = field row 0
+abbrev pub workload_name : Fields → Name
+workload_name row = field row 0
 
 -- the bits of a row at these places
 abbrev pub bits_at : List ℕ → Fields → List Bool
@@ -79,7 +79,7 @@ is_kind row = has_word (codes "mission") 1 row || has_word (codes "test") 1 row
 
 -- it is a kind, and the kind of the workload that was read last where the row is of it
 abbrev pub keeps_kind : Option Last → Fields → Bool
-keeps_kind last row = is_kind row && option_map_or (λ l. not (bytes_eq (field row 0) l.name) || bytes_eq (field row 1) (word_of l.run.kind)) last true
+keeps_kind last row = is_kind row && option_map_or (λ l. not (bytes_eq (field row 0) l.name) || bytes_eq (field row 1) (kind_of_word l.run.kind)) last true
 
 -- the first of a row's checks that fails
 abbrev pub first_of : Bool → Bool → Bool → Bool → Bool → Option WorkloadKind
@@ -93,16 +93,16 @@ fault_by b row =
 
 -- a workload that a row begins, with its bits
 abbrev pub begun : Fields → List Bool → Last
-begun row bits = record { name = field row 0; run = record { kind = kind_of row; vectors = bits ∷ [] } }
+begun row bits = record { name = field row 0; run = record { kind = run_kind row; vectors = bits ∷ [] } }
 
 -- a workload with one more vector
-abbrev pub grown : Last → List Bool → Last
-grown last bits = record { name = last.name; run = record { kind = last.run.kind; vectors = last.run.vectors ++ bits ∷ [] } }
+abbrev pub with_vector : Last → List Bool → Last
+with_vector last bits = record { name = last.name; run = record { kind = last.run.kind; vectors = last.run.vectors ++ bits ∷ [] } }
 
 -- the workload that was read last, after a row
 abbrev pub last_after : Option Last → Fields → List Bool → Last
 last_after None row bits = begun row bits
-last_after (Some last) row bits = if bytes_eq (field row 0) last.name then grown last bits else begun row bits
+last_after (Some last) row bits = if bytes_eq (field row 0) last.name then with_vector last bits else begun row bits
 
 -- the run that is done with a row
 abbrev pub done_with : Option Last → Fields → List Run
@@ -123,7 +123,7 @@ runs_in b = b.runs ++ option_map_or (λ l. l.run ∷ []) b.last []
 
 -- the runs, or a refusal where there is none
 abbrev pub finished : Builder → Result (List Run) WorkloadFault
-finished b = option_map_or (λ l. Ok (b.runs ++ l.run ∷ [])) b.last (refused (1, Empty))
+finished b = option_map_or (λ l. Ok (b.runs ++ l.run ∷ [])) b.last (workload_refusal (1, Empty))
 
 -- ---- what it tells of the rows
 
@@ -132,7 +132,7 @@ abbrev pub row_says : Fields → Name × Bytes
 row_says row = (field row 0, field row 1)
 
 abbrev pub last_says : Last → Name × Bytes
-last_says last = (last.name, word_of last.run.kind)
+last_says last = (last.name, kind_of_word last.run.kind)
 
 -- a row of the last row's name has its kind in the first row of that name
 abbrev pub KeepsKind : List Fields → Type 0
@@ -148,7 +148,7 @@ AreGrouped c header before runs (Some last) = (done : List (List Fields)) × (ro
 -- what was kept of these rows, none of which has a fault
 pub record IsBuilt (c : Circuit) (header : Fields) (before : List Fields) (b : Builder) : Type 0 where
   pub layout : IsLayout c header b.layout
-  pub names : b.names ≡ distinct (map name_in before)
+  pub names : b.names ≡ distinct (map workload_name before)
   pub last : option_map row_says (last_or None before) ≡ option_map last_says b.last
   pub kinds : KeepsKind before
   pub grouped : AreGrouped c header before b.runs b.last

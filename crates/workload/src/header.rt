@@ -1,7 +1,7 @@
 // The header of a workload file: which column has the bits of which input.
 ghost use Rattle.std.specs.Prelude.{◌≡◌, ◌+◌, ◌<◌, ◌≤◌, ◌^◌, length, map, slice_index_or, [], IfOk, List};
 ghost use Rattle.fm_base.specs.Names.{distinct, is_one_of};
-ghost use Rattle.workload.specs.Built.{AreColumns, ArePlaces, LaysOut};
+ghost use Rattle.workload.specs.Built.{AreColumns, AreColumnPlaces, LaysOut};
 ghost use Rattle.workload.specs.WorkloadFile.{input_names};
 
 use crate::file::{WorkloadFault, WorkloadKind, refusal};
@@ -60,7 +60,7 @@ fn places_of(
     columns: &NameIndex,
 ) -> Result<Option<Vec<usize>>, AllocError>
     requires { length columns.now + 2 < 2 ^ 64 }
-    ensures { IfOk result (ArePlaces columns.now (input_names net.now)) }
+    ensures { IfOk result (AreColumnPlaces columns.now (input_names net.now)) }
 {
     let mut places = Vec::new(alloc);
     let inputs = net.inputs();

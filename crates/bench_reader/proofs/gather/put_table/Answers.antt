@@ -1,6 +1,6 @@
 use Rattle.std.proofs.Common.{List, ap, length, ◌∙◌, arith}
 use Rattle.circuit.specs.declared.parts.NetId.{NetId}
-use Rattle.bench_reader.specs.Gates.{takes}
+use Rattle.bench_reader.specs.Gates.{takes_inputs}
 use Rattle.bench_reader.specs.Marks.{NetMarks}
 use Rattle.bench_reader.specs.Meant.{listed}
 use Rattle.bench_reader.specs.Tokens.{tokens_of}
@@ -19,5 +19,5 @@ mention_names-requires c =
 
 pub table_of-requires : goal.table_of-requires
 table_of-requires c =
-    ap (takes c.args.gate) (ap (λ (ids : List NetId). length ids) c.in_ok-ins.ensures.ids ∙ length_ids c.args.line c.mention.new.self (listed (tokens_of c.args.ins.now)))
+    ap (takes_inputs c.args.gate) (ap (λ (ids : List NetId). length ids) c.in_ok-ins.ensures.ids ∙ length_ids c.args.line c.mention.new.self (listed (tokens_of c.args.ins.now)))
     ∙ c.requires.fits

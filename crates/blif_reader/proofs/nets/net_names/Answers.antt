@@ -3,7 +3,7 @@ use Rattle.std.specs.Prelude.{slice_index_or}
 use Rattle.std.proofs.lemmas.List.{length-map, take_all}
 use Rattle.fm_base.specs.Names.{Name}
 use Rattle.blif_model.specs.Walk.{is_clock, unclocked}
-use Rattle.blif_walk.specs.Flat.{names_of}
+use Rattle.blif_walk.specs.Flat.{all_names}
 use Rattle.blif_reader.proofs.FlatNets.{nets-named}
 use Rattle.blif_reader.proofs.NetNumbers.{net_step}
 use Rattle.blif_reader.proofs.nets.net_names.Goals as goal
@@ -16,6 +16,6 @@ loop-number-preserved c = λ steps named marked.
 
 pub returns : goal.returns
 returns c = λ steps named marked.
-    let size : length c.args.clocks.now ≡ length (names_of steps) = ap (λ (bs : List Bool). length bs) marked ∙ length-map (names_of steps) (is_clock steps) in
+    let size : length c.args.clocks.now ≡ length (all_names steps) = ap (λ (bs : List Bool). length bs) marked ∙ length-map (all_names steps) (is_clock steps) in
     let h = c.loop-number-test.false in
-    c.loop-number.invariant steps named marked ∙ ap (unclocked steps) (take_all c.loop-number.number (names_of steps) (omega arith)) ∙ sym (nets-named steps)
+    c.loop-number.invariant steps named marked ∙ ap (unclocked steps) (take_all c.loop-number.number (all_names steps) (omega arith)) ∙ sym (nets-named steps)

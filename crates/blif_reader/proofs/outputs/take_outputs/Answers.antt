@@ -7,7 +7,7 @@ use Rattle.fm_base.specs.Names.{Name, distinct}
 use Rattle.fm_base.proofs.Distinct.{distinct-nil}
 use Rattle.blif_model.specs.Walk.{Step, nets_of, outputs_at}
 use Rattle.net_names.specs.Nets.{net_id}
-use Rattle.blif_walk.specs.Flat.{names_of, steps_by}
+use Rattle.blif_walk.specs.Flat.{all_names, steps_by}
 use Rattle.blif_walk.specs.Flattened.{flat_steps}
 use Rattle.blif_reader.specs.Parts.{AreOutputNets}
 use Rattle.blif_walk.specs.declared.flat.NumberedStep.{NumberedStep}
@@ -21,11 +21,11 @@ loop-step-init c =
     let steps : List Step = flat_steps flat in
     let seen : c.in_ok-vec.field-0.items ≡ replicate c.len.result false = c.in_ok-vec.ensures.items_if_clones_equal (λ y same. same) in
     let count : c.len.result ≡ length c.args.numbers.now.ids.items = grind (arith, common_steps) in
-    let size : length c.args.numbers.now.ids.items ≡ length (names_of steps) = ap (λ (ids : List NetId). length ids) c.requires.ids ∙ length-map (names_of steps) (net_id (nets_of steps)) in
+    let size : length c.args.numbers.now.ids.items ≡ length (all_names steps) = ap (λ (ids : List NetId). length ids) c.requires.ids ∙ length-map (all_names steps) (net_id (nets_of steps)) in
     record {
       length = ap (λ (bs : List Bool). length bs) seen ∙ length-replicate c.len.result false ∙ count;
       added = record {
-        seen = seen ∙ marks_none (names_of steps) c.len.result (count ∙ size);
+        seen = seen ∙ marks_none (all_names steps) c.len.result (count ∙ size);
         ids = c.new.ensures ∙ ap (map (net_id (nets_of steps))) (sym distinct-nil);
       };
     }

@@ -1,7 +1,7 @@
 use Rattle.std.proofs.Common.{◌≡◌, ◌+◌, ◌∷◌, ◌++◌, [], sym, ap, subst, ◌∙◌, take, length, arith}
 use Rattle.std.proofs.lemmas.List.{take_more, length-take}
 use Rattle.blif_says.specs.declared.models.ModelLines.{ModelLines}
-use Rattle.blif_walk.specs.Places.{ArePlaces}
+use Rattle.blif_walk.specs.Places.{AreNamePlaces}
 use Rattle.blif_walk.proofs.FirstPlaces.{places_snoc}
 use Rattle.blif_walk.proofs.table.places_of.Goals as goal
 
@@ -12,5 +12,5 @@ loop-place-preserved c =
     let x = c.index-models-place.result in
     let e : take (i + 1) ms ≡ take i ms ++ x ∷ [] = take_more ms i x c.loop-place-test.true ∙ ap (λ (y : ModelLines). take i ms ++ y ∷ []) (sym c.index-models-place.is) in
     let size : i ≡ length (take i ms) = omega (arith, length-take i ms, c.loop-place-test.true) in
-    subst (λ (xs : _). ArePlaces (λ (m : ModelLines). m.name.now) xs c.add_place.new.places.entries) (sym e)
+    subst (λ (xs : _). AreNamePlaces (λ (m : ModelLines). m.name.now) xs c.add_place.new.places.entries) (sym e)
     (places_snoc (λ (m : ModelLines). m.name.now) (take i ms) x i c.loop-place.places.entries c.add_place.new.places.entries size c.loop-place.invariant c.in_ok-add_place.ensures.added)

@@ -4,7 +4,7 @@ use Rattle.fault_list.specs.Faults.{fault_at}
 use Rattle.circuit.specs.Effects.{is_permanent}
 use Rattle.campaign_plan.specs.Analysis.{all_faults, part_of, part_count, fault_numbered}
 use Rattle.campaign_plan.specs.Making.{analysis}
-use Rattle.campaign_plan.specs.Shares.{AreCounts}
+use Rattle.campaign_plan.specs.Shares.{ArePartCounts}
 use Rattle.campaign_plan.proofs.Sharing.{counted_few, one_counted, none_counted, number_at, beq_true, beq_false}
 use Rattle.campaign_plan.proofs.shares.counts.Goals as goal
 use Rattle.campaign_plan.proofs.shares.counts.Goals.{then-permanent, else-permanent}
@@ -34,12 +34,12 @@ loop-i-preserved c =
     elim c.if-permanent.branch [
       | then-permanent w ↦ (
           let same : w.index_mut.result.now ≡ get_or c.loop-i.counts.items (get_or c.args.numbers.now i 0) 0 = w.index_mut.ensures.value ∙ get_or_default c.loop-i.counts.items (get_or c.args.numbers.now i 0) w.index_mut.result.now 0 (omega (arith, within, c.loop-i.invariant.size)) in
-          subst (λ (v : Vec ℕ Global). AreCounts p c.args.permanent (take (i + 1) (all_faults p)) v.items) (sym w.counts-is)
-          (subst (λ n. AreCounts p c.args.permanent (take (i + 1) (all_faults p)) (set c.loop-i.counts.items num (n + 1))) (sym same)
+          subst (λ (v : Vec ℕ Global). ArePartCounts p c.args.permanent (take (i + 1) (all_faults p)) v.items) (sym w.counts-is)
+          (subst (λ n. ArePartCounts p c.args.permanent (take (i + 1) (all_faults p)) (set c.loop-i.counts.items num (n + 1))) (sym same)
           (one_counted p c.args.permanent i c.loop-i.counts.items num c.loop-i.invariant lt (kind ∙ beq_true c.permanent.result c.args.permanent w.if-permanent.true)
           (sym (number_at p c.args.numbers.now i 0 c.requires.numbered lt)) within)))
       | else-permanent w ↦
-          subst (λ (v : Vec ℕ Global). AreCounts p c.args.permanent (take (i + 1) (all_faults p)) v.items) (sym w.counts-is)
+          subst (λ (v : Vec ℕ Global). ArePartCounts p c.args.permanent (take (i + 1) (all_faults p)) v.items) (sym w.counts-is)
           (none_counted p c.args.permanent i c.loop-i.counts.items c.loop-i.invariant lt
           (subst (λ b. b ≢ c.args.permanent) (sym kind) (beq_false c.permanent.result c.args.permanent w.if-permanent.false)))
     ]

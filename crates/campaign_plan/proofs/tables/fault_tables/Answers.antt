@@ -1,6 +1,6 @@
 use Rattle.std.proofs.Common.{sym, subst, ◌∙◌}
 use Rattle.campaign_plan.specs.Making.{analysis}
-use Rattle.campaign_plan.specs.Shares.{AreNumbered}
+use Rattle.campaign_plan.specs.Shares.{HavePartNumbers}
 use Rattle.campaign_plan.proofs.Refusing.{cause_missing, cause_idle, rates_whole, passed_on}
 use Rattle.campaign_plan.proofs.tables.fault_tables.Goals as goal
 
@@ -15,7 +15,7 @@ pub weigh-requires-clause-numbers : goal.weigh-requires-clause-numbers
 weigh-requires-clause-numbers c =
     let p = analysis c.args.p.now in
     let e = c.in_ok-part_numbers.ensures in
-    subst (AreNumbered p c.in_ok-faults.faults) (sym c.deref.ensures.value)
+    subst (HavePartNumbers p c.in_ok-faults.faults) (sym c.deref.ensures.value)
     (record { listed = c.in_ok-faults.ensures.0; numbered = e.0; within = e.1 })
 
 pub returns-in_err-weights : goal.returns-in_err-weights

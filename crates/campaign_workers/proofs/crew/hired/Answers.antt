@@ -3,7 +3,7 @@ use Rattle.std.proofs.lemmas.List.{length_push}
 use Rattle.std.proofs.lemmas.List.Elements.{All-push}
 use Rattle.claim_counter.specs.declared.view.View.{View}
 use Rattle.campaign_workers.specs.declared.worker.Worker.{Worker}
-use Rattle.campaign_workers.specs.Workplaces.{AreToolsFor}
+use Rattle.classifier.specs.Tools.{AreToolsFor}
 use Rattle.campaign_workers.proofs.Hiring.{hires_one}
 use Rattle.campaign_workers.proofs.crew.hired.Goals as goal
 

@@ -1,7 +1,8 @@
 use Rattle.std.proofs.Common.{◌≡◌, ◌+◌, ◌^◌, length}
 use Rattle.std.specs.List.{All}
 use Rattle.claim_counter.specs.Crews.{IsCrew}
-use Rattle.campaign_workers.specs.Workplaces.{AreToolsFor, seats_of}
+use Rattle.campaign_workers.specs.Workplaces.{seats_of}
+use Rattle.classifier.specs.Tools.{AreToolsFor}
 use Rattle.campaign_workers.proofs.crew.hired.Given as goal
 
 abbrev pub invariant-loop-number : goal.invariant-loop-number

@@ -1,11 +1,11 @@
 use Rattle.std.proofs.Common.{◌≡◌}
-use Rattle.claim_counter.specs.Crews.{IsReady}
-use Rattle.campaign_workers.specs.Workplaces.{AreToolsFor}
+use Rattle.claim_counter.specs.Crews.{MayDraw}
+use Rattle.classifier.specs.Tools.{AreToolsFor}
 use Rattle.campaign_workers.proofs.worker.work.Given as goal
 
 abbrev pub invariant-loop : goal.invariant-loop
 invariant-loop g l = record {
-  ready : IsReady l.shared l.worker.seat;
+  ready : MayDraw l.shared l.worker.seat;
   tools : AreToolsFor l.plan l.order l.worker.lanes l.worker.windows;
   share : l.worker.seat.view.share ≡ l.initial.worker.seat.view.share;
 }

@@ -1,6 +1,6 @@
 use Rattle.std.proofs.Common.{sym, ◌∙◌, subst}
 use Rattle.campaign_plan.specs.declared.Outcome.{Outcome}
-use Rattle.lane_kernel.specs.Loads.{faults_of}
+use Rattle.lane_kernel.specs.Loads.{loaded_faults}
 use Rattle.classifier.specs.Planes.{HasPlanes}
 use Rattle.classifier.proofs.PlaneBits.{planes_have}
 use Rattle.classifier.proofs.batch.batch_outcome.Goals as goal
@@ -11,6 +11,6 @@ returns-clause-outcome g c =
     let points = c.args.points.now in
     let runs = c.args.work.now in
     let ftti = c.args.windows.now.ftti in
-    let lanes = faults_of c.load.new.self.loads in
+    let lanes = loaded_faults c.load.new.self.loads in
     c.of_batch.ensures net points ftti runs lanes (λ k lane. c.load.ensures.loads k lane ∙ c.loads_of.ensures k lane)
     (subst (λ (o : Outcome). HasPlanes net points ftti runs lanes o) (sym c.loaded_outcome-loaded.ensures.outcome) (planes_have net points ftti runs lanes))

@@ -1,6 +1,6 @@
 use Rattle.std.proofs.Common.{◌≡◌, ◌+◌, ◌*◌, ◌<◌, ℕ}
 use Rattle.golden_difference.specs.Lanes.{IsMadeFor}
-use Rattle.lane_kernel.specs.Loads.{faults_of}
+use Rattle.lane_kernel.specs.Loads.{loaded_faults}
 use Rattle.classifier.specs.Batch.{alone_in, batch_at}
 use Rattle.classifier.proofs.batch.load_words.Given as goal
 
@@ -8,5 +8,5 @@ use Rattle.classifier.proofs.batch.load_words.Given as goal
 abbrev pub invariant-loop-word : goal.invariant-loop-word
 invariant-loop-word l = record {
   made : IsMadeFor l.initial.lanes.circuit l.initial.lanes.order l.lanes;
-  loads : (word k : ℕ) → word < l.word → k < 64 → faults_of l.lanes.loads (word * 64 + k) ≡ alone_in l.faults (batch_at l.batches word) k;
+  loads : (word k : ℕ) → word < l.word → k < 64 → loaded_faults l.lanes.loads (word * 64 + k) ≡ alone_in l.faults (batch_at l.batches word) k;
 }

@@ -1,5 +1,5 @@
 use Rattle.std.proofs.Common.{◌≡◌, ◌<◌, ℕ, length}
-use Rattle.lane_kernel.specs.Loads.{faults_of}
+use Rattle.lane_kernel.specs.Loads.{loaded_faults}
 use Rattle.classifier.specs.Batch.{alone_in}
 use Rattle.classifier.proofs.batch.loads_of.Given as goal
 
@@ -7,5 +7,5 @@ use Rattle.classifier.proofs.batch.loads_of.Given as goal
 abbrev pub invariant-loop-lane : goal.invariant-loop-lane
 invariant-loop-lane l = record {
   count : length l.loads ≡ 64;
-  held : (k : ℕ) → k < l.lane → faults_of l.loads k ≡ alone_in l.faults l.batch k;
+  held : (k : ℕ) → k < l.lane → loaded_faults l.loads k ≡ alone_in l.faults l.batch k;
 }

@@ -2,7 +2,7 @@ use Rattle.std.proofs.Common.{◌≡◌, ℕ, ◌+◌, ◌*◌, ◌<◌, List, a
 use Rattle.circuit.specs.declared.parts.Fault.{Fault}
 use Rattle.alarm_points.specs.FourWatches.{windows_at}
 use Rattle.alarm_points.specs.Watch.{Watches}
-use Rattle.lane_kernel.specs.Loads.{faults_of}
+use Rattle.lane_kernel.specs.Loads.{loaded_faults}
 use Rattle.classifier.specs.Load.{lane_faults, load_of}
 use Rattle.classifier.specs.Planes.{planes_of}
 use Rattle.classifier.proofs.outcome.loaded_outcome.Goals as goal
@@ -16,6 +16,6 @@ returns-clause-outcome g c =
     let first : 0 < 1 = omega arith in
     let same : (windows_at c.from_mut.result.now 0).ftti ≡ c.args.windows.now.ftti = ap (λ (ws : List Watches). (windows_at ws 0).ftti) c.from_mut.ensures.value in
     let lane_of : (k : ℕ) → 0 * 64 + k ≡ k = λ k. omega arith in
-    let own : lane_faults (load_of c.args.lanes.now) 0 ≡ faults_of loads = λ i k. ap (faults_of loads) (lane_of k) i in
+    let own : lane_faults (load_of c.args.lanes.now) 0 ≡ loaded_faults loads = λ i k. ap (loaded_faults loads) (lane_of k) i in
     c.loaded_outcomes.ensures.outcomes 0 first
     ∙ ap₂ (λ (ftti : ℕ) (faults : ℕ → List Fault). planes_of net points ftti runs faults) same own

@@ -3,7 +3,7 @@ use Rattle.std.proofs.lemmas.Grind.{common_steps}
 use Rattle.circuit.specs.declared.parts.NetId.{NetId}
 use Rattle.collapse_map.specs.Collapsed.{Collapsed, watched}
 use Rattle.collapse_map.specs.Looks.{AreLooks, looked_at}
-use Rattle.collapse_map.specs.Settled.{AreGiven, AreSettled, collapsed}
+use Rattle.collapse_map.specs.Settled.{AreGiven, AreAllReached, collapsed}
 use Rattle.collapse_map.specs.declared.looks.Looks.{Looks}
 use Rattle.collapse_map.proofs.Linking.{first_settled, last_settled, stuck_first}
 use Rattle.collapse_map.proofs.collapse.representatives.Goals as goal
@@ -23,8 +23,8 @@ returns-clause-numbers c =
       looked = subst (λ (looks : List Looks). AreLooks (looked_at s.circuit s.watched) looks) (sym c.deref.ensures.value) c.in_ok-looks.ensures.looks;
       ordered = c.requires.order;
     } in
-    let first : AreSettled s order (length order) c.deref_mut.result.now =
-    subst (AreSettled s order (length order)) (sym (c.deref_mut.ensures.value ∙ c.in_ok-reps.ensures.numbers c.args.net.now c.requires.faults))
+    let first : AreAllReached s order (length order) c.deref_mut.result.now =
+    subst (AreAllReached s order (length order)) (sym (c.deref_mut.ensures.value ∙ c.in_ok-reps.ensures.numbers c.args.net.now c.requires.faults))
     (first_settled s order c.in_ok-looks.ensures.sound c.requires.order c.requires.faults) in
     let back : take c.in_ok-reps.reps.len (c.link_all.new.reps ++ drop (length c.link_all.new.reps) c.in_ok-reps.reps.items) ≡ c.link_all.new.reps = grind (arith, common_steps) in
     back

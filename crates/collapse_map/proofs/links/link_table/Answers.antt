@@ -6,7 +6,7 @@ use Rattle.circuit.specs.declared.parts.NetId.{NetId}
 use Rattle.circuit.specs.Value.{driver_at}
 use Rattle.collapse_map.specs.Collapsed.{Collapsed}
 use Rattle.circuit.specs.Order.{net_at}
-use Rattle.collapse_map.specs.Looks.{is_one}
+use Rattle.collapse_map.specs.Looks.{is_one_look}
 use Rattle.collapse_map.specs.Settled.{AreSeen, collapsed}
 use Rattle.collapse_map.specs.declared.looks.Looks.TheVariants.{Nobody}
 use Rattle.collapse_map.proofs.Passes.{step_more, step_one, table_done}
@@ -26,8 +26,8 @@ loop-place-preserved c = λ faults watched order at given lt at_is settled.
     let k : ℕ = c.in-Table.k in
     let seen = c.loop-place.invariant faults watched order at given lt at_is settled in
     let inside : place < length c.table-table.result.now.ins = omega (arith, c.loop-place-test.true, ap length c.as_slice-read-items.ensures) in
-    let test : is_one (get_or c.args.looks.now (net_at c.table-table.result.now.ins place).0 Nobody) ≡ c.is_one.result =
-    ap (λ (nets : List NetId). is_one (get_or c.args.looks.now (net_at nets place).0 Nobody)) (sym c.as_slice-read-items.ensures) ∙ sym c.is_one.ensures in
+    let test : is_one_look (get_or c.args.looks.now (net_at c.table-table.result.now.ins place).0 Nobody) ≡ c.is_one.result =
+    ap (λ (nets : List NetId). is_one_look (get_or c.args.looks.now (net_at nets place).0 Nobody)) (sym c.as_slice-read-items.ensures) ∙ sym c.is_one.ensures in
     elim c.if-is_one.branch as (λ _. AreSeen s order at (take (place + 1) c.table-table.result.now.ins) c.if-is_one.reps) [
       | then-is_one w ↦
           step_one s c.args.looks.now order at k c.args.to c.driver.ensures.sound given c.requires.looks lt at_is c.requires.to

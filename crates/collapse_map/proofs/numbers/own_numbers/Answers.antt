@@ -3,7 +3,7 @@ use Rattle.std.proofs.Common.{add-one, suc, length-append}
 use Rattle.fault_list.specs.Faults.{fault_at}
 use Rattle.fm_base.specs.Lists.{below}
 use Rattle.fm_base.proofs.Below.{map-below}
-use Rattle.collapse_map.specs.Collapsed.{number_of}
+use Rattle.collapse_map.specs.Collapsed.{number_in_list}
 use Rattle.collapse_map.proofs.numbers.own_numbers.Goals as goal
 
 pub loop-i-init : goal.loop-i-init
@@ -17,7 +17,7 @@ loop-i-preserved c =
     record {
       sized = ap length pushed ∙ length-append c.loop-i.numbers.items (c.first_like.result ∷ []) ∙ ap (λ n. n + 1) c.loop-i.invariant.sized;
       numbers = λ circuit listed.
-          let number : ℕ → ℕ = λ k. number_of c.args.faults.now (fault_at c.args.faults.now k) in
+          let number : ℕ → ℕ = λ k. number_in_list c.args.faults.now (fault_at c.args.faults.now k) in
           pushed
           ∙ ap (λ (xs : List ℕ). xs ++ c.first_like.result ∷ []) (c.loop-i.invariant.numbers circuit listed)
           ∙ ap (λ n. map number (below i) ++ n ∷ []) (c.first_like.ensures circuit listed)
@@ -30,7 +30,7 @@ returns c =
     let end : c.loop-i.i ≡ length c.args.faults.now = omega (arith, c.loop-i-test.false, c.loop-i.auto.i-end, c.len-i-end.ensures.count) in
     record {
       numbers = λ circuit listed.
-          let number : ℕ → ℕ = λ k. number_of c.args.faults.now (fault_at c.args.faults.now k) in
+          let number : ℕ → ℕ = λ k. number_in_list c.args.faults.now (fault_at c.args.faults.now k) in
           c.loop-i.invariant.numbers circuit listed ∙ ap (λ n. map number (below n)) end;
       sized = c.loop-i.invariant.sized ∙ end;
       few = c.len-i-end.ensures.few;

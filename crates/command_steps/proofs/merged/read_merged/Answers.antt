@@ -1,5 +1,5 @@
 use Rattle.std.proofs.lemmas.Result.{err_from_is_err_and}
-use Rattle.command_steps.specs.PlanSteps.{names_of}
+use Rattle.command_line.specs.Asks.{names_of}
 use Rattle.command_steps.proofs.Keeping.{then_read}
 use Rattle.command_steps.proofs.BegunOrder.{header_of}
 use Rattle.command_steps.proofs.MergeOrder.{merge_planned, merge_both, merge_made}

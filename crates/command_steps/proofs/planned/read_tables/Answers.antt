@@ -1,5 +1,5 @@
 use Rattle.std.proofs.lemmas.Result.{err_from_is_err_and}
-use Rattle.command_steps.specs.PlanSteps.{names_of}
+use Rattle.command_line.specs.Asks.{names_of}
 use Rattle.command_steps.proofs.Keeping.{one_read, more_read}
 use Rattle.command_steps.proofs.PlanOrder.{tables_runs, tables_rates, tables_points, tables_read}
 use Rattle.command_steps.proofs.planned.read_tables.Goals as goal

@@ -1,6 +1,6 @@
 use Rattle.std.proofs.Common.{◌<◌, [], cond, get_or, below_more, ap, ◌∙◌, arith}
 use Rattle.circuit.specs.Effects.{affected}
-use Rattle.lane_kernel.specs.Loads.{faults_of, names}
+use Rattle.lane_kernel.specs.Loads.{loaded_faults, names}
 use Rattle.differential_kernel.proofs.arm.arm_all.Goals as goal
 
 pub loop-lane-preserved : goal.loop-lane-preserved
@@ -15,7 +15,7 @@ loop-lane-preserved g c =
           ∙ c.loop-lane.invariant.0 k lt n d own (omega (arith, size, within)))
           (λ n d own within.
           c.arm_lane.ensures.own n d own (omega (arith, size, within))
-          ∙ ap (cond (names (get_or loads lane []) n) (affected (faults_of loads lane) c.args.cycle n own))
+          ∙ ap (cond (names (get_or loads lane []) n) (affected (loaded_faults loads lane) c.args.cycle n own))
           (c.loop-lane.invariant.1 lane n d own (omega arith) inside (omega (arith, size, within)))),
       λ k n d own le lt within.
           c.arm_lane.ensures.others k n d own lt (omega (arith, le)) (omega (arith, size, within))

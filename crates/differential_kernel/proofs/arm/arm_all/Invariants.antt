@@ -2,7 +2,7 @@ use Rattle.std.proofs.Common.{◌≡◌, ◌≤◌, ◌<◌, ℕ, Bool, [], cond
 use Rattle.circuit.specs.Effects.{affected}
 use Rattle.differential_kernel.specs.declared.force.Force.{Force}
 use Rattle.differential_kernel.specs.Forces.{force_value}
-use Rattle.lane_kernel.specs.Loads.{faults_of, names}
+use Rattle.lane_kernel.specs.Loads.{loaded_faults, names}
 use Rattle.differential_kernel.proofs.arm.arm_all.Given as goal
 
 -- the lanes so far have the forces of their faults, and the others are as they were
@@ -10,6 +10,6 @@ abbrev pub invariant-loop-lane : goal.invariant-loop-lane
 invariant-loop-lane g l =
     ((k : ℕ) → k < l.lane → (n : ℕ) (d : Force g.row.W.Denot) (own : Bool) → n < length l.forces
     → force_value g.W.Word.lane_bit k (get_or l.forces n d) own
-    ≡ cond (names (get_or l.loads k []) n) (affected (faults_of l.loads k) l.cycle n own) (force_value g.W.Word.lane_bit k (get_or l.initial.forces n d) own))
+    ≡ cond (names (get_or l.loads k []) n) (affected (loaded_faults l.loads k) l.cycle n own) (force_value g.W.Word.lane_bit k (get_or l.initial.forces n d) own))
     × ((k n : ℕ) (d : Force g.row.W.Denot) (own : Bool) → l.lane ≤ k → k < g.W.Word.lanes → n < length l.forces
     → force_value g.W.Word.lane_bit k (get_or l.forces n d) own ≡ force_value g.W.Word.lane_bit k (get_or l.initial.forces n d) own)

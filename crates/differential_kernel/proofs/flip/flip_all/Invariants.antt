@@ -2,7 +2,7 @@ use Rattle.std.proofs.Common.{◌≡◌, ◌≤◌, ◌<◌, ℕ, length}
 use Rattle.circuit.specs.Effects.{has_flip, inverted}
 use Rattle.circuit.specs.Value.{bit_at}
 use Rattle.lane_kernel.specs.Gates.{plane}
-use Rattle.lane_kernel.specs.Loads.{faults_of}
+use Rattle.lane_kernel.specs.Loads.{loaded_faults}
 use Rattle.differential_kernel.specs.Differences.{AreSameOff}
 use Rattle.differential_kernel.proofs.flip.flip_all.Given as goal
 
@@ -10,7 +10,7 @@ use Rattle.differential_kernel.proofs.flip.flip_all.Given as goal
 abbrev pub invariant-loop-lane : goal.invariant-loop-lane
 invariant-loop-lane g l =
     ((k p : ℕ) → k < l.lane → p < length l.raw
-    → bit_at (plane g.W.Word.lane_bit k l.raw) p ≡ inverted (has_flip (faults_of l.loads k) p l.cycle) (bit_at (plane g.W.Word.lane_bit k l.initial.raw) p))
+    → bit_at (plane g.W.Word.lane_bit k l.raw) p ≡ inverted (has_flip (loaded_faults l.loads k) p l.cycle) (bit_at (plane g.W.Word.lane_bit k l.initial.raw) p))
     × ((k : ℕ) → l.lane ≤ k → k < g.W.Word.lanes → plane g.W.Word.lane_bit k l.raw ≡ plane g.W.Word.lane_bit k l.initial.raw)
     × (l.live.bound ≡ l.initial.live.bound)
     × (AreSameOff g.W.Word.lanes g.W.Word.lane_bit l.initial.live l.initial.raw → AreSameOff g.W.Word.lanes g.W.Word.lane_bit l.live l.raw)

@@ -1,5 +1,5 @@
 use Rattle.std.proofs.Common.{◌≡◌, ◌<◌, ◌||◌, ℕ, drop}
-use Rattle.lane_kernel.specs.Loads.{named}
+use Rattle.lane_kernel.specs.Loads.{some_names}
 use Rattle.place_set.specs.Places.{has}
 use Rattle.differential_kernel.proofs.note.note_lanes.Given as goal
 
@@ -7,5 +7,5 @@ use Rattle.differential_kernel.proofs.note.note_lanes.Given as goal
 abbrev pub invariant-loop-faults : goal.invariant-loop-faults
 invariant-loop-faults l = record {
   bound : l.set.bound ≡ l.initial.set.bound;
-  has : (n : ℕ) → n < l.initial.set.bound → (named (drop l.faults-index l.loads) n || has l.set n) ≡ (named l.loads n || has l.initial.set n);
+  has : (n : ℕ) → n < l.initial.set.bound → (some_names (drop l.faults-index l.loads) n || has l.set n) ≡ (some_names l.loads n || has l.initial.set n);
 }

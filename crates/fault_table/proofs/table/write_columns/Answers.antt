@@ -2,11 +2,11 @@ use Rattle.std.proofs.Common.{◌≡◌, refl}
 use Rattle.std.specs.Prelude.{codes}
 use Rattle.fmeda_report.proofs.Sending.{sends_as}
 use Rattle.fault_table.specs.Csv.{csv_field, csv_row}
-use Rattle.fault_table.specs.FaultTable.{columns}
+use Rattle.fault_table.specs.FaultTable.{column_names}
 use Rattle.fault_table.proofs.table.write_columns.Goals as goal
 
--- the columns as a row
-row : codes "fault,net,kind,part,role,covered,class,dangerous,noticed,weight\n" ≡ csv_row columns
+-- the column_names as a row
+row : codes "fault,net,kind,part,role,covered,class,dangerous,noticed,weight\n" ≡ csv_row column_names
 unfolding csv_field
 row = refl
 

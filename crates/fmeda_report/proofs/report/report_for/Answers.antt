@@ -7,7 +7,7 @@ use Rattle.fm_base.specs.Names.{Bytes}
 use Rattle.fm_base.specs.Text.{line}
 use Rattle.campaign_plan.specs.Analysis.{Analysis, fault_count, part_count}
 use Rattle.fmeda_report.specs.Report.{Planes, report, sizes_line, part_line, metric_lines, all_sums, fault_line}
-use Rattle.fmeda_report.specs.Tallies.{planes_at}
+use Rattle.fmeda_report.specs.Tallies.{planes_in_order}
 use Rattle.fmeda_report.proofs.Sending.{sends_as, sends_stop, sends_then}
 use Rattle.fmeda_report.proofs.report.report_for.Goals as goal
 
@@ -29,7 +29,7 @@ unfolding report
 returns-in_err-write_line g c =
     let e = err_from_is_err_and c.from_residual.result c.from_residual.ensures.1 in
     let p = c.args.plan.now in
-    let planes = planes_at c.args.planes.now in
+    let planes = planes_in_order c.args.planes.now in
     rw e.1 (sends_stop last e.0 (sends_stop (faults p planes) e.0 (sends_stop (metrics p planes) e.0 (sends_stop (parts p planes) e.0
     (sends_stop (sizes_line p) e.0 c.in_err-write_line.ensures)))))
 
@@ -38,7 +38,7 @@ unfolding report
 returns-in_err-write_sizes g c =
     let e = err_from_is_err_and c.from_residual-in_err-write_sizes.result c.from_residual-in_err-write_sizes.ensures.1 in
     let p = c.args.plan.now in
-    let planes = planes_at c.args.planes.now in
+    let planes = planes_in_order c.args.planes.now in
     rw e.1 (sends_stop last e.0 (sends_stop (faults p planes) e.0 (sends_stop (metrics p planes) e.0 (sends_stop (parts p planes) e.0
     (sends_then c.in_ok-write_line.ensures c.in_err-write_sizes.ensures)))))
 
@@ -47,7 +47,7 @@ unfolding report
 returns-in_err-write_parts g c =
     let e = err_from_is_err_and c.from_residual-in_err-write_parts.result c.from_residual-in_err-write_parts.ensures.1 in
     let p = c.args.plan.now in
-    let planes = planes_at c.args.planes.now in
+    let planes = planes_in_order c.args.planes.now in
     rw e.1 (sends_stop last e.0 (sends_stop (faults p planes) e.0 (sends_stop (metrics p planes) e.0
     (sends_then (sends_then c.in_ok-write_line.ensures c.in_ok-write_sizes.ensures) (c.in_err-write_parts.ensures planes c.requires.tallied)))))
 
@@ -56,7 +56,7 @@ unfolding report
 returns-in_err-write_metrics g c =
     let e = err_from_is_err_and c.from_residual-in_err-write_metrics.result c.from_residual-in_err-write_metrics.ensures.1 in
     let p = c.args.plan.now in
-    let planes = planes_at c.args.planes.now in
+    let planes = planes_in_order c.args.planes.now in
     rw e.1 (sends_stop last e.0 (sends_stop (faults p planes) e.0
     (sends_then (sends_then (sends_then c.in_ok-write_line.ensures c.in_ok-write_sizes.ensures) (c.in_ok-write_parts.ensures planes c.requires.tallied))
     (sends_as (λ j. metric_lines (c.settings.ensures.value j).asil (c.all_sums.ensures.sums j)) c.in_err-write_metrics.ensures))))
@@ -65,7 +65,7 @@ pub returns-in_err-write_faults : goal.returns-in_err-write_faults
 unfolding report
 returns-in_err-write_faults g c =
     let e = err_from_is_err_and c.from_residual-in_err-write_faults.result c.from_residual-in_err-write_faults.ensures.1 in
-    let planes = planes_at c.args.planes.now in
+    let planes = planes_in_order c.args.planes.now in
     rw e.1 (sends_stop last e.0 (sends_then
     (sends_then (sends_then (sends_then c.in_ok-write_line.ensures c.in_ok-write_sizes.ensures) (c.in_ok-write_parts.ensures planes c.requires.tallied))
     (sends_as (λ j. metric_lines (c.settings.ensures.value j).asil (c.all_sums.ensures.sums j)) c.in_ok-write_metrics.ensures))
@@ -74,7 +74,7 @@ returns-in_err-write_faults g c =
 pub returns : goal.returns
 unfolding report
 returns g c =
-    let planes = planes_at c.args.planes.now in
+    let planes = planes_in_order c.args.planes.now in
     sends_then (sends_then
     (sends_then (sends_then (sends_then c.in_ok-write_line.ensures c.in_ok-write_sizes.ensures) (c.in_ok-write_parts.ensures planes c.requires.tallied))
     (sends_as (λ j. metric_lines (c.settings.ensures.value j).asil (c.all_sums.ensures.sums j)) c.in_ok-write_metrics.ensures))

@@ -4,7 +4,7 @@ use Rattle.std.proofs.lemmas.Result.{err_from_is_err_and}
 use Rattle.fm_base.specs.Names.{Bytes}
 use Rattle.fm_base.specs.Text.{line}
 use Rattle.fmeda_report.specs.Report.{summary, sizes_line, metric_lines, all_sums}
-use Rattle.fmeda_report.specs.Tallies.{planes_at}
+use Rattle.fmeda_report.specs.Tallies.{planes_in_order}
 use Rattle.fmeda_report.proofs.Sending.{sends_as, sends_stop, sends_then}
 use Rattle.fmeda_report.proofs.report.summarize_for.Goals as goal
 
@@ -20,7 +20,7 @@ unfolding summary title
 returns-in_err-write_line g c =
     let e = err_from_is_err_and c.from_residual.result c.from_residual.ensures.1 in
     let p = c.args.plan.now in
-    let metrics = metric_lines p.settings.asil (all_sums p (planes_at c.args.planes.now)) in
+    let metrics = metric_lines p.settings.asil (all_sums p (planes_in_order c.args.planes.now)) in
     let word = c.bytes.ensures ∙ c.number_word.ensures ∙ ap decimal c.from.ensures in
     rw e.1 (sends_stop last e.0 (sends_stop metrics e.0 (sends_stop (sizes_line p) e.0 (sends_as (ap title word) c.in_err-write_line.ensures))))
 
@@ -29,7 +29,7 @@ unfolding summary title
 returns-in_err-write_sizes g c =
     let e = err_from_is_err_and c.from_residual-in_err-write_sizes.result c.from_residual-in_err-write_sizes.ensures.1 in
     let p = c.args.plan.now in
-    let metrics = metric_lines p.settings.asil (all_sums p (planes_at c.args.planes.now)) in
+    let metrics = metric_lines p.settings.asil (all_sums p (planes_in_order c.args.planes.now)) in
     let word = c.bytes.ensures ∙ c.number_word.ensures ∙ ap decimal c.from.ensures in
     rw e.1 (sends_stop last e.0 (sends_stop metrics e.0 (sends_then (sends_as (ap title word) c.in_ok-write_line.ensures) c.in_err-write_sizes.ensures)))
 

@@ -3,7 +3,7 @@ use Rattle.std.proofs.lemmas.Grind.{common_steps}
 use Rattle.fmeda_report.specs.Report.{report}
 use Rattle.fmeda_report.specs.Rooms.{Room}
 use Rattle.fmeda_report.specs.Rows.{planes_in}
-use Rattle.fmeda_report.specs.Tallies.{planes_at}
+use Rattle.fmeda_report.specs.Tallies.{planes_in_order}
 use Rattle.fmeda_report.proofs.RowPlanes.{rows_within}
 use Rattle.fmeda_report.proofs.Sending.{sends_as}
 use Rattle.fmeda_report.proofs.report.write_report.Goals as goal
@@ -18,7 +18,7 @@ returns-clause-report g c =
     let p = c.args.plan.now in
     let count = c.deref_mut.ensures.len ∙ ap (λ (room : Room). room.batches) (c.space.view_is ∙ c.requires.space) in
     let items : c.deref-2.result.now ≡ c.place_planes.new.planes = grind (arith, common_steps) in
-    let same : (batch : ℕ) → planes_at c.deref-2.result.now batch ≡ planes_in c.args.rows.now batch =
-    λ batch. ap (λ planes. planes_at planes batch) items ∙ c.place_planes.ensures p c.requires.rows count batch in
-    let all : planes_at c.deref-2.result.now ≡ planes_in c.args.rows.now = λ j batch. same batch j in
+    let same : (batch : ℕ) → planes_in_order c.deref-2.result.now batch ≡ planes_in c.args.rows.now batch =
+    λ batch. ap (λ planes. planes_in_order planes batch) items ∙ c.place_planes.ensures p c.requires.rows count batch in
+    let all : planes_in_order c.deref-2.result.now ≡ planes_in c.args.rows.now = λ j batch. same batch j in
     sends_as (ap (report p) all) c.report_for.ensures

@@ -1,6 +1,6 @@
 use Rattle.std.proofs.Common.{refl}
 use Rattle.std.proofs.lemmas.Result.{err_from_is_err_and}
-use Rattle.command_steps.specs.PlanSteps.{names_of}
+use Rattle.command_line.specs.Asks.{names_of}
 use Rattle.fmeda_top.proofs.KeptEnding.{kept_once, kept_told}
 use Rattle.fmeda_top.proofs.kept.try_kept.Goals as goal
 

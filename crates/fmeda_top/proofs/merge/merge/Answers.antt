@@ -4,7 +4,7 @@ use Rattle.fm_shelf.specs.Sink.{Wrote}
 use Rattle.fm_shelf.specs.Outside.{outside}
 use Rattle.campaign_run.specs.Left.{IsPrefixOf}
 use Rattle.command_line.specs.Commands.{Merge}
-use Rattle.command_steps.specs.PlanSteps.{names_of}
+use Rattle.command_line.specs.Asks.{names_of}
 use Rattle.command_steps.specs.MergeSteps.{MergeRefused}
 use Rattle.command_text.specs.Texts.{merge_text}
 use Rattle.fmeda_top.specs.Written.{rows_file}

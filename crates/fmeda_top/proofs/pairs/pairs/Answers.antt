@@ -2,7 +2,7 @@ use Rattle.std.proofs.Common.{[], refl}
 use Rattle.fm_shelf.specs.Outside.{outside}
 use Rattle.command_line.specs.Commands.{Pairs}
 use Rattle.command_steps.specs.Steps.{RefusedInOrder}
-use Rattle.command_steps.specs.PlanSteps.{names_of}
+use Rattle.command_line.specs.Asks.{names_of}
 use Rattle.fmeda_top.proofs.Ending.{tried_ends}
 use Rattle.fmeda_top.proofs.Naming.{same_names}
 use Rattle.fmeda_top.proofs.PairsEnding.{pairs_end}

@@ -1,6 +1,6 @@
 use Rattle.std.proofs.Common.{refl}
 use Rattle.std.proofs.lemmas.Result.{err_from_is_err_and}
-use Rattle.command_steps.specs.PlanSteps.{names_of}
+use Rattle.command_line.specs.Asks.{names_of}
 use Rattle.fmeda_top.proofs.PairsEnding.{pairs_refused, pairs_tried, rows_distinct}
 use Rattle.fmeda_top.proofs.pairs.try_pairs.Goals as goal
 

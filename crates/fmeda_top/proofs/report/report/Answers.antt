@@ -1,7 +1,8 @@
 use Rattle.std.proofs.Common.{[], refl}
 use Rattle.fm_shelf.specs.Outside.{outside}
 use Rattle.command_line.specs.Commands.{Report}
-use Rattle.command_steps.specs.PlanSteps.{PlanRefused, names_of}
+use Rattle.command_steps.specs.PlanSteps.{PlanRefused}
+use Rattle.command_line.specs.Asks.{names_of}
 use Rattle.fmeda_top.proofs.Ending.{tried_ends}
 use Rattle.fmeda_top.proofs.Naming.{same_names}
 use Rattle.fmeda_top.proofs.ReportEnding.{report_end, report_refused}

@@ -2,7 +2,8 @@ use Rattle.std.proofs.Common.{◌∙◌, ap, refl}
 use Rattle.fm_shelf.specs.Outside.{outside}
 use Rattle.command_line.specs.Commands.{Shard}
 use Rattle.command_steps.specs.FirstRefusal.{own_header}
-use Rattle.command_steps.specs.PlanSteps.{PlanRefused, names_of, bytes_of}
+use Rattle.command_steps.specs.PlanSteps.{PlanRefused, input_files}
+use Rattle.command_line.specs.Asks.{names_of}
 use Rattle.fmeda_top.proofs.Ending.{tried_ends}
 use Rattle.fmeda_top.proofs.Naming.{same_names}
 use Rattle.fmeda_top.proofs.ShardEnding.{part_ends, part_of, shard_none, shard_done, shard_left, shard_refused}
@@ -16,7 +17,7 @@ returns-in-Ok g c =
     let before = outside (g.F.Shelf.seen c.args.shelf) (g.O.Sink.seen c.args.out.now) in
     let mid = g.F.Shelf.seen c.read_plan.new.shelf in
     let after = outside (g.F.Shelf.seen c.run_part-ran.result.shelf) (g.O.Sink.seen c.run_part-ran.new.out) in
-    let own = c.own_line-own.ensures.text ∙ ap (λ set. own_header set (bytes_of made.files) made.plan) read.4 in
+    let own = c.own_line-own.ensures.text ∙ ap (λ set. own_header set (input_files made.files) made.plan) read.4 in
     let of = part_of (names_of c.args.inputs.now) c.args.rows.now c.args.settings c.args.part.part c.args.part.parts before mid after.shelf made c.own_line-own.result reads read own in
     part_ends (Shard (names_of c.args.inputs.now) c.args.rows.now c.args.settings c.args.part.part c.args.part.parts) (names_of c.args.inputs.now) of refl refl before mid after (g.O.Sink.seen c.say_end-status.new.out) _ reads
     (shard_none (names_of c.args.inputs.now) c.args.rows.now c.args.settings c.args.part.part c.args.part.parts before mid after.shelf made c.own_line-own.result reads read own)

@@ -1,5 +1,5 @@
 use Rattle.std.proofs.Common.{◌≡◌, ◌+◌, ◌++◌, ◌∷◌, [], ℕ, List, rules, ap, sym, ◌∙◌, subst}
-use Rattle.golden_rows.specs.Recorded.{AreRows, Recorded}
+use Rattle.golden_rows.specs.Recorded.{AreGoldenRows, Recorded}
 use Rattle.golden_rows.proofs.RowLemmas.{run_more}
 use Rattle.golden_rows.proofs.make.rows_for.Goals as goal
 
@@ -12,6 +12,6 @@ loop-run-preserved g c =
     record {
       made = c.rows_of.ensures.made;
       bare = c.rows_of.ensures.bare;
-      rows = subst (AreRows r c.args.width (c.loop-run.run + 1)) (sym rows)
+      rows = subst (AreGoldenRows r c.args.width (c.loop-run.run + 1)) (sym rows)
           (run_more r c.args.width c.loop-run.run c.loop-run.rows.items words c.loop-run.invariant.rows c.in_ok-words.ensures.rows);
     }

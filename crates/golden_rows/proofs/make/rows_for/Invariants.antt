@@ -1,12 +1,12 @@
 use Rattle.std.proofs.Common.{◌≡◌, []}
-use Rattle.lane_kernel.specs.Bank.{IsMadeFor}
-use Rattle.lane_kernel.specs.Loads.{faults_of}
-use Rattle.golden_rows.specs.Recorded.{AreRows}
+use Rattle.lane_kernel.specs.Bank.{IsBankFor}
+use Rattle.lane_kernel.specs.Loads.{loaded_faults}
+use Rattle.golden_rows.specs.Recorded.{AreGoldenRows}
 use Rattle.golden_rows.proofs.make.rows_for.Given as goal
 
 abbrev pub invariant-loop-run : goal.invariant-loop-run
 invariant-loop-run g l = record {
-  made : IsMadeFor l.net l.order l.lanes;
-  bare : faults_of l.lanes.loads 0 ≡ [];
-  rows : AreRows (record { circuit = l.net; runs = l.work }) l.width l.run l.rows.items;
+  made : IsBankFor l.net l.order l.lanes;
+  bare : loaded_faults l.lanes.loads 0 ≡ [];
+  rows : AreGoldenRows (record { circuit = l.net; runs = l.work }) l.width l.run l.rows.items;
 }

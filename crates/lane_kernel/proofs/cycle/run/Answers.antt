@@ -7,7 +7,7 @@ use Rattle.circuit.specs.Order.{net_at}
 use Rattle.circuit.specs.Trace.{flipped}
 use Rattle.circuit.proofs.Walks.{holds_sources, holds_end}
 use Rattle.lane_kernel.specs.Gates.{AreInputs, AreLatches, IsRight, latch_at, plane}
-use Rattle.lane_kernel.specs.Loads.{faults_of}
+use Rattle.lane_kernel.specs.Loads.{loaded_faults}
 use Rattle.lane_kernel.proofs.Sources.{length_plane, sources_whole, inputs_driven, inputs_inside, latches_driven, latches_inside}
 use Rattle.lane_kernel.proofs.cycle.run.Goals as goal
 
@@ -26,7 +26,7 @@ take_latches-requires-clause-nets g c =
 pub returns-clause-values : goal.returns-clause-values
 returns-clause-values g c = λ k order lt program forces paused.
     let net = c.args.netlist.now in
-    let faults = faults_of c.args.loads.now k in
+    let faults = loaded_faults c.args.loads.now k in
     let x : Cycle = cycle_of net faults c.args.cycle (flipped faults c.args.cycle (plane g.W.Word.lane_bit k c.args.raw.now)) c.args.inputs.now in
     let inputs : AreInputs net c.inputs.result.now = subst (AreInputs net) (sym c.inputs.ensures.value) (inputs_driven net c.inputs.ensures.sound) in
     let latches : AreLatches net c.latches-latches.result.now =

@@ -1,6 +1,6 @@
 use Rattle.std.proofs.Common.{◌≡◌, length, sym, ◌∙◌, arith}
 use Rattle.lane_kernel.specs.Gates.{plane}
-use Rattle.lane_kernel.specs.Loads.{faults_of}
+use Rattle.lane_kernel.specs.Loads.{loaded_faults}
 use Rattle.lane_kernel.proofs.FlipOnce.{flipped_places}
 use Rattle.lane_kernel.proofs.Sources.{length_plane}
 use Rattle.lane_kernel.proofs.source.flip_all.Goals as goal
@@ -9,6 +9,6 @@ pub returns : goal.returns
 returns g c = λ k lt.
     let now : length (plane g.W.Word.lane_bit k c.loop-lane.raw) ≡ length c.loop-lane.raw = length_plane g.W.Word.lane_bit k c.loop-lane.raw in
     let old : length (plane g.W.Word.lane_bit k c.args.raw.now) ≡ length c.args.raw.now = length_plane g.W.Word.lane_bit k c.args.raw.now in
-    flipped_places (faults_of c.args.loads.now k) c.args.cycle (plane g.W.Word.lane_bit k c.args.raw.now) (plane g.W.Word.lane_bit k c.loop-lane.raw)
+    flipped_places (loaded_faults c.args.loads.now k) c.args.cycle (plane g.W.Word.lane_bit k c.args.raw.now) (plane g.W.Word.lane_bit k c.loop-lane.raw)
     (now ∙ c.loop-lane.auto.raw ∙ sym old)
     (λ p within. c.loop-lane.invariant.0 k p (omega (arith, c.count-lane-end.ensures, lt)) (omega (arith, old, within, c.loop-lane.auto.raw)))

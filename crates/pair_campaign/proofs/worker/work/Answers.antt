@@ -9,7 +9,7 @@ use Rattle.fault_list.specs.Faults.{batches_for}
 use Rattle.golden_difference.specs.Lanes.{Lanes}
 use Rattle.pair_list.specs.Chosen.{Chosen, pair_count}
 use Rattle.pair_campaign.specs.PairPlanes.{pair_plane}
-use Rattle.pair_campaign.specs.Work.{AreToolsFor}
+use Rattle.classifier.specs.Tools.{AreToolsFor}
 use Rattle.pair_campaign.proofs.Rounds.{begins_within, ends_behind, in_round}
 use Rattle.pair_campaign.proofs.worker.work.Goals as goal
 

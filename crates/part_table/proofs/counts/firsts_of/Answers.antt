@@ -1,7 +1,7 @@
 use Rattle.std.proofs.Common.{◌≡◌, ◌<◌, ◌+◌, ◌∙◌, ap, sym, subst, set, Vec, Global, ℕ, arith}
 use Rattle.std.specs.Prelude.{Option, Some, None, unwrap_or}
 use Rattle.std.proofs.lemmas.Grind.{common_steps}
-use Rattle.part_table.specs.Counted.{row_at, AreFirsts}
+use Rattle.part_table.specs.Counted.{row_in_list, AreFirsts}
 use Rattle.part_table.proofs.Counting.{no_firsts, none_noted, one_noted, row_below}
 use Rattle.part_table.proofs.counts.firsts_of.Goals as goal
 use Rattle.part_table.proofs.counts.firsts_of.Goals.{in-Some, in_default}
@@ -18,13 +18,13 @@ loop-i-preserved c =
     elim c.match-row.branch [
       | in-Some w ↦ (
           let k = w.in-Some.k in
-          let here : row_at rows i ≡ Some k = w.in-Some.is in
+          let here : row_in_list rows i ≡ Some k = w.in-Some.is in
           let within : k < n = row_below n rows i k c.requires.below lt here in
-          let noted = w.note_first.ensures ∙ ap (λ fs. set fs k (Some (unwrap_or (row_at fs k) i))) w.deref_mut.ensures.value in
+          let noted = w.note_first.ensures ∙ ap (λ fs. set fs k (Some (unwrap_or (row_in_list fs k) i))) w.deref_mut.ensures.value in
           let items : c.match-row.firsts.items ≡ w.note_first.new.firsts = grind (arith, common_steps) in
           subst (AreFirsts n (i + 1) rows) (sym (items ∙ noted)) (one_noted n rows i k c.loop-i.firsts.items c.loop-i.invariant here within))
       | in_default w ↦ (
-          let here : row_at rows i ≡ None = w.in_default.is in
+          let here : row_in_list rows i ≡ None = w.in_default.is in
           subst (λ (v : Vec (Option ℕ) Global). AreFirsts n (i + 1) rows v.items) (sym w.firsts-is)
           (none_noted n rows i c.loop-i.firsts.items c.loop-i.invariant here))
     ]

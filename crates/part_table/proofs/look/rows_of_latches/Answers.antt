@@ -2,7 +2,7 @@ use Rattle.std.proofs.Common.{◌<◌, ◌∙◌, ap, length, get_or, List, ℕ,
 use Rattle.std.specs.Prelude.{Option}
 use Rattle.circuit.specs.declared.parts.Latch.{Latch}
 use Rattle.part_table.specs.PartTable.{row_of_net}
-use Rattle.part_table.specs.Counted.{row_at}
+use Rattle.part_table.specs.Counted.{row_in_list}
 use Rattle.part_table.proofs.Looking.{latch_within, latches_push, length_rows, no_latch, row_there}
 use Rattle.part_table.proofs.look.rows_of_latches.Goals as goal
 
@@ -21,8 +21,8 @@ loop-latch-preserved c =
     let i = c.loop-latch.latch-index in
     let lt : i < length net.latches = omega (arith, c.loop-latch-test.true, ap length c.latches-latch-items.ensures.value) in
     let within = latch_within net c.latches-latch-items.ensures.sound i no_latch lt in
-    let here = ap (λ (ls : List Latch). row_at c.args.rows.now (get_or ls i no_latch).to.0) c.latches-latch-items.ensures.value
-    ∙ ap (λ (rows : List (Option ℕ)). row_at rows (get_or net.latches i no_latch).to.0) c.requires
+    let here = ap (λ (ls : List Latch). row_in_list c.args.rows.now (get_or ls i no_latch).to.0) c.latches-latch-items.ensures.value
+    ∙ ap (λ (rows : List (Option ℕ)). row_in_list rows (get_or net.latches i no_latch).to.0) c.requires
     ∙ row_there net c.args.rates.now (get_or net.latches i no_latch).to.0 within in
     c.in_ok-push.ensures.items
     ∙ latches_push (λ (latch : Latch). row_of_net net c.args.rates.now latch.to.0) net.latches i no_latch c.loop-latch.latches.items _ lt c.loop-latch.invariant here

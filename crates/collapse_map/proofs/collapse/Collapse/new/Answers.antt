@@ -6,7 +6,7 @@ use Rattle.circuit.specs.declared.parts.Fault.{Fault}
 use Rattle.circuit.specs.Circuit.{Circuit}
 use Rattle.alarm_points.specs.declared.Points.{Points}
 use Rattle.fm_base.specs.Lists.{below}
-use Rattle.collapse_map.specs.Collapsed.{Collapsed, Holds, rep_of, watched}
+use Rattle.collapse_map.specs.Collapsed.{Collapsed, HoldsRepresentatives, rep_of, watched}
 use Rattle.collapse_map.specs.Settled.{collapsed}
 use Rattle.collapse_map.proofs.Looking.{watched_nets}
 use Rattle.collapse_map.proofs.Owned.{holds_all}
@@ -31,9 +31,9 @@ invariant_of-result c =
     let numbers : lent ≡ map (rep_of s) (below (length lent)) = c.deref.ensures.value ∙ c.in_ok-reps.ensures.numbers ∙ ap (λ n. map (rep_of s) (below n)) (sym size) in
     let own : c.count_own-count.result ≡ count_by (λ i. rep_of s i == i) (below (length s.faults)) =
     c.count_own-count.ensures (rep_of s) numbers ∙ ap (λ n. count_by (λ i. rep_of s i == i) (below n)) size in
-    let made : Holds s c.from_vec.result c.count_own-count.result =
+    let made : HoldsRepresentatives s c.from_vec.result c.count_own-count.result =
     holds_all s c.args.order.now c.from_vec.result c.count_own-count.result c.in_ok-reps.ensures.sound c.requires.order c.requires.faults (watched_nets c.args.net.now c.args.points.now c.requires.points)
     (c.from_vec.ensures ∙ c.in_ok-reps.ensures.numbers) own in
-    subst (λ (circuit : Circuit). Holds (record { circuit = circuit; faults = c.of-2.result.value; watched = watched c.of-3.result.value }) c.from_vec.result c.count_own-count.result) (sym c.of.ensures)
-    (subst (λ (faults : List Fault). Holds (record { circuit = c.args.net.now; faults = faults; watched = watched c.of-3.result.value }) c.from_vec.result c.count_own-count.result) (sym c.of-2.ensures)
-    (subst (λ (points : Points). Holds (record { circuit = c.args.net.now; faults = c.args.faults.now; watched = watched points }) c.from_vec.result c.count_own-count.result) (sym c.of-3.ensures) made))
+    subst (λ (circuit : Circuit). HoldsRepresentatives (record { circuit = circuit; faults = c.of-2.result.value; watched = watched c.of-3.result.value }) c.from_vec.result c.count_own-count.result) (sym c.of.ensures)
+    (subst (λ (faults : List Fault). HoldsRepresentatives (record { circuit = c.args.net.now; faults = faults; watched = watched c.of-3.result.value }) c.from_vec.result c.count_own-count.result) (sym c.of-2.ensures)
+    (subst (λ (points : Points). HoldsRepresentatives (record { circuit = c.args.net.now; faults = c.args.faults.now; watched = watched points }) c.from_vec.result c.count_own-count.result) (sym c.of-3.ensures) made))

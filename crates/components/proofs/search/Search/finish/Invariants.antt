@@ -1,11 +1,11 @@
-use Rattle.components.specs.Kept.{NoneNew, Searches, work_left}
+use Rattle.components.specs.Kept.{NoneNew, ComponentSearches, search_work_left}
 use Rattle.components.proofs.search.Search.finish.Given as goal
 
 abbrev pub invariant-steps : goal.invariant-steps
 invariant-steps l = record {
-  search : Searches l.edges l.self;
+  search : ComponentSearches l.edges l.self;
   none_new : NoneNew l.initial.self.marks.items l.self.marks.items;
 }
 
 abbrev pub decreases-steps : goal.decreases-steps
-decreases-steps l = work_left l.self.marks.items l.self.starts.items l.self.path.items
+decreases-steps l = search_work_left l.self.marks.items l.self.starts.items l.self.path.items

@@ -1,7 +1,7 @@
 use Rattle.std.proofs.Common.{◌≡◌, ◌∙◌, ◌∷◌, List, Bor, ap, sym, refl, ℕ}
 use Rattle.csv.specs.Records.{fields_of}
 use Rattle.csv.specs.declared.reader.Reader.{Reader}
-use Rattle.csv_rows.specs.Reading.{IsBetween, IsSound, bytes_left, rows_to_come, rows_left}
+use Rattle.csv_rows.specs.Reading.{IsBetweenRows, IsSound, bytes_left, rows_to_come, rows_left}
 use Rattle.csv_rows.specs.Rows.{Fields, refusing}
 use Rattle.csv_rows.specs.declared.rows.Stage.{Stage}
 use Rattle.csv_rows.specs.declared.rows.Stage.TheVariants.{Between}
@@ -9,16 +9,16 @@ use Rattle.csv_rows.proofs.ReaderFacts.{takes_row, ends_rows}
 use Rattle.csv_rows.proofs.RowFacts.{rest_goes_on}
 use Rattle.csv_rows.proofs.rows.Rows.read.Goals as goal
 
-is_between : (s : Stage) (r : Reader (Bor (List ℕ))) → s ≡ Between → IsSound s r → IsBetween r
+is_between : (s : Stage) (r : Reader (Bor (List ℕ))) → s ≡ Between → IsSound s r → IsBetweenRows r
 is_between s r e h = rw e at h
 
-sound : (s : Stage) (r : Reader (Bor (List ℕ))) → s ≡ Between → IsBetween r → IsSound s r
+sound : (s : Stage) (r : Reader (Bor (List ℕ))) → s ≡ Between → IsBetweenRows r → IsSound s r
 sound s r e h = rw e h
 
 to_come : (s : Stage) (r : Reader (Bor (List ℕ))) → s ≡ Between → rows_to_come s r ≡ rows_left r
 to_come s r e = rw e refl
 
-took : (c : goal.Else-not-found) → IsBetween c.read_byte_record.new.self × (rows_left c.self.inside.reader ≡ fields_of c.read_byte_record.new.row ∷ rows_left c.read_byte_record.new.self)
+took : (c : goal.Else-not-found) → IsBetweenRows c.read_byte_record.new.self × (rows_left c.self.inside.reader ≡ fields_of c.read_byte_record.new.row ∷ rows_left c.read_byte_record.new.self)
 took c =
     let e = c.in-Ok.ensures in
     let b = is_between c.self.inside.stage c.self.inside.reader c.in-Between.is c.self.invariant in

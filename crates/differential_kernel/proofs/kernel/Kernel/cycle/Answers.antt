@@ -10,11 +10,11 @@ use Rattle.circuit.specs.Value.{bit_at}
 use Rattle.golden_difference.specs.Beside.{IsGoldenRow}
 use Rattle.lane_kernel.specs.Bank.{lane_of}
 use Rattle.lane_kernel.specs.Gates.{latch_at, plane}
-use Rattle.lane_kernel.specs.Loads.{faults_of}
+use Rattle.lane_kernel.specs.Loads.{loaded_faults}
 use Rattle.lane_kernel.proofs.Sources.{length_plane}
 use Rattle.differential_kernel.specs.Differences.{AreSameOff}
 use Rattle.differential_kernel.specs.Forces.{AreActs, AreIdle, AreIdleOff, AreNamed, AreSteady, has_stuck}
-use Rattle.differential_kernel.specs.Kernel.{bank_of}
+use Rattle.differential_kernel.specs.Kernel.{difference_bank}
 use Rattle.differential_kernel.specs.Walk.{AreForces, IsPair}
 use Rattle.differential_kernel.proofs.Stepped.{stepped}
 use Rattle.differential_kernel.proofs.kernel.Kernel.cycle.Goals as goal
@@ -87,7 +87,7 @@ returns-clause-step g c = λ vectors inputs beside golden k lt.
     let s = c.args.self.now in
     let bit = g.W.Word.lane_bit in
     let circuit = s.circuit.value in
-    let faults = faults_of s.in_force.items k in
+    let faults = loaded_faults s.in_force.items k in
     let row = c.args.row.now in
     let made : circuit ≡ c.args.netlist.now = c.requires.made.circuit in
     let forces : c.deref-7.result.now ≡ c.prepare-self.new.forces = grind (arith, common_steps) in
@@ -96,7 +96,7 @@ returns-clause-step g c = λ vectors inputs beside golden k lt.
     let words : (with_items s.words c.advance.new.words).items ≡ c.advance.new.words = grind (arith, common_steps) in
     let new : Moment = record { cycle = s.cycle + 1; raw = plane bit k c.advance.new.raw; values = plane bit k c.advance.new.words } in
     rw (raw, words)
-    (stepped circuit faults vectors inputs row (lane_of bit k (bank_of s)) new c.requires.kernel.sound (beside k lt)
+    (stepped circuit faults vectors inputs row (lane_of bit k (difference_bank s)) new c.requires.kernel.sound (beside k lt)
     (length_plane bit k s.raw.items ∙ c.requires.kernel.raw)
     (subst (λ (m : Circuit). IsGoldenRow m (vectors ++ inputs ∷ []) (length vectors) row) (sym made) golden)
     (λ x other pair faults_are number_is holds m net.
@@ -104,12 +104,12 @@ returns-clause-step g c = λ vectors inputs beside golden k lt.
     (subst (λ fs. AreForces bit k fs x) (sym forces)
     (λ n d own within.
     c.prepare-self.ensures.armed k n d own lt within
-    ∙ ap₂ (λ fs t. affected fs t n own) (ap (λ (ls : List (List (Option Fault))). faults_of ls k) c.deref-2.ensures.value ∙ sym faults_are) (sym number_is)))
+    ∙ ap₂ (λ fs t. affected fs t n own) (ap (λ (ls : List (List (Option Fault))). loaded_faults ls k) c.deref-2.ensures.value ∙ sym faults_are) (sym number_is)))
     (λ l within.
     ap (λ ws. bit_at (plane bit k ws) l) flips
     ∙ ap (λ (bits : List Bool). bit_at bits l)
     (c.flip.ensures.flipped k lt
-    ∙ ap₂ (λ (ls : List (List (Option Fault))) ws. flipped (faults_of ls k) s.cycle (plane bit k ws)) c.deref-3.ensures.value c.deref_mut-2.ensures.value)
+    ∙ ap₂ (λ (ls : List (List (Option Fault))) ws. flipped (loaded_faults ls k) s.cycle (plane bit k ws)) c.deref-3.ensures.value c.deref_mut-2.ensures.value)
     ∙ holds l (subst (λ (e : Circuit). l < length e.latches) (sym made) within))
     m (subst (λ (e : Circuit). m < length e.drivers) made net))
     (λ l within.

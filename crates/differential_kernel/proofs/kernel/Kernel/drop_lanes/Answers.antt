@@ -9,8 +9,8 @@ use Rattle.circuit.specs.Value.{bit_at}
 use Rattle.golden_difference.specs.Beside.{IsBeside}
 use Rattle.lane_kernel.specs.Bank.{lane_of}
 use Rattle.lane_kernel.specs.Gates.{plane}
-use Rattle.lane_kernel.specs.Loads.{faults_of}
-use Rattle.differential_kernel.specs.Kernel.{bank_of}
+use Rattle.lane_kernel.specs.Loads.{loaded_faults}
+use Rattle.differential_kernel.specs.Kernel.{difference_bank}
 use Rattle.differential_kernel.proofs.Dropping.{all_kept, beside_dropped, beside_kept, none_kept, none_out}
 use Rattle.differential_kernel.proofs.kernel.Kernel.drop_lanes.Goals as goal
 
@@ -64,14 +64,14 @@ pub returns-clause-dropped : goal.returns-clause-dropped
 returns-clause-dropped g c = λ k lt is.
     let s = c.args.self.now in
     let loads : (with_items s.in_force c.unload.new.loads).items ≡ c.unload.new.loads = grind (arith, common_steps) in
-    ap (λ (ls : List (List (Option Fault))). faults_of ls k) loads ∙ c.unload.ensures.dropped k lt is
+    ap (λ (ls : List (List (Option Fault))). loaded_faults ls k) loads ∙ c.unload.ensures.dropped k lt is
 
 pub returns-clause-others : goal.returns-clause-others
 returns-clause-others g c = λ k lt is.
     let s = c.args.self.now in
     let loads : (with_items s.in_force c.unload.new.loads).items ≡ c.unload.new.loads = grind (arith, common_steps) in
-    ap (λ (ls : List (List (Option Fault))). faults_of ls k) loads ∙ c.unload.ensures.others k lt is
-    ∙ ap (λ (ls : List (List (Option Fault))). faults_of ls k) c.deref_mut.ensures.value
+    ap (λ (ls : List (List (Option Fault))). loaded_faults ls k) loads ∙ c.unload.ensures.others k lt is
+    ∙ ap (λ (ls : List (List (Option Fault))). loaded_faults ls k) c.deref_mut.ensures.value
 
 pub returns-clause-beside : goal.returns-clause-beside
 returns-clause-beside g c = λ vectors beside k lt.
@@ -79,9 +79,9 @@ returns-clause-beside g c = λ vectors beside k lt.
     let bit = g.W.Word.lane_bit in
     let out = c.args.out in
     let circuit = s.circuit.value in
-    let faults = faults_of (with_items s.in_force c.unload.new.loads).items k in
-    let before = faults_of s.in_force.items k in
-    let old : Moment = lane_of bit k (bank_of s) in
+    let faults = loaded_faults (with_items s.in_force c.unload.new.loads).items k in
+    let before = loaded_faults s.in_force.items k in
+    let old : Moment = lane_of bit k (difference_bank s) in
     let new : Moment = record {
       cycle = s.cycle;
       raw = plane bit k (with_items s.raw c.keep_lanes.new.words).items;
@@ -93,14 +93,14 @@ returns-clause-beside g c = λ vectors beside k lt.
     elim (cases_Bool (bit out k)) as (λ _. IsBeside circuit faults vectors new) [
       | inl is ↦
           beside_dropped circuit faults vectors new
-          (ap (λ (ls : List (List (Option Fault))). faults_of ls k) loads ∙ c.unload.ensures.dropped k lt is)
+          (ap (λ (ls : List (List (Option Fault))). loaded_faults ls k) loads ∙ c.unload.ensures.dropped k lt is)
           (beside k lt).cycle
           (λ l. ap (λ ws. bit_at (plane bit k ws) l) raw ∙ c.keep_lanes.ensures k l lt ∙ none_out (bit out k) _ is)
           (λ n. ap (λ ws. bit_at (plane bit k ws) n) words ∙ c.keep_lanes-2.ensures k n lt ∙ none_out (bit out k) _ is)
       | inr is ↦
           beside_kept circuit faults before vectors old new
-          (ap (λ (ls : List (List (Option Fault))). faults_of ls k) loads ∙ c.unload.ensures.others k lt is
-          ∙ ap (λ (ls : List (List (Option Fault))). faults_of ls k) c.deref_mut.ensures.value)
+          (ap (λ (ls : List (List (Option Fault))). loaded_faults ls k) loads ∙ c.unload.ensures.others k lt is
+          ∙ ap (λ (ls : List (List (Option Fault))). loaded_faults ls k) c.deref_mut.ensures.value)
           refl
           (λ l.
           ap (λ ws. bit_at (plane bit k ws) l) raw ∙ c.keep_lanes.ensures k l lt ∙ all_kept (bit out k) _ is

@@ -7,7 +7,7 @@ use Rattle.circuit.specs.Order.{IsOrder}
 use Rattle.circuit.specs.Sound.{IsNetlist}
 use Rattle.circuit.proofs.FewTables.{few_tables}
 use Rattle.lane_kernel.specs.Gates.{IsProgram}
-use Rattle.differential_kernel.specs.Places.{ArePlaces}
+use Rattle.differential_kernel.specs.Places.{AreTablePlaces}
 use Rattle.differential_kernel.proofs.kernel.Kernel.new.Goals as goal
 
 pub overflow_cast-tables : goal.overflow_cast-tables
@@ -28,8 +28,8 @@ returns-clause-kernel g c =
     record {
       sound = subst IsNetlist (sym circuit) c.nets-nets.ensures.sound;
       ordered = subst (λ (m : Circuit). IsOrder m c.of-2.result.value) (sym circuit) (subst (λ (o : List NetId). IsOrder c.args.netlist.now o) (sym order) c.requires);
-      places = subst (λ (m : Circuit). ArePlaces m c.of-2.result.value c.in_ok-places.places.items) (sym circuit)
-          (subst (λ (o : List NetId). ArePlaces c.args.netlist.now o c.in_ok-places.places.items) (c.nets.ensures ∙ sym order) c.in_ok-places.ensures.places);
+      places = subst (λ (m : Circuit). AreTablePlaces m c.of-2.result.value c.in_ok-places.places.items) (sym circuit)
+          (subst (λ (o : List NetId). AreTablePlaces c.args.netlist.now o c.in_ok-places.places.items) (c.nets.ensures ∙ sym order) c.in_ok-places.ensures.places);
       program = subst (λ (m : Circuit). IsProgram m c.of-2.result.value c.in_ok-gates.gates.items) (sym circuit)
           (subst (λ (o : List NetId). IsProgram c.args.netlist.now o c.in_ok-gates.gates.items) (c.nets-2.ensures ∙ sym order) c.in_ok-gates.ensures);
       ops = c.in_ok-ops.ensures;

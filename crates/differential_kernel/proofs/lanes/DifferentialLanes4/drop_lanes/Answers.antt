@@ -3,7 +3,7 @@ use Rattle.std.proofs.lemmas.Bool.{cases_eq}
 use Rattle.golden_difference.specs.Beside.{AreBeside}
 use Rattle.golden_difference.specs.Lanes.{Lanes, bank_of}
 use Rattle.lane_kernel.specs.Bits.{quad_bit}
-use Rattle.lane_kernel.specs.Loads.{faults_of}
+use Rattle.lane_kernel.specs.Loads.{loaded_faults}
 use Rattle.differential_kernel.proofs.lanes.DifferentialLanes4.drop_lanes.Goals as goal
 
 pub returns-clause-dropped : goal.returns-clause-dropped
@@ -23,7 +23,7 @@ returns-clause-others c = λ other k within lt quiet.
         | inr apart ↦ c.word_in.ensures.others other k within apart lt
       ]
     ] in
-    c.drop_lanes.ensures.others lane low none ∙ ap (λ (s : Lanes (List ℕ)). faults_of s.in_force lane) c.self.view_is
+    c.drop_lanes.ensures.others lane low none ∙ ap (λ (s : Lanes (List ℕ)). loaded_faults s.in_force lane) c.self.view_is
 
 pub returns-clause-beside : goal.returns-clause-beside
 returns-clause-beside c = λ vectors beside. c.drop_lanes.ensures.beside vectors (subst (λ (s : Lanes (List ℕ)). AreBeside 256 quad_bit vectors (bank_of s)) (sym c.self.view_is) beside)

@@ -8,9 +8,9 @@ use Rattle.circuit.specs.Trace.{flipped}
 use Rattle.circuit.specs.After.{Moment}
 use Rattle.circuit.proofs.Cycles.{after_step}
 use Rattle.lane_kernel.specs.Gates.{AreForces, gate_at, plane}
-use Rattle.lane_kernel.specs.Loads.{faults_of}
+use Rattle.lane_kernel.specs.Loads.{loaded_faults}
 use Rattle.lane_kernel.specs.Bank.{lane_of}
-use Rattle.lane_kernel.specs.Kernel.{bank_of}
+use Rattle.lane_kernel.specs.Kernel.{kernel_bank}
 use Rattle.lane_kernel.proofs.Armed.{affected_free}
 use Rattle.lane_kernel.proofs.kernel.Kernel.cycle.Goals as goal
 
@@ -19,7 +19,7 @@ returns-clause-step g c = λ vectors after k lt.
     let s = c.args.self.now in
     let bit = g.W.Word.lane_bit in
     let loads = s.loads.items in
-    let x : Cycle = cycle_of s.circuit.value (faults_of loads k) s.cycle (flipped (faults_of loads k) s.cycle (plane bit k s.raw.items)) c.args.inputs.now in
+    let x : Cycle = cycle_of s.circuit.value (loaded_faults loads k) s.cycle (flipped (loaded_faults loads k) s.cycle (plane bit k s.raw.items)) c.args.inputs.now in
     let raw : (with_items s.raw c.run.new.raw).items ≡ c.run.new.raw = grind (arith, common_steps) in
     let words : (with_items s.words c.run.new.words).items ≡ c.run.new.words = grind (arith, common_steps) in
     let forces : c.deref-5.result.now ≡ c.arm_for-self.new.forces = grind (arith, common_steps) in
@@ -29,7 +29,7 @@ returns-clause-step g c = λ vectors after k lt.
     let armed = rw c.deref.ensures.value at c.arm_for-self.ensures.armed in
     let new : Moment = record { cycle = s.cycle + 1; raw = plane bit k c.run.new.raw; values = plane bit k c.run.new.words } in
     rw (raw, words)
-    (after_step s.circuit.value (faults_of loads k) vectors c.args.inputs.now (lane_of bit k (bank_of s)) new c.requires.kernel.program.sound (after k lt)
+    (after_step s.circuit.value (loaded_faults loads k) vectors c.args.inputs.now (lane_of bit k (kernel_bank s)) new c.requires.kernel.program.sound (after k lt)
     (values c.requires.kernel.program
     (subst (λ fs. AreForces bit k fs x) (sym forces) (λ n d own within. armed k n d own lt within))
     (λ from lt2 j own le below. affected_free loads k s.cycle (gate_at s.gates.items j).to own (c.requires.kernel.quiet from j lt2 le below)))

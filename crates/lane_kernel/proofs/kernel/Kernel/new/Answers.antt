@@ -6,8 +6,8 @@ use Rattle.std.specs.Vec.{with_items}
 use Rattle.circuit.specs.declared.parts.Latch.{Latch}
 use Rattle.circuit.specs.Circuit.{Circuit}
 use Rattle.circuit.specs.Trace.{first_state}
-use Rattle.lane_kernel.specs.Gates.{AreNarrowRuns, IsNext, IsProgram}
-use Rattle.lane_kernel.specs.Loads.{AreMarks, IsUnnamed, has_transients}
+use Rattle.lane_kernel.specs.Gates.{AreNarrowRuns, IsNextPause, IsProgram}
+use Rattle.lane_kernel.specs.Loads.{AreFaultMarks, IsUnnamed, has_transients}
 use Rattle.lane_kernel.proofs.kernel.Kernel.new.Goals as goal
 
 pub returns-clause-kernel : goal.returns-clause-kernel
@@ -32,8 +32,8 @@ returns-clause-kernel g c =
       loads = omega (arith, c.in_ok-loads.ensures.count, c.count.ensures);
       transient = c.is_some_transient-transient.ensures ∙ ap has_transients c.deref-3.ensures.value;
       marks = ap length marks ∙ c.prepare.auto.marks ∙ ap length c.deref_mut.ensures.value ∙ omega (arith, c.in_ok-marks.marks.ok.0, c.in_ok-marks.ensures.len, nets);
-      marked = subst (AreMarks loads) (sym marks) (subst (λ ls. AreMarks ls c.prepare.new.marks) c.deref-2.ensures.value c.prepare.ensures.marks);
-      next = subst (IsNext (length gates)) (sym next) (subst (λ gs. IsNext (length gs) c.prepare.new.next) c.deref.ensures.value c.prepare.ensures.next);
+      marked = subst (AreFaultMarks loads) (sym marks) (subst (λ ls. AreFaultMarks ls c.prepare.new.marks) c.deref-2.ensures.value c.prepare.ensures.marks);
+      next = subst (IsNextPause (length gates)) (sym next) (subst (λ gs. IsNextPause (length gs) c.prepare.new.next) c.deref.ensures.value c.prepare.ensures.next);
       narrow = subst (AreNarrowRuns gates) (sym next) (subst (λ gs. AreNarrowRuns gs c.prepare.new.next) c.deref.ensures.value c.prepare.ensures.narrow);
       quiet =
           subst (IsUnnamed loads gates) (sym next)

@@ -4,7 +4,7 @@ use Rattle.std.specs.Vec.{with_items}
 use Rattle.circuit.specs.After.{Moment}
 use Rattle.circuit.proofs.Cycles.{after_start}
 use Rattle.lane_kernel.specs.Gates.{plane}
-use Rattle.lane_kernel.specs.Loads.{faults_of}
+use Rattle.lane_kernel.specs.Loads.{loaded_faults}
 use Rattle.lane_kernel.proofs.kernel.Kernel.start.Goals as goal
 
 pub returns-clause-start : goal.returns-clause-start
@@ -15,5 +15,5 @@ returns-clause-start g c = λ k lt.
       raw = plane g.W.Word.lane_bit k (with_items c.args.self.now.raw c.take_first.new.raw).items;
       values = plane g.W.Word.lane_bit k c.args.self.now.words.items;
     } in
-    after_start c.args.self.now.circuit.value (faults_of c.args.self.now.loads.items k) moment refl
+    after_start c.args.self.now.circuit.value (loaded_faults c.args.self.now.loads.items k) moment refl
     (ap (plane g.W.Word.lane_bit k) raw ∙ c.take_first.ensures k lt ∙ c.deref.ensures.value ∙ c.requires.starts)

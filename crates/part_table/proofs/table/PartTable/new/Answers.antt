@@ -4,7 +4,7 @@ use Rattle.std.proofs.lemmas.List.{length-map}
 use Rattle.circuit.specs.declared.parts.Latch.{Latch}
 use Rattle.rate_table.specs.declared.Pattern.{Pattern}
 use Rattle.part_table.specs.PartTable.{row_of_net}
-use Rattle.part_table.specs.Counted.{latch_rows, net_rows, AreCounts, AreFirsts, AreRowsBelow}
+use Rattle.part_table.specs.Counted.{latch_rows, net_rows, AreRowCounts, AreFirsts, AreRowsBelow}
 use Rattle.part_table.proofs.Looking.{latch_rows_below, length_rows, net_rows_below}
 use Rattle.part_table.proofs.table.PartTable.new.Goals as goal
 
@@ -51,10 +51,10 @@ invariant_of-result c =
     record {
       few = c.in_ok-rows.ensures.netlist.few;
       rows_are = c.in_ok-rows.ensures.rows;
-      nets = subst (λ m. AreCounts m (net_rows net rates) c.in_ok-net_counts.net_counts.items) n
-          (subst (λ (rows : List (Option ℕ)). AreCounts (length c.patterns-n.result.now) rows c.in_ok-net_counts.net_counts.items) rows_2 c.in_ok-net_counts.ensures);
-      latches = subst (λ m. AreCounts m (latch_rows net rates) c.in_ok-latch_counts.latch_counts.items) n
-          (subst (λ (rows : List (Option ℕ)). AreCounts (length c.patterns-n.result.now) rows c.in_ok-latch_counts.latch_counts.items) latches c.in_ok-latch_counts.ensures);
+      nets = subst (λ m. AreRowCounts m (net_rows net rates) c.in_ok-net_counts.net_counts.items) n
+          (subst (λ (rows : List (Option ℕ)). AreRowCounts (length c.patterns-n.result.now) rows c.in_ok-net_counts.net_counts.items) rows_2 c.in_ok-net_counts.ensures);
+      latches = subst (λ m. AreRowCounts m (latch_rows net rates) c.in_ok-latch_counts.latch_counts.items) n
+          (subst (λ (rows : List (Option ℕ)). AreRowCounts (length c.patterns-n.result.now) rows c.in_ok-latch_counts.latch_counts.items) latches c.in_ok-latch_counts.ensures);
       first = subst (λ m. AreFirsts m (length net.drivers) (net_rows net rates) c.in_ok-firsts.firsts.items) n
           (subst (λ m. AreFirsts (length c.patterns-n.result.now) m (net_rows net rates) c.in_ok-firsts.firsts.items) (length_rows net rates)
           (subst (λ (rows : List (Option ℕ)). AreFirsts (length c.patterns-n.result.now) (length rows) rows c.in_ok-firsts.firsts.items) rows_4 c.in_ok-firsts.ensures));

@@ -11,7 +11,7 @@ use Rattle.fm_base.specs.Names.{Bytes}
 use Rattle.fm_base.specs.Text.{line}
 use Rattle.fmeda_report.specs.Words.{role_word}
 use Rattle.fmeda_report.proofs.Sending.{sends_as, sends_stop, sends_then}
-use Rattle.part_table.specs.PartTable.{name_or_dash, nets, part_of_pattern, pattern_numbered, row_line, star_word, takes}
+use Rattle.part_table.specs.PartTable.{name_or_dash, net_numbers, part_of_pattern, pattern_numbered, row_line, star_word, row_takes}
 use Rattle.part_table.specs.Counted.{Looked}
 use Rattle.part_table.proofs.Looking.{first_net, latch_count, net_count, row_pieces}
 use Rattle.part_table.proofs.table.PartTable.write_row.Goals as goal
@@ -31,8 +31,8 @@ returns-in_err-write_pieces g c =
     let own = pattern_numbered rates k in
     let part = part_of_pattern rates own in
     let rest : List Bytes =
-    part.name ∷ codes "role" ∷ role_word part.role ∷ codes "covered" ∷ covered_word part.covered ∷ codes "nets" ∷ decimal (count_by (takes net rates k) (nets net))
-    ∷ codes "latches" ∷ decimal (count_by (λ (latch : Latch). takes net rates k latch.to.0) net.latches) ∷ codes "first" ∷ name_or_dash net (find (takes net rates k) (nets net)) ∷ [] in
+    part.name ∷ codes "role" ∷ role_word part.role ∷ codes "covered" ∷ covered_word part.covered ∷ codes "net_numbers" ∷ decimal (count_by (row_takes net rates k) (net_numbers net))
+    ∷ codes "latches" ∷ decimal (count_by (λ (latch : Latch). row_takes net rates k latch.to.0) net.latches) ∷ codes "first" ∷ name_or_dash net (find (row_takes net rates k) (net_numbers net)) ∷ [] in
     rw p.1 (sends_as (row_pieces own.name (star_word own.star) rest ∙ ap (λ (l : Looked). row_line l.circuit l.rates k) c.self.view_is)
     (sends_stop (line (codes "part" ∷ rest)) p.0
     (sends_as (λ j. codes "pattern " ++ ((c.as_slice.ensures ∙ ap (λ (q : Pattern). q.name) pattern) j ++ ((c.star_word.ensures ∙ ap (λ (q : Pattern). star_word q.star) pattern) j ++ 32 ∷ [])))
@@ -56,19 +56,19 @@ returns g c =
     ∙ get_or_default c.parts.result.now c.index-patterns-k.result.part c.index-parts-pattern.result (record { name = []; role = Other; covered = false; permanent = 0; transient = 0 }) (omega (arith, within, number, ap length c.parts.ensures.value))
     ∙ ap (λ (ps : List Part). slice_index_or ps c.index-patterns-k.result.part (record { name = []; role = Other; covered = false; permanent = 0; transient = 0 })) c.parts.ensures.value
     ∙ ap (λ n. slice_index_or rates.parts n (record { name = []; role = Other; covered = false; permanent = 0; transient = 0 })) number in
-    let nets_are : c.index.result.now ≡ count_by (takes net rates k) (nets net) =
+    let nets_are : c.index.result.now ≡ count_by (row_takes net rates k) (net_numbers net) =
     c.index.ensures ∙ get_or_default c.self.inside.net_counts.items k c.index.result.now 0 (omega (arith, lt, c.self.invariant.nets.size))
     ∙ net_count net rates c.self.inside.net_counts.items k c.self.invariant.nets lt in
-    let latches_are : c.index-2.result.now ≡ count_by (λ (latch : Latch). takes net rates k latch.to.0) net.latches =
+    let latches_are : c.index-2.result.now ≡ count_by (λ (latch : Latch). row_takes net rates k latch.to.0) net.latches =
     c.index-2.ensures ∙ get_or_default c.self.inside.latch_counts.items k c.index-2.result.now 0 (omega (arith, lt, c.self.invariant.latches.size))
     ∙ latch_count net rates c.self.inside.latch_counts.items k c.self.invariant.latches lt in
-    let first_is : c.index-3.result.now ≡ find (takes net rates k) (nets net) =
+    let first_is : c.index-3.result.now ≡ find (row_takes net rates k) (net_numbers net) =
     c.index-3.ensures ∙ get_or_default c.self.inside.firsts.items k c.index-3.result.now None (omega (arith, lt, c.self.invariant.first.size))
     ∙ first_net net rates c.self.inside.firsts.items k c.self.invariant.first lt in
     let rest : List Bytes =
     (part_of_pattern rates own).name ∷ codes "role" ∷ role_word (part_of_pattern rates own).role ∷ codes "covered" ∷ covered_word (part_of_pattern rates own).covered
-    ∷ codes "nets" ∷ decimal (count_by (takes net rates k) (nets net))
-    ∷ codes "latches" ∷ decimal (count_by (λ (latch : Latch). takes net rates k latch.to.0) net.latches) ∷ codes "first" ∷ name_or_dash net (find (takes net rates k) (nets net)) ∷ [] in
+    ∷ codes "net_numbers" ∷ decimal (count_by (row_takes net rates k) (net_numbers net))
+    ∷ codes "latches" ∷ decimal (count_by (λ (latch : Latch). row_takes net rates k latch.to.0) net.latches) ∷ codes "first" ∷ name_or_dash net (find (row_takes net rates k) (net_numbers net)) ∷ [] in
     let name = c.as_slice-2.ensures ∙ ap (λ (q : Part). q.name) part in
     let role = c.role_of.ensures ∙ ap (λ (q : Part). role_word q.role) part in
     let covered = c.covered_word.ensures ∙ ap (λ (q : Part). covered_word q.covered) part in
@@ -82,6 +82,6 @@ returns g c =
     begun)
     (sends_as
     (λ j. line (
-    codes "part" ∷ name j ∷ codes "role" ∷ role j ∷ codes "covered" ∷ covered j ∷ codes "nets" ∷ some j ∷ codes "latches" ∷ latches j
+    codes "part" ∷ name j ∷ codes "role" ∷ role j ∷ codes "covered" ∷ covered j ∷ codes "net_numbers" ∷ some j ∷ codes "latches" ∷ latches j
     ∷ codes "first" ∷ first j ∷ []))
     c.write_line.ensures))

@@ -4,7 +4,7 @@ use Rattle.fm_base.specs.Lists.{below}
 use Rattle.fm_base.specs.Text.{line}
 use Rattle.fmeda_report.proofs.Sending.{sends_as}
 use Rattle.part_table.specs.PartTable.{name_or_dash, unmatched_line}
-use Rattle.part_table.specs.Counted.{row_at, Looked}
+use Rattle.part_table.specs.Counted.{row_in_list, Looked}
 use Rattle.part_table.proofs.Looking.{first_unmatched, length_rows, unmatched_count}
 use Rattle.part_table.proofs.table.PartTable.write_unmatched.Goals as goal
 
@@ -25,7 +25,7 @@ returns g c =
     let count = c.bytes.ensures ∙ c.number_word.ensures
     ∙ ap decimal (c.count_none.ensures ∙ ap (λ (rows : List (Option ℕ)). count_by is_none rows) (c.deref.ensures.value ∙ c.self.invariant.rows_are) ∙ unmatched_count net rates) in
     let first = c.name_or_dash.ensures ∙ ap (name_or_dash net)
-    (c.first_none.ensures ∙ ap (λ (rows : List (Option ℕ)). find (λ i. is_none (row_at rows i)) (below (length rows))) (c.deref-2.ensures.value ∙ c.self.invariant.rows_are)
+    (c.first_none.ensures ∙ ap (λ (rows : List (Option ℕ)). find (λ i. is_none (row_in_list rows i)) (below (length rows))) (c.deref-2.ensures.value ∙ c.self.invariant.rows_are)
     ∙ first_unmatched net rates) in
     sends_as
     ((λ j. line (codes "unmatched" ∷ count j ∷ codes "first" ∷ first j ∷ [])) ∙ ap (λ (l : Looked). unmatched_line l.circuit l.rates) c.self.view_is)

@@ -1,7 +1,7 @@
 use Rattle.std.proofs.Common.{◌≡◌, ℕ, List, [], ◌∷◌, ◌++◌, ap, sym, subst, ◌∙◌}
 use Rattle.rate_table.specs.declared.Pattern.{Pattern}
 use Rattle.rate_table.specs.RatesFile.{has_star, without_star}
-use Rattle.rate_table.specs.Reading.{HasRead, texts, numbered}
+use Rattle.rate_table.specs.Reading.{HasRead, name_texts, row_pattern}
 use Rattle.rate_table.proofs.Rows.{row_read}
 use Rattle.rate_table.proofs.reading.Reading.take_row.Goals as goal
 
@@ -13,13 +13,13 @@ returns c = λ before h.
     let n = c.in_ok-number.number in
     let found = c.in_ok-number.ensures.part before h in
     let part = found.1 in
-    let pattern : c.in_ok-pattern.pattern ≡ numbered row n =
+    let pattern : c.in_ok-pattern.pattern ≡ row_pattern row n =
     c.in_ok-pattern.ensures ∙ ap (λ (t : List ℕ). record { name = without_star t; star = has_star t; part = n }) c.field.ensures in
     let same : new.patterns ≡ old.patterns = found.0 in
-    let grown : c.push.new.self ≡ old.patterns ++ numbered row n ∷ [] =
+    let grown : c.push.new.self ≡ old.patterns ++ row_pattern row n ∷ [] =
     c.in_ok-push.ensures.ok ∙ (λ i. same i ++ pattern i ∷ []) in (
       part.faultless,
       part.few,
-      subst (λ (ps : List Pattern). HasRead (before ++ row ∷ []) (texts new.names.keys) new.sum ps new.parts) (sym grown)
-          (row_read before row (texts old.names.keys) (texts new.names.keys) old.sum new.sum old.patterns old.parts new.parts n h part),
+      subst (λ (ps : List Pattern). HasRead (before ++ row ∷ []) (name_texts new.names.keys) new.sum ps new.parts) (sym grown)
+          (row_read before row (name_texts old.names.keys) (name_texts new.names.keys) old.sum new.sum old.patterns old.parts new.parts n h part),
     )

@@ -2,8 +2,8 @@ use Rattle.std.proofs.Common.{◌≡◌, ◌∙◌, length, map, List, true, fal
 use Rattle.std.specs.List.{list_all}
 use Rattle.fm_base.specs.Names.{Name, is_one_of}
 use Rattle.fm_base.proofs.Tests.{both_true}
-use Rattle.workload.specs.Built.{AreColumns, ArePlaces, are_bad, place_of}
-use Rattle.workload.specs.WorkloadFile.{columns, input_names}
+use Rattle.workload.specs.Built.{AreColumns, AreColumnPlaces, are_bad, column_place}
+use Rattle.workload.specs.WorkloadFile.{header_columns, input_names}
 use Rattle.workload.proofs.Headers.{bad_distinct, begins, begins_not, header_fault-by}
 use Rattle.workload.proofs.header.Layout.new.Goals as goal
 use Rattle.workload.proofs.header.Layout.new.Goals.{then-not-has_word-via-then-not-has_word, then-not-has_word-via-else-not-has_word+then-not-has_word-2}
@@ -22,12 +22,12 @@ returns-then-not-has_word c = rw c.refusal.ensures (refl, header_fault-by c.args
 pub returns-in_default : goal.returns-in_default
 returns-in_default c =
     let words : begins c.args.header.now ≡ true = both_true _ _ (sym c.has_word.ensures ∙ c.if-not-has_word.false) (sym c.has_word-else-not-has_word.ensures ∙ c.if-not-has_word-2.false) in
-    let found : are_bad c.in_ok-inputs.inputs (columns c.args.header.now) ≡ true = rw c.in_default.is at c.in_ok-columns.ensures in
-    let bad : are_bad (input_names c.args.net.now) (columns c.args.header.now) ≡ true =
-    sym (bad_distinct (input_names c.args.net.now) (columns c.args.header.now)) ∙ ap (λ (names : List Name). are_bad names (columns c.args.header.now)) (sym c.in_ok-inputs.ensures) ∙ found in
+    let found : are_bad c.in_ok-inputs.inputs (header_columns c.args.header.now) ≡ true = rw c.in_default.is at c.in_ok-columns.ensures in
+    let bad : are_bad (input_names c.args.net.now) (header_columns c.args.header.now) ≡ true =
+    sym (bad_distinct (input_names c.args.net.now) (header_columns c.args.header.now)) ∙ ap (λ (names : List Name). are_bad names (header_columns c.args.header.now)) (sym c.in_ok-inputs.ensures) ∙ found in
     rw c.refusal-in_default.ensures (refl, header_fault-by c.args.net.now c.args.header.now true true _ words bad refl)
 
--- the columns are no more than the fields
+-- the header_columns are no more than the fields
 pub places_of-requires : goal.places_of-requires
 places_of-requires c =
     let found : AreColumns c.in_ok-inputs.inputs c.args.header.now (Some c.in-Some.columns) = rw c.in-Some.is at c.in_ok-columns.ensures in
@@ -38,10 +38,10 @@ pub returns-in_default-2 : goal.returns-in_default-2
 returns-in_default-2 c =
     let words : begins c.args.header.now ≡ true = both_true _ _ (sym c.has_word.ensures ∙ c.if-not-has_word.false) (sym c.has_word-else-not-has_word.ensures ∙ c.if-not-has_word-2.false) in
     let read : AreColumns c.in_ok-inputs.inputs c.args.header.now (Some c.in-Some.columns) = rw c.in-Some.is at c.in_ok-columns.ensures in
-    let good : are_bad (input_names c.args.net.now) (columns c.args.header.now) ≡ false =
-    sym (bad_distinct (input_names c.args.net.now) (columns c.args.header.now)) ∙ ap (λ (names : List Name). are_bad names (columns c.args.header.now)) (sym c.in_ok-inputs.ensures) ∙ read.0 in
+    let good : are_bad (input_names c.args.net.now) (header_columns c.args.header.now) ≡ false =
+    sym (bad_distinct (input_names c.args.net.now) (header_columns c.args.header.now)) ∙ ap (λ (names : List Name). are_bad names (header_columns c.args.header.now)) (sym c.in_ok-inputs.ensures) ∙ read.0 in
     let found : list_all (is_one_of c.in-Some.columns) (input_names c.args.net.now) ≡ false = rw c.in_default-2.is at c.in_ok-places.ensures in
-    let missing : list_all (is_one_of (columns c.args.header.now)) (input_names c.args.net.now) ≡ false =
+    let missing : list_all (is_one_of (header_columns c.args.header.now)) (input_names c.args.net.now) ≡ false =
     ap (λ (names : List Name). list_all (is_one_of names) (input_names c.args.net.now)) (sym read.1) ∙ found in
     rw c.refusal-in_default-2.ensures (refl, header_fault-by c.args.net.now c.args.header.now true false false words good missing)
 
@@ -50,14 +50,14 @@ pub returns : goal.returns
 returns c =
     let words : begins c.args.header.now ≡ true = both_true _ _ (sym c.has_word.ensures ∙ c.if-not-has_word.false) (sym c.has_word-else-not-has_word.ensures ∙ c.if-not-has_word-2.false) in
     let read : AreColumns c.in_ok-inputs.inputs c.args.header.now (Some c.in-Some.columns) = rw c.in-Some.is at c.in_ok-columns.ensures in
-    let good : are_bad (input_names c.args.net.now) (columns c.args.header.now) ≡ false =
-    sym (bad_distinct (input_names c.args.net.now) (columns c.args.header.now)) ∙ ap (λ (names : List Name). are_bad names (columns c.args.header.now)) (sym c.in_ok-inputs.ensures) ∙ read.0 in
-    let found : ArePlaces c.in-Some.columns (input_names c.args.net.now) (Some c.in-Some-2.places) = rw c.in-Some-2.is at c.in_ok-places.ensures in
-    let all : list_all (is_one_of (columns c.args.header.now)) (input_names c.args.net.now) ≡ true =
+    let good : are_bad (input_names c.args.net.now) (header_columns c.args.header.now) ≡ false =
+    sym (bad_distinct (input_names c.args.net.now) (header_columns c.args.header.now)) ∙ ap (λ (names : List Name). are_bad names (header_columns c.args.header.now)) (sym c.in_ok-inputs.ensures) ∙ read.0 in
+    let found : AreColumnPlaces c.in-Some.columns (input_names c.args.net.now) (Some c.in-Some-2.places) = rw c.in-Some-2.is at c.in_ok-places.ensures in
+    let all : list_all (is_one_of (header_columns c.args.header.now)) (input_names c.args.net.now) ≡ true =
     ap (λ (names : List Name). list_all (is_one_of names) (input_names c.args.net.now)) (sym read.1) ∙ found.0 in (
       header_fault-by c.args.net.now c.args.header.now true false true words good all,
       record {
         width = c.len-width.ensures;
-        places = found.1 ∙ ap (λ (names : List Name). map (place_of names) (input_names c.args.net.now)) read.1;
+        places = found.1 ∙ ap (λ (names : List Name). map (column_place names) (input_names c.args.net.now)) read.1;
       },
     )

@@ -1,0 +1,17 @@
+-- What a worker of a campaign simulates with: a golden run, lanes and windows, made for one plan.
+use Rattle.std.specs.Prelude.{◌≡◌, ℕ, List}
+use Rattle.circuit.specs.declared.parts.NetId.{NetId}
+use Rattle.alarm_points.specs.FourWatches.{AreFourMadeFor, FourWatches}
+use Rattle.golden_difference.specs.Lanes.{IsMadeFor, Lanes}
+use Rattle.golden_run.specs.Recording.{Recording}
+use Rattle.campaign_plan.specs.Analysis.{Analysis}
+
+-- the golden run of a plan, by an order of its tables
+abbrev pub golden_of : Analysis → List NetId → Recording
+golden_of p order = record { circuit = p.circuit; order = order; runs = p.runs }
+
+-- four words of lanes and of windows for a plan, by an order of its tables
+pub record AreToolsFor (p : Analysis) (order : List NetId) (lanes : Lanes (List ℕ)) (windows : FourWatches) : Type 0 where
+  pub lanes_made : IsMadeFor p.circuit order lanes
+  pub windows_made : AreFourMadeFor p.points windows
+  pub ftti : windows.ftti ≡ p.settings.ftti
