@@ -18,13 +18,13 @@ use Rattle.circuit.specs.Names.{net_named}
 use Rattle.circuit.specs.Sound.{AreApart, IsNet, IsNetlist}
 use Rattle.circuit.specs.declared.parts.NetId.{NetId}
 use Rattle.csv_rows.specs.Rows.{Fields, rows_of}
-use Rattle.field_text.specs.Plain.{plain_number}
-use Rattle.field_text.proofs.Plain.{plain_number-some}
+use Rattle.fm_base.specs.Plain.{plain_number}
+use Rattle.fm_base.proofs.PlainNumbers.{plain_number-some}
 use Rattle.fm_base.specs.Answers.{Gives}
 use Rattle.fm_base.specs.Firsts.{first_after, first_fault, numbered_fault}
 use Rattle.fm_base.specs.Lists.{firsts}
 use Rattle.fm_base.specs.Names.{Bytes, Name, distinct, has_repeat, is_label, is_one_of}
-use Rattle.name_index.specs.Index.{with_name}
+use Rattle.fm_base.specs.Index.{with_name}
 use Rattle.fm_base.proofs.Distinct.{distinct-apart, is_same, same_name, distinct-nil}
 use Rattle.fm_base.proofs.Tests.{both_true, clash, false_of, not_not, or_false}
 use Rattle.fm_base.specs.declared.refusal.Refusal.{Refusal}

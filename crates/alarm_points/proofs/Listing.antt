@@ -12,8 +12,8 @@ use Rattle.fm_base.specs.Lists.{firsts}
 use Rattle.fm_base.specs.Names.{Name, distinct, is_one_of}
 use Rattle.fm_base.proofs.Distinct.{distinct-found, distinct-snoc, firsts-snoc, same_name}
 use Rattle.fm_base.proofs.Tests.{false_of}
-use Rattle.name_index.specs.Index.{with_name}
-use Rattle.name_index.proofs.NameFacts.{with_new}
+use Rattle.fm_base.specs.Index.{with_name}
+use Rattle.fm_base.proofs.NameFacts.{with_new}
 use Rattle.alarm_points.specs.declared.header.Header.{Header}
 use Rattle.alarm_points.specs.Listed.{begins_goal, goals_with}
 use Rattle.alarm_points.specs.PointsFile.{goal_in, goals_named, is_observe, observing, same_goal}

@@ -6,7 +6,7 @@ use Rattle.fm_base.specs.declared.refusal.Refusal.{Refusal}
 use Rattle.fm_base.specs.Answers.{Gives}
 use Rattle.fm_base.specs.Firsts.{given, first_answer, first_after, first_fault, numbered_fault}
 use Rattle.fm_base.specs.Names.{Bytes, Name, is_one_of}
-use Rattle.name_index.specs.Index.{with_name}
+use Rattle.fm_base.specs.Index.{with_name}
 use Rattle.csv_rows.specs.Rows.{Fields, rows_of}
 use Rattle.alarm_points.specs.declared.PointsFault.{PointsFault}
 use Rattle.alarm_points.specs.declared.PointsKind.{PointsKind}

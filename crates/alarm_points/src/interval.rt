@@ -2,7 +2,7 @@
 ghost use Rattle.std.specs.Prelude.{◌≡◌};
 ghost use Rattle.alarm_points.specs.PointsFile.{interval_read, is_dash_field as is_dash_text};
 
-use field_text::plain_number;
+use fm_base::field::plain_number;
 
 const MOST_CYCLES: u32 = 4096;
 

@@ -12,7 +12,7 @@ pub mod windows;
 pub mod windows4;
 
 use circuit::parts::NetIds;
-use fm_list::{Name, Seq};
+use fm_base::{Name, Seq};
 
 /// A safety goal: its observation points, and its own fault tolerant time interval, if it has one.
 #[derive(Drop)]

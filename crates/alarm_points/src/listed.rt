@@ -15,10 +15,8 @@ use crate::{Goal, GoalList, Points, PointsFault, PointsKind};
 use circuit::netlist::Netlist;
 use circuit::parts::{NetId, NetIds};
 use csv_rows::Row;
-use field_text::is_label;
-use fm_base::Refusal;
-use fm_list::Seq;
-use name_index::NameIndex;
+use fm_base::field::is_label;
+use fm_base::{NameIndex, Refusal, Seq};
 use std::alloc::{AllocError, Global};
 
 const MOST_POINTS: usize = 1024;

@@ -1,7 +1,7 @@
 // The names of a netlist's nets, looked up where they stand.
 ghost use Rattle.std.specs.Prelude.{◌≡◌, ◌<◌, [], length, position, IfSome, OnOk};
 ghost use Rattle.std.specs.Str.{bytes_eq};
-ghost use Rattle.name_index.specs.Index.{with_name};
+ghost use Rattle.fm_base.specs.Index.{with_name};
 
 use indexmap::IndexSet;
 use std::alloc::{AllocError, Global};

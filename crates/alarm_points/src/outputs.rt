@@ -7,7 +7,7 @@ ghost use Rattle.alarm_points.specs.PointsKept.{ArePointsFor};
 use crate::{Goal, Points};
 use circuit::netlist::Netlist;
 use circuit::parts::NetId;
-use fm_list::{Name, Seq};
+use fm_base::{Name, Seq};
 use std::alloc::{AllocError, Global};
 
 const MOST_POINTS: usize = 1024;

@@ -5,8 +5,8 @@ use Rattle.std.specs.List.{list_any, position_or_len}
 use Rattle.std.proofs.lemmas.List.{length-append}
 use Rattle.fm_base.specs.Names.{Name, is_one_of}
 use Rattle.fm_base.proofs.Tests.{or_false}
-use Rattle.name_index.specs.Index.{with_name}
-use Rattle.name_index.proofs.NameFacts.{keys_insert}
+use Rattle.fm_base.specs.Index.{with_name}
+use Rattle.fm_base.proofs.NameFacts.{keys_insert}
 use Rattle.indexmap.specs.IndexSet.{insert_key}
 use Rattle.net_names.proofs.Times.{place, place-of-key}
 use Rattle.bench_reader.specs.declared.nets.Mark.{Mark}

@@ -5,7 +5,7 @@ ghost use Rattle.bench_reader.specs.Gates.{cells_of, gate_rows, is_odd_row, is_o
 
 use crate::gate::Gate;
 use circuit::parts::{Lit, Row, Rows};
-use fm_list::Seq;
+use fm_base::Seq;
 use std::alloc::{AllocError, Global};
 
 /// A row of the same cells.

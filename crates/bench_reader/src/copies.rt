@@ -2,7 +2,7 @@
 ghost use Rattle.std.specs.Prelude.{◌≡◌, [], IfOk, map};
 ghost use Rattle.bench_reader.specs.Marks.{name_in_place};
 
-use fm_list::{Name, Names, Seq};
+use fm_base::{Name, Names, Seq};
 use net_names::copies::own_name;
 use std::alloc::{AllocError, Global};
 

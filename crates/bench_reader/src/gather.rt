@@ -13,7 +13,7 @@ use crate::nets::Nets;
 use crate::parts::Parts;
 use crate::says::Says;
 use circuit::parts::{Latch, NetId, NetIds, Table};
-use fm_list::Seq;
+use fm_base::Seq;
 use std::alloc::{AllocError, Global};
 
 /// More nets than this are too many.

@@ -15,7 +15,7 @@ mod says;
 mod statement;
 mod token;
 
-use fm_list::Name;
+use fm_base::Name;
 pub use read::read_bench;
 
 /// The kinds of refusal, in the order in which they are looked for.

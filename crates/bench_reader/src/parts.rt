@@ -3,7 +3,7 @@ ghost use Rattle.std.specs.Prelude.{◌≡◌};
 ghost use Rattle.bench_reader.specs.Gather.{no_parts};
 
 use circuit::parts::{Latches, NetIds, Tables};
-use fm_list::Seq;
+use fm_base::Seq;
 use std::alloc::Global;
 
 /// Inputs, outputs, tables beside their nets, and latches beside theirs.

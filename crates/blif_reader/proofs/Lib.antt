@@ -8,3 +8,8 @@ pub mod Mentions
 pub mod Built
 pub mod Totals
 pub mod Reading
+pub mod Passing
+pub mod Finding
+pub mod Driving
+pub mod ClockNames
+pub mod Faults

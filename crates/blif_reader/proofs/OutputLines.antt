@@ -8,7 +8,7 @@ use Rattle.fm_base.specs.Names.{Name, distinct, is_one_of}
 use Rattle.fm_base.proofs.Distinct.{distinct-snoc, is_same, same_name}
 use Rattle.net_names.specs.Nets.{net_id}
 use Rattle.net_names.proofs.Times.{one_of_both}
-use Rattle.fm_list.specs.declared.Seq.{Seq}
+use Rattle.fm_base.specs.declared.seq.Seq.{Seq}
 use Rattle.blif_model.specs.Net.{output_names_of}
 use Rattle.blif_model.specs.Walk.{Step, nets_of, outputs_at}
 use Rattle.blif_walk.specs.Flat.{act_by, name_at, all_names, step_by, steps_by}

@@ -18,7 +18,7 @@ use Rattle.blif_model.specs.Net.{bad_net, circuit_of, netlist_of, netlist_unless
 use Rattle.blif_model.proofs.Answer.{netlist-refused}
 use Rattle.net_names.proofs.Answers.{gives_same}
 use Rattle.blif_model.proofs.FileNetlist.{unfaulted-netlist, walk_unfaulted}
-use Rattle.blif_ports.proofs.Bindings.{skip, stop}
+use Rattle.blif_hierarchy.proofs.Bindings.{skip, stop}
 use Rattle.blif_says.specs.Answer.{models_read}
 use Rattle.blif_says.proofs.Answered.{lines-refused, models-taken}
 use Rattle.blif_walk.specs.Flat.{all_names}

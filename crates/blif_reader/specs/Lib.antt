@@ -3,3 +3,5 @@ pub mod Parts
 pub mod Mentions
 pub mod Ready
 pub mod Stages
+pub mod Passes
+pub mod Found

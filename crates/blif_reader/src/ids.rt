@@ -8,7 +8,7 @@ ghost use Rattle.blif_reader.specs.Numbers.{AreNetNumbers};
 use crate::numbers::NetNumbers;
 use blif_walk::flat::NameId;
 use circuit::parts::{NetId, NetIds};
-use fm_list::Seq;
+use fm_base::Seq;
 use std::alloc::{AllocError, Global};
 
 /// The number of nets, where these names are clock names.

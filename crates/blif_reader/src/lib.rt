@@ -1,7 +1,10 @@
 // Reads netlists from the bytes of BLIF files.
 #![tactic(auto)]
 
+mod clocks;
 mod counts;
+mod drivers;
+mod found;
 mod ids;
 mod netlist;
 mod nets;
@@ -11,5 +14,6 @@ mod parts;
 mod read;
 mod rows;
 mod sizes;
+pub mod walk_faults;
 
 pub use read::read_blif;

@@ -4,8 +4,7 @@ ghost use Rattle.blif_model.specs.Walk.{Step, is_clock, nets_of};
 ghost use Rattle.blif_walk.specs.Flat.{all_names};
 
 use circuit::parts::Names;
-use fm_list::Seq;
-use name_index::NameIndex;
+use fm_base::{NameIndex, Seq};
 use net_names::copies::own_name;
 use std::alloc::{AllocError, Global};
 

@@ -12,7 +12,7 @@ ghost use Rattle.blif_reader.specs.Parts.{AreOutputNets};
 use crate::numbers::NetNumbers;
 use blif_walk::flat::{FlatModel, NameId, NumberedAct, NumberedStep};
 use circuit::parts::NetIds;
-use fm_list::Seq;
+use fm_base::Seq;
 use std::alloc::{AllocError, Global};
 
 /// The nets of outputs, each once, and which names they are.

@@ -13,7 +13,7 @@ use crate::numbers::NetNumbers;
 use crate::rows::{plane_of, rows_of};
 use blif_walk::flat::{FlatModel, NameId, NumberedAct, NumberedLatch, NumberedStep, NumberedTable};
 use circuit::parts::{Latch, Latches, NetIds, Table, Tables};
-use fm_list::Seq;
+use fm_base::Seq;
 use std::alloc::{AllocError, Global};
 
 /// Inputs, tables beside their nets, and latches beside theirs.

@@ -12,9 +12,9 @@ ghost use Rattle.blif_reader.specs.Stages.{GiveSound, ModelsGive, unwalked_fault
 use crate::ids::net_count;
 use crate::netlist::flat_netlist;
 use crate::sizes::{MOST_NETS, is_large, most_names};
-use blif_faults::walk::walk_fault;
-use blif_nest::faults::nest_fault;
-use blif_ports::faults::port_fault;
+use crate::walk_faults::walk_fault;
+use blif_hierarchy::nest_faults::nest_fault;
+use blif_hierarchy::port_faults::port_fault;
 use blif_says::model_list::read_models;
 use blif_text::{NetlistFault, NetlistKind};
 use blif_walk::flat::FlatModel;

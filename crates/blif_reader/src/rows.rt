@@ -11,7 +11,7 @@ use blif_says::statement::line_says;
 use blif_text::lines::TextLine;
 use blif_text::token::Token;
 use circuit::parts::{Lit, Row, Rows};
-use fm_list::Seq;
+use fm_base::Seq;
 use std::alloc::{AllocError, Global};
 
 /// The literal of a cell.

@@ -7,7 +7,7 @@ ghost use Rattle.blif_says.specs.Grouped.{model_of};
 ghost use Rattle.blif_reader.specs.Mentions.{count_of_mentions, mention_count};
 
 use crate::counts::{capped_cells, capped_instances, capped_mentions};
-use blif_counts::rounds::capped_totals;
+use blif_hierarchy::rounds::capped_totals;
 use blif_says::models::ModelLines;
 use blif_walk::table::ModelTable;
 use std::alloc::{AllocError, Global};

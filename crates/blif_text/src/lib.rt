@@ -9,7 +9,7 @@ pub mod spans;
 pub mod token;
 mod tokens;
 
-use fm_list::Name;
+use fm_base::Name;
 
 /// The kinds of refusal, in the order in which they are looked for.
 #[derive(Drop)]

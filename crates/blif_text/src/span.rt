@@ -1,5 +1,5 @@
 // Tokens as places in the file.
-use fm_list::Seq;
+use fm_base::Seq;
 
 /// The bytes of the file from place `start` up to the one before `end`.
 #[derive(Clone, Copy)]

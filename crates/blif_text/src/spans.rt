@@ -10,8 +10,7 @@ use crate::lines::{TextLine, all_lines, is_wide_line};
 use crate::span::{Lines, LogicalLine, Span};
 use crate::token::Token;
 use crate::{NetlistFault, NetlistKind};
-use fm_base::Refusal;
-use fm_list::Seq;
+use fm_base::{Refusal, Seq};
 use std::alloc::{AllocError, Global};
 
 fn token_span(token: &Token<'_>) -> Span

@@ -5,7 +5,7 @@ use Rattle.std.proofs.lemmas.List.Folds.{list_any-append}
 use Rattle.std.proofs.Math.Bool.{or-false, or_assoc}
 use Rattle.fm_base.specs.Names.{Name, is_one_of}
 use Rattle.fm_base.proofs.Distinct.{same_name}
-use Rattle.name_index.specs.Index.{with_name}
+use Rattle.fm_base.specs.Index.{with_name}
 
 -- a name is among those that came to be where it was, or is among those that came
 pub taken_found : (seen names : List Name) (q : Name) → is_one_of (fold with_name seen names) q ≡ (is_one_of seen q || is_one_of names q)

@@ -8,7 +8,7 @@ use Rattle.std.proofs.lemmas.Grind.{flat_map-append}
 use Rattle.std.proofs.lemmas.Option.{get_or_from_slice_get, slice_get_within}
 use Rattle.fm_base.specs.Names.{Name, is_one_of, distinct}
 use Rattle.fm_base.proofs.Distinct.{distinct-snoc, distinct-found, distinct-nil}
-use Rattle.name_index.specs.Index.{with_name}
+use Rattle.fm_base.specs.Index.{with_name}
 use Rattle.blif_model.specs.Walk.{Act, takes, gives, clocks, visits, flat_table, Step}
 use Rattle.std.specs.Option.{option_map, option_to_list}
 use Rattle.fm_base.proofs.Lists.{all_left, all_right}

@@ -1,7 +1,7 @@
 -- What the numbering of names does.
 use Rattle.std.specs.Prelude.{◌≡◌, List, Some, fold, length, map, slice_get}
 use Rattle.fm_base.specs.Names.{Name}
-use Rattle.name_index.specs.Index.{with_name}
+use Rattle.fm_base.specs.Index.{with_name}
 use Rattle.blif_model.specs.Walk.{Act}
 use Rattle.blif_walk.specs.declared.flat.NameId.{NameId}
 use Rattle.blif_walk.specs.declared.flat.NumberedAct.{NumberedAct}

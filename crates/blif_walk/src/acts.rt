@@ -15,7 +15,7 @@ use blif_says::bindings::pair_of;
 use blif_says::says::{Clocked, LatchSays, Says};
 use blif_text::lines::TextLine;
 use blif_text::token::Token;
-use fm_list::{Name, Names, Seq};
+use fm_base::{Name, Names, Seq};
 use std::alloc::{AllocError, Global};
 
 /// The sorts of port lines.

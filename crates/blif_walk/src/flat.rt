@@ -2,8 +2,7 @@
 ghost use Rattle.blif_walk.specs.Flat.{IsFlat};
 
 use blif_text::lines::TextLine;
-use fm_list::Seq;
-use name_index::NameIndex;
+use fm_base::{NameIndex, Seq};
 
 /// The number of a name: its place in the order of first mention.
 #[derive(Clone, Copy, Debug, PartialEq, Eq)]

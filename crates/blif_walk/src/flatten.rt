@@ -13,8 +13,7 @@ use crate::flat::{FlatModel, NameId, NumberedAct, NumberedLatch, NumberedStep, N
 use crate::frames::{LatchNets, NetAct, TableNets};
 use crate::table::ModelTable;
 use crate::walker::Walker;
-use fm_list::{Name, Seq};
-use name_index::NameIndex;
+use fm_base::{Name, NameIndex, Seq};
 use std::alloc::{AllocError, Global};
 
 /// The number of a name. There is no room for more than 2^32 names.

@@ -3,7 +3,7 @@ ghost use Rattle.std.specs.Prelude.{◌+◌, ◌<◌, ◌^◌, length};
 
 use crate::bound::BoundNets;
 use blif_text::lines::TextLine;
-use fm_list::{Name, Names};
+use fm_base::{Name, Names};
 
 /// Where a name stands: in the main model, or in an instance with this path.
 #[derive(Drop)]

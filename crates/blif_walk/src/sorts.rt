@@ -9,7 +9,7 @@ ghost use Rattle.blif_walk.specs.Flat.{act_by, AreBelow, ids_in};
 ghost use Rattle.blif_walk.specs.Sorts.{drive_names, ids_of, named};
 
 use crate::flat::{NameId, NumberedAct};
-use fm_list::Seq;
+use fm_base::Seq;
 
 /// Which names of a line are looked at.
 #[derive(Clone, Copy, Debug, PartialEq, Eq)]

@@ -6,7 +6,7 @@ ghost use Rattle.blif_walk.specs.Seen.{scope_at};
 
 use crate::frames::Place;
 use blif_text::token::Token;
-use fm_list::{Name, Names, Seq};
+use fm_base::{Name, Names, Seq};
 use itoa::Buffer;
 use net_names::copies::own_name;
 use std::alloc::{AllocError, Global};

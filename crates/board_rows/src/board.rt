@@ -8,8 +8,7 @@ ghost use Rattle.campaign_board.specs.Kept.{IsStart};
 ghost use Rattle.campaign_board.specs.Sharing.{MayPost};
 
 use campaign_board::{Board, Entry, Look, Origin, Seat, Shared, missing_batches};
-use fm_base::Line;
-use fm_list::Seq;
+use fm_base::{Line, Seq};
 use fm_shelf::files::Calls;
 use fm_shelf::memory::MemoryShelf;
 use fm_shelf::shelf::Shelf;

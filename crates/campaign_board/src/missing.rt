@@ -3,7 +3,7 @@ ghost use Rattle.std.specs.List.{list_any};
 ghost use Rattle.campaign_board.specs.Boards.{batches_of};
 ghost use Rattle.campaign_board.specs.Missing.{missing_below};
 
-use fm_list::Seq;
+use fm_base::Seq;
 use result_file::Row;
 use std::alloc::{AllocError, Global};
 

@@ -12,7 +12,7 @@ use alarm_points::Points;
 use circuit::netlist::Netlist;
 use circuit::parts::NetId;
 use fault_list::{FaultList, FaultRefusal, net_of};
-use fm_list::{Name, Seq};
+use fm_base::{Name, Seq};
 use rate_table::Rates;
 use std::alloc::{AllocError, Global};
 use workload::run::Workload;

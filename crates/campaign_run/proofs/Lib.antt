@@ -6,3 +6,7 @@ pub mod Reporting
 pub mod Leaving
 pub mod Ending
 pub mod Anew
+pub mod Cutting
+pub mod KeptPrefix
+pub mod TrueLanes
+pub mod GoingOn

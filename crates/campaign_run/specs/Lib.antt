@@ -6,3 +6,5 @@ pub mod Starting
 pub mod Ran
 pub mod Origins
 pub mod Steps
+pub mod Prefixes
+pub mod Stopped

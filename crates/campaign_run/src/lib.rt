@@ -2,6 +2,7 @@
 #![tactic(auto)]
 
 mod campaign;
+pub mod law;
 mod over;
 mod run;
 mod tell;

@@ -9,7 +9,7 @@ use Rattle.result_file.specs.declared.KeptRows.{KeptRows}
 use Rattle.result_file.specs.ResultText.{result_text}
 use Rattle.result_file.specs.KeptRows.{kept_entries}
 use Rattle.campaign_run.specs.Found.{IsPart}
-use Rattle.stopped_file.specs.Stopped.{IsTakenUp, StoppedAreTakenUp}
+use Rattle.campaign_run.specs.Stopped.{IsTakenUp, StoppedAreTakenUp}
 use Rattle.result_merge.specs.Merged.{merged_entries}
 use Rattle.result_merge.specs.PlanLaws.{MergesAreLawful}
 use Rattle.campaign_shard.specs.MergedParts.{IsKeptTruly, StoppedPartsMerge}

@@ -2,8 +2,8 @@
 ghost use Rattle.campaign_shard.specs.PartSeats.{UnpostedDrawsLeaveNoRow};
 ghost use Rattle.campaign_shard.specs.MergedParts.{StoppedPartsMerge};
 
+use campaign_run::law::stopped_are_taken_up;
 use result_merge::merges_are_lawful;
-use stopped_file::stopped_are_taken_up;
 
 /// The law that a draw which is never posted leaves no row: the board that is closed has the rows of the part, each once. It
 /// stands over the rule of the shared table as it is.

@@ -17,7 +17,7 @@ use crate::numbers::{count_own, own_numbers};
 use alarm_points::Points;
 use circuit::netlist::Netlist;
 use fault_list::FaultList;
-use fm_list::Seq;
+use fm_base::Seq;
 use netlist_levels::Order;
 use std::alloc::{AllocError, Global};
 use std::marker::Model;

@@ -12,17 +12,17 @@ use Rattle.result_file.specs.declared.ResultRefusal.{ResultRefusal}
 use Rattle.result_file.specs.declared.ResultRefusal.TheVariants as back
 use Rattle.result_file.specs.KeptRows.{kept}
 use Rattle.command_line.specs.Commands.{Inputs}
-use Rattle.refusal_text.specs.declared.status.Status.{Status}
-use Rattle.refusal_text.specs.declared.status.Status.TheVariants as status
-use Rattle.refusal_text.specs.declared.status.Which.{Which}
-use Rattle.refusal_text.specs.declared.status.Which.TheVariants as which
+use Rattle.command_text.specs.declared.status.Status.{Status}
+use Rattle.command_text.specs.declared.status.Status.TheVariants as status
+use Rattle.command_text.specs.declared.status.Which.{Which}
+use Rattle.command_text.specs.declared.status.Which.TheVariants as which
 use Rattle.command_steps.specs.declared.planned.Planned.{Planned}
 use Rattle.command_steps.specs.Files.{Files, FilesRead, all_read, input_bytes}
-use Rattle.refusal_text.specs.NetlistFile.{or_refuse}
+use Rattle.command_text.specs.NetlistFile.{or_refuse}
 use Rattle.command_steps.specs.FirstRefusal.{plan_of, back_step, result_step, audit_step, pairs_step, kept_of, audited_of, paired_of, own_header, refusal_in, status_of_back, IsPlanOf, ◌>>=◌}
 use Rattle.command_steps.specs.Held.{name_in}
 use Rattle.command_steps.specs.Steps.{StepAs}
-use Rattle.refusal_text.specs.Refusals.{IsPlain}
+use Rattle.command_text.specs.Refusals.{IsPlain}
 use Rattle.command_steps.specs.PlanSteps.{PlanRefused, PlannedAs, input_files}
 use Rattle.command_steps.specs.BegunSteps.{KeptRefused, BegunAs}
 use Rattle.command_steps.proofs.Keeping.{had_if_known}

@@ -10,12 +10,12 @@ use Rattle.circuit.specs.Loop.{HasNoLoop}
 use Rattle.workload.specs.declared.run.Run.{Run}
 use Rattle.alarm_points.specs.declared.Points.{Points}
 use Rattle.command_line.specs.Commands.{Classes}
-use Rattle.refusal_text.specs.declared.status.Status.{Status}
-use Rattle.refusal_text.specs.declared.status.Status.TheVariants as status
-use Rattle.refusal_text.specs.declared.status.Which.{Which}
-use Rattle.refusal_text.specs.declared.status.Which.TheVariants as which
-use Rattle.refusal_text.specs.declared.status.What.TheVariants as what
-use Rattle.refusal_text.specs.Refusals.{IsPlain}
+use Rattle.command_text.specs.declared.status.Status.{Status}
+use Rattle.command_text.specs.declared.status.Status.TheVariants as status
+use Rattle.command_text.specs.declared.status.Which.{Which}
+use Rattle.command_text.specs.declared.status.Which.TheVariants as which
+use Rattle.command_text.specs.declared.status.What.TheVariants as what
+use Rattle.command_text.specs.Refusals.{IsPlain}
 use Rattle.command_steps.specs.declared.input.Taken.{Taken}
 use Rattle.command_steps.specs.declared.netlist.Ordered.{Ordered}
 use Rattle.command_steps.specs.Files.{Files, FilesRead, all_read}
@@ -26,7 +26,7 @@ use Rattle.command_steps.specs.Checked.{ReadFits, NameFits, FaultsRose, Checked}
 use Rattle.command_steps.specs.Steps.{FaultRose, StepAs, TakenAs, NetlistAs, OrderedAs, OutputsAs, RefusedInOrder, ObservedAs}
 use Rattle.command_steps.proofs.Keeping.{had_if_known}
 use Rattle.command_steps.proofs.Taken.{netlist_begin, netlist_next, outputs_plain, runs_plain}
-use Rattle.refusal_text.proofs.Refusals.{ok_same}
+use Rattle.command_text.proofs.Refusals.{ok_same}
 
 -- ---- calls that only read, and what is behind them
 

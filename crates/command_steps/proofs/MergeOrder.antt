@@ -13,11 +13,11 @@ use Rattle.result_merge.specs.declared.merge.MergeRefusal.{MergeRefusal}
 use Rattle.result_merge.specs.declared.merge.MergeRefusal.TheVariants.{Differs}
 use Rattle.result_merge.specs.Merged.{merged}
 use Rattle.command_line.specs.Commands.{Inputs}
-use Rattle.refusal_text.specs.declared.status.Status.{Status}
-use Rattle.refusal_text.specs.declared.status.Status.TheVariants as status
-use Rattle.refusal_text.specs.declared.status.Which.{Which}
-use Rattle.refusal_text.specs.declared.status.Which.TheVariants as which
-use Rattle.refusal_text.specs.Refusals.{IsPlain}
+use Rattle.command_text.specs.declared.status.Status.{Status}
+use Rattle.command_text.specs.declared.status.Status.TheVariants as status
+use Rattle.command_text.specs.declared.status.Which.{Which}
+use Rattle.command_text.specs.declared.status.Which.TheVariants as which
+use Rattle.command_text.specs.Refusals.{IsPlain}
 use Rattle.command_steps.specs.declared.planned.Planned.{Planned}
 use Rattle.command_steps.specs.Files.{Files, FilesRead, all_read, both_read, input_bytes}
 use Rattle.command_steps.specs.FirstRefusal.{plan_of, back_step, merge_step, merged_of, own_header, status_of_merge, IsPlanOf, ◌>>=◌}

@@ -6,7 +6,7 @@ use Rattle.circuit.specs.declared.parts.NetId.{NetId}
 use Rattle.circuit.specs.Circuit.{Circuit}
 use Rattle.bench_reader.specs.Bench.{bench_of}
 use Rattle.blif_model.specs.Net.{netlist_of}
-use Rattle.refusal_text.specs.NetlistFile.{is_bench, netlist_in, or_refuse}
+use Rattle.command_text.specs.NetlistFile.{is_bench, netlist_in, or_refuse}
 use Rattle.workload.specs.WorkloadFile.{workload_of}
 use Rattle.rate_table.specs.RatesFile.{rates_of}
 use Rattle.alarm_points.specs.PointsFile.{points_of}
@@ -29,11 +29,11 @@ use Rattle.pair_list.specs.declared.pairs.PairRefusal.{PairRefusal}
 use Rattle.pair_list.specs.declared.pairs.PairRefusal.TheVariants.{Incomplete, TooMany}
 use Rattle.pair_list.specs.Chosen.{pair_refusal}
 use Rattle.command_line.specs.Commands.{Command, Classes, Check, Run as RunCommand, Resume, Audit, Gen, Report, Shard, Merge, Pairs, Parts, Faults, Progress, settings_of}
-use Rattle.refusal_text.specs.declared.status.Status.{Status}
-use Rattle.refusal_text.specs.declared.status.Status.TheVariants as status
-use Rattle.refusal_text.specs.declared.status.Which.{Which}
-use Rattle.refusal_text.specs.declared.status.Which.TheVariants as which
-use Rattle.refusal_text.specs.declared.status.What.TheVariants as what
+use Rattle.command_text.specs.declared.status.Status.{Status}
+use Rattle.command_text.specs.declared.status.Status.TheVariants as status
+use Rattle.command_text.specs.declared.status.Which.{Which}
+use Rattle.command_text.specs.declared.status.Which.TheVariants as which
+use Rattle.command_text.specs.declared.status.What.TheVariants as what
 use Rattle.command_steps.specs.Files.{FilesRead, all_read, input_bytes}
 use Rattle.command_steps.specs.FirstRefusal.{at_most, no_name, unless, netlist_step, outputs_step, workload_step, rates_step, points_step, plan_for, plan_of, classes_plan_of, rated_of, status_of_plan, status_of_back, result_step, own_header, is_wrong, disagreement, audit_step, kept_of, audited_of, refusal_in, generated, generated_settings, first_refusal, ◌>>=◌, back_step, status_of_merge, merge_step, merged_of, status_of_pairs, paired_of}
 

@@ -18,13 +18,13 @@ use Rattle.campaign_plan.specs.declared.PlanRefusal.{PlanRefusal}
 use Rattle.campaign_plan.specs.declared.PlanRefusal.TheVariants as plan
 use Rattle.campaign_plan.specs.PlanFaults.{plan_refusal}
 use Rattle.command_line.specs.Commands.{Inputs}
-use Rattle.refusal_text.specs.declared.status.Status.{Status}
-use Rattle.refusal_text.specs.declared.status.Status.TheVariants as status
-use Rattle.refusal_text.specs.declared.status.Which.{Which}
-use Rattle.refusal_text.specs.declared.status.Which.TheVariants as which
-use Rattle.refusal_text.specs.declared.status.What.TheVariants as what
-use Rattle.refusal_text.specs.Refusals.{IsPlain}
-use Rattle.refusal_text.proofs.Refusals.{ok_same}
+use Rattle.command_text.specs.declared.status.Status.{Status}
+use Rattle.command_text.specs.declared.status.Status.TheVariants as status
+use Rattle.command_text.specs.declared.status.Which.{Which}
+use Rattle.command_text.specs.declared.status.Which.TheVariants as which
+use Rattle.command_text.specs.declared.status.What.TheVariants as what
+use Rattle.command_text.specs.Refusals.{IsPlain}
+use Rattle.command_text.proofs.Refusals.{ok_same}
 use Rattle.command_steps.specs.declared.input.Taken.{Taken}
 use Rattle.command_steps.specs.declared.netlist.Ordered.{Ordered}
 use Rattle.command_steps.specs.declared.planned.Planned.{Planned}

@@ -7,10 +7,10 @@ use Rattle.circuit.specs.declared.parts.NetId.{NetId}
 use Rattle.circuit.specs.Circuit.{Circuit}
 use Rattle.rate_table.specs.Table.{RateTable}
 use Rattle.command_line.specs.Commands.{Parts}
-use Rattle.refusal_text.specs.declared.status.Status.{Status}
-use Rattle.refusal_text.specs.declared.status.Status.TheVariants as status
-use Rattle.refusal_text.specs.declared.status.Which.TheVariants as which
-use Rattle.refusal_text.specs.Refusals.{IsPlain}
+use Rattle.command_text.specs.declared.status.Status.{Status}
+use Rattle.command_text.specs.declared.status.Status.TheVariants as status
+use Rattle.command_text.specs.declared.status.Which.TheVariants as which
+use Rattle.command_text.specs.Refusals.{IsPlain}
 use Rattle.command_steps.specs.declared.input.Taken.{Taken}
 use Rattle.command_steps.specs.declared.netlist.Ordered.{Ordered}
 use Rattle.command_steps.specs.Files.{Files, FilesRead, all_read}

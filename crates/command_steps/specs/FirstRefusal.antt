@@ -29,12 +29,12 @@ use Rattle.pair_list.specs.declared.pairs.PairRefusal.{PairRefusal}
 use Rattle.pair_list.specs.declared.pairs.PairRefusal.TheVariants.{Incomplete, TooMany}
 use Rattle.pair_list.specs.Chosen.{pair_refusal}
 use Rattle.sample_gen.specs.Sample.{netlist_text, workload_text, rates_text, points_text}
-use Rattle.refusal_text.specs.declared.status.Status.{Status}
-use Rattle.refusal_text.specs.declared.status.Status.TheVariants as status
-use Rattle.refusal_text.specs.declared.status.Which.{Which}
-use Rattle.refusal_text.specs.declared.status.Which.TheVariants as which
-use Rattle.refusal_text.specs.declared.status.What.TheVariants as what
-use Rattle.refusal_text.specs.NetlistFile.{netlist_in, or_refuse}
+use Rattle.command_text.specs.declared.status.Status.{Status}
+use Rattle.command_text.specs.declared.status.Status.TheVariants as status
+use Rattle.command_text.specs.declared.status.Which.{Which}
+use Rattle.command_text.specs.declared.status.Which.TheVariants as which
+use Rattle.command_text.specs.declared.status.What.TheVariants as what
+use Rattle.command_text.specs.NetlistFile.{netlist_in, or_refuse}
 use Rattle.command_line.specs.Commands.{Command, Classes, Check, Run as RunCommand, Resume, Audit, Gen, Report, Shard, Merge, Pairs, Parts, Faults, Progress, settings_of}
 use Rattle.command_steps.specs.Files.{Files, FilesRead, all_read, input_bytes}
 use Rattle.fm_base.specs.Names.{Bytes}

@@ -2,8 +2,8 @@
 use Rattle.std.specs.Prelude.{◌≡◌, []}
 use Rattle.fm_shelf.specs.Content.{Held}
 use Rattle.fm_shelf.specs.Shelf.{ShelfState}
-use Rattle.refusal_text.specs.declared.status.Which.{Which}
-use Rattle.refusal_text.specs.declared.status.Which.TheVariants as which
+use Rattle.command_text.specs.declared.status.Which.{Which}
+use Rattle.command_text.specs.declared.status.Which.TheVariants as which
 use Rattle.command_line.specs.Commands.{Command, Classes, Check, Run, Resume, Audit, Gen, Report, Inputs, Shard, Merge, Pairs, Parts, Faults, Progress}
 use Rattle.command_steps.specs.Files.{Files}
 use Rattle.fm_base.specs.Names.{Bytes}

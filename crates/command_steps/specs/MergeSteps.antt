@@ -9,11 +9,11 @@ use Rattle.campaign_plan.specs.Kept.{IsPlan}
 use Rattle.result_file.specs.declared.KeptRows.{KeptRows}
 use Rattle.result_file.specs.declared.Row.{Row}
 use Rattle.command_line.specs.Commands.{Inputs}
-use Rattle.refusal_text.specs.declared.status.Status.{Status}
-use Rattle.refusal_text.specs.declared.status.Status.TheVariants as status
-use Rattle.refusal_text.specs.declared.status.Which.TheVariants as which
-use Rattle.refusal_text.specs.declared.refused.Refused.{Refused}
-use Rattle.refusal_text.specs.Refusals.{IsPlain, status_of, HasItsNets}
+use Rattle.command_text.specs.declared.status.Status.{Status}
+use Rattle.command_text.specs.declared.status.Status.TheVariants as status
+use Rattle.command_text.specs.declared.status.Which.TheVariants as which
+use Rattle.command_text.specs.declared.refused.Refused.{Refused}
+use Rattle.command_text.specs.Refusals.{IsPlain, status_of, HasItsNets}
 use Rattle.command_steps.specs.declared.merged.Merged.{Merged}
 use Rattle.command_steps.specs.Files.{FilesRead}
 use Rattle.command_steps.specs.FirstRefusal.{back_step, merge_step, merged_of, own_header, IsLoopAnswer, ◌>>=◌}

@@ -5,9 +5,9 @@ ghost use Rattle.command_steps.specs.Steps.{RatedAs};
 
 use crate::netlist::{Ordered, read_netlist};
 use crate::tables::read_parts;
+use command_text::refused::Refused;
 use fm_shelf::shelf::Shelf;
 use rate_table::Rates;
-use refusal_text::refused::Refused;
 use std::alloc::Global;
 
 /// A netlist, and the rates of its parts.

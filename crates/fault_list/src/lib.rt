@@ -13,7 +13,7 @@ mod name;
 
 use circuit::netlist::Netlist;
 use circuit::parts::{Fault, NetId};
-use fm_list::Seq;
+use fm_base::Seq;
 use fm_shelf::shelf::{Failed, Sink};
 pub use name::net_of;
 use std::alloc::{AllocError, Global};

@@ -5,3 +5,5 @@ pub mod Text
 pub mod Planes
 pub mod Once
 pub mod Answers
+pub mod Index
+pub mod Plain

@@ -4,10 +4,17 @@
 
 #[cfg(test)]
 mod examples;
+pub mod field;
+mod index;
 mod line;
 mod refusal;
+mod seq;
+#[cfg(test)]
+mod seq_tests;
 mod steps;
 
+pub use index::NameIndex;
 pub use line::Line;
 pub use refusal::Refusal;
+pub use seq::{Bytes, Name, Names, Seq};
 pub use steps::Steps;

@@ -1,5 +1,5 @@
 // Files that a shelf starts with.
-use fm_list::Seq;
+use fm_base::Seq;
 
 /// A file's name with its bytes.
 #[derive(Drop)]

@@ -9,7 +9,7 @@ ghost use Rattle.fm_shelf.specs.Entries.{AllApart, HasName, content_in, files_of
 
 use crate::files::{Calls, File, Files};
 use crate::shelf::{Failed, Shelf, Sink};
-use fm_list::Seq;
+use fm_base::Seq;
 use std::alloc::{AllocError, Global};
 
 // Whether a call is to fail.

@@ -7,7 +7,7 @@ ghost use Rattle.fm_shelf.specs.Sink.{Sends};
 ghost use Rattle.fm_shelf.specs.declared.whole.ReadRefusal.TheVariants.{Memory, Failed as ReadFailed};
 
 use crate::shelf::{Failed, Shelf, Sink};
-use fm_list::Seq;
+use fm_base::Seq;
 use std::alloc::{AllocError, Global};
 
 // The greatest length of a file that is read, in bytes.

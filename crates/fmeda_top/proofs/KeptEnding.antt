@@ -11,12 +11,12 @@ use Rattle.campaign_plan.specs.Analysis.{Analysis}
 use Rattle.campaign_plan.specs.Batches.{AreDistinct, Entry}
 use Rattle.result_file.specs.KeptRows.{kept, kept_entries}
 use Rattle.command_line.specs.Commands.{Command, Faults, Progress, Inputs}
-use Rattle.refusal_text.specs.declared.status.Status.{Status}
-use Rattle.refusal_text.specs.declared.status.Status.TheVariants as status
-use Rattle.refusal_text.specs.declared.status.Which.{Which}
-use Rattle.refusal_text.specs.declared.status.Which.TheVariants as which
-use Rattle.refusal_text.specs.declared.refused.Refused.{Refused}
-use Rattle.refusal_text.specs.Refusals.{status_of, HasItsNets, IsSaidOf}
+use Rattle.command_text.specs.declared.status.Status.{Status}
+use Rattle.command_text.specs.declared.status.Status.TheVariants as status
+use Rattle.command_text.specs.declared.status.Which.{Which}
+use Rattle.command_text.specs.declared.status.Which.TheVariants as which
+use Rattle.command_text.specs.declared.refused.Refused.{Refused}
+use Rattle.command_text.specs.Refusals.{status_of, HasItsNets, IsSaidOf}
 use Rattle.command_steps.specs.declared.begun.Begun.{Begun}
 use Rattle.command_steps.specs.Files.{Files, FilesRead, all_read}
 use Rattle.command_steps.specs.FirstRefusal.{first_refusal, refusal_in, kept_of, own_header, IsLoopAnswer, IsPlanOf}

@@ -21,10 +21,10 @@ use Rattle.result_merge.specs.PlanLaws.{MergesAreLawful}
 use Rattle.campaign_run.specs.Left.{IsPrefixOf}
 use Rattle.campaign_run.specs.Outside.{KeepsOthers}
 use Rattle.command_line.specs.Commands.{Command, Merge, Inputs}
-use Rattle.refusal_text.specs.declared.status.Status.{Status}
-use Rattle.refusal_text.specs.declared.status.Status.TheVariants as status
-use Rattle.refusal_text.specs.declared.status.Which.{Which}
-use Rattle.refusal_text.specs.declared.status.Which.TheVariants as which
+use Rattle.command_text.specs.declared.status.Status.{Status}
+use Rattle.command_text.specs.declared.status.Status.TheVariants as status
+use Rattle.command_text.specs.declared.status.Which.{Which}
+use Rattle.command_text.specs.declared.status.Which.TheVariants as which
 use Rattle.command_steps.specs.declared.merged.Merged.{Merged as Read}
 use Rattle.command_steps.specs.Files.{Files, FilesRead, both_read}
 use Rattle.command_steps.specs.FirstRefusal.{first_refusal, refusal_in, merged_of, status_of_merge, IsPlanOf, own_header}
@@ -43,7 +43,7 @@ use Rattle.fmeda_top.specs.Ends.{DoneAs, FaultAs, IsStopped, Merged, MergedFiles
 use Rattle.fmeda_top.specs.Written.{rows_file}
 use Rattle.fmeda_top.specs.Campaigns.{EndSaid, HasEnded}
 use Rattle.fmeda_top.specs.Promises.{CommandEnds}
-use Rattle.refusal_text.specs.Refusals.{IsSaidOf}
+use Rattle.command_text.specs.Refusals.{IsSaidOf}
 use Rattle.fmeda_top.proofs.CampaignEnding.{file_ends}
 use Rattle.fmeda_top.proofs.Naming.{same_names}
 

@@ -1,8 +1,8 @@
 -- The names of the files of a command.
 use Rattle.std.proofs.Common.{◌≡◌}
 use Rattle.fm_base.specs.Names.{Bytes}
-use Rattle.refusal_text.specs.declared.status.Which.{Which}
-use Rattle.refusal_text.specs.declared.status.Which.TheVariants as which
+use Rattle.command_text.specs.declared.status.Which.{Which}
+use Rattle.command_text.specs.declared.status.Which.TheVariants as which
 
 names_at : (file other : Which → Bytes) → file which.Netlist ≡ other which.Netlist → file which.Workload ≡ other which.Workload → file which.Rates ≡ other which.Rates
     → file which.Points ≡ other which.Points → file which.Result ≡ other which.Result → file which.First ≡ other which.First → file which.Second ≡ other which.Second

@@ -30,13 +30,13 @@ use Rattle.pair_campaign.specs.PairPlanes.{pair_planes}
 use Rattle.pair_campaign.specs.PairText.{pairs_text, text_by_planes}
 use Rattle.pair_campaign.specs.Laws.{AllPairsAreTold}
 use Rattle.command_line.specs.Commands.{Command, Pairs, Inputs}
-use Rattle.refusal_text.specs.declared.status.Status.{Status}
-use Rattle.refusal_text.specs.declared.status.Status.TheVariants as status
-use Rattle.refusal_text.specs.declared.status.What.TheVariants as what
-use Rattle.refusal_text.specs.declared.status.Which.{Which}
-use Rattle.refusal_text.specs.declared.status.Which.TheVariants as which
-use Rattle.refusal_text.specs.declared.refused.Refused.{Refused}
-use Rattle.refusal_text.specs.Refusals.{IsPlain}
+use Rattle.command_text.specs.declared.status.Status.{Status}
+use Rattle.command_text.specs.declared.status.Status.TheVariants as status
+use Rattle.command_text.specs.declared.status.What.TheVariants as what
+use Rattle.command_text.specs.declared.status.Which.{Which}
+use Rattle.command_text.specs.declared.status.Which.TheVariants as which
+use Rattle.command_text.specs.declared.refused.Refused.{Refused}
+use Rattle.command_text.specs.Refusals.{IsPlain}
 use Rattle.command_steps.specs.declared.begun.Begun.{Begun}
 use Rattle.command_steps.specs.Files.{Files, all_read}
 use Rattle.command_steps.specs.FirstRefusal.{first_refusal, refusal_in, paired_of, pairs_step, status_of_pairs, unless, IsPlanOf}

@@ -7,9 +7,9 @@ use Rattle.fm_shelf.specs.Sink.{SinkState}
 use Rattle.fm_shelf.specs.Outside.{Outside, outside}
 use Rattle.command_line.specs.Commands.{Parts}
 use Rattle.part_table.specs.PartTable.{part_table}
-use Rattle.refusal_text.specs.declared.status.Status.{Status}
-use Rattle.refusal_text.specs.declared.refused.Refused.{Refused}
-use Rattle.refusal_text.specs.Refusals.{status_of, HasItsNets}
+use Rattle.command_text.specs.declared.status.Status.{Status}
+use Rattle.command_text.specs.declared.refused.Refused.{Refused}
+use Rattle.command_text.specs.Refusals.{status_of, HasItsNets}
 use Rattle.command_steps.specs.declared.rated.Rated.{Rated}
 use Rattle.command_steps.specs.Held.{KeepsAll}
 use Rattle.command_steps.specs.Steps.{RatedAs}

@@ -8,10 +8,10 @@ use Rattle.fm_shelf.specs.Outside.{Outside, outside}
 use Rattle.campaign_plan.specs.declared.Settings.{Settings}
 use Rattle.fmeda_report.specs.Report.{true_report}
 use Rattle.command_line.specs.Commands.{Report, Inputs}
-use Rattle.refusal_text.specs.declared.status.Status.{Status}
-use Rattle.refusal_text.specs.declared.status.Status.TheVariants as status
-use Rattle.refusal_text.specs.declared.refused.Refused.{Refused}
-use Rattle.refusal_text.specs.Refusals.{status_of, HasItsNets}
+use Rattle.command_text.specs.declared.status.Status.{Status}
+use Rattle.command_text.specs.declared.status.Status.TheVariants as status
+use Rattle.command_text.specs.declared.refused.Refused.{Refused}
+use Rattle.command_text.specs.Refusals.{status_of, HasItsNets}
 use Rattle.command_steps.specs.declared.planned.Planned.{Planned}
 use Rattle.command_steps.specs.FirstRefusal.{first_refusal, refusal_in, plan_of, IsPlanOf}
 use Rattle.command_steps.specs.Held.{KeepsAll}

@@ -15,8 +15,8 @@ use Rattle.campaign_run.specs.Left.{LeftPrefix}
 use Rattle.campaign_run.specs.Outside.{KeepsOthers}
 use Rattle.campaign_shard.specs.RanPart.{PartCampaign, IsPartTold, HasRunPart}
 use Rattle.command_line.specs.Commands.{Command, Shard, Inputs}
-use Rattle.refusal_text.specs.declared.status.Status.{Status}
-use Rattle.refusal_text.specs.declared.status.Status.TheVariants as status
+use Rattle.command_text.specs.declared.status.Status.{Status}
+use Rattle.command_text.specs.declared.status.Status.TheVariants as status
 use Rattle.command_steps.specs.declared.planned.Planned.{Planned}
 use Rattle.command_steps.specs.Files.{Files}
 use Rattle.command_steps.specs.FirstRefusal.{first_refusal, refusal_in, plan_of, IsPlanOf, own_header}
@@ -27,8 +27,8 @@ use Rattle.command_steps.specs.PlanSteps.{PlanChecked, PlanRefused, PlannedAs, i
 use Rattle.command_steps.proofs.PlanOrder.{are_held, plan_checked}
 use Rattle.fmeda_top.specs.Campaigns.{EndSaid, HasEnded}
 use Rattle.fmeda_top.specs.Promises.{CommandEnds, result_of}
-use Rattle.refusal_text.specs.declared.status.Which.{Which}
-use Rattle.refusal_text.specs.declared.status.Which.TheVariants as which
+use Rattle.command_text.specs.declared.status.Which.{Which}
+use Rattle.command_text.specs.declared.status.Which.TheVariants as which
 use Rattle.fmeda_top.proofs.Naming.{same_names}
 use Rattle.fmeda_top.proofs.CampaignEnding.{file_ends}
 use Rattle.fmeda_top.specs.Ends.{DoneAs, FaultAs, LeavesPrefix}

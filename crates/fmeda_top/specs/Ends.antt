@@ -21,12 +21,12 @@ use Rattle.fmeda_report.specs.Report.{report, true_report, summary}
 use Rattle.fault_table.specs.FaultTable.{fault_table}
 use Rattle.part_table.specs.PartTable.{part_table}
 use Rattle.metric_bounds.specs.Progress.{progress}
-use Rattle.refusal_text.specs.declared.status.Status.{Status}
-use Rattle.refusal_text.specs.declared.status.Status.TheVariants as status
-use Rattle.refusal_text.specs.declared.status.WriteTo.TheVariants as to
-use Rattle.refusal_text.specs.declared.status.Which.{Which}
-use Rattle.refusal_text.specs.declared.status.Which.TheVariants as which
-use Rattle.refusal_text.specs.RefusalLines.{refused, refusal_line}
+use Rattle.command_text.specs.declared.status.Status.{Status}
+use Rattle.command_text.specs.declared.status.Status.TheVariants as status
+use Rattle.command_text.specs.declared.status.WriteTo.TheVariants as to
+use Rattle.command_text.specs.declared.status.Which.{Which}
+use Rattle.command_text.specs.declared.status.Which.TheVariants as which
+use Rattle.command_text.specs.RefusalLines.{refused, refusal_line}
 use Rattle.command_line.specs.Commands.{Command, Classes, Check, Run, Resume, Audit, Gen, Report, Inputs, settings_of, Shard, Merge, Pairs, Parts, Faults, Progress}
 use Rattle.command_steps.specs.Files.{Files, all_read, both_read}
 use Rattle.command_text.specs.Texts.{classes_text, check_text, audit_text, shard_line, merge_text}
@@ -38,7 +38,7 @@ use Rattle.campaign_run.specs.Reported.{HasReported, ResumedAs}
 use Rattle.campaign_run.specs.Left.{IsPrefixOf, LeftPrefix, BeginsAs}
 use Rattle.command_steps.specs.Held.{KeepsAll, name_of}
 use Rattle.command_steps.specs.WasRead.{AreRead, AreRated, IsClassesPlan}
-use Rattle.refusal_text.specs.Refusals.{IsCircuitOf}
+use Rattle.command_text.specs.Refusals.{IsCircuitOf}
 
 -- a campaign over these bytes, where the netlist's file has this name
 pub record RanCampaign (netlist : Bytes) (files : Files) (set : Settings) (text : Analysis → Bytes) (name : Bytes) (before after : Outside) : Type 0 where

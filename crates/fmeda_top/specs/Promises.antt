@@ -4,10 +4,10 @@ use Rattle.fm_base.specs.Names.{Bytes}
 use Rattle.fm_shelf.specs.Content.{Unknown}
 use Rattle.fm_shelf.specs.Shelf.{CountRose}
 use Rattle.fm_shelf.specs.Outside.{Outside}
-use Rattle.refusal_text.specs.declared.status.Status.{Status}
-use Rattle.refusal_text.specs.declared.status.Status.TheVariants as status
-use Rattle.refusal_text.specs.declared.status.WriteTo.TheVariants as to
-use Rattle.refusal_text.specs.Named.{no_names}
+use Rattle.command_text.specs.declared.status.Status.{Status}
+use Rattle.command_text.specs.declared.status.Status.TheVariants as status
+use Rattle.command_text.specs.declared.status.WriteTo.TheVariants as to
+use Rattle.command_text.specs.Named.{no_names}
 use Rattle.command_line.specs.Commands.{Command, Run, Resume, Gen, Shard, Merge}
 use Rattle.command_line.specs.Words.{IsAlone, IsCommand, IsNoCommand}
 use Rattle.command_steps.specs.Held.{name_of}

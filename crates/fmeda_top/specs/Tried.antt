@@ -8,18 +8,18 @@ use Rattle.fm_shelf.specs.Outside.{Outside}
 use Rattle.command_line.specs.Commands.{Classes, Inputs, Audit, Pairs, Parts}
 use Rattle.campaign_plan.specs.Analysis.{Analysis}
 use Rattle.campaign_plan.specs.Batches.{Entry}
-use Rattle.refusal_text.specs.declared.status.Status.{Status}
-use Rattle.refusal_text.specs.declared.status.Status.TheVariants as status
-use Rattle.refusal_text.specs.declared.refused.Refused.{Refused}
-use Rattle.refusal_text.specs.declared.refused.Refused.TheVariants.{By, Looped}
+use Rattle.command_text.specs.declared.status.Status.{Status}
+use Rattle.command_text.specs.declared.status.Status.TheVariants as status
+use Rattle.command_text.specs.declared.refused.Refused.{Refused}
+use Rattle.command_text.specs.declared.refused.Refused.TheVariants.{By, Looped}
 use Rattle.command_steps.specs.Files.{all_read}
 use Rattle.command_steps.specs.Checked.{Checked}
 use Rattle.command_text.specs.Texts.{classes_text, audit_text}
-use Rattle.refusal_text.specs.declared.status.WriteTo.TheVariants as to
+use Rattle.command_text.specs.declared.status.WriteTo.TheVariants as to
 use Rattle.fm_base.specs.Names.{Bytes}
 use Rattle.campaign_plan.specs.declared.Settings.{Settings}
 use Rattle.command_steps.specs.FirstRefusal.{IsPlanOf, audited_of, audit_step, own_header, paired_of, pairs_step}
-use Rattle.refusal_text.specs.Refusals.{status_of, HasItsNets}
+use Rattle.command_text.specs.Refusals.{status_of, HasItsNets}
 use Rattle.result_file.specs.declared.KeptRows.{KeptRows}
 use Rattle.result_file.specs.KeptRows.{kept, kept_entries}
 use Rattle.rate_table.specs.Table.{RateTable}

@@ -1,7 +1,7 @@
 -- What the words of a call ask for, and refusals of the words themselves.
 use Rattle.command_line.specs.Commands.{Command, Check, Run, Resume, Audit, Gen, Report, Shard, Merge, Pairs, Faults, Progress}
-use Rattle.refusal_text.specs.declared.status.Status.{Status}
-use Rattle.refusal_text.specs.declared.status.Status.TheVariants as status
+use Rattle.command_text.specs.declared.status.Status.{Status}
+use Rattle.command_text.specs.declared.status.Status.TheVariants as status
 use Rattle.std.specs.Prelude.{◌<◌, ◌≤◌}
 use Rattle.campaign_plan.specs.Kept.{AreSettings}
 use Rattle.fault_list.specs.Faults.{AreCycles}

@@ -8,12 +8,12 @@ ghost use Rattle.fmeda_top.specs.Promises.{CommandEnds};
 ghost use Rattle.fmeda_top.specs.Tried.{PartsAs, TextAs};
 
 use command_steps::rated::{Rated, read_rated};
+use command_text::names::FileNames;
+use command_text::refuse::say_refused;
+use command_text::refused::Refused;
+use command_text::status::{Status, after_text};
 use fm_shelf::shelf::{Shelf, Sink};
 use part_table::PartTable;
-use refusal_text::names::FileNames;
-use refusal_text::refuse::say_refused;
-use refusal_text::refused::Refused;
-use refusal_text::status::{Status, after_text};
 use std::alloc::Global;
 
 // Looks up each net and latch, and writes what each row of the rates takes.

@@ -14,12 +14,12 @@ use campaign_plan::Settings;
 use collapsed_rows::collapsed_rows;
 use command_line::InputNames;
 use command_steps::planned::{Planned, read_plan};
+use command_text::names::FileNames;
+use command_text::refuse::say_refused;
+use command_text::refused::Refused;
+use command_text::status::{Status, after_text};
 use fm_shelf::shelf::{Shelf, Sink};
 use fmeda_report::{ReportSpace, rows_report_truly, write_report};
-use refusal_text::names::FileNames;
-use refusal_text::refuse::say_refused;
-use refusal_text::refused::Refused;
-use refusal_text::status::{Status, after_text};
 use std::alloc::Global;
 
 // Simulates one of each group of equal faults, and writes the report.

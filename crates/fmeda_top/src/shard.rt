@@ -13,9 +13,9 @@ use campaign_shard::{PartCampaign, Shard, run_part};
 use command_line::InputNames;
 use command_steps::own::own_line;
 use command_steps::planned::read_plan;
+use command_text::names::FileNames;
+use command_text::refuse::say_refused;
 use fm_shelf::shelf::{Shelf, Sink};
-use refusal_text::names::FileNames;
-use refusal_text::refuse::say_refused;
 use std::alloc::Global;
 use std::sync::Wait;
 

@@ -4,7 +4,7 @@ use Rattle.circuit.specs.declared.parts.NetId.{NetId}
 use Rattle.circuit.specs.Circuit.{Circuit}
 use Rattle.workload.specs.declared.run.Run.{Run}
 use Rattle.fanout.specs.Readers.{Ordered}
-use Rattle.golden_rows.specs.Recorded.{Recorded}
+use Rattle.golden_run.specs.Recorded.{Recorded}
 
 -- the netlist, the order of its tables and the runs that it was made for
 pub record Recording : Type 0 where

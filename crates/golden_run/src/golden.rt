@@ -4,9 +4,9 @@ ghost use Rattle.circuit.specs.Order.{IsOrder};
 ghost use Rattle.golden_difference.specs.Beside.{IsGoldenRow};
 ghost use Rattle.workload.specs.Runs.{cycles_of, run_at};
 
+use crate::GoldenRows;
 use circuit::netlist::Netlist;
 use fanout::Fanout;
-use golden_rows::GoldenRows;
 use netlist_levels::Order;
 use std::alloc::{AllocError, Global};
 use std::marker::Model;

@@ -2,5 +2,9 @@
 #![tactic(auto)]
 
 mod golden;
+mod make;
+mod pack;
+mod rows;
 
 pub use golden::Golden;
+pub use rows::GoldenRows;

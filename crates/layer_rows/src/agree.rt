@@ -3,11 +3,11 @@ ghost use Rattle.std.specs.Prelude.{◌<◌};
 
 use crate::made::{Made, faults_in};
 use crate::plain::plain_values;
+use crate::sample::sample_netlist;
 use crate::single::single_values;
 use crate::words::{Loads, Words, word_values};
 use circuit::parts::Fault;
 use fault_list::FaultList;
-use kernel_rows::sample::sample_netlist;
 use std::alloc::{AllocError, Global};
 
 /// The bits of up to four inputs in 16 cycles: all that there are, in no order.

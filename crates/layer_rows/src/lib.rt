@@ -11,6 +11,7 @@ mod loops;
 mod made;
 #[cfg(test)]
 mod plain;
+pub mod sample;
 #[cfg(test)]
 mod single;
 #[cfg(test)]

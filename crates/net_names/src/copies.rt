@@ -1,7 +1,7 @@
 // Copies of names.
 ghost use Rattle.std.specs.Prelude.{◌≡◌, IfOk};
 
-use fm_list::{Name, Seq};
+use fm_base::{Name, Seq};
 use std::alloc::{AllocError, Global};
 
 /// A name of its own.

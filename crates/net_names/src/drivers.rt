@@ -3,7 +3,7 @@ ghost use Rattle.std.specs.Prelude.{◌≡◌, ◌<◌, ◌^◌, IfOk, length, s
 ghost use Rattle.net_names.specs.Drivers.{drivers_by, put_drivers, role_driver};
 
 use circuit::parts::{Driver, Drivers, NetId};
-use fm_list::Seq;
+use fm_base::Seq;
 use std::alloc::{AllocError, Global};
 
 /// What drives a net.

@@ -7,7 +7,7 @@ ghost use Rattle.pair_campaign.specs.Work.{IsEquippedFor};
 use crate::load::planes_for;
 use crate::worker::PairWorker;
 use campaign_plan::Plan;
-use fm_list::Seq;
+use fm_base::Seq;
 use golden_run::Golden;
 use netlist_levels::Order;
 use pair_list::Pairs;

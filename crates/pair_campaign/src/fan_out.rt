@@ -10,7 +10,7 @@ ghost use Rattle.classifier.specs.Tools.{golden_of};
 use crate::crew::{PairCrew, PairPlanes};
 use crate::worker::{PairWorker, work};
 use campaign_plan::Plan;
-use fm_list::Seq;
+use fm_base::Seq;
 use golden_run::Golden;
 use netlist_levels::Order;
 use pair_list::Pairs;

@@ -7,7 +7,7 @@ ghost use Rattle.result_merge.specs.Tables.{planes_at};
 ghost use Rattle.pair_list.specs.Pairs.{faults_in_class};
 
 use campaign_plan::{Plan, class_with, has_bit};
-use fm_list::Seq;
+use fm_base::Seq;
 use metric_sums::Class;
 use result_merge::PlanesTable;
 use std::alloc::{AllocError, Global};

@@ -7,8 +7,7 @@ ghost use Rattle.pair_list.specs.Chosen.{pair_count, pair_numbered, pairs_by_row
 
 use crate::choice::faults_in_class;
 use campaign_plan::Plan;
-use fm_base::Refusal;
-use fm_list::Seq;
+use fm_base::{Refusal, Seq};
 use metric_sums::Class;
 use result_file::Row;
 use result_merge::PlanesTable;

@@ -8,7 +8,7 @@ mod index;
 mod reading;
 mod units;
 
-use fm_list::{Name, Seq};
+use fm_base::{Name, Seq};
 use index::PatternIndex;
 use metric_sums::Role;
 pub use reading::read_rates;

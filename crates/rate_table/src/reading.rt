@@ -10,9 +10,8 @@ ghost use Rattle.rate_table.specs.Reading.{is_same, name_texts, HoldsReadRows, I
 use crate::units::units_of;
 use crate::{Part, Parts, Pattern, Patterns, Rates, RatesFault, RatesKind};
 use csv_rows::{Row, Rows};
-use field_text::is_label;
-use fm_base::Refusal;
-use fm_list::Seq;
+use fm_base::field::is_label;
+use fm_base::{Refusal, Seq};
 use indexmap::IndexSet;
 use metric_sums::Role;
 use std::alloc::{AllocError, Global};

@@ -5,7 +5,7 @@ ghost use Rattle.std.specs.Char.{is_ascii_digit};
 ghost use Rattle.fm_base.specs.Text.{is_digits, number_of};
 ghost use Rattle.rate_table.specs.Rate.{is_point, units_of, pointed_units};
 
-use field_text::{is_digits, number_of};
+use fm_base::field::{is_digits, number_of};
 
 // The place of the decimal point.
 fn point_of(text: &[u8]) -> Option<usize>

@@ -8,8 +8,7 @@ use crate::check::checked_row;
 use crate::read::is_same;
 use crate::{KeptRows, ResultRefusal, RowList};
 use campaign_plan::Plan;
-use fm_base::{Line, Refusal};
-use fm_list::Seq;
+use fm_base::{Line, Refusal, Seq};
 use metric_sums::Sums;
 use std::alloc::Global;
 

@@ -10,8 +10,7 @@ mod text;
 
 pub use back::read_result;
 pub use digest::own_digest;
-use fm_base::Line;
-use fm_list::Seq;
+use fm_base::{Line, Seq};
 pub use law::written_reads_back;
 use metric_sums::Sums;
 pub use read::read_row;

@@ -11,8 +11,7 @@ ghost use Rattle.result_merge.specs.Tables.{at_either, difference};
 
 use crate::table::PlanesTable;
 use campaign_plan::{Outcome, Plan, own_sums};
-use fm_base::Refusal;
-use fm_list::Seq;
+use fm_base::{Refusal, Seq};
 use metric_sums::Sums;
 use result_file::{Row, RowList};
 use std::alloc::{AllocError, Global};

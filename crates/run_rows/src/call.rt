@@ -1,6 +1,6 @@
 // One call of the program, and what it leaves.
 use crate::inputs::Inputs;
-use fm_list::Seq;
+use fm_base::Seq;
 use fm_shelf::files::{Calls, File, Files};
 use fm_shelf::memory::{MemoryShelf, MemorySink};
 use fm_shelf::shelf::{Shelf, Sink};

@@ -6,7 +6,7 @@ use crate::inputs::{
 };
 use crate::steps::{Course, Step};
 use crate::watch::{HoldsFirst, Watched};
-use fm_list::Seq;
+use fm_base::Seq;
 use fm_shelf::memory::{MemoryShelf, MemorySink};
 use fm_shelf::sure::{SureShelf, SureSink};
 use fm_shelf::whole::read_all;

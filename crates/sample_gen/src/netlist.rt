@@ -5,8 +5,7 @@ ghost use Rattle.fm_base.specs.Lists.{below};
 ghost use Rattle.sample_gen.specs.Sample.{both_stages, netlist_text as netlist_of, with_number as number_behind, source_of as source_by, stage_lines};
 
 use crate::lines::put_line;
-use fm_base::Line;
-use fm_list::{Bytes, Seq};
+use fm_base::{Bytes, Line, Seq};
 use std::alloc::{AllocError, Global};
 
 // A letter and a number, as `m7`.

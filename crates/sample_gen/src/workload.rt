@@ -5,7 +5,7 @@ ghost use Rattle.fm_base.specs.Lists.{below};
 ghost use Rattle.sample_gen.specs.Sample.{vector_line, workload_text as workload_of};
 
 use crate::lines::put_line;
-use fm_list::{Bytes, Seq};
+use fm_base::{Bytes, Seq};
 use std::alloc::{AllocError, Global};
 
 // Adds the row of cycle `t`.

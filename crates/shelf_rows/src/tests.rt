@@ -1,5 +1,5 @@
 // What no clause says: which calls fail, what is counted, and what the system's files do.
-use fm_list::Seq;
+use fm_base::Seq;
 use fm_shelf::files::{Calls, File, Files};
 use fm_shelf::memory::{MemoryShelf, MemorySink};
 use fm_shelf::real::{FileShelf, OutSink};

@@ -1,5 +1,5 @@
 // Numbers and labels.
-use field_text::{is_label, plain_number};
+use fm_base::field::{is_label, plain_number};
 
 #[test]
 fn numbers_without_leading_zeros_up_to_the_most(rt: HostRuntime) {

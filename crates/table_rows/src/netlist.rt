@@ -4,7 +4,7 @@ ghost use Rattle.table_rows.specs.Small.{small};
 
 use circuit::netlist::Netlist;
 use circuit::parts::{Driver, Drivers, Latch, Latches, Name, Names, NetId, NetIds, Table, Tables};
-use fm_list::Seq;
+use fm_base::Seq;
 use std::alloc::{AllocError, Global};
 
 fn name_of(alloc: Global, name: &[u8]) -> Result<Name, AllocError>

@@ -49,8 +49,8 @@ use Rattle.pair_list.specs.Chosen.{pair_refusal}
 use Rattle.pair_campaign.specs.PairPlanes.{pair_planes}
 use Rattle.pair_campaign.specs.PairText.{pairs_text, text_by_planes}
 use Rattle.command_text.specs.Texts.{classes_text, check_text, audit_text, merge_text}
-use Rattle.refusal_text.specs.NetlistFile.{netlist_in}
-use Rattle.refusal_text.specs.RefusalLines.{refusal_line}
+use Rattle.command_text.specs.NetlistFile.{netlist_in}
+use Rattle.command_text.specs.RefusalLines.{refusal_line}
 use Rattle.command_steps.specs.FirstRefusal.{netlist_step, workload_step, rates_step, points_step, plan_for, plan_of, classes_plan_of, back_step, audit_step, kept_of, audited_of, merged_of, paired_of, first_refusal}
 
 unfoldable pub opened : ⊤

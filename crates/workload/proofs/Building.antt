@@ -10,7 +10,7 @@ use Rattle.fm_base.specs.Names.{Name, Bytes, distinct}
 use Rattle.fm_base.proofs.Distinct.{distinct-found, distinct-snoc, is_same}
 use Rattle.fm_base.proofs.Distinct as dis
 use Rattle.fm_base.proofs.Tests.{and_both, not_not}
-use Rattle.name_index.specs.Index.{with_name}
+use Rattle.fm_base.specs.Index.{with_name}
 use Rattle.workload.specs.Built.{AreGrouped, IsAdded, IsBuilt, IsLayout, begun, bits_at, done_with, fault_by, with_vector, is_kind, keeps_kind, last_after, last_says, workload_name, column_place, row_says, kind_of_word}
 use Rattle.workload.specs.declared.builder.Builder.{Builder}
 use Rattle.workload.specs.declared.builder.Last.{Last}

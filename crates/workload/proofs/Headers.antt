@@ -14,7 +14,7 @@ use Rattle.fm_base.specs.Names.{Name, distinct, has_repeat, is_one_of}
 use Rattle.fm_base.proofs.Distinct.{distinct-found, distinct-snoc, is_same}
 use Rattle.fm_base.proofs.Distinct as dis
 use Rattle.fm_base.proofs.Tests.{both_false, or_false, or_second}
-use Rattle.name_index.specs.Index.{with_name}
+use Rattle.fm_base.specs.Index.{with_name}
 use Rattle.workload.specs.Built.{are_bad}
 use Rattle.workload.specs.WorkloadFile.{header_columns, header_fault, input_names}
 use Rattle.workload.specs.declared.file.WorkloadKind.TheVariants.{BadCsv, BadColumn, MissingInput}

@@ -18,7 +18,7 @@ use Rattle.workload.specs.WorkloadFile.{header_columns, header_fault, input_name
 use Rattle.csv_rows.specs.Rows.{Fields, field, has_word, rows_of}
 use Rattle.fm_base.specs.Firsts.{first_after, first_answer, first_fault, given, numbered_fault}
 use Rattle.fm_base.specs.Names.{Name, Bytes, distinct, has_repeat, is_one_of}
-use Rattle.name_index.specs.Index.{with_name}
+use Rattle.fm_base.specs.Index.{with_name}
 use Rattle.fm_base.specs.Text.{is_bit}
 use Rattle.fm_base.specs.declared.refusal.Refusal.{Refusal}
 use Rattle.fm_base.specs.declared.refusal.Refusal.TheVariants.{Fault, Memory}

@@ -11,9 +11,7 @@ use crate::file::{WorkloadFault, WorkloadKind, refusal};
 use crate::header::Layout;
 use crate::run::{Kind, Run, Vector, Workload};
 use csv_rows::Row;
-use fm_base::Refusal;
-use fm_list::{Name, Seq};
-use name_index::NameIndex;
+use fm_base::{Name, NameIndex, Refusal, Seq};
 use std::alloc::{AllocError, Global};
 
 /// The workload that was read last, which may have more rows.

@@ -7,8 +7,7 @@ ghost use Rattle.workload.specs.WorkloadFile.{input_names};
 use crate::file::{WorkloadFault, WorkloadKind, refusal};
 use circuit::netlist::Netlist;
 use csv_rows::Row;
-use fm_base::Refusal;
-use name_index::NameIndex;
+use fm_base::{NameIndex, Refusal};
 use std::alloc::{AllocError, Global};
 
 /// How the rows of a workload file are laid out.

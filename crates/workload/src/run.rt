@@ -3,7 +3,7 @@ ghost use Rattle.std.specs.Prelude.{◌≡◌, ◌<◌, length, slice_index_or, 
 ghost use Rattle.workload.specs.Runs.{run_at};
 ghost use Rattle.workload.specs.RunsKept.{AreRuns};
 
-use fm_list::Seq;
+use fm_base::Seq;
 use std::marker::Model;
 
 /// What a workload stands for.

@@ -1,7 +1,7 @@
 use Rattle.std.proofs.Common.{◌≡◌, ◌∙◌, [], get_or, sym, subst}
 use Rattle.std.proofs.lemmas.List.{get_or_default}
 use Rattle.circuit.specs.Sound.{AreApart}
-use Rattle.name_index.specs.Index.{with_name}
+use Rattle.fm_base.specs.Index.{with_name}
 use Rattle.alarm_points.proofs.Listing.{names_step}
 use Rattle.alarm_points.proofs.listed.names_of.Goals as goal
 

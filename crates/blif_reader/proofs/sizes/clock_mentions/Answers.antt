@@ -1,6 +1,6 @@
 use Rattle.std.proofs.Common.{◌^◌, ◌∙◌, min}
 use Rattle.blif_model.specs.Models.{Model}
-use Rattle.blif_ports.proofs.FirstLines.{over_lines}
+use Rattle.blif_hierarchy.proofs.FirstLines.{over_lines}
 use Rattle.blif_reader.specs.Mentions.{mention_count}
 use Rattle.blif_reader.proofs.Totals.{few_mentions}
 use Rattle.blif_reader.proofs.sizes.clock_mentions.Goals as goal

@@ -1,6 +1,6 @@
 use Rattle.std.proofs.Common.{◌^◌, ◌∙◌, min, ◌+◌}
 use Rattle.blif_model.specs.Models.{Model, cell_count}
-use Rattle.blif_ports.proofs.FirstLines.{over_lines}
+use Rattle.blif_hierarchy.proofs.FirstLines.{over_lines}
 use Rattle.blif_reader.proofs.Totals.{past_cells}
 use Rattle.blif_reader.proofs.sizes.has_many_cells.Goals as goal
 

@@ -1,6 +1,6 @@
 use Rattle.std.proofs.Common.{◌^◌, ◌∙◌, min, ◌+◌}
 use Rattle.blif_model.specs.Models.{Model, instance_count, instances}
-use Rattle.blif_ports.proofs.FirstLines.{over_lines}
+use Rattle.blif_hierarchy.proofs.FirstLines.{over_lines}
 use Rattle.blif_reader.proofs.Totals.{past_instances}
 use Rattle.blif_reader.proofs.sizes.has_many_instances.Goals as goal
 

@@ -1,5 +1,5 @@
 use Rattle.std.proofs.lemmas.Result.{err_from_is_err_and}
-use Rattle.refusal_text.specs.declared.status.Which.TheVariants as which
+use Rattle.command_text.specs.declared.status.Which.TheVariants as which
 use Rattle.command_steps.proofs.Keeping.{one_read, more_read}
 use Rattle.command_steps.proofs.BegunOrder.{rows_kept}
 use Rattle.command_steps.proofs.Distinct.{kept_distinct}

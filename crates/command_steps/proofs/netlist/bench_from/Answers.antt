@@ -1,4 +1,4 @@
-use Rattle.refusal_text.specs.declared.status.Status.TheVariants.{Bench}
+use Rattle.command_text.specs.declared.status.Status.TheVariants.{Bench}
 use Rattle.bench_reader.specs.Bench.{bench_of}
 use Rattle.command_steps.proofs.Taken.{told_ok, told_fault}
 use Rattle.command_steps.proofs.netlist.bench_from.Goals as goal

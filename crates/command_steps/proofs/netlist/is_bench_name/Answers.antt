@@ -1,5 +1,5 @@
 use Rattle.std.proofs.Common.{◌∙◌, ap}
-use Rattle.refusal_text.specs.NetlistFile.{is_bench}
+use Rattle.command_text.specs.NetlistFile.{is_bench}
 use Rattle.command_steps.proofs.netlist.is_bench_name.Goals as goal
 
 pub returns : goal.returns

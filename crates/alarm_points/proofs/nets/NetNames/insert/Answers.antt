@@ -1,7 +1,7 @@
 use Rattle.std.proofs.Common.{◌∙◌, ap, List, ℕ, map, Bor}
 use Rattle.fm_base.specs.Names.{Name}
-use Rattle.name_index.specs.Index.{with_name}
-use Rattle.name_index.proofs.NameFacts.{keys_insert}
+use Rattle.fm_base.specs.Index.{with_name}
+use Rattle.fm_base.proofs.NameFacts.{keys_insert}
 use Rattle.alarm_points.proofs.nets.NetNames.insert.Goals as goal
 
 pub returns : goal.returns

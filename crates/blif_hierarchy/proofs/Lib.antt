@@ -1,0 +1,9 @@
+pub mod Sums
+pub mod FirstLines
+pub mod PortNames
+pub mod SecondNames
+pub mod Bindings
+pub mod Levels
+pub mod Rings
+pub mod Within
+pub mod Bounds

@@ -1,0 +1,5 @@
+pub mod Callees
+pub mod Lines
+pub mod Ports
+pub mod Links
+pub mod Marks

@@ -1,0 +1,111 @@
+// The formals of models, and the formals that lines bind.
+ghost use Rattle.std.specs.Prelude.{◌≡◌, IfOk, OnOk, fold, map};
+ghost use Rattle.fm_base.specs.Index.{with_name};
+ghost use Rattle.blif_model.specs.Models.{formal_names, items_of, port_names};
+ghost use Rattle.blif_says.specs.Grouped.{all_said};
+ghost use Rattle.blif_says.specs.Meant.{bindings_of, meant};
+ghost use Rattle.blif_says.specs.Tokens.{texts_of};
+ghost use Rattle.blif_hierarchy.specs.Ports.{bound_in, ports_in, with_bound};
+
+use crate::names::NameSet;
+use blif_says::bindings::pair_of;
+use blif_says::models::ModelLines;
+use blif_says::says::Says;
+use blif_says::statement::line_says;
+use blif_text::lines::TextLine;
+use blif_text::token::Token;
+use std::alloc::{AllocError, Global};
+
+/// The formals of a model, and those of them that each instance binds.
+#[derive(Drop)]
+pub struct Ports<'a> {
+    pub formals: NameSet<'a>,
+    pub inputs: NameSet<'a>,
+}
+
+fn add_names<'a>(set: &mut NameSet<'a>, names: &[Token<'a>]) -> Result<(), AllocError>
+    ensures { OnOk result (set.new ≡ fold with_name set.old (texts_of names.now)) }
+{
+    for name in names {
+        set.insert(name.text)?;
+    }
+    Ok(())
+}
+
+fn add_inputs<'a>(ports: &mut Ports<'a>, names: &[Token<'a>]) -> Result<(), AllocError>
+    ensures formals { OnOk result (ports.new.formals ≡ fold with_name ports.old.formals (texts_of names.now)) }
+    ensures inputs { OnOk result (ports.new.inputs ≡ fold with_name ports.old.inputs (texts_of names.now)) }
+{
+    add_names(&mut ports.formals, names)?;
+    add_names(&mut ports.inputs, names)
+}
+
+/// The formals that a line brings.
+fn add_line<'a>(ports: &mut Ports<'a>, says: Says<'_, 'a>) -> Result<(), AllocError>
+    ensures formals { OnOk result (ports.new.formals ≡ fold with_name ports.old.formals (port_names (meant says.entry))) }
+    ensures inputs { OnOk result (ports.new.inputs ≡ fold with_name ports.old.inputs (formal_names (meant says.entry))) }
+{
+    match says {
+        Says::Inputs(names) => add_inputs(ports, names),
+        Says::Clock(names) => add_inputs(ports, names),
+        Says::Outputs(names) => add_names(&mut ports.formals, names),
+        _ => Ok(()),
+    }
+}
+
+/// The formals of a model's lines.
+fn ports_of<'a>(alloc: Global, lines: &[TextLine<'a>]) -> Result<Ports<'a>, AllocError>
+    ensures { IfOk result (λ p. p ≡ ports_in (items_of (all_said lines.now))) }
+{
+    let mut ports = Ports {
+        formals: NameSet::new(alloc),
+        inputs: NameSet::new(alloc),
+    };
+    for line in lines {
+        add_line(&mut ports, line_says(line))?;
+    }
+    Ok(ports)
+}
+
+/// The formals of each model.
+pub fn all_ports<'a>(
+    alloc: Global,
+    models: &[ModelLines<'_, 'a>],
+) -> Result<Vec<Ports<'a>>, AllocError>
+    ensures { IfOk result (λ v. v.items ≡ map (λ m. ports_in (items_of (all_said m.items.now))) models.now) }
+{
+    let mut all = Vec::new(alloc);
+    for model in models {
+        all.push(ports_of(alloc, model.items)?)?;
+    }
+    Ok(all)
+}
+
+/// The formals that a line binds, and whether it binds one twice.
+#[derive(Drop)]
+pub struct BoundNames<'a> {
+    pub formals: NameSet<'a>,
+    pub is_twice: bool,
+}
+
+fn add_bound<'a>(bound: &mut BoundNames<'a>, formal: &'a [u8]) -> Result<(), AllocError>
+    ensures { OnOk result (bound.new ≡ with_bound bound.old formal.now) }
+{
+    let is_new = bound.formals.insert(formal)?;
+    bound.is_twice = bound.is_twice || !is_new;
+    Ok(())
+}
+
+/// The formals of bindings.
+pub fn bound_names<'a>(alloc: Global, bindings: &[Token<'a>]) -> Result<BoundNames<'a>, AllocError>
+    ensures { IfOk result (λ b. b ≡ bound_in (map (λ binding. binding.formal) (bindings_of (texts_of bindings.now)))) }
+{
+    let mut bound = BoundNames {
+        formals: NameSet::new(alloc),
+        is_twice: false,
+    };
+    for binding in bindings {
+        add_bound(&mut bound, pair_of(binding.text).formal)?;
+    }
+    Ok(bound)
+}

@@ -1,4 +1,0 @@
-pub mod Levels
-pub mod Rings
-pub mod Within
-pub mod Bounds

@@ -1,4 +1,0 @@
-pub mod FirstLines
-pub mod PortNames
-pub mod SecondNames
-pub mod Bindings

@@ -1,7 +1,0 @@
-use Rattle.std.proofs.Common.{◌≡◌, fold, take}
-use Rattle.name_index.specs.Index.{with_name}
-use Rattle.blif_says.specs.Tokens.{texts_of}
-use Rattle.blif_ports.proofs.ports.add_names.Given as goal
-
-abbrev pub invariant-loop-name : goal.invariant-loop-name
-invariant-loop-name l = l.set ≡ fold with_name l.initial.set (texts_of (take l.name-index l.names))

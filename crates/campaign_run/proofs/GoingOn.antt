@@ -1,0 +1,58 @@
+-- Kept rows with true planes, and going on from them.
+use Rattle.std.proofs.Common.{◌≡◌, ℕ, ◌-◌, ◌/◌, Bool, true, false, List, [], ◌∷◌, take, refl, ap, sym, subst, ◌∙◌, arith}
+use Rattle.std.specs.Prelude.{Ok, find, unwrap_or, option_map, ◌==◌}
+use Rattle.std.proofs.lemmas.Bool.Decides.{nat_tests}
+use Rattle.std.proofs.lemmas.List.Elements.{All-head, All-tail, All-take}
+use Rattle.campaign_plan.specs.declared.Outcome.{Outcome}
+use Rattle.campaign_plan.specs.Analysis.{Analysis}
+use Rattle.campaign_plan.specs.Batches.{Entry, AreTrue, true_planes}
+use Rattle.result_file.specs.declared.KeptRows.{KeptRows}
+use Rattle.result_file.specs.KeptRows.{kept, kept_entries}
+use Rattle.fmeda_report.specs.Report.{report}
+use Rattle.campaign_run.specs.Found.{checkpointed_or_true, IsWhole}
+use Rattle.campaign_run.specs.Reported.{ResumedAs}
+use Rattle.campaign_run.specs.Prefixes.{PrefixesKeepWholeRows}
+use Rattle.campaign_run.specs.Stopped.{GoesOnTruly, StoppedAreTakenUp}
+use Rattle.campaign_run.proofs.TrueLanes.{true_entries_fit}
+
+-- the planes of the first entry of a batch, or else its true ones
+abbrev found : Analysis → List Entry → ℕ → Outcome
+found p entries batch = unwrap_or (option_map (λ entry. entry.1) (find (λ entry. entry.0 == batch) entries)) (true_planes p batch)
+
+-- a batch is found to have its true planes, whether it is among the entries or not
+found_true : (p : Analysis) (entries : List Entry) (batch : ℕ) → AreTrue p entries → found p entries batch ≡ true_planes p batch
+found_true p [] batch are = refl
+found_true p (entry ∷ entries) batch are =
+    by_test (entry.0 == batch) refl (found_true p entries batch (All-tail (λ e. e.1 ≡ true_planes p e.0) entry entries are))
+  where
+    by_test : (here : Bool) → (entry.0 == batch) ≡ here → found p entries batch ≡ true_planes p batch → found p (entry ∷ entries) batch ≡ true_planes p batch
+    by_test true e rest =
+        let same : entry.0 ≡ batch = grind (arith, nat_tests) in
+        rw e (All-head (λ e. e.1 ≡ true_planes p e.0) entry entries are ∙ ap (true_planes p) same)
+    by_test false e rest = rw e rest
+
+goes_on : (own : List ℕ) (p : Analysis) (bytes : List ℕ) (k : KeptRows) → AreTrue p (kept_entries k) → GoesOnTruly own p bytes k
+goes_on own p bytes k are =
+    let same : checkpointed_or_true p k ≡ true_planes p = λ j batch. found_true p (kept_entries k) batch are j in
+    record {
+      entries = are;
+      planes = same;
+      same_report = ap (report p) same;
+      whole = λ entries. subst (λ planes. IsWhole p planes entries) same;
+      resumed = λ name before after. subst (λ planes. ResumedAs own (report p planes) p planes bytes name before after) same;
+    }
+
+pub taken_up : PrefixesKeepWholeRows → StoppedAreTakenUp
+taken_up law p plan own bytes entries n many part left =
+    let keeps = law p plan own entries n many part.distinct (true_entries_fit p entries part.have) in
+    let accepted : kept own p bytes ≡ Ok keeps.k = ap (kept own p) left ∙ keeps.kept_rows in
+    let firsts : AreTrue p (take ((n - 89) / 130) entries) = All-take (λ entry. entry.1 ≡ true_planes p entry.0) ((n - 89) / 130) entries part.have in
+    let are : AreTrue p (kept_entries keeps.k) = subst (AreTrue p) (sym keeps.first) firsts in
+    record {
+      k = keeps.k;
+      kept_rows = accepted;
+      truly = λ other h. (
+          let both : Ok keeps.k ≡ Ok other = sym accepted ∙ h in
+          let same : keeps.k ≡ other = cc in
+          goes_on own p bytes other (subst (λ (k : KeptRows). AreTrue p (kept_entries k)) same are));
+    }

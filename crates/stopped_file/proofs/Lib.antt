@@ -1,4 +1,0 @@
-pub mod Cutting
-pub mod KeptPrefix
-pub mod TrueLanes
-pub mod GoingOn

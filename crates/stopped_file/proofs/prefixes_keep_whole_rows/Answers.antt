@@ -1,5 +1,0 @@
-use Rattle.stopped_file.proofs.KeptPrefix.{keeps_whole_rows}
-use Rattle.stopped_file.proofs.prefixes_keep_whole_rows.Goals as goal
-
-pub returns : goal.returns
-returns c = keeps_whole_rows c.written_reads_back.ensures
