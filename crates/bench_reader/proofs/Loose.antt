@@ -23,6 +23,7 @@ use Rattle.bench_reader.specs.NetFault.{undriven}
 use Rattle.bench_reader.proofs.Marked.{IsMarked, Visit, blank, first_line, is_visit, line_from, mark_of, name_of, names_of, visits_at}
 use Rattle.bench_reader.proofs.Gathering.{visits_in, visits_of}
 use Rattle.fm_base.proofs.Finding.{find-map, find-filter}
+use Rattle.fm_base.proofs.Options.{or_mapped}
 
 -- ---- first places and first elements
 
@@ -138,10 +139,6 @@ module _ (visits : List Visit) (driven outs : List Name) (t : NetMarks) (m : IsM
       twice (Some v) = refl
 
 -- ---- undriven nets
-
-or_mapped : {X Y : Type 0} (f : X → Y) (a b : Option X) → option_map f (option_or a b) ≡ option_or (option_map f a) (option_map f b)
-or_mapped f None b = refl
-or_mapped f (Some x) b = refl
 
 undriven_names : (bad : Name → Bool) (n : ℕ) (names : List Name)
     → first_where (λ name. given (bad name) (at_line n (Undriven name))) names ≡ option_map told_at (find (λ (v : Visit). bad v.0) (visits_at n names))

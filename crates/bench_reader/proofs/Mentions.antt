@@ -8,7 +8,7 @@ use Rattle.fm_base.proofs.Tests.{or_false}
 use Rattle.fm_base.specs.Index.{with_name}
 use Rattle.fm_base.proofs.NameFacts.{keys_insert}
 use Rattle.indexmap.specs.IndexSet.{insert_key}
-use Rattle.net_names.proofs.Times.{place, place-of-key}
+use Rattle.net_names.proofs.Times.{place, place-of-key, place_none}
 use Rattle.bench_reader.specs.declared.nets.Mark.{Mark}
 use Rattle.bench_reader.specs.Marks.{NetMarks, newly_named, mention}
 use Rattle.bench_reader.proofs.Marked.{place_new}
@@ -59,12 +59,6 @@ mention_new_key keys key marks line e =
         clash g f = cc
 
 -- ---- the number of a net
-
-place_none : (names : List Name) (name : Name) → is_one_of names name ≡ false → place names name ≡ length names
-place_none [] name e = refl
-place_none (x ∷ xs) name e =
-    let parts = or_false (bytes_eq name x) (is_one_of xs name) e in
-    rw (bytes_eq-sym x name ∙ parts.0) (let more = place_none xs name parts.1 in omega arith)
 
 names_after : (line : ℕ) (t : NetMarks) (name : Name) → place t.names name ≡ place (mention line t name).names name
 names_after line t name = by_cases (is_one_of t.names name) refl

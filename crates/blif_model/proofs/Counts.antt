@@ -19,18 +19,18 @@ abbrev pub walk_cells : List Step → ℕ
 walk_cells steps = sum_by (λ s. act_cells s.act) steps
 
 -- a number for the model of each `.subckt` line, summed
-abbrev named_sum : (Name → ℕ) → List Item → ℕ
+abbrev pub named_sum : (Name → ℕ) → List Item → ℕ
 named_sum g items = sum_by (λ (i : Instance). g i.name) (filter_map (λ (item : Item). instance_from item.line item.says) items)
 
 abbrev own_sum : List Item → ℕ
 own_sum items = sum_by (λ (item : Item). cells_from item.says item.rows) items
 
 -- the number of the model that a line instances
-abbrev named_at : (Name → ℕ) → Statement → ℕ
+abbrev pub named_at : (Name → ℕ) → Statement → ℕ
 named_at g (instance name bindings) = g name
 named_at g _ = 0
 
-named_more : (g : Name → ℕ) (line : ℕ) (says : Statement) (rows : List (List Name)) (items : List Item)
+pub named_more : (g : Name → ℕ) (line : ℕ) (says : Statement) (rows : List (List Name)) (items : List Item)
     → named_sum g (record { line = line; says = says; rows = rows } ∷ items) ≡ named_at g says + named_sum g items
 named_more g line (instance name bindings) rows items =
     sum_by-cons (λ (i : Instance). g i.name) (record { line = line; name = name; bindings = bindings }) (filter_map (λ (item : Item). instance_from item.line item.says) items)

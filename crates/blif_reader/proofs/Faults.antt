@@ -7,7 +7,7 @@ use Rattle.std.proofs.lemmas.List.{map-append}
 use Rattle.std.proofs.lemmas.List.Folds.{list_any-append}
 use Rattle.fm_base.specs.Names.{Name, is_one_of}
 use Rattle.fm_base.specs.Firsts.{first_where, given}
-use Rattle.fm_base.proofs.Options.{or_assoc}
+use Rattle.fm_base.proofs.Options.{or_assoc, or_mapped}
 use Rattle.blif_text.specs.declared.NetlistKind.{NetlistKind}
 use Rattle.blif_text.specs.declared.NetlistKind.TheVariants.{BadClock, ClockRead, Undriven}
 use Rattle.blif_text.specs.declared.NetlistFault.{NetlistFault}
@@ -21,10 +21,6 @@ use Rattle.blif_walk.specs.Sorts.{named, names_by}
 use Rattle.blif_reader.specs.Found.{first_named, passes}
 use Rattle.blif_reader.specs.Passes.{driven_names, settled}
 use Rattle.blif_reader.proofs.Passing.{driven_alike}
-
-mapped_or : (f : ℕ × Name → NetlistFault) (a b : Option (ℕ × Name)) → option_map f (option_or a b) ≡ option_or (option_map f a) (option_map f b)
-mapped_or f None b = refl
-mapped_or f (Some x) b = refl
 
 -- ---- BadClock and ClockRead
 
@@ -43,7 +39,7 @@ named_fault : (kind : NetlistKind) (sort : Sort) (test : Name → Bool) (steps :
 unfolding first_where
 named_fault kind sort test [] = refl
 named_fault kind sort test (s ∷ steps) =
-    mapped_or (λ (at : ℕ × Name). at_line at.0 kind) (option_map (λ name. (s.line, name)) (find test (named sort s.act))) (first_named sort test steps)
+    or_mapped (λ (at : ℕ × Name). at_line at.0 kind) (option_map (λ name. (s.line, name)) (find test (named sort s.act))) (first_named sort test steps)
     ∙ ap (λ (o : Option NetlistFault). option_or o (option_map (λ (at : ℕ × Name). at_line at.0 kind) (first_named sort test steps))) (line_fault kind s.line test (named sort s.act))
     ∙ ap (option_or (given (list_any test (named sort s.act)) (at_line s.line kind))) (named_fault kind sort test steps)
 
@@ -84,7 +80,7 @@ module _ (test same : Name → Bool) (alike : (q : Name) → test q ≡ same q) 
   unfolding first_where visits_of
   visits_fault [] = refl
   visits_fault (s ∷ steps) =
-      mapped_or (λ (at : ℕ × Name). at_line at.0 (Undriven at.1)) (option_map (λ name. (s.line, name)) (find test (visited s.act))) (first_named Visited test steps)
+      or_mapped (λ (at : ℕ × Name). at_line at.0 (Undriven at.1)) (option_map (λ name. (s.line, name)) (find test (visited s.act))) (first_named Visited test steps)
       ∙ ap (λ (o : Option NetlistFault). option_or o (option_map (λ (at : ℕ × Name). at_line at.0 (Undriven at.1)) (first_named Visited test steps))) (visit_fault s.line (visited s.act))
       ∙ ap (option_or (first_where (λ v. given (same v.name) (at_line v.line (Undriven v.name))) (names_at s.line (visited s.act)))) (visits_fault steps)
       ∙ sym (first_where-append (λ (v : Visit). given (same v.name) (at_line v.line (Undriven v.name))) (names_at s.line (visited s.act)) (visits_of steps))

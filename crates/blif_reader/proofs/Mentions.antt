@@ -9,27 +9,14 @@ use Rattle.blif_model.specs.Statement.{Clocking, Statement, inputs, outputs, clo
 use Rattle.blif_model.specs.Models.{Item, Instance, Model, at_model, model_named, main_of, instance_from, instances, sum_over_instances}
 use Rattle.blif_model.specs.Walk.{Scope, top, inside, Step, acts_of, clocked, clock_names, control_net, inner_steps, scope_of, next, net_of, steps_from, enter, walk}
 use Rattle.blif_reader.specs.Mentions.{count_of_mentions, mention_count, mentions_on}
+use Rattle.blif_model.proofs.Counts.{named_sum, named_at, named_more}
 
 -- the clock names of a walk
 abbrev clocks_in : List Step → ℕ
 clocks_in steps = sum_by (λ s. length (clocked s.act)) steps
 
--- a number for the model of each `.subckt` line, summed
-abbrev named_sum : (Name → ℕ) → List Item → ℕ
-named_sum g items = sum_by (λ (i : Instance). g i.name) (filter_map (λ (item : Item). instance_from item.line item.says) items)
-
 abbrev own_sum : List Item → ℕ
 own_sum items = sum_by (λ (item : Item). mentions_on item.says) items
-
-abbrev named_at : (Name → ℕ) → Statement → ℕ
-named_at g (instance name bindings) = g name
-named_at g _ = 0
-
-named_more : (g : Name → ℕ) (line : ℕ) (says : Statement) (rows : List (List Name)) (items : List Item)
-    → named_sum g (record { line = line; says = says; rows = rows } ∷ items) ≡ named_at g says + named_sum g items
-named_more g line (instance name bindings) rows items =
-    sum_by-cons (λ (i : Instance). g i.name) (record { line = line; name = name; bindings = bindings }) (filter_map (λ (item : Item). instance_from item.line item.says) items)
-named_more g line says rows items = sym (zero-add (named_sum g items))
 
 -- those of a line's own step, and of its instance
 control_mention : (scope : Scope) (c : Option Clocking) → length (option_to_list (option_map_or (control_net scope) c None)) ≤ option_map_or (λ (k : Clocking). cond (bytes_eq k.control (codes "NIL")) 0 1) c 0

@@ -10,7 +10,7 @@ use Rattle.circuit.specs.declared.parts.NetId.{NetId}
 use Rattle.fm_base.specs.Names.{Name, is_one_of, has_repeat}
 use Rattle.fm_base.proofs.Distinct.{bytes_eq-sym}
 use Rattle.net_names.specs.Nets.{net_id}
-use Rattle.net_names.proofs.Times.{place, place-at}
+use Rattle.net_names.proofs.Times.{place, place-at, place_none}
 use Rattle.blif_model.specs.Walk.{Step, is_clock, nets_of, unclocked}
 use Rattle.blif_model.proofs.Nets.{nets-apart}
 use Rattle.blif_walk.specs.Flat.{all_names}
@@ -39,14 +39,6 @@ pub numbers_end : (ids : List NetId) (next last : ℕ) (marks : List Bool) (i : 
 numbers_end ids next last marks i all h inv =
     sym (append-nil ids) ∙ ap (λ (rest : List Bool). ids ++ numbers_from next last rest) (sym (drop_all i marks h)) ∙ inv
 
-place-none : (xs : List Name) (name : Name) → is_one_of xs name ≡ false → place xs name ≡ length xs
-place-none [] name e = refl
-place-none (x ∷ xs) name e = by_cases (bytes_eq x name) (ap (λ b. b || is_one_of xs name) (bytes_eq-sym x name) ∙ e) (place-none xs name)
-  where
-    by_cases : (b : Bool) → (b || is_one_of xs name) ≡ false → (is_one_of xs name ≡ false → place xs name ≡ length xs) → cond (not b) (1 + place xs name) 0 ≡ suc (length xs)
-    by_cases true f more = cc
-    by_cases false f more = let n = more f in omega arith
-
 get-behind : (before : List Name) (x : Name) (more : List Name) → slice_get (before ++ x ∷ more) (length before) ≡ Some x
 get-behind [] x more = refl
 get-behind (y ∷ before) x more = get-behind before x more
@@ -60,7 +52,7 @@ module _ (clock : Name → Bool) (nets : List Name) (apart : has_repeat nets ≡
           → ((front : List Name) (k : ℕ) → nets ≡ front ++ filter (λ n. not (clock n)) names → k ≡ length front → map (net_id nets) names ≡ numbers_from k (length nets) (map clock names))
           → net_id nets x ∷ map (net_id nets) names ≡ numbers_from next (length nets) (b ∷ map clock names)
       by_cases true c f more =
-          ap (λ k. let id : NetId = record { 0 = k } in id ∷ map (net_id nets) names) (place-none nets x (out x c))
+          ap (λ k. let id : NetId = record { 0 = k } in id ∷ map (net_id nets) names) (place_none nets x (out x c))
           ∙ ap (λ (ids : List NetId). let id : NetId = record { 0 = length nets } in id ∷ ids) (more before next f n)
       by_cases false c f more =
           let here : place nets x ≡ next =

@@ -14,6 +14,7 @@ use Rattle.campaign_board.specs.Kept.{AreRows, IsTorn, IsBoard, IsStart, AreKept
 use Rattle.campaign_board.specs.Posts.{sums_at_end}
 use Rattle.fm_base.proofs.SumsBelow.{once_few}
 use Rattle.campaign_board.proofs.Adding.{rows_push, batches_push, text_push}
+use Rattle.fm_shelf.proofs.Counts.{rose_from}
 
 -- a text and a part of a piece
 is_more : (before now : Content) (text piece : List ℕ) (P : List ℕ → Type 0) → HasIfKnown before text → (before ≡ Unknown → now ≡ Unknown) → MayHaveMore before now piece
@@ -23,9 +24,6 @@ is_more Absent now text piece P h unknown m f = absurd h
 is_more (Held bytes) Unknown text piece P h unknown m f = tt
 is_more (Held bytes) Absent text piece P h unknown m f = absurd (cc)
 is_more (Held bytes) (Held now) text piece P h unknown m f = f now m.0 (m.2 ∙ ap (λ b. b ++ take m.0 piece) h)
-
-rose_on : (a b c : ℕ) → a ≤ b → CountRose b c → CountRose a c
-rose_on a b c le rose = λ lt. (let r = rose lt in omega arith)
 
 -- the row was appended
 pub added_row : (o : Start) (rows : List Row) (sums now_sums : Sums) (before now : ShelfState) (batch : ℕ) → IsBoard o rows sums false true before
@@ -66,7 +64,7 @@ failed_row o rows sums before now batch h lt lacks writes more =
           (λ bytes n e. record { batch = batch; within = lt; lacks = lacks; taken = n; is = e });
       others = λ other ne. writes.others other ne ∙ h.others other ne;
       grows = omega arith;
-      rose = λ _. rose_on (o.shelf.write_faults o.name) (before.write_faults o.name) (now.write_faults o.name) h.grows more.0;
+      rose = λ _. rose_from (o.shelf.write_faults o.name) (before.write_faults o.name) (now.write_faults o.name) h.grows more.0;
     }
 
 -- the sums of the last row are those of all rows
@@ -128,7 +126,7 @@ header_failed o rows sums before now h writes rose =
       torn = λ w _. absurd (false≢true w);
       others = λ other ne. writes.others other ne ∙ h.others other ne;
       grows = omega arith;
-      rose = λ _. rose_on (o.shelf.write_faults o.name) (before.write_faults o.name) (now.write_faults o.name) h.grows rose;
+      rose = λ _. rose_from (o.shelf.write_faults o.name) (before.write_faults o.name) (now.write_faults o.name) h.grows rose;
     }
 
 -- the cut left the header and the rows

@@ -8,7 +8,7 @@ use Rattle.campaign_plan.specs.Batches.{own_sums, total}
 use Rattle.campaign_plan.proofs.Running.{total_push}
 use Rattle.result_file.specs.declared.Row.{Row}
 use Rattle.result_file.specs.ResultText.{row_text, row_of, row_at, result_rows, entry_at}
-use Rattle.result_file.specs.KeptRows.{board_entry as planes_of}
+use Rattle.result_file.specs.KeptRows.{entry_of as planes_of}
 use Rattle.result_file.proofs.Whole.{no_row}
 use Rattle.result_file.proofs.WrittenBack.{length-result_rows, row_is}
 use Rattle.campaign_board.specs.Boards.{Start, AreEntries, board_entry, batches_of, sums_over}

@@ -4,7 +4,7 @@ use Rattle.campaign_plan.specs.Analysis.{Analysis}
 use Rattle.campaign_plan.specs.Batches.{own_sums}
 use Rattle.result_file.specs.declared.Row.{Row}
 use Rattle.result_file.specs.ResultText.{result_rows, result_text}
-use Rattle.result_file.specs.KeptRows.{board_entry as planes_of}
+use Rattle.result_file.specs.KeptRows.{entry_of as planes_of}
 use Rattle.campaign_board.specs.Boards.{Start, AreEntries, board_entry, file_text}
 use Rattle.campaign_board.specs.Kept.{AreRows}
 

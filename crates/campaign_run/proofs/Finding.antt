@@ -7,7 +7,7 @@ use Rattle.campaign_plan.specs.Analysis.{Analysis, batch_count}
 use Rattle.campaign_plan.specs.Batches.{Entry, true_planes}
 use Rattle.result_file.specs.declared.Row.{Row}
 use Rattle.result_file.specs.declared.KeptRows.{KeptRows}
-use Rattle.result_file.specs.KeptRows.{board_entry as planed}
+use Rattle.result_file.specs.KeptRows.{entry_of as planed}
 use Rattle.campaign_board.specs.declared.entry.Entry.{Entry as BoardEntry}
 use Rattle.campaign_board.specs.Boards.{Start, batches_of, board_entry}
 use Rattle.campaign_workers.specs.Truth.{HasTrueEntries}

@@ -13,7 +13,7 @@ use Rattle.campaign_plan.specs.Analysis.{Analysis, batch_count}
 use Rattle.campaign_plan.specs.Batches.{Entry, batches, own_sums, total, true_planes}
 use Rattle.result_file.specs.declared.Row.{Row}
 use Rattle.result_file.specs.declared.KeptRows.{KeptRows}
-use Rattle.result_file.specs.KeptRows.{board_entry as planed}
+use Rattle.result_file.specs.KeptRows.{entry_of as planed}
 use Rattle.result_file.proofs.Whole.{no_row}
 use Rattle.campaign_board.specs.declared.entry.Entry.{Entry as BoardEntry}
 use Rattle.campaign_board.specs.Boards.{Start, board_entry, batches_of, sums_over, row_with, file_text}

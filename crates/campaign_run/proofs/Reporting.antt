@@ -12,7 +12,7 @@ use Rattle.campaign_plan.specs.Batches.{Entry, AreDistinct}
 use Rattle.result_file.specs.declared.Row.{Row}
 use Rattle.result_file.specs.declared.KeptRows.{KeptRows}
 use Rattle.result_file.specs.ResultText.{result_text}
-use Rattle.result_file.specs.KeptRows.{board_entry as planed}
+use Rattle.result_file.specs.KeptRows.{entry_of as planed}
 use Rattle.result_file.proofs.Whole.{no_row}
 use Rattle.fmeda_report.specs.Rows.{HoldEachOnce, planes_in}
 use Rattle.fmeda_report.proofs.RowPlanes.{row_found, rows_below, planes_in-at, planes_in-none}

@@ -27,12 +27,9 @@ use Rattle.command_steps.specs.Steps.{FaultRose, StepAs, TakenAs, NetlistAs, Ord
 use Rattle.command_steps.proofs.Keeping.{had_if_known}
 use Rattle.command_steps.proofs.Taken.{netlist_begin, netlist_next, outputs_plain, runs_plain}
 use Rattle.command_text.proofs.Refusals.{ok_same}
+use Rattle.fm_shelf.proofs.Counts.{rose_from}
 
 -- ---- calls that only read, and what is behind them
-
--- counts that rose in a call rose in a longer one
-rose_from : (b0 b a : ℕ) → b0 ≤ b → CountRose b a → CountRose b0 a
-rose_from b0 b a le rose = λ below. let r : b < a = rose (omega (arith, below)) in omega (arith, le, r)
 
 pub rose_since : {b0 b : ShelfState} (name : Bytes) (a : ShelfState) → OnlyReadsAny b0 b → CountRose (b.read_faults name) (a.read_faults name)
     → CountRose (b0.read_faults name) (a.read_faults name)

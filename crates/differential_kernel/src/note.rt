@@ -64,7 +64,7 @@ fn note_lanes(loads: &[[Option<Fault>; 2]], set: &mut PlaceSet)
 pub fn note_all(loads: &[[Option<Fault>; 2]], set: &mut PlaceSet)
     requires { IsEmptySet set.old }
     ensures bound { set.new.bound ≡ set.old.bound }
-    ensures some_names { AreNamed loads.now set.old.bound set.new }
+    ensures named { AreNamed loads.now set.old.bound set.new }
 {
     note_lanes(loads, set);
 }
@@ -156,13 +156,13 @@ fn renew<W: Word>(
 )
     requires bound { set.old.bound ≡ length forces.old }
     requires off { AreIdleOff W.lanes W.lane_bit set.old forces.old }
-    requires some_names { noted ≡ true → AreNamed loads.now (length forces.old) set.old }
+    requires named { noted ≡ true → AreNamed loads.now (length forces.old) set.old }
     requires idle { noted ≡ true → AreIdle W.lanes W.lane_bit loads.now forces.old }
     requires few { cycles.old.bound ≤ 65536 }
     requires acts { noted ≡ true → AreActs loads.now cycles.old }
     ensures bound { set.new.bound ≡ set.old.bound }
     ensures cycles { cycles.new.bound ≡ cycles.old.bound }
-    ensures some_names { AreNamed loads.now (length forces.old) set.new }
+    ensures named { AreNamed loads.now (length forces.old) set.new }
     ensures idle { AreIdle W.lanes W.lane_bit loads.now forces.new }
     ensures acts { AreActs loads.now cycles.new }
     ensures same { noted ≡ true → forces.new ≡ forces.old }
@@ -189,14 +189,14 @@ pub fn prepare<W: Word>(
     requires few { cycles.old.bound ≤ 65536 }
     requires bound { set.old.bound ≡ length forces.old }
     requires off { AreIdleOff W.lanes W.lane_bit set.old forces.old }
-    requires some_names { noted ≡ true → AreNamed loads.now (length forces.old) set.old }
+    requires named { noted ≡ true → AreNamed loads.now (length forces.old) set.old }
     requires idle { noted ≡ true → AreIdle W.lanes W.lane_bit loads.now forces.old }
     requires steady { noted ≡ true → stale ≡ false → AreSteady W.lanes W.lane_bit loads.now forces.old }
     requires acts { noted ≡ true → AreActs loads.now cycles.old }
     ensures bound { set.new.bound ≡ set.old.bound }
     ensures cycles { cycles.new.bound ≡ cycles.old.bound }
     ensures acts { AreActs loads.now cycles.new }
-    ensures some_names { AreNamed loads.now (length forces.old) set.new }
+    ensures named { AreNamed loads.now (length forces.old) set.new }
     ensures idle { AreIdle W.lanes W.lane_bit loads.now forces.new }
     ensures off { AreIdleOff W.lanes W.lane_bit set.new forces.new }
     ensures armed { AreArmed W.lanes W.lane_bit loads.now cycle forces.new }

@@ -26,3 +26,7 @@ none_from (Some x) e = absurd (cc)
 pub or_same : {X : Type 0} (o : Option X) → option_or o o ≡ o
 or_same None = refl
 or_same (Some x) = refl
+
+pub or_mapped : {X Y : Type 0} (f : X → Y) (a b : Option X) → option_map f (option_or a b) ≡ option_or (option_map f a) (option_map f b)
+or_mapped f None b = refl
+or_mapped f (Some x) b = refl

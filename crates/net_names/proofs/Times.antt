@@ -1,5 +1,5 @@
 -- How often a name stands in a list, and where.
-use Rattle.std.proofs.Common.{◌≡◌, ℕ, zero, suc, ◌+◌, ◌≤◌, Bool, true, false, cond, not, ◌||◌, List, [], ◌∷◌, ◌++◌, refl, ap, sym, subst, ◌∙◌, arith}
+use Rattle.std.proofs.Common.{◌≡◌, ℕ, zero, suc, ◌+◌, ◌≤◌, Bool, true, false, cond, not, ◌||◌, List, [], ◌∷◌, ◌++◌, refl, ap, sym, subst, ◌∙◌, length, arith}
 use Rattle.std.specs.Prelude.{bytes_eq, map, Option, Some, None}
 use Rattle.std.specs.List.{slice_get, position_or_len}
 use Rattle.std.specs.Option.{option_map}
@@ -140,3 +140,10 @@ image-at {X} {Y} f xs k y e = by_cases (slice_get xs k) refl (sym (slice_get-map
     by_cases : (o : Option X) → slice_get xs k ≡ o → option_map f o ≡ Some y → (x : X) × (slice_get xs k ≡ Some x) × (f x ≡ y)
     by_cases None g h = cc
     by_cases (Some x) g h = (x, g, cc)
+
+-- a name that isn't there stands behind the others
+pub place_none : (names : List Name) (name : Name) → is_one_of names name ≡ false → place names name ≡ length names
+place_none [] name e = refl
+place_none (x ∷ xs) name e =
+    let parts = or_false (bytes_eq name x) (is_one_of xs name) e in
+    rw (bytes_eq-sym x name ∙ parts.0) (let more = place_none xs name parts.1 in omega arith)

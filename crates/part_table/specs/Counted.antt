@@ -40,6 +40,6 @@ pub record AreFirsts (n m : ℕ) (rows firsts : List (Option ℕ)) : Type 0 wher
 pub record IsCounted (c : Circuit) (table : RateTable) (rows : List (Option ℕ)) (net_counts latch_counts : List ℕ) (firsts : List (Option ℕ)) : Type 0 where
   pub few : length c.drivers ≤ 2 ^ 18
   pub rows_are : rows ≡ net_rows c table
-  pub net_numbers : AreRowCounts (length table.patterns) (net_rows c table) net_counts
+  pub nets : AreRowCounts (length table.patterns) (net_rows c table) net_counts
   pub latches : AreRowCounts (length table.patterns) (latch_rows c table) latch_counts
   pub first : AreFirsts (length table.patterns) (length c.drivers) (net_rows c table) firsts

@@ -58,7 +58,7 @@ row_line c table k =
     let part = part_of_pattern table pattern in
     line (
     codes "pattern" ∷ (pattern.name ++ star_word pattern.star) ∷ codes "part" ∷ part.name ∷ codes "role" ∷ role_word part.role
-    ∷ codes "covered" ∷ covered_word part.covered ∷ codes "net_numbers" ∷ decimal (count_by (row_takes c table k) (net_numbers c))
+    ∷ codes "covered" ∷ covered_word part.covered ∷ codes "nets" ∷ decimal (count_by (row_takes c table k) (net_numbers c))
     ∷ codes "latches" ∷ decimal (count_by (λ latch. row_takes c table k latch.to.0) c.latches)
     ∷ codes "first" ∷ name_or_dash c (find (row_takes c table k) (net_numbers c)) ∷ [])
 

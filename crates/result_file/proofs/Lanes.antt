@@ -4,14 +4,11 @@ use Rattle.std.specs.List.{list_any}
 use Rattle.fm_base.specs.Lists.{below}
 use Rattle.fm_base.proofs.Below.{below_push}
 use Rattle.std.proofs.lemmas.List.Folds.{list_any-append}
+use Rattle.fm_base.proofs.Tests.{or_true}
 
 pub any_none : (test : ℕ → Bool) → list_any test (below 0) ≡ false
 unfolding below
 any_none test = refl
-
-or_right : (a : Bool) → (a || true) ≡ true
-or_right true = refl
-or_right false = refl
 
 last : (test : ℕ → Bool) (n : ℕ) → list_any test (below (suc n)) ≡ (list_any test (below n) || test n)
 last test n = ap (list_any test) (below_push n) ∙ list_any-append test (below n) (n ∷ []) ∙ ap (λ b. list_any test (below n) || b) (one (test n))
@@ -31,5 +28,5 @@ any_at test (suc n) k lt here =
     let split : (k < n) ⊎ (k ≡ n) = grind arith in
     last test n ∙ elim split as (λ _. (list_any test (below n) || test n) ≡ true) [
       | inl less ↦ ap (λ b. b || test n) (any_at test n k less here)
-      | inr e ↦ ap (λ b. list_any test (below n) || b) (ap test (sym e) ∙ here) ∙ or_right (list_any test (below n))
+      | inr e ↦ ap (λ b. list_any test (below n) || b) (ap test (sym e) ∙ here) ∙ or_true (list_any test (below n))
     ]

@@ -31,7 +31,7 @@ returns-in_err-write_pieces g c =
     let own = pattern_numbered rates k in
     let part = part_of_pattern rates own in
     let rest : List Bytes =
-    part.name ∷ codes "role" ∷ role_word part.role ∷ codes "covered" ∷ covered_word part.covered ∷ codes "net_numbers" ∷ decimal (count_by (row_takes net rates k) (net_numbers net))
+    part.name ∷ codes "role" ∷ role_word part.role ∷ codes "covered" ∷ covered_word part.covered ∷ codes "nets" ∷ decimal (count_by (row_takes net rates k) (net_numbers net))
     ∷ codes "latches" ∷ decimal (count_by (λ (latch : Latch). row_takes net rates k latch.to.0) net.latches) ∷ codes "first" ∷ name_or_dash net (find (row_takes net rates k) (net_numbers net)) ∷ [] in
     rw p.1 (sends_as (row_pieces own.name (star_word own.star) rest ∙ ap (λ (l : Looked). row_line l.circuit l.rates k) c.self.view_is)
     (sends_stop (line (codes "part" ∷ rest)) p.0
@@ -67,7 +67,7 @@ returns g c =
     ∙ first_net net rates c.self.inside.firsts.items k c.self.invariant.first lt in
     let rest : List Bytes =
     (part_of_pattern rates own).name ∷ codes "role" ∷ role_word (part_of_pattern rates own).role ∷ codes "covered" ∷ covered_word (part_of_pattern rates own).covered
-    ∷ codes "net_numbers" ∷ decimal (count_by (row_takes net rates k) (net_numbers net))
+    ∷ codes "nets" ∷ decimal (count_by (row_takes net rates k) (net_numbers net))
     ∷ codes "latches" ∷ decimal (count_by (λ (latch : Latch). row_takes net rates k latch.to.0) net.latches) ∷ codes "first" ∷ name_or_dash net (find (row_takes net rates k) (net_numbers net)) ∷ [] in
     let name = c.as_slice-2.ensures ∙ ap (λ (q : Part). q.name) part in
     let role = c.role_of.ensures ∙ ap (λ (q : Part). role_word q.role) part in
@@ -82,6 +82,6 @@ returns g c =
     begun)
     (sends_as
     (λ j. line (
-    codes "part" ∷ name j ∷ codes "role" ∷ role j ∷ codes "covered" ∷ covered j ∷ codes "net_numbers" ∷ some j ∷ codes "latches" ∷ latches j
+    codes "part" ∷ name j ∷ codes "role" ∷ role j ∷ codes "covered" ∷ covered j ∷ codes "nets" ∷ some j ∷ codes "latches" ∷ latches j
     ∷ codes "first" ∷ first j ∷ []))
     c.write_line.ensures))
