@@ -33,7 +33,7 @@ pub record AreKept (p : Analysis) (rows : List Row) : Type 0 where
   pub distinct : AreDistinct p (map planed rows)
   pub summed : (i : ℕ) → i < length rows → (get_or rows i no_row).sums ≡ total p (map planed (take (i + 1) rows))
 
--- no_kept_rows is kept, or the bytes are the header and the rows
+-- nothing is kept, or the bytes are the header and the rows
 pub record IsKept (own : List ℕ) (p : Analysis) (bytes : List ℕ) (k : KeptRows) : Type 0 where
   pub rows : AreKept p k.rows
   pub whole : (k ≡ no_kept_rows) ⊎ ((k.whole ≡ 89 + 130 * length k.rows) × (take k.whole bytes ≡ file_text own k.rows))

@@ -14,7 +14,7 @@ use Rattle.campaign_run.specs.Ran.{Campaign}
 use Rattle.campaign_run.specs.Origins.{origin_of}
 use Rattle.campaign_shard.specs.PartSeats.{IsPartDone}
 
--- the whole campaign of the plan, which keeps no_kept_rows of its file; no board knows what it writes at its end
+-- the whole campaign of the plan, which keeps nothing of its file; no board knows what it writes at its end
 abbrev pub whole_campaign : (name own : Bytes) → Analysis → Campaign
 whole_campaign name own p = record { name = name; own = own; p = p; k = no_kept_rows; text = Report }
 

@@ -1,4 +1,4 @@
--- Seats that are split from a first seat, do their work, and are joined_views into it again.
+-- Seats that are split from a first seat, do their work, and are joined into it again.
 use Rattle.std.proofs.Common.{◌^◌, ◌≡◌, ℕ, zero, suc, ◌+◌, ◌<◌, ◌≤◌, ◌||◌, Bool, true, false, List, [], ◌∷◌, ◌++◌, length, get_or, sym, refl, ap, ◌∙◌, subst, arith, length-append}
 use Rattle.std.specs.List.{sum_by, All}
 use Rattle.std.proofs.lemmas.List.Sums.{sum_by-cons, sum_by_push}
@@ -74,11 +74,11 @@ pub record Joined (c : Counter) (many : ℕ) (first : Seated) (left : List Seate
   pub shares : first.view.share + shares_of left ≡ 2 ^ 32
   pub none : first.view.fails ≡ false → length left < many → 0 < first.view.nones
 
--- nothing was joined_views yet
+-- nothing was joined yet
 pub starts_joined : (c : Counter) (first : Seated) (was now : List Seated) → IsCrew c first was → first.view.holds ≡ false → All (λ p. IsDone c p) now → shares_of now ≡ shares_of was → Joined c (length now) first now
 starts_joined c first was now h free done shares = record { of = h.of; free = free; all = λ _. h.all; ready = done; shares = let a = h.shares in omega arith; none = λ _ less. absurd (omega arith) }
 
--- the last seat is joined_views
+-- the last seat is joined
 pub joins_one : (c : Counter) (many : ℕ) (first now : Seated) (left rest : List Seated) (p : Seated) → Joined c many first left → left ≡ rest ++ p ∷ [] → now.table ≡ first.table → now.view ≡ joined_views first.view p.view → Joined c many now rest
 joins_one c many first now left rest p h e table view =
     let ready : All (λ p. IsDone c p) (rest ++ p ∷ []) = subst (λ l. All (λ p. IsDone c p) l) e h.ready in
@@ -102,7 +102,7 @@ fine_seat : {V : Type 0} (list : V → List ℕ) (failed : V → Bool) (todo : �
 fine_seat list failed todo v x true is c fine = absurd (false≢true (sym fine ∙ c.fails is))
 fine_seat list failed todo v x false is c fine = is
 
--- once all were joined_views, a value that hasn't failed has each number once
+-- once all were joined, a value that hasn't failed has each number once
 pub finished : {V : Type 0} (list : V → List ℕ) (failed : V → Bool) (c : Counter) (many : ℕ) (first : Seated) (left : List Seated) (x : V) → Joined c many first left → left ≡ [] → 0 < many → Closed list failed c.todo first.view x → failed x ≡ false → (n : ℕ) → times n (list x) ≡ once_below n c.todo
 finished list failed c many first left x h e some_ closed fine n =
     let ok = fine_seat list failed c.todo first.view x first.view.fails refl closed fine in

@@ -10,7 +10,7 @@ opening_view todo = record { todo = todo; share = 2 ^ 32; nones = 0; claims = []
 abbrev pub starting_view : ℕ → View
 starting_view todo = record { todo = todo; share = 2 ^ 32; nones = 0; claims = []; posts = []; seen = []; opened = true; holds = true; fails = false }
 
--- what a join leaves of the seat that was joined_views
+-- what a join leaves of the seat that was joined
 abbrev pub spent_view : View
 spent_view = record { todo = 0; share = 0; nones = 0; claims = []; posts = []; seen = []; opened = true; holds = false; fails = false }
 
@@ -38,7 +38,7 @@ with_one v = record { todo = v.todo; share = 1; nones = 0; claims = []; posts = 
 abbrev pub longer : List ℕ → List ℕ → List ℕ
 longer xs ys = cond (nat_lt (length xs) (length ys)) ys xs
 
--- w is joined_views into v. Who holds the turn has seen all there is
+-- w is joined into v. Who holds the turn has seen all there is
 abbrev pub joined_views : View → View → View
 joined_views v w = record { todo = v.todo; share = v.share + w.share; nones = v.nones + w.nones; claims = v.claims ++ w.claims; posts = v.posts ++ w.posts; seen = cond v.holds v.seen (longer v.seen w.seen); opened = true; holds = v.holds; fails = v.fails || w.fails }
 

@@ -1,4 +1,4 @@
--- A fault and its representative look the same, and the representative has no next_fault fault.
+-- A fault and its representative look the same, and the representative has no next fault.
 use Rattle.std.proofs.Common.{◌≡◌, ℕ, zero, suc, ◌+◌, ◌<◌, ◌≤◌, Bool, true, false, not, List, [], ◌∷◌, length, take, get_or, refl, ap, sym, subst, ◌∙◌, ◌⊎◌, inl, inr, arith}
 use Rattle.std.specs.Prelude.{Option, Some, None}
 use Rattle.std.specs.Option.{option_map_or}
@@ -128,7 +128,7 @@ module _ (c : Circuit) (order : List NetId) (watched : List NetId) (sound : IsNe
       numbered : ℕ → NetId
       numbered i = record { 0 = i }
 
-  -- the next_fault fault is on a net that comes later
+  -- the next fault is on a net that comes later
   next_later : (n m : NetId) (v u : Bool) (j : ℕ) → Collapses c n.0 v m.0 u → driver_at c n.0 ≡ FromTable j → net_place order n.0 < net_place order m.0
   next_later n m v u j pair table =
       let here = at_place m.0 pair.k pair.net pair.driver in
@@ -143,7 +143,7 @@ module _ (c : Circuit) (order : List NetId) (watched : List NetId) (sound : IsNe
       let least : net_place order n.0 ≤ there.0 = place_least order n.0 there.0 (omega (arith, here, earlier)) same in
       omega (arith, earlier, least)
 
-  -- the net of a next_fault fault comes later, and is that of a table
+  -- the net of a next fault comes later, and is that of a table
   stuck_net : (a b : NetId) (v u : Bool) → Stuck a v ≡ Stuck b u → a ≡ b
   stuck_net a b v u e = cc
 
@@ -155,7 +155,7 @@ module _ (c : Circuit) (order : List NetId) (watched : List NetId) (sound : IsNe
       let here = at_place is.m.0 is.pair.k is.pair.net is.pair.driver in
       (subst (λ (net : NetId). net_place order net.0 < net_place order is.m.0) (sym same) rises, here.0)
 
-  -- so is the net of a next_fault fault, if the fault itself is on the net of a table
+  -- so is the net of a next fault, if the fault itself is on the net of a table
   pub next_behind : (n m : NetId) (v u : Bool) (j : ℕ) → driver_at c n.0 ≡ FromTable j → next_fault c watched (Stuck n v) ≡ Some (Stuck m u)
       → net_place order n.0 < net_place order m.0
   next_behind n m v u j table e =
@@ -183,7 +183,7 @@ module _ (c : Circuit) (order : List NetId) (watched : List NetId) (sound : IsNe
           ap (next_fault c watched) (follow-some c watched (Stuck n v) g e steps ∙ ap (follow steps c watched) is.back)
           ∙ more is.m is.u is.pair.k is.pair.driver (omega (arith, rises))
 
-  -- THE REPRESENTATIVE has no next_fault fault
+  -- THE REPRESENTATIVE has no next fault
   pub representative_last : (f : Fault) → next_fault c watched (representative c watched f) ≡ None
   representative_last f = by_next (next_fault c watched f) refl
     where

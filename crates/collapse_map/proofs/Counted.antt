@@ -1,4 +1,4 @@
--- What the number of those that look at a net says of the next_fault fault.
+-- What the number of those that look at a net says of the next fault.
 use Rattle.std.proofs.Common.{◌≡◌, ◌≢◌, ◌⊎◌, inl, inr, ℕ, zero, suc, ◌+◌, ◌<◌, ◌≤◌, Bool, true, false, ◌||◌, cond, List, [], ◌∷◌, ◌++◌, length, map, get_or, refl, ap, ap₂, sym, subst, ◌∙◌, arith}
 use Rattle.std.specs.Prelude.{count_by, filter, flat_map, Option, Some, None}
 use Rattle.std.specs.Option.{option_map}
@@ -157,7 +157,7 @@ module _ (c : Circuit) (k place : ℕ) (table : k < length c.tables) (within : p
     abbrev count : ℕ
     count = count_by (is_net read.0) (looked_at c watched)
 
-    -- WHERE ONE LOOKS at the net, it is this place, and the value there decides on the next_fault fault
+    -- WHERE ONE LOOKS at the net, it is this place, and the value there decides on the next fault
     pub one_next : (v : Bool) → looks_for count ≡ One
         → next_fault c watched (Stuck read v) ≡ option_map (λ u. Stuck (net_of_table c k) u) (fixed_value (table_at c.tables k) place v)
     unfolding next_fault
@@ -191,7 +191,7 @@ module _ (c : Circuit) (k place : ℕ) (table : k < length c.tables) (within : p
             let one = total count looks in
             absurd (omega (arith, size, whole, one))
 
-    -- WHERE MORE LOOK there is no next_fault fault
+    -- WHERE MORE LOOK there is no next fault
     pub more_next : (v : Bool) → looks_for count ≢ One → next_fault c watched (Stuck read v) ≡ None
     unfolding next_fault
     more_next v looks = by_test (is_watched watched read.0) (is_latched c read.0) refl refl

@@ -104,7 +104,7 @@ module _ (s : Collapsed) (order : List NetId) (sound : IsNetlist s.circuit) (ord
           let odd : (2 * n.0 + 0) % 2 ≡ 0 = omega arith in
           stuck_at nets (length s.circuit.latches) listed.flips listed.pulses (2 * n.0 + 0) (omega arith) ∙ ap₂ stuck_of half (ap (λ r. r == 1) odd)
 
-  -- a fault with a next_fault one has the number of this
+  -- a fault with a next one has the number of this
   same_rep : (n m : NetId) (v u : Bool) → n.0 < nets → m.0 < nets → HasNext n v m u → rep_of s (stuck_number m.0 u) ≡ rep_of s (stuck_number n.0 v)
   unfolding rep_of
   same_rep n m v u inside behind e =
@@ -143,7 +143,7 @@ module _ (s : Collapsed) (order : List NetId) (sound : IsNetlist s.circuit) (ord
     abbrev Reached : (NetId → Bool → NetId → Type 0) → NetId → Bool → Type 0
     Reached B n v = (m : NetId) (u : Bool) → HasNext n v m u → B n v m
 
-    -- the fault at the place gets the number of its next_fault one
+    -- the fault at the place gets the number of its next one
     set_right : (A B : NetId → Bool → NetId → Type 0) (v u : Bool) (reps : List ℕ) → HasNext read v to u
         → ((n m : NetId) (w : Bool) → B n w m → A n w m ⊎ ((n ≡ read) × (w ≡ v))) → (B read v to → IsRight reps to u)
         → AreRight s A reps → AreRight s B (set reps (stuck_number read.0 v) (get_or reps (stuck_number to.0 u) 0))
@@ -359,7 +359,7 @@ module _ (s : Collapsed) (order : List NetId) (sound : IsNetlist s.circuit) (ord
   unfolding below
   numbered_own i lt = get_or-map-range_with_len (λ j. number_in_list s.faults (fault_at s.faults j)) 0 (length s.faults) i i 0 lt (omega arith)
 
-  -- a fault without a next_fault one has its own number
+  -- a fault without a next one has its own number
   own_right : (i : ℕ) (f : Fault) → i < length s.faults → fault_at s.faults i ≡ f → next_fault s.circuit s.watched f ≡ None → get_or (own_numbers s.faults) i 0 ≡ rep_of s i
   unfolding rep_of
   own_right i f lt at none =

@@ -1,4 +1,4 @@
--- What it means that a fault has a next_fault one.
+-- What it means that a fault has a next one.
 use Rattle.std.proofs.Common.{◌≡◌, ◌≢◌, ℕ, zero, suc, ◌<◌, Bool, true, false, cond, ◌||◌, List, [], ◌∷◌, length, map, get_or, refl, ap, sym, subst, ◌∙◌, arith}
 use Rattle.std.specs.Prelude.{Option, Some, None}
 use Rattle.std.specs.Option.{option_map}
@@ -102,7 +102,7 @@ module _ (c : Circuit) (sound : IsNetlist c) where
       same_default (x ∷ ins) zero d lt = refl
       same_default (x ∷ ins) (suc i) d lt = same_default ins i d (omega arith)
 
--- what a fault and its next_fault one are
+-- what a fault and its next one are
 pub record IsNext (c : Circuit) (watched : List NetId) (f g : Fault) : Type 0 where
   pub n : NetId
   pub v : Bool

@@ -33,7 +33,7 @@ abbrev pub linked : Table → ℕ → NetId → Bool → List ℕ → List ℕ
 linked table place to v reps =
     option_map_or (λ u. slice_set reps (stuck_number (net_at table.ins place).0 v) (slice_index reps (stuck_number to.0 u))) (fixed_value table place v) reps
 
--- the number of a fault's representative is right where the next_fault fault is on a net that was reached for it, or there is none
+-- the number of a fault's representative is right where the next fault is on a net that was reached for it, or there is none
 pub record AreRight (s : Collapsed) (IsReached : NetId → Bool → NetId → Type 0) (reps : List ℕ) : Type 0 where
   pub size : length reps ≡ length s.faults
   pub stuck : (n : NetId) (v : Bool) → n.0 < length s.circuit.drivers

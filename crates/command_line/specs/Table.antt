@@ -121,7 +121,7 @@ progress_app = with_rules (with_plan (new_app (codes "progress"))) (asil_rule âˆ
 
 -- ---- the table
 
--- one level of subcommands, of which one must be named_argument
+-- one level of subcommands, of which one must be named
 abbrev pub with_required : App â†’ App
 with_required a = record a { top = record a.top { subcommand_required = true } }
 

@@ -1,4 +1,4 @@
--- The table of faults: a row for each fault of the kept batches, in the order of the fault list. This project's own column_names.
+-- The table of faults: a row for each fault of the kept batches, in the order of the fault list. This project's own columns.
 use Rattle.std.specs.Prelude.{ℕ, ◌/◌, ◌%◌, List, [], ◌∷◌, ◌++◌, flat_map, filter, Option, Some, None, is_some, codes, decimal}
 use Rattle.circuit.specs.Names.{net_name}
 use Rattle.fm_base.specs.Lists.{below}
@@ -15,7 +15,7 @@ use Rattle.result_merge.specs.Merged.{listed_planes}
 use Rattle.fault_table.specs.Csv.{csv_row}
 use Rattle.fault_table.specs.Words.{kind_word, covered_word, bit_word}
 
--- the names of the column_names
+-- the names of the columns
 abbrev pub column_names : List Bytes
 column_names =
     codes "fault" ∷ codes "net" ∷ codes "kind" ∷ codes "part" ∷ codes "role" ∷ codes "covered" ∷ codes "class" ∷ codes "dangerous"
@@ -38,7 +38,7 @@ fault_row p planes i = csv_row (fault_name p.circuit (fault_numbered p i) ∷ fu
 abbrev pub kept_faults : Analysis → List Entry → List ℕ
 kept_faults p entries = filter (λ i. is_some (found entries (i / lanes))) (below (fault_count p))
 
--- THE TABLE of the faults of these batches: the names of the column_names, and a row for each fault
+-- THE TABLE of the faults of these batches: the names of the columns, and a row for each fault
 unfoldable pub fault_table : Analysis → List Entry → Bytes
 fault_table p entries = csv_row column_names ++ flat_map (λ i. fault_row p (listed_planes entries (i / lanes)) i) (kept_faults p entries)
 

@@ -35,7 +35,7 @@ same_share true n Mechanism true permanent w = refl
 same_share false n Mission true permanent w = refl
 same_share false n Mechanism true permanent w = refl
 
--- ---- a fault of a planes_when_missing batch
+-- ---- a fault of a missing batch
 
 missing_compared : (d n : Bool) (role : Role) (permanent : Bool) (w : ℕ) → (moved : ℕ) × Compared
     (share_of (class_of false true role false permanent) permanent w) (share_of (class_of true false role false permanent) permanent w)

@@ -1,4 +1,4 @@
--- The rows of net_numbers and of latches, in the words of the table.
+-- The rows of nets and of latches, in the words of the table.
 use Rattle.std.proofs.Common.{◌≡◌, ◌∙◌, ap, ap₂, sym, refl, subst, ℕ, ◌+◌, ◌<◌, Bool, false, cond, List, [], ◌∷◌, ◌++◌, length, map, take, get_or, add-one, append_assoc, arith}
 use Rattle.std.specs.Prelude.{count_by, find, Option, Some, None, is_none, IfSome, codes}
 use Rattle.std.proofs.lemmas.List.{get_or-map, length-map, map-append, take_more}

@@ -1,4 +1,4 @@
--- What a table of rows has counted, in one pass over the net_numbers and one over the latches.
+-- What a table of rows has counted, in one pass over the nets and one over the latches.
 use Rattle.std.specs.Prelude.{◌≡◌, ℕ, ◌<◌, ◌≤◌, ◌^◌, List, length, map, count_by, find, Option, None, slice_index, slice_index_or, All, IfSome}
 use Rattle.circuit.specs.Circuit.{Circuit}
 use Rattle.rate_table.specs.Table.{RateTable}

@@ -1,4 +1,4 @@
--- The net_numbers and the latches that each row of a rates file row_takes: those whose first match it is. This project's own rule and form.
+-- The nets and the latches that each row of a rates file takes: those whose first match it is. This project's own rule and form.
 use Rattle.std.specs.Prelude.{ℕ, Bool, true, false, List, [], ◌∷◌, ◌++◌, flat_map, length, count_by, find, position, Option, Some, None, is_none, slice_index_or, ◌==◌, codes, decimal}
 use Rattle.circuit.specs.Circuit.{Circuit}
 use Rattle.circuit.specs.Names.{net_name}
@@ -12,7 +12,7 @@ use Rattle.fm_base.specs.Text.{line}
 use Rattle.fmeda_report.specs.Words.{role_word}
 use Rattle.fault_table.specs.Words.{covered_word}
 
--- the row that row_takes a net: the first one whose pattern matches its name, by its number from 0
+-- the row that takes a net: the first one whose pattern matches its name, by its number from 0
 abbrev pub row_of_net : Circuit → RateTable → ℕ → Option ℕ
 row_of_net c table net = position (λ pattern. matches pattern (net_name c net)) table.patterns
 
@@ -21,15 +21,15 @@ abbrev pub is_at_row : ℕ → Option ℕ → Bool
 is_at_row k None = false
 is_at_row k (Some row) = row == k
 
--- row k row_takes a net
+-- row k takes a net
 abbrev pub row_takes : Circuit → RateTable → ℕ → ℕ → Bool
 row_takes c table k net = is_at_row k (row_of_net c table net)
 
--- no row row_takes a net
+-- no row takes a net
 abbrev pub is_unmatched : Circuit → RateTable → ℕ → Bool
 is_unmatched c table net = is_none (row_of_net c table net)
 
--- all net_numbers by their numbers
+-- all nets by their numbers
 abbrev pub net_numbers : Circuit → List ℕ
 net_numbers c = below (length c.drivers)
 
@@ -51,7 +51,7 @@ abbrev pub star_word : Bool → Bytes
 star_word true = codes "*"
 star_word false = []
 
--- the line of row k: its pattern and part, how many net_numbers and latches it row_takes (a latch goes with its output net), and the first of these net_numbers
+-- the line of row k: its pattern and part, how many nets and latches it takes (a latch goes with its output net), and the first of these nets
 unfoldable pub row_line : Circuit → RateTable → ℕ → Bytes
 row_line c table k =
     let pattern = pattern_numbered table k in
@@ -62,7 +62,7 @@ row_line c table k =
     ∷ codes "latches" ∷ decimal (count_by (λ latch. row_takes c table k latch.to.0) c.latches)
     ∷ codes "first" ∷ name_or_dash c (find (row_takes c table k) (net_numbers c)) ∷ [])
 
--- the last line: how many net_numbers no row row_takes, and the first of them
+-- the last line: how many nets no row takes, and the first of them
 unfoldable pub unmatched_line : Circuit → RateTable → Bytes
 unmatched_line c table =
     line (codes "unmatched" ∷ decimal (count_by (is_unmatched c table) (net_numbers c)) ∷ codes "first" ∷ name_or_dash c (find (is_unmatched c table) (net_numbers c)) ∷ [])

@@ -1,4 +1,4 @@
--- The names of parts behind a set of owned name_texts, and the star at the end of a pattern.
+-- The names of parts behind a set of owned texts, and the star at the end of a pattern.
 use Rattle.std.proofs.Common.{◌≡◌, ℕ, ◌-◌, Bool, true, false, List, [], ◌∷◌, ◌++◌, length, map, refl, ap, sym, ◌∙◌, arith, Vec}
 use Rattle.std.specs.Prelude.{Option, Some, None, position, slice_get, ◌==◌, if◌then◌else◌}
 use Rattle.std.specs.declared.alloc.Global.{Global}

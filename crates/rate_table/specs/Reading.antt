@@ -92,7 +92,7 @@ pub record TakesPart (before : List Fields) (row : Fields) (keys : List Bytes) (
 abbrev pub row_pattern : Fields → ℕ → Pattern
 row_pattern row n = record { name = without_star (field row 0); star = has_star (field row 0); part = n }
 
--- the name_texts of owned names
+-- the texts of owned names
 abbrev pub name_texts : List (Vec ℕ Global) → List Bytes
 name_texts names = map (λ name. name.items) names
 

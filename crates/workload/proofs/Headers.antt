@@ -1,4 +1,4 @@
--- The header_columns and the places of the inputs, one more at a time.
+-- The columns and the places of the inputs, one more at a time.
 use Rattle.std.proofs.Common.{◌≡◌, ◌∙◌, ℕ, zero, suc, ◌+◌, ◌<◌, ◌≤◌, Bool, true, false, not, ◌&&◌, ◌||◌, List, [], ◌∷◌, ◌++◌, length, take, drop, map, get_or, sym, refl, ap, arith}
 use Rattle.std.specs.Prelude.{bytes_eq, codes}
 use Rattle.std.proofs.Common.{◌⊎◌, inl, inr}
@@ -35,7 +35,7 @@ pub with_taken : {X : Type 0} (f : X → Name) (xs : List X) (i : ℕ) (d : X) (
 with_taken f xs i d names lt e =
     rw (e, take_more xs i d lt, map-append f (take i xs) (get_or xs i d ∷ []), distinct-snoc (map f (take i xs)) (f (get_or xs i d)), distinct-found (map f (take i xs)) (f (get_or xs i d))) refl
 
--- ---- header_columns
+-- ---- columns
 
 is_one_of-snoc : (names : List Name) (x name : Name) → is_one_of (names ++ x ∷ []) name ≡ (is_one_of names name || bytes_eq name x)
 is_one_of-snoc [] x name = or_none (bytes_eq name x)

@@ -29,7 +29,7 @@ use Rattle.fm_base.specs.declared.refusal.Refusal.TheVariants.{Fault, Memory}
 abbrev pub are_bad : List Name → List Name → Bool
 are_bad inputs names = not (list_all (is_one_of inputs) names) || has_repeat names
 
--- the header_columns of the header, or none where they are bad
+-- the columns of the header, or none where they are bad
 abbrev pub AreColumns : List Name → Fields → Option (List Name) → Type 0
 AreColumns inputs header None = are_bad inputs (header_columns header) ≡ true
 AreColumns inputs header (Some names) = (are_bad inputs (header_columns header) ≡ false) × (names ≡ header_columns header)

@@ -5,7 +5,7 @@ use Rattle.fault_table.specs.Csv.{csv_field, csv_row}
 use Rattle.fault_table.specs.FaultTable.{column_names}
 use Rattle.fault_table.proofs.table.write_columns.Goals as goal
 
--- the column_names as a row
+-- the columns as a row
 row : codes "fault,net,kind,part,role,covered,class,dangerous,noticed,weight\n" ≡ csv_row column_names
 unfolding csv_field
 row = refl

@@ -27,7 +27,7 @@ returns-in_default c =
     sym (bad_distinct (input_names c.args.net.now) (header_columns c.args.header.now)) ∙ ap (λ (names : List Name). are_bad names (header_columns c.args.header.now)) (sym c.in_ok-inputs.ensures) ∙ found in
     rw c.refusal-in_default.ensures (refl, header_fault-by c.args.net.now c.args.header.now true true _ words bad refl)
 
--- the header_columns are no more than the fields
+-- the columns are no more than the fields
 pub places_of-requires : goal.places_of-requires
 places_of-requires c =
     let found : AreColumns c.in_ok-inputs.inputs c.args.header.now (Some c.in-Some.columns) = rw c.in-Some.is at c.in_ok-columns.ensures in
