@@ -6,8 +6,8 @@ use Rattle.std.specs.Option.{option_map, option_map_or, option_or}
 use Rattle.std.proofs.lemmas.List.{append-nil, take_more}
 use Rattle.std.proofs.lemmas.List.Sums.{fold-append}
 use Rattle.blif_text.specs.declared.token.Token.{Token}
-use Rattle.blif_says.specs.Meant.{bindings_of}
-use Rattle.blif_says.specs.Tokens.{texts_of}
+use Rattle.blif_model.specs.Meant.{bindings_of}
+use Rattle.blif_model.specs.Tokens.{texts_of}
 use Rattle.fm_base.specs.Firsts.{first_where}
 use Rattle.blif_hierarchy.specs.Lines.{first_among}
 use Rattle.blif_hierarchy.specs.declared.links.Link.{Link}
@@ -16,7 +16,7 @@ use Rattle.fm_base.specs.Names.{Name, is_one_of, has_repeat}
 use Rattle.fm_base.proofs.Distinct.{same_name, bytes_eq-sym}
 use Rattle.fm_base.proofs.Tests.{or_cases, or_second}
 use Rattle.fm_base.specs.Index.{with_name}
-use Rattle.blif_walk.proofs.NameSets.{taken_found}
+use Rattle.blif_flatten.proofs.NameSets.{taken_found}
 use Rattle.blif_model.specs.ModelFault.{bad_formal, has_other, unbound, unknown_model}
 use Rattle.blif_model.specs.Models.{Model, formal_inputs, formals, instances, model_named}
 use Rattle.blif_model.specs.Statement.{Binding, binding_of}

@@ -8,9 +8,9 @@ use Rattle.blif_text.specs.declared.lines.TextLine.{TextLine}
 use Rattle.blif_text.specs.Read.{line_of}
 use Rattle.blif_model.specs.Models.{Item, Model, Instance, items_of, rows_below}
 use Rattle.blif_model.specs.Statement.{Statement, instance, statement_of, texts}
-use Rattle.blif_says.specs.declared.models.ModelLines.{ModelLines}
-use Rattle.blif_says.specs.Grouped.{all_said, model_of, models_seen}
-use Rattle.blif_walk.proofs.Items.{drop_item}
+use Rattle.blif_model.specs.declared.models.ModelLines.{ModelLines}
+use Rattle.blif_model.specs.Grouped.{all_said, model_of, models_seen}
+use Rattle.blif_flatten.proofs.Items.{drop_item}
 use Rattle.blif_hierarchy.specs.Lines.{instance_answer, first_among}
 use Rattle.std.proofs.lemmas.List.{drop_all}
 

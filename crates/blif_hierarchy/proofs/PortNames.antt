@@ -7,8 +7,8 @@ use Rattle.blif_text.specs.declared.lines.TextLine.{TextLine}
 use Rattle.blif_text.specs.Read.{line_of}
 use Rattle.blif_model.specs.Models.{items_of}
 use Rattle.blif_model.specs.Statement.{Statement, statement_of, texts}
-use Rattle.blif_says.specs.Grouped.{all_said}
-use Rattle.blif_walk.proofs.Items.{drop_item}
+use Rattle.blif_model.specs.Grouped.{all_said}
+use Rattle.blif_flatten.proofs.Items.{drop_item}
 use Rattle.std.proofs.lemmas.List.Sums.{fold-append}
 use Rattle.std.proofs.lemmas.List.{drop_all}
 

@@ -23,8 +23,8 @@ use Rattle.std.proofs.lemmas.Option.{get_or_from_slice_get, slice_get-get_or}
 use Rattle.blif_hierarchy.proofs.Bounds.{reach_few}
 use Rattle.blif_hierarchy.proofs.Levels.{any_callee}
 use Rattle.net_names.proofs.Answers.{not_given}
-use Rattle.blif_says.specs.declared.models.ModelLines.{ModelLines}
-use Rattle.blif_says.specs.Grouped.{model_of, models_seen}
+use Rattle.blif_model.specs.declared.models.ModelLines.{ModelLines}
+use Rattle.blif_model.specs.Grouped.{model_of, models_seen}
 use Rattle.blif_hierarchy.specs.declared.lines.Nesting.TheVariants as nestings
 use Rattle.blif_hierarchy.specs.Lines.{first_among}
 use Rattle.blif_hierarchy.specs.Marks.{nesting_fault, nesting_kind}

@@ -14,10 +14,10 @@ use Rattle.blif_text.specs.declared.NetlistKind.TheVariants.{TwoModels}
 use Rattle.blif_model.specs.LineFault.{at_line}
 use Rattle.blif_model.specs.ModelFault.{two_models}
 use Rattle.blif_model.specs.Models.{Model}
-use Rattle.blif_says.specs.declared.models.ModelLines.{ModelLines}
-use Rattle.blif_says.specs.Grouped.{model_of, models_seen}
-use Rattle.blif_walk.proofs.Items.{drop_item}
-use Rattle.blif_walk.proofs.NameSets.{taken_found}
+use Rattle.blif_model.specs.declared.models.ModelLines.{ModelLines}
+use Rattle.blif_model.specs.Grouped.{model_of, models_seen}
+use Rattle.blif_flatten.proofs.Items.{drop_item}
+use Rattle.blif_flatten.proofs.NameSets.{taken_found}
 use Rattle.std.proofs.Math.Bool.{or-false}
 
 -- one of these models has the name

@@ -6,8 +6,8 @@ use Rattle.std.specs.declared.alloc.Global.{Global}
 use Rattle.std.proofs.lemmas.List.{map-append, take_more, drop_all}
 use Rattle.blif_text.specs.declared.lines.TextLine.{TextLine}
 use Rattle.blif_text.specs.Read.{line_of}
-use Rattle.blif_says.specs.declared.models.ModelLines.{ModelLines}
-use Rattle.blif_says.specs.Grouped.{all_said, model_of, models_seen}
+use Rattle.blif_model.specs.declared.models.ModelLines.{ModelLines}
+use Rattle.blif_model.specs.Grouped.{all_said, model_of, models_seen}
 use Rattle.std.proofs.lemmas.List.Sums.{sum_by-cons}
 use Rattle.fm_base.specs.Names.{Name}
 use Rattle.blif_model.specs.Statement.{Statement, instance, statement_of, texts}

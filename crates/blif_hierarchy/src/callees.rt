@@ -3,13 +3,13 @@ ghost use Rattle.std.specs.Prelude.{◌≡◌, ◌+◌, ◌<◌, ℕ, All, IfOk,
 ghost use Rattle.blif_model.specs.Models.{items_of, Model};
 ghost use Rattle.blif_model.specs.Statement.{statement_of, texts};
 ghost use Rattle.blif_text.specs.Read.{line_of};
-ghost use Rattle.blif_says.specs.Grouped.{all_said};
+ghost use Rattle.blif_model.specs.Grouped.{all_said};
 ghost use Rattle.blif_hierarchy.specs.Callees.{AllCallees, AreCallees, callee_number, number_at};
 
-use blif_says::says::Says;
-use blif_says::statement::line_says;
+use blif_model::says::Says;
+use blif_model::statement::line_says;
 use blif_text::lines::TextLine;
-use blif_walk::table::ModelTable;
+use blif_flatten::table::ModelTable;
 use std::alloc::{AllocError, Global};
 
 /// The place of the model that a line instances, if it does.

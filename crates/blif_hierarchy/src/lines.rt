@@ -5,15 +5,15 @@ ghost use Rattle.blif_text.specs.Read.{line_of};
 ghost use Rattle.blif_model.specs.LineFault.{at_line};
 ghost use Rattle.blif_model.specs.Models.{Model, at_model, items_of};
 ghost use Rattle.blif_model.specs.Statement.{statement_of, texts};
-ghost use Rattle.blif_says.specs.Grouped.{all_said};
+ghost use Rattle.blif_model.specs.Grouped.{all_said};
 ghost use Rattle.blif_hierarchy.specs.Lines.{instance_answer, first_among};
 ghost use Rattle.blif_hierarchy.specs.Marks.{nesting_fault, nesting_kind};
 
-use blif_says::says::Says;
-use blif_says::statement::line_says;
+use blif_model::says::Says;
+use blif_model::statement::line_says;
 use blif_text::lines::TextLine;
 use blif_text::{NetlistFault, NetlistKind};
-use blif_walk::table::ModelTable;
+use blif_flatten::table::ModelTable;
 
 /// The faults of nests.
 #[derive(Clone, Copy)]

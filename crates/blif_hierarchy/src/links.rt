@@ -9,21 +9,21 @@ ghost use Rattle.blif_model.specs.LineFault.{at_line};
 ghost use Rattle.blif_model.specs.ModelFault.{has_other};
 ghost use Rattle.blif_model.specs.Models.{items_of, model_named};
 ghost use Rattle.blif_model.specs.Statement.{statement_of, texts};
-ghost use Rattle.blif_says.specs.Grouped.{all_said};
-ghost use Rattle.blif_says.specs.Meant.{bindings_of};
-ghost use Rattle.blif_says.specs.Tokens.{texts_of};
+ghost use Rattle.blif_model.specs.Grouped.{all_said};
+ghost use Rattle.blif_model.specs.Meant.{bindings_of};
+ghost use Rattle.blif_model.specs.Tokens.{texts_of};
 ghost use Rattle.blif_hierarchy.specs.Lines.{instance_answer, first_among};
 ghost use Rattle.blif_hierarchy.specs.Links.{has_fault, fault_by_link, link_kind, link_fault};
 ghost use Rattle.blif_hierarchy.specs.Ports.{ports_in};
 
 use crate::names::NameSet;
 use crate::ports::{BoundNames, Ports, bound_names};
-use blif_says::says::Says;
-use blif_says::statement::line_says;
+use blif_model::says::Says;
+use blif_model::statement::line_says;
 use blif_text::lines::TextLine;
 use blif_text::token::Token;
 use blif_text::{NetlistFault, NetlistKind};
-use blif_walk::table::ModelTable;
+use blif_flatten::table::ModelTable;
 use std::alloc::{AllocError, Global};
 
 /// The faults of a `.subckt` line by itself.

@@ -5,8 +5,8 @@ ghost use Rattle.blif_model.specs.Models.{has_nest};
 ghost use Rattle.blif_hierarchy.specs.Callees.{AllCallees};
 ghost use Rattle.blif_hierarchy.specs.Marks.{mark_after, marks_after};
 
-use blif_says::models::ModelLines;
-use blif_walk::table::ModelTable;
+use blif_model::models::ModelLines;
+use blif_flatten::table::ModelTable;
 use std::alloc::{AllocError, Global};
 
 /// The mark at a place.

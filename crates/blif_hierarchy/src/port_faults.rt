@@ -7,7 +7,7 @@ use crate::links::{Link, first_fault};
 use crate::names::NameSet;
 use crate::ports::all_ports;
 use blif_text::{NetlistFault, NetlistKind};
-use blif_walk::table::ModelTable;
+use blif_flatten::table::ModelTable;
 use std::alloc::{AllocError, Global};
 
 /// The first `.model` line that has the name of an earlier one.

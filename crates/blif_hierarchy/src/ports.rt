@@ -2,16 +2,16 @@
 ghost use Rattle.std.specs.Prelude.{◌≡◌, IfOk, OnOk, fold, map};
 ghost use Rattle.fm_base.specs.Index.{with_name};
 ghost use Rattle.blif_model.specs.Models.{formal_names, items_of, port_names};
-ghost use Rattle.blif_says.specs.Grouped.{all_said};
-ghost use Rattle.blif_says.specs.Meant.{bindings_of, meant};
-ghost use Rattle.blif_says.specs.Tokens.{texts_of};
+ghost use Rattle.blif_model.specs.Grouped.{all_said};
+ghost use Rattle.blif_model.specs.Meant.{bindings_of, meant};
+ghost use Rattle.blif_model.specs.Tokens.{texts_of};
 ghost use Rattle.blif_hierarchy.specs.Ports.{bound_in, ports_in, with_bound};
 
 use crate::names::NameSet;
-use blif_says::bindings::pair_of;
-use blif_says::models::ModelLines;
-use blif_says::says::Says;
-use blif_says::statement::line_says;
+use blif_model::bindings::pair_of;
+use blif_model::models::ModelLines;
+use blif_model::says::Says;
+use blif_model::statement::line_says;
 use blif_text::lines::TextLine;
 use blif_text::token::Token;
 use std::alloc::{AllocError, Global};

@@ -4,7 +4,7 @@ ghost use Rattle.blif_model.specs.Models.{Model, sum_over_instances};
 ghost use Rattle.blif_hierarchy.specs.Callees.{next_round};
 
 use crate::callees::all_callees;
-use blif_walk::table::ModelTable;
+use blif_flatten::table::ModelTable;
 use std::alloc::{AllocError, Global};
 
 /// A number and those of the callees, summed up to the cap.

@@ -14,7 +14,7 @@ use Rattle.blif_model.specs.ModelFault.{model_fault, two_models, unknown_model, 
 use Rattle.blif_model.specs.Walk.{Step, walk, nets_of}
 use Rattle.blif_model.specs.WalkFault.{walk_fault, two_clocks, bad_clock, clock_read, two_drivers, undriven}
 use Rattle.blif_model.specs.Net.{bad_net, circuit_of, netlist_of, netlist_unless}
-use Rattle.blif_model.proofs.Rows.{rows-fit}
+use Rattle.blif_model.proofs.TableRows.{rows-fit}
 use Rattle.blif_model.proofs.Fits.{walk-fits}
 use Rattle.blif_model.proofs.Sound.{netlist-sound}
 use Rattle.fm_base.proofs.Options.{none_both}

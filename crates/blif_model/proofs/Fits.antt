@@ -9,7 +9,7 @@ use Rattle.blif_model.specs.LineFault.{is_row_of}
 use Rattle.blif_model.specs.Statement.{Statement, inputs, outputs, clock, table, latch, instance}
 use Rattle.blif_model.specs.Models.{Item, Model, model_named, main_of}
 use Rattle.blif_model.specs.Walk.{Scope, top, inside, Act, flat_table, Step, acts_of, inner_steps, scope_of, next, net_of, steps_from, enter, walk}
-use Rattle.blif_model.proofs.Rows.{RowsFit, ItemFits, ModelFits}
+use Rattle.blif_model.proofs.TableRows.{RowsFit, ItemFits, ModelFits}
 
 -- the rows of a table of the walk have a cell for each input
 abbrev pub ActFits : Act → Type 0

@@ -1,4 +1,4 @@
-pub mod Rows
+pub mod TableRows
 pub mod Nets
 pub mod Drivers
 pub mod Depth
@@ -8,3 +8,8 @@ pub mod Fits
 pub mod ReadNets
 pub mod Sound
 pub mod FileNetlist
+pub mod Forms
+pub mod Spots
+pub mod FirstFaults
+pub mod Parts
+pub mod Answered

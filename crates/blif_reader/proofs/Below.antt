@@ -10,11 +10,11 @@ use Rattle.std.specs.Borrow.{Bor}
 use Rattle.blif_model.specs.Models.{rows_below, rows_from}
 use Rattle.blif_model.specs.Net.{lits_of}
 use Rattle.blif_model.specs.Statement.{statement_of, texts}
-use Rattle.blif_says.specs.declared.says.Says.{Says}
-use Rattle.blif_says.specs.declared.says.Says.TheVariants.{Model, Inputs, Outputs, Clock, Table, Latch, Instance, End, Row, Passed, Unnamed, Wrong}
-use Rattle.blif_says.specs.Grouped.{all_said}
-use Rattle.blif_says.specs.Meant.{meant}
-use Rattle.blif_walk.proofs.Items.{drop_item}
+use Rattle.blif_model.specs.declared.says.Says.{Says}
+use Rattle.blif_model.specs.declared.says.Says.TheVariants.{Model, Inputs, Outputs, Clock, Table, Latch, Instance, End, Row, Passed, Unnamed, Wrong}
+use Rattle.blif_model.specs.Grouped.{all_said}
+use Rattle.blif_model.specs.Meant.{meant}
+use Rattle.blif_flatten.proofs.Items.{drop_item}
 
 below_more : (line : TextLine) (lines : List TextLine) → rows_below (all_said (line ∷ lines)) ≡ rows_from (statement_of (texts (line_of line))) (rows_below (all_said lines))
 unfolding rows_below

@@ -16,13 +16,13 @@ use Rattle.blif_text.specs.declared.NetlistFault.{NetlistFault}
 use Rattle.blif_model.specs.LineFault.{at_line}
 use Rattle.blif_model.specs.Walk.{Step, clocked, clock_names}
 use Rattle.blif_model.specs.WalkFault.{edge_of}
-use Rattle.blif_walk.specs.declared.flat.NameId.{NameId}
-use Rattle.blif_walk.specs.declared.flat.NumberedStep.{NumberedStep}
-use Rattle.blif_walk.specs.declared.sorts.Sort.TheVariants.{Clock}
-use Rattle.blif_walk.specs.Flat.{act_by, AreBelow, name_at, steps_by}
-use Rattle.blif_walk.specs.Sorts.{names_by}
-use Rattle.blif_walk.proofs.Items.{drop_item}
-use Rattle.blif_walk.proofs.Marking.{not_there, either_left, either_right}
+use Rattle.blif_flatten.specs.declared.flat.NameId.{NameId}
+use Rattle.blif_flatten.specs.declared.flat.NumberedStep.{NumberedStep}
+use Rattle.blif_flatten.specs.declared.sorts.Sort.TheVariants.{Clock}
+use Rattle.blif_flatten.specs.Flat.{act_by, AreBelow, name_at, steps_by}
+use Rattle.blif_flatten.specs.Sorts.{names_by}
+use Rattle.blif_flatten.proofs.Items.{drop_item}
+use Rattle.blif_flatten.proofs.Marking.{not_there, either_left, either_right}
 use Rattle.blif_reader.specs.Found.{first_named, passes}
 use Rattle.blif_reader.specs.Passes.{differs_from, is_other, is_other_id, kept_first}
 use Rattle.blif_reader.proofs.Passing.{first_clock_fault}

@@ -10,10 +10,10 @@ use Rattle.blif_text.specs.declared.lines.TextLine.{TextLine}
 use Rattle.blif_text.specs.Read.{line_of}
 use Rattle.blif_model.specs.Models.{Item, Instance as Subckt, items_of, rows_below, instance_from, cells_from}
 use Rattle.blif_model.specs.Statement.{statement_of, texts}
-use Rattle.blif_says.specs.declared.says.Says.{Says}
-use Rattle.blif_says.specs.Grouped.{all_said}
-use Rattle.blif_says.specs.Meant.{meant}
-use Rattle.blif_walk.proofs.Items.{drop_item}
+use Rattle.blif_model.specs.declared.says.Says.{Says}
+use Rattle.blif_model.specs.Grouped.{all_said}
+use Rattle.blif_model.specs.Meant.{meant}
+use Rattle.blif_flatten.proofs.Items.{drop_item}
 use Rattle.blif_reader.specs.Mentions.{mentions_on}
 
 -- a line as an item

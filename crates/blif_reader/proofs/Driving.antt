@@ -12,14 +12,14 @@ use Rattle.blif_text.specs.declared.NetlistKind.TheVariants.{TwoDrivers}
 use Rattle.blif_text.specs.declared.NetlistFault.{NetlistFault}
 use Rattle.blif_model.specs.LineFault.{at_line}
 use Rattle.blif_model.specs.Walk.{Step, clock_names}
-use Rattle.blif_walk.specs.declared.flat.NameId.{NameId}
-use Rattle.blif_walk.specs.declared.flat.NumberedAct.{NumberedAct}
-use Rattle.blif_walk.specs.declared.flat.NumberedAct.TheVariants.{Inputs, Outputs, Clocks, PortNets, Table, Latch}
-use Rattle.blif_walk.specs.declared.flat.NumberedStep.{NumberedStep}
-use Rattle.blif_walk.specs.Flat.{act_by, AreBelow, ids_in, name_at, step_by, steps_by}
-use Rattle.blif_walk.specs.Marks.{marked}
-use Rattle.blif_walk.proofs.Items.{drop_item}
-use Rattle.blif_walk.proofs.Marking.{mark_one, mark_names}
+use Rattle.blif_flatten.specs.declared.flat.NameId.{NameId}
+use Rattle.blif_flatten.specs.declared.flat.NumberedAct.{NumberedAct}
+use Rattle.blif_flatten.specs.declared.flat.NumberedAct.TheVariants.{Inputs, Outputs, Clocks, PortNets, Table, Latch}
+use Rattle.blif_flatten.specs.declared.flat.NumberedStep.{NumberedStep}
+use Rattle.blif_flatten.specs.Flat.{act_by, AreBelow, ids_in, name_at, step_by, steps_by}
+use Rattle.blif_flatten.specs.Marks.{marked}
+use Rattle.blif_flatten.proofs.Items.{drop_item}
+use Rattle.blif_flatten.proofs.Marking.{mark_one, mark_names}
 use Rattle.blif_reader.specs.Passes.{driven_ids, driven_names, drives_twice}
 use Rattle.blif_reader.proofs.Finding.{mark_at}
 use Rattle.blif_reader.proofs.Passing.{any_twice, driver_fault}

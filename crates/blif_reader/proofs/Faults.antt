@@ -15,9 +15,9 @@ use Rattle.blif_model.specs.LineFault.{at_line}
 use Rattle.blif_model.specs.Walk.{Step, Visit, visited, visits_of, names_at, is_clock, clock_names, taken, table_net, latch_net, drives_of}
 use Rattle.blif_model.specs.WalkFault.{main_inputs, bad_clock, clock_read, has_visit, undriven}
 use Rattle.blif_model.proofs.Drivers.{names_at-names, visit-found}
-use Rattle.blif_walk.specs.declared.sorts.Sort.{Sort}
-use Rattle.blif_walk.specs.declared.sorts.Sort.TheVariants.{Visited, Clock, Input, Read, Control}
-use Rattle.blif_walk.specs.Sorts.{named, names_by}
+use Rattle.blif_flatten.specs.declared.sorts.Sort.{Sort}
+use Rattle.blif_flatten.specs.declared.sorts.Sort.TheVariants.{Visited, Clock, Input, Read, Control}
+use Rattle.blif_flatten.specs.Sorts.{named, names_by}
 use Rattle.blif_reader.specs.Found.{first_named, passes}
 use Rattle.blif_reader.specs.Passes.{driven_names, settled}
 use Rattle.blif_reader.proofs.Passing.{driven_alike}

@@ -10,12 +10,12 @@ use Rattle.fm_base.specs.Firsts.{first_where}
 use Rattle.fm_base.proofs.Finding.{find-map}
 use Rattle.fm_base.proofs.OnePass.{first_where-here, first_where-later}
 use Rattle.blif_model.specs.Walk.{Step}
-use Rattle.blif_walk.specs.declared.flat.NameId.{NameId}
-use Rattle.blif_walk.specs.declared.flat.NumberedStep.{NumberedStep}
-use Rattle.blif_walk.specs.declared.sorts.Sort.{Sort}
-use Rattle.blif_walk.specs.Flat.{act_by, AreBelow, name_at, step_by, steps_by}
-use Rattle.blif_walk.specs.Sorts.{named}
-use Rattle.blif_walk.proofs.Items.{drop_item}
+use Rattle.blif_flatten.specs.declared.flat.NameId.{NameId}
+use Rattle.blif_flatten.specs.declared.flat.NumberedStep.{NumberedStep}
+use Rattle.blif_flatten.specs.declared.sorts.Sort.{Sort}
+use Rattle.blif_flatten.specs.Flat.{act_by, AreBelow, name_at, step_by, steps_by}
+use Rattle.blif_flatten.specs.Sorts.{named}
+use Rattle.blif_flatten.proofs.Items.{drop_item}
 use Rattle.blif_reader.specs.Found.{first_named, is_wanted, passes}
 
 -- the mark of a name

@@ -12,10 +12,10 @@ use Rattle.net_names.proofs.Times.{one_of_both}
 use Rattle.blif_model.specs.Walk.{Act, takes, gives, clocks, visits, flat_table, flat_latch, Step, Visit, visited, visits_of, clocked, clock_names, is_clock, unclocked, names_at, nets_of}
 use Rattle.blif_model.specs.WalkFault.{control_of}
 use Rattle.blif_model.proofs.Drivers.{names_at-names}
-use Rattle.blif_walk.proofs.Marking.{names_apart}
-use Rattle.blif_walk.specs.Flat.{all_names}
-use Rattle.blif_walk.specs.Sorts.{names_by}
-use Rattle.blif_walk.specs.declared.sorts.Sort.TheVariants.{Clock}
+use Rattle.blif_flatten.proofs.Marking.{names_apart}
+use Rattle.blif_flatten.specs.Flat.{all_names}
+use Rattle.blif_flatten.specs.Sorts.{names_by}
+use Rattle.blif_flatten.specs.declared.sorts.Sort.TheVariants.{Clock}
 
 -- ---- names that pass a test, each at its first place
 

@@ -13,7 +13,7 @@ use Rattle.net_names.specs.Nets.{net_id}
 use Rattle.net_names.proofs.Times.{place, place-at, place_none}
 use Rattle.blif_model.specs.Walk.{Step, is_clock, nets_of, unclocked}
 use Rattle.blif_model.proofs.Nets.{nets-apart}
-use Rattle.blif_walk.specs.Flat.{all_names}
+use Rattle.blif_flatten.specs.Flat.{all_names}
 use Rattle.blif_reader.proofs.FlatNets.{nets-named, clock-out}
 
 -- the numbers that these marks give, where a net has the number `next`, and a clock name that behind the last

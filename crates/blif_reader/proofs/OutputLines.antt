@@ -11,12 +11,12 @@ use Rattle.net_names.proofs.Times.{one_of_both}
 use Rattle.fm_base.specs.declared.seq.Seq.{Seq}
 use Rattle.blif_model.specs.Net.{output_names_of}
 use Rattle.blif_model.specs.Walk.{Step, nets_of, outputs_at}
-use Rattle.blif_walk.specs.Flat.{act_by, name_at, all_names, step_by, steps_by}
-use Rattle.blif_walk.specs.declared.flat.NumberedAct.{NumberedAct}
-use Rattle.blif_walk.specs.declared.flat.NumberedAct.TheVariants as numbered
-use Rattle.blif_walk.specs.declared.flat.NumberedStep.{NumberedStep}
-use Rattle.blif_walk.specs.declared.flat.NameId.{NameId}
-use Rattle.blif_walk.proofs.Marking.{mark_one, names_apart}
+use Rattle.blif_flatten.specs.Flat.{act_by, name_at, all_names, step_by, steps_by}
+use Rattle.blif_flatten.specs.declared.flat.NumberedAct.{NumberedAct}
+use Rattle.blif_flatten.specs.declared.flat.NumberedAct.TheVariants as numbered
+use Rattle.blif_flatten.specs.declared.flat.NumberedStep.{NumberedStep}
+use Rattle.blif_flatten.specs.declared.flat.NameId.{NameId}
+use Rattle.blif_flatten.proofs.Marking.{mark_one, names_apart}
 use Rattle.blif_reader.proofs.NetNumbers.{by_number}
 
 -- ---- marks of names

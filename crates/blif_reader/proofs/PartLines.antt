@@ -13,13 +13,13 @@ use Rattle.net_names.specs.Nets.{net_id}
 use Rattle.blif_model.specs.Walk.{Act, takes, gives, clocks, visits, flat_table, flat_latch, FlatLatch, Step, is_clock, latch_net, nets_of, table_net, taken, unclocked}
 use Rattle.blif_model.specs.Net.{latch_of, table_of}
 use Rattle.fm_base.specs.declared.seq.Seq.{Seq}
-use Rattle.blif_walk.specs.Flat.{AreBelow, act_by, ids_in, name_at, all_names, step_by, steps_by}
-use Rattle.blif_walk.specs.declared.flat.NumberedAct.{NumberedAct}
-use Rattle.blif_walk.specs.declared.flat.NumberedAct.TheVariants as numbered
-use Rattle.blif_walk.specs.declared.flat.NumberedLatch.{NumberedLatch}
-use Rattle.blif_walk.specs.declared.flat.NumberedStep.{NumberedStep}
-use Rattle.blif_walk.specs.declared.flat.NumberedTable.{NumberedTable}
-use Rattle.blif_walk.specs.declared.flat.NameId.{NameId}
+use Rattle.blif_flatten.specs.Flat.{AreBelow, act_by, ids_in, name_at, all_names, step_by, steps_by}
+use Rattle.blif_flatten.specs.declared.flat.NumberedAct.{NumberedAct}
+use Rattle.blif_flatten.specs.declared.flat.NumberedAct.TheVariants as numbered
+use Rattle.blif_flatten.specs.declared.flat.NumberedLatch.{NumberedLatch}
+use Rattle.blif_flatten.specs.declared.flat.NumberedStep.{NumberedStep}
+use Rattle.blif_flatten.specs.declared.flat.NumberedTable.{NumberedTable}
+use Rattle.blif_flatten.specs.declared.flat.NameId.{NameId}
 use Rattle.blif_reader.specs.declared.parts.NetParts.{NetParts}
 use Rattle.blif_reader.specs.Parts.{net_parts}
 

@@ -19,9 +19,9 @@ use Rattle.blif_model.proofs.Answer.{netlist-refused}
 use Rattle.net_names.proofs.Answers.{gives_same}
 use Rattle.blif_model.proofs.FileNetlist.{unfaulted-netlist, walk_unfaulted}
 use Rattle.blif_hierarchy.proofs.Bindings.{skip, stop}
-use Rattle.blif_says.specs.Answer.{models_read}
-use Rattle.blif_says.proofs.Answered.{lines-refused, models-taken}
-use Rattle.blif_walk.specs.Flat.{all_names}
+use Rattle.blif_model.specs.Answer.{models_read}
+use Rattle.blif_model.proofs.Answered.{lines-refused, models-taken}
+use Rattle.blif_flatten.specs.Flat.{all_names}
 use Rattle.blif_reader.specs.Mentions.{count_of_mentions}
 use Rattle.blif_reader.proofs.FlatNets.{few_names}
 use Rattle.blif_reader.proofs.Mentions.{few_clocks}

@@ -5,10 +5,10 @@ use Rattle.fm_base.specs.Firsts.{first_where}
 use Rattle.fm_base.specs.Lists.{same_bit}
 use Rattle.fm_base.specs.Names.{Name}
 use Rattle.blif_model.specs.Walk.{Step}
-use Rattle.blif_walk.specs.declared.flat.NameId.{NameId}
-use Rattle.blif_walk.specs.declared.sorts.Sort.{Sort}
-use Rattle.blif_walk.specs.Flat.{name_at}
-use Rattle.blif_walk.specs.Sorts.{named}
+use Rattle.blif_flatten.specs.declared.flat.NameId.{NameId}
+use Rattle.blif_flatten.specs.declared.sorts.Sort.{Sort}
+use Rattle.blif_flatten.specs.Flat.{name_at}
+use Rattle.blif_flatten.specs.Sorts.{named}
 use Rattle.blif_reader.specs.declared.found.FoundName.{FoundName}
 
 -- the answer to the test is the wanted one

@@ -4,7 +4,7 @@ use Rattle.fm_base.specs.Names.{Name, distinct, is_one_of}
 use Rattle.blif_model.specs.Walk.{Step, latch_net, nets_of, table_net, taken}
 use Rattle.blif_model.specs.Net.{latch_of, table_of}
 use Rattle.net_names.specs.Nets.{net_id}
-use Rattle.blif_walk.specs.Flat.{all_names}
+use Rattle.blif_flatten.specs.Flat.{all_names}
 use Rattle.blif_reader.specs.declared.outputs.OutputNets.{OutputNets}
 use Rattle.blif_reader.specs.declared.parts.NetParts.{NetParts}
 

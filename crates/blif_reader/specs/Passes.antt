@@ -5,12 +5,12 @@ use Rattle.std.specs.Option.{option_or}
 use Rattle.fm_base.specs.Names.{Name, is_one_of}
 use Rattle.blif_model.specs.Walk.{Act, takes, flat_table, flat_latch, Step, clocked, clock_names}
 use Rattle.blif_model.specs.WalkFault.{edge_of}
-use Rattle.blif_walk.specs.declared.flat.FlatModel.{FlatModel}
-use Rattle.blif_walk.specs.declared.flat.NameId.{NameId}
-use Rattle.blif_walk.specs.declared.flat.NumberedAct.{NumberedAct}
-use Rattle.blif_walk.specs.declared.flat.NumberedAct.TheVariants.{Inputs, Table, Latch}
-use Rattle.blif_walk.specs.Flat.{all_names}
-use Rattle.blif_walk.specs.Flattened.{flat_steps}
+use Rattle.blif_flatten.specs.declared.flat.FlatModel.{FlatModel}
+use Rattle.blif_flatten.specs.declared.flat.NameId.{NameId}
+use Rattle.blif_flatten.specs.declared.flat.NumberedAct.{NumberedAct}
+use Rattle.blif_flatten.specs.declared.flat.NumberedAct.TheVariants.{Inputs, Table, Latch}
+use Rattle.blif_flatten.specs.Flat.{all_names}
+use Rattle.blif_flatten.specs.Flattened.{flat_steps}
 
 -- ---- TwoClocks: the first type is kept, and the first clock name is known
 

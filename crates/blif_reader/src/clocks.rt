@@ -5,18 +5,18 @@ ghost use Rattle.std.specs.Option.{option_map, option_to_list};
 ghost use Rattle.fm_base.specs.Names.{has_repeat, Name};
 ghost use Rattle.blif_model.specs.Walk.{clock_names};
 ghost use Rattle.blif_model.specs.WalkFault.{edge_of, two_clocks};
-ghost use Rattle.blif_walk.specs.declared.flat.NameId.{NameId};
-ghost use Rattle.blif_walk.specs.declared.sorts.Sort.TheVariants.{Clock};
-ghost use Rattle.blif_walk.specs.Flat.{act_by, AreBelow, ids_in, name_at};
-ghost use Rattle.blif_walk.specs.Flattened.{flat_steps};
-ghost use Rattle.blif_walk.specs.Marks.{AreMarksOf};
-ghost use Rattle.blif_walk.specs.Sorts.{ids_of};
+ghost use Rattle.blif_flatten.specs.declared.flat.NameId.{NameId};
+ghost use Rattle.blif_flatten.specs.declared.sorts.Sort.TheVariants.{Clock};
+ghost use Rattle.blif_flatten.specs.Flat.{act_by, AreBelow, ids_in, name_at};
+ghost use Rattle.blif_flatten.specs.Flattened.{flat_steps};
+ghost use Rattle.blif_flatten.specs.Marks.{AreMarksOf};
+ghost use Rattle.blif_flatten.specs.Sorts.{ids_of};
 ghost use Rattle.blif_reader.specs.Passes.{differs_from, is_other, is_other_id, kept_first};
 
 use crate::found::first_found;
 use blif_text::{NetlistFault, NetlistKind};
-use blif_walk::flat::{FlatModel, NameId, NumberedAct};
-use blif_walk::sorts::{Mentions, Sort, mentions_in};
+use blif_flatten::flat::{FlatModel, NameId, NumberedAct};
+use blif_flatten::sorts::{Mentions, Sort, mentions_in};
 
 /// The number isn't that of the first clock name.
 fn is_other_clock(first: Option<NameId>, id: Option<NameId>) -> bool

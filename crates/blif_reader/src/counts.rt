@@ -4,12 +4,12 @@ ghost use Rattle.std.specs.Option.{option_map_or};
 ghost use Rattle.blif_model.specs.Models.{cells_from, instance_from, items_of, rows_below};
 ghost use Rattle.blif_model.specs.Statement.{statement_of, texts};
 ghost use Rattle.blif_text.specs.Read.{line_of};
-ghost use Rattle.blif_says.specs.Grouped.{all_said};
-ghost use Rattle.blif_says.specs.Meant.{meant};
+ghost use Rattle.blif_model.specs.Grouped.{all_said};
+ghost use Rattle.blif_model.specs.Meant.{meant};
 ghost use Rattle.blif_reader.specs.Mentions.{mentions_on};
 
-use blif_says::says::{Clocked, Says};
-use blif_says::statement::line_says;
+use blif_model::says::{Clocked, Says};
+use blif_model::statement::line_says;
 use blif_text::lines::TextLine;
 
 /// The line instances a model.

@@ -1,14 +1,14 @@
 // TwoDrivers: a net that is driven a second time, or a clock name that is driven.
 ghost use Rattle.std.specs.Prelude.{◌≡◌, ◌∷◌, [], false, None, filter, length, not, slice_index_or};
 ghost use Rattle.blif_model.specs.WalkFault.{two_drivers};
-ghost use Rattle.blif_walk.specs.declared.sorts.Sort.TheVariants.{Clock};
-ghost use Rattle.blif_walk.specs.Flat.{AreBelow, ids_in};
-ghost use Rattle.blif_walk.specs.Flattened.{flat_steps};
-ghost use Rattle.blif_walk.specs.Marks.{AreMarksOf, marked};
+ghost use Rattle.blif_flatten.specs.declared.sorts.Sort.TheVariants.{Clock};
+ghost use Rattle.blif_flatten.specs.Flat.{AreBelow, ids_in};
+ghost use Rattle.blif_flatten.specs.Flattened.{flat_steps};
+ghost use Rattle.blif_flatten.specs.Marks.{AreMarksOf, marked};
 ghost use Rattle.blif_reader.specs.Passes.{AreSettledMarks, driven_ids, drives_twice};
 
 use blif_text::{NetlistFault, NetlistKind};
-use blif_walk::flat::{FlatModel, NameId, NumberedAct};
+use blif_flatten::flat::{FlatModel, NameId, NumberedAct};
 
 /// A name is driven. The answer is whether it was marked before.
 fn drive(driven: &mut Vec<bool>, id: NameId) -> bool

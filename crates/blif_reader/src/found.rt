@@ -2,13 +2,13 @@
 ghost use Rattle.std.specs.Prelude.{◌≡◌, ◌<◌, Bool, IfSome, List, find, length, map};
 ghost use Rattle.std.specs.Option.{option_map, option_to_list};
 ghost use Rattle.fm_base.specs.Names.{Name};
-ghost use Rattle.blif_walk.specs.Flat.{AreBelow};
-ghost use Rattle.blif_walk.specs.Flattened.{flat_steps};
-ghost use Rattle.blif_walk.specs.Sorts.{ids_of};
+ghost use Rattle.blif_flatten.specs.Flat.{AreBelow};
+ghost use Rattle.blif_flatten.specs.Flattened.{flat_steps};
+ghost use Rattle.blif_flatten.specs.Sorts.{ids_of};
 ghost use Rattle.blif_reader.specs.Found.{first_named, found_name, is_wanted, passes};
 
-use blif_walk::flat::{FlatModel, NameId};
-use blif_walk::sorts::{Mentions, Sort, mentions_in};
+use blif_flatten::flat::{FlatModel, NameId};
+use blif_flatten::sorts::{Mentions, Sort, mentions_in};
 
 /// A name that was found, and its line.
 #[derive(Clone, Copy)]

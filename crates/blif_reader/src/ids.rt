@@ -2,11 +2,11 @@
 ghost use Rattle.std.specs.Prelude.{◌≡◌, ◌+◌, ◌<◌, ◌^◌, List, IfOk, count_by, if◌then◌else◌, length, map, not};
 ghost use Rattle.blif_model.specs.Walk.{Step, is_clock, nets_of};
 ghost use Rattle.net_names.specs.Nets.{net_id};
-ghost use Rattle.blif_walk.specs.Flat.{AreBelow, name_at, all_names};
+ghost use Rattle.blif_flatten.specs.Flat.{AreBelow, name_at, all_names};
 ghost use Rattle.blif_reader.specs.Numbers.{AreNetNumbers};
 
 use crate::numbers::NetNumbers;
-use blif_walk::flat::NameId;
+use blif_flatten::flat::NameId;
 use circuit::parts::{NetId, NetIds};
 use fm_base::Seq;
 use std::alloc::{AllocError, Global};

@@ -2,15 +2,15 @@
 ghost use Rattle.std.specs.Prelude.{◌≡◌, ◌<◌, ◌^◌, IfOk, length, map};
 ghost use Rattle.blif_model.specs.Net.{circuit_of};
 ghost use Rattle.blif_model.specs.Walk.{is_clock};
-ghost use Rattle.blif_walk.specs.Flat.{all_names};
-ghost use Rattle.blif_walk.specs.Flattened.{flat_steps};
+ghost use Rattle.blif_flatten.specs.Flat.{all_names};
+ghost use Rattle.blif_flatten.specs.Flattened.{flat_steps};
 ghost use Rattle.blif_reader.specs.Ready.{IsWalkOfNetlist};
 
 use crate::nets::net_names;
 use crate::numbers::NetNumbers;
 use crate::outputs::take_outputs;
 use crate::parts::{NetParts, take_parts};
-use blif_walk::flat::FlatModel;
+use blif_flatten::flat::FlatModel;
 use circuit::netlist::Netlist;
 use net_names::drivers::drivers_of;
 use std::alloc::{AllocError, Global};

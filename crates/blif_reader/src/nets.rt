@@ -1,7 +1,7 @@
 // The names of nets.
 ghost use Rattle.std.specs.Prelude.{◌≡◌, ◌∷◌, ◌++◌, [], ◌<◌, List, IfOk, OnOk, if◌then◌else◌, length, map, slice_index_or};
 ghost use Rattle.blif_model.specs.Walk.{Step, is_clock, nets_of};
-ghost use Rattle.blif_walk.specs.Flat.{all_names};
+ghost use Rattle.blif_flatten.specs.Flat.{all_names};
 
 use circuit::parts::Names;
 use fm_base::{NameIndex, Seq};

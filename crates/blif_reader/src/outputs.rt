@@ -4,13 +4,13 @@ ghost use Rattle.blif_model.specs.Walk.{Step, nets_of, outputs_at};
 ghost use Rattle.blif_model.specs.Net.{output_names_of};
 ghost use Rattle.fm_base.specs.Names.{Name};
 ghost use Rattle.net_names.specs.Nets.{net_id};
-ghost use Rattle.blif_walk.specs.Flat.{AreBelow, act_by, ids_in, name_at, all_names};
-ghost use Rattle.blif_walk.specs.Flattened.{flat_steps};
+ghost use Rattle.blif_flatten.specs.Flat.{AreBelow, act_by, ids_in, name_at, all_names};
+ghost use Rattle.blif_flatten.specs.Flattened.{flat_steps};
 ghost use Rattle.blif_reader.specs.Numbers.{AreNetNumbers};
 ghost use Rattle.blif_reader.specs.Parts.{AreOutputNets};
 
 use crate::numbers::NetNumbers;
-use blif_walk::flat::{FlatModel, NameId, NumberedAct, NumberedStep};
+use blif_flatten::flat::{FlatModel, NameId, NumberedAct, NumberedStep};
 use circuit::parts::NetIds;
 use fm_base::Seq;
 use std::alloc::{AllocError, Global};

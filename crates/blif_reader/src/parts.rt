@@ -3,15 +3,15 @@ ghost use Rattle.std.specs.Prelude.{◌≡◌, ◌∷◌, ◌++◌, [], ◌<◌,
 ghost use Rattle.blif_model.specs.Walk.{Step, nets_of, unclocked};
 ghost use Rattle.blif_model.specs.Net.{latch_of, table_of};
 ghost use Rattle.net_names.specs.Nets.{net_id};
-ghost use Rattle.blif_walk.specs.Flat.{AreBelow, act_by, ids_in, name_at, all_names, step_by};
-ghost use Rattle.blif_walk.specs.Flattened.{flat_steps};
+ghost use Rattle.blif_flatten.specs.Flat.{AreBelow, act_by, ids_in, name_at, all_names, step_by};
+ghost use Rattle.blif_flatten.specs.Flattened.{flat_steps};
 ghost use Rattle.blif_reader.specs.Numbers.{AreNetNumbers};
 ghost use Rattle.blif_reader.specs.Parts.{net_parts};
-ghost use Rattle.blif_walk.specs.declared.flat.NumberedAct.TheVariants as acts;
+ghost use Rattle.blif_flatten.specs.declared.flat.NumberedAct.TheVariants as acts;
 
 use crate::numbers::NetNumbers;
 use crate::rows::{plane_of, rows_of};
-use blif_walk::flat::{FlatModel, NameId, NumberedAct, NumberedLatch, NumberedStep, NumberedTable};
+use blif_flatten::flat::{FlatModel, NameId, NumberedAct, NumberedLatch, NumberedStep, NumberedTable};
 use circuit::parts::{Latch, Latches, NetIds, Table, Tables};
 use fm_base::Seq;
 use std::alloc::{AllocError, Global};

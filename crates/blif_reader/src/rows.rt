@@ -3,11 +3,11 @@ ghost use Rattle.std.specs.Prelude.{◌≡◌, IfOk, codes, bytes_eq, map};
 ghost use Rattle.blif_model.specs.LineFault.{row_output};
 ghost use Rattle.blif_model.specs.Models.{rows_below};
 ghost use Rattle.blif_model.specs.Net.{lit_of, lits_of, table_plane};
-ghost use Rattle.blif_says.specs.Grouped.{all_said};
-ghost use Rattle.blif_says.specs.Tokens.{texts_of};
+ghost use Rattle.blif_model.specs.Grouped.{all_said};
+ghost use Rattle.blif_model.specs.Tokens.{texts_of};
 
-use blif_says::says::Says;
-use blif_says::statement::line_says;
+use blif_model::says::Says;
+use blif_model::statement::line_says;
 use blif_text::lines::TextLine;
 use blif_text::token::Token;
 use circuit::parts::{Lit, Row, Rows};

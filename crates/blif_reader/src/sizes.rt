@@ -3,13 +3,13 @@ ghost use Rattle.std.specs.Prelude.{◌≡◌, ◌+◌, ◌<◌, ◌^◌, ◌||�
 ghost use Rattle.std.specs.Option.{option_map, option_map_or};
 ghost use Rattle.blif_model.specs.ModelFault.{count_of_cells, count_of_instances};
 ghost use Rattle.blif_model.specs.Models.{Model, cell_count, instance_from, sum_over_instances};
-ghost use Rattle.blif_says.specs.Grouped.{model_of};
+ghost use Rattle.blif_model.specs.Grouped.{model_of};
 ghost use Rattle.blif_reader.specs.Mentions.{count_of_mentions, mention_count};
 
 use crate::counts::{capped_cells, capped_instances, capped_mentions};
 use blif_hierarchy::rounds::capped_totals;
-use blif_says::models::ModelLines;
-use blif_walk::table::ModelTable;
+use blif_model::models::ModelLines;
+use blif_flatten::table::ModelTable;
 use std::alloc::{AllocError, Global};
 
 /// More instances than this are too many.

@@ -1,18 +1,18 @@
 // The fault of the flattened model.
 ghost use Rattle.std.specs.Prelude.{◌≡◌, IfOk};
 ghost use Rattle.blif_model.specs.WalkFault.{bad_clock, clock_read, undriven, walk_fault};
-ghost use Rattle.blif_walk.specs.declared.sorts.Sort.TheVariants.{Clock};
-ghost use Rattle.blif_walk.specs.Flattened.{flat_steps};
-ghost use Rattle.blif_walk.specs.Marks.{AreMarksOf};
+ghost use Rattle.blif_flatten.specs.declared.sorts.Sort.TheVariants.{Clock};
+ghost use Rattle.blif_flatten.specs.Flattened.{flat_steps};
+ghost use Rattle.blif_flatten.specs.Marks.{AreMarksOf};
 ghost use Rattle.blif_reader.specs.Passes.{AreSettledMarks};
 
 use crate::clocks::two_clocks;
 use crate::drivers::two_drivers;
 use crate::found::first_found;
 use blif_text::{NetlistFault, NetlistKind};
-use blif_walk::flat::FlatModel;
-use blif_walk::marks::marks_of;
-use blif_walk::sorts::Sort;
+use blif_flatten::flat::FlatModel;
+use blif_flatten::marks::marks_of;
+use blif_flatten::sorts::Sort;
 use net_names::copies::own_name;
 use std::alloc::{AllocError, Global};
 

@@ -1,7 +1,7 @@
 // Small files with the line and the kind of their fault, and the parts of models.
 use crate::kinds::fault_name;
 use crate::texts::stretched;
-use blif_says::model_list::read_models;
+use blif_model::model_list::read_models;
 use fm_base::Refusal;
 use std::alloc::{AllocError, Global};
 

@@ -1,7 +1,7 @@
 use Rattle.std.proofs.Common.{List, ℕ, ◌+◌, ◌<◌, length, Vec, Global, subst, sym, take}
 use Rattle.std.specs.Prelude.{All}
 use Rattle.std.proofs.lemmas.List.Elements.{All-push}
-use Rattle.blif_says.specs.Grouped.{models_seen}
+use Rattle.blif_model.specs.Grouped.{models_seen}
 use Rattle.blif_hierarchy.specs.Callees.{AllCallees}
 use Rattle.blif_hierarchy.proofs.Sums.{all_step}
 use Rattle.blif_hierarchy.proofs.callees.all_callees.Goals as goal

@@ -1,6 +1,6 @@
 use Rattle.std.proofs.Common.{◌<◌, length, take}
 use Rattle.std.specs.Prelude.{All}
-use Rattle.blif_says.specs.Grouped.{models_seen}
+use Rattle.blif_model.specs.Grouped.{models_seen}
 use Rattle.blif_hierarchy.specs.Callees.{AllCallees}
 use Rattle.blif_hierarchy.proofs.callees.all_callees.Given as goal
 

@@ -1,6 +1,6 @@
 use Rattle.std.proofs.Common.{◌≡◌, drop}
 use Rattle.fm_base.specs.Firsts.{first_where}
-use Rattle.blif_says.specs.Grouped.{models_seen}
+use Rattle.blif_model.specs.Grouped.{models_seen}
 use Rattle.blif_hierarchy.specs.Lines.{first_among}
 use Rattle.blif_hierarchy.specs.Links.{fault_by_link, link_fault}
 use Rattle.blif_hierarchy.proofs.links.first_fault.Given as goal

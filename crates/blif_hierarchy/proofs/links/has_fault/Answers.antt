@@ -2,8 +2,8 @@ use Rattle.std.proofs.Common.{◌≡◌, ap, sym, ◌∙◌}
 use Rattle.blif_hierarchy.specs.declared.links.Link.{Link}
 use Rattle.blif_hierarchy.specs.declared.links.Link.TheVariants.{BadFormal, Unbound}
 use Rattle.blif_hierarchy.specs.Links.{has_fault}
-use Rattle.blif_says.specs.Meant.{bindings_of}
-use Rattle.blif_says.specs.Tokens.{texts_of}
+use Rattle.blif_model.specs.Meant.{bindings_of}
+use Rattle.blif_model.specs.Tokens.{texts_of}
 use Rattle.blif_hierarchy.proofs.Bindings.{bad_formal_is, unbound_is}
 use Rattle.blif_hierarchy.proofs.links.has_fault.Goals as goal
 

@@ -1,7 +1,7 @@
 use Rattle.std.proofs.Common.{◌≡◌, drop}
 use Rattle.fm_base.specs.Firsts.{first_where}
 use Rattle.blif_model.specs.ModelFault.{recursive}
-use Rattle.blif_says.specs.Grouped.{models_seen}
+use Rattle.blif_model.specs.Grouped.{models_seen}
 use Rattle.blif_hierarchy.proofs.Rings.{holder_fault}
 use Rattle.blif_hierarchy.proofs.nest_faults.recursive.Given as goal
 

@@ -2,7 +2,7 @@ use Rattle.std.proofs.Common.{sym, ◌∙◌}
 use Rattle.std.specs.Prelude.{◌==◌, bytes_eq, slice_index}
 use Rattle.std.specs.List.{position_or_len}
 use Rattle.blif_model.specs.Models.{Model}
-use Rattle.blif_says.specs.Grouped.{model_of}
+use Rattle.blif_model.specs.Grouped.{model_of}
 use Rattle.blif_hierarchy.proofs.Rings.{numbers_marked, off_ring, off_ring_none, ring_lines}
 use Rattle.blif_hierarchy.proofs.nest_faults.ring_fault.Goals as goal
 

@@ -2,7 +2,7 @@ use Rattle.std.proofs.Common.{◌≡◌, take, drop}
 use Rattle.fm_base.specs.Firsts.{first_after}
 use Rattle.fm_base.specs.Names.{Name, is_one_of}
 use Rattle.blif_model.specs.ModelFault.{two_models}
-use Rattle.blif_says.specs.Grouped.{models_seen}
+use Rattle.blif_model.specs.Grouped.{models_seen}
 use Rattle.blif_hierarchy.proofs.SecondNames.{second_fault, is_named}
 use Rattle.blif_hierarchy.proofs.port_faults.two_models.Given as goal
 

@@ -1,6 +1,6 @@
 use Rattle.std.proofs.Common.{◌≡◌, map, take}
 use Rattle.blif_model.specs.Models.{items_of}
-use Rattle.blif_says.specs.Grouped.{all_said}
+use Rattle.blif_model.specs.Grouped.{all_said}
 use Rattle.blif_hierarchy.specs.Ports.{ports_in}
 use Rattle.blif_hierarchy.proofs.ports.all_ports.Given as goal
 

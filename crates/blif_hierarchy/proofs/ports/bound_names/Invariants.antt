@@ -1,6 +1,6 @@
 use Rattle.std.proofs.Common.{◌≡◌, map, take}
-use Rattle.blif_says.specs.Meant.{bindings_of}
-use Rattle.blif_says.specs.Tokens.{texts_of}
+use Rattle.blif_model.specs.Meant.{bindings_of}
+use Rattle.blif_model.specs.Tokens.{texts_of}
 use Rattle.blif_hierarchy.specs.Ports.{bound_in}
 use Rattle.blif_hierarchy.proofs.ports.bound_names.Given as goal
 

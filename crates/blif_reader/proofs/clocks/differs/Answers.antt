@@ -2,8 +2,8 @@ use Rattle.std.proofs.Common.{◌∙◌, ◌||◌, ap, length, sym}
 use Rattle.std.specs.List.{list_any}
 use Rattle.std.specs.Option.{option_map}
 use Rattle.blif_model.specs.Walk.{clocked}
-use Rattle.blif_walk.specs.Flat.{act_by, name_at}
-use Rattle.blif_walk.specs.Sorts.{ids_of}
+use Rattle.blif_flatten.specs.Flat.{act_by, name_at}
+use Rattle.blif_flatten.specs.Sorts.{ids_of}
 use Rattle.blif_reader.specs.Passes.{is_other}
 use Rattle.blif_reader.proofs.ClockNames.{other_names}
 use Rattle.blif_reader.proofs.clocks.differs.Goals as goal

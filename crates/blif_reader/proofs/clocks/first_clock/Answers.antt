@@ -1,9 +1,9 @@
 use Rattle.std.proofs.Common.{◌∙◌, ap, map, sym, List, ℕ}
 use Rattle.std.specs.Option.{option_map}
 use Rattle.fm_base.specs.Names.{Name, is_one_of}
-use Rattle.blif_walk.specs.declared.sorts.Sort.TheVariants.{Clock}
-use Rattle.blif_walk.specs.Flattened.{flat_steps}
-use Rattle.blif_walk.specs.Sorts.{names_by}
+use Rattle.blif_flatten.specs.declared.sorts.Sort.TheVariants.{Clock}
+use Rattle.blif_flatten.specs.Flattened.{flat_steps}
+use Rattle.blif_flatten.specs.Sorts.{names_by}
 use Rattle.blif_reader.proofs.ClockNames.{first_clock_name}
 use Rattle.blif_reader.proofs.clocks.first_clock.Goals as goal
 

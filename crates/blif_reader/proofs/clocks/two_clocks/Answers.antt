@@ -2,9 +2,9 @@ use Rattle.std.proofs.Common.{◌≡◌, ◌∙◌, ap, false, subst, sym, Bor, 
 use Rattle.std.specs.Prelude.{None, Option}
 use Rattle.std.specs.Option.{option_map}
 use Rattle.fm_base.specs.Names.{Name, has_repeat}
-use Rattle.blif_walk.specs.Flat.{name_at}
-use Rattle.blif_walk.specs.Flattened.{flat_steps}
-use Rattle.blif_walk.proofs.Marking.{names_apart, step_within}
+use Rattle.blif_flatten.specs.Flat.{name_at}
+use Rattle.blif_flatten.specs.Flattened.{flat_steps}
+use Rattle.blif_flatten.proofs.Marking.{names_apart, step_within}
 use Rattle.blif_reader.proofs.ClockNames.{clock_here, clock_later}
 use Rattle.blif_reader.proofs.Passing.{first_clock_fault, two-clocks}
 use Rattle.blif_reader.proofs.clocks.two_clocks.Goals as goal

@@ -1,8 +1,8 @@
 use Rattle.std.proofs.Common.{◌≡◌, drop}
 use Rattle.std.specs.Option.{option_map}
 use Rattle.blif_model.specs.WalkFault.{two_clocks}
-use Rattle.blif_walk.specs.Flat.{name_at, steps_by}
-use Rattle.blif_walk.specs.Flattened.{flat_steps}
+use Rattle.blif_flatten.specs.Flat.{name_at, steps_by}
+use Rattle.blif_flatten.specs.Flattened.{flat_steps}
 use Rattle.blif_reader.proofs.Passing.{first_clock_fault}
 use Rattle.blif_reader.proofs.clocks.two_clocks.Given as goal
 

@@ -1,5 +1,5 @@
 use Rattle.std.proofs.Common.{arith}
-use Rattle.blif_says.proofs.Parts.{rest_is}
+use Rattle.blif_model.proofs.Parts.{rest_is}
 use Rattle.blif_reader.proofs.Counting.{cells_in, cells_step, cells_end}
 use Rattle.blif_reader.proofs.counts.capped_cells.Goals as goal
 

@@ -1,7 +1,7 @@
 use Rattle.std.proofs.Common.{◌≡◌, ◌+◌, ◌≤◌, length}
 use Rattle.std.specs.Prelude.{min, sum_by}
 use Rattle.blif_model.specs.Models.{cells_from, Item, items_of}
-use Rattle.blif_says.specs.Grouped.{all_said}
+use Rattle.blif_model.specs.Grouped.{all_said}
 use Rattle.blif_reader.proofs.counts.capped_cells.Given as goal
 
 abbrev pub invariant-lines : goal.invariant-lines

@@ -1,7 +1,7 @@
 use Rattle.std.proofs.Common.{◌≡◌, ◌+◌, ◌≤◌, drop}
 use Rattle.std.specs.Prelude.{min, sum_by}
 use Rattle.blif_model.specs.Models.{Item, items_of}
-use Rattle.blif_says.specs.Grouped.{all_said}
+use Rattle.blif_model.specs.Grouped.{all_said}
 use Rattle.blif_reader.specs.Mentions.{mentions_on}
 use Rattle.blif_reader.proofs.counts.capped_mentions.Given as goal
 

@@ -1,7 +1,7 @@
 use Rattle.std.proofs.Common.{◌+◌, refl, ◌∙◌, drop, arith}
 use Rattle.blif_model.specs.Models.{rows_below}
-use Rattle.blif_says.specs.Grouped.{all_said}
-use Rattle.blif_says.specs.Tokens.{texts_of}
+use Rattle.blif_model.specs.Grouped.{all_said}
+use Rattle.blif_model.specs.Tokens.{texts_of}
 use Rattle.blif_reader.proofs.Below.{below_says, below_end, ends_rows}
 use Rattle.blif_reader.proofs.Counting.{count_row, count_passed, count_end}
 use Rattle.blif_reader.proofs.counts.row_count.Goals as goal

@@ -1,6 +1,6 @@
 use Rattle.std.proofs.Common.{◌≡◌, ◌+◌, ◌≤◌, length, drop}
 use Rattle.blif_model.specs.Models.{rows_below}
-use Rattle.blif_says.specs.Grouped.{all_said}
+use Rattle.blif_model.specs.Grouped.{all_said}
 use Rattle.blif_reader.proofs.counts.row_count.Given as goal
 
 abbrev pub invariant-loop-line : goal.invariant-loop-line

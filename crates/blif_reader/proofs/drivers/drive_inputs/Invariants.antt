@@ -1,6 +1,6 @@
 use Rattle.std.proofs.Common.{◌≡◌, false, drop, length, take}
 use Rattle.std.specs.Prelude.{not, filter, slice_index_or}
-use Rattle.blif_walk.specs.Marks.{marked}
+use Rattle.blif_flatten.specs.Marks.{marked}
 use Rattle.blif_reader.specs.Passes.{drives_twice}
 use Rattle.blif_reader.proofs.drivers.drive_inputs.Given as goal
 

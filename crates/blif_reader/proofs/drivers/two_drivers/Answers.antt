@@ -2,10 +2,10 @@ use Rattle.std.proofs.Common.{◌≡◌, ◌∙◌, ap, false, map, subst, sym, 
 use Rattle.std.proofs.lemmas.List.{append-nil}
 use Rattle.fm_base.specs.Names.{Name, has_repeat, is_one_of}
 use Rattle.blif_model.specs.Walk.{clock_names}
-use Rattle.blif_walk.specs.Flat.{steps_by}
-use Rattle.blif_walk.specs.Flattened.{flat_steps}
-use Rattle.blif_walk.specs.Sorts.{names_by}
-use Rattle.blif_walk.proofs.Marking.{names_apart, step_within}
+use Rattle.blif_flatten.specs.Flat.{steps_by}
+use Rattle.blif_flatten.specs.Flattened.{flat_steps}
+use Rattle.blif_flatten.specs.Sorts.{names_by}
+use Rattle.blif_flatten.proofs.Marking.{names_apart, step_within}
 use Rattle.blif_reader.proofs.Driving.{driver_end, driver_here, driver_later, marks_next, settled_so_far}
 use Rattle.blif_reader.proofs.Passing.{driver-fault, driver_fault}
 use Rattle.blif_reader.proofs.drivers.two_drivers.Goals as goal

@@ -2,8 +2,8 @@ use Rattle.std.proofs.Common.{◌≡◌, drop, map, take}
 use Rattle.fm_base.specs.Names.{is_one_of}
 use Rattle.blif_model.specs.Walk.{clock_names}
 use Rattle.blif_model.specs.WalkFault.{two_drivers}
-use Rattle.blif_walk.specs.Flat.{steps_by}
-use Rattle.blif_walk.specs.Flattened.{flat_steps}
+use Rattle.blif_flatten.specs.Flat.{steps_by}
+use Rattle.blif_flatten.specs.Flattened.{flat_steps}
 use Rattle.blif_reader.proofs.Passing.{driver_fault}
 use Rattle.blif_reader.proofs.Driving.{settled_so_far}
 use Rattle.blif_reader.proofs.drivers.two_drivers.Given as goal

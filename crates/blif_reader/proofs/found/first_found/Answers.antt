@@ -1,7 +1,7 @@
 use Rattle.std.proofs.Common.{◌∙◌, length, sym}
-use Rattle.blif_walk.specs.Flat.{name_at}
-use Rattle.blif_walk.specs.Sorts.{ids_of}
-use Rattle.blif_walk.proofs.Marking.{step_within}
+use Rattle.blif_flatten.specs.Flat.{name_at}
+use Rattle.blif_flatten.specs.Sorts.{ids_of}
+use Rattle.blif_flatten.proofs.Marking.{step_within}
 use Rattle.blif_reader.specs.Found.{is_wanted, passes}
 use Rattle.blif_reader.proofs.Finding.{found_here, found_later, found_end, found_within}
 use Rattle.blif_reader.proofs.found.first_found.Goals as goal

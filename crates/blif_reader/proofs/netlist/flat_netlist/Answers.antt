@@ -1,7 +1,7 @@
 use Rattle.std.proofs.Common.{List, length, ap, sym, subst, ◌∙◌, arith}
 use Rattle.circuit.specs.declared.parts.NetId.{NetId}
 use Rattle.circuit.specs.Sound.{IsNetlist}
-use Rattle.blif_walk.specs.Flattened.{flat_steps}
+use Rattle.blif_flatten.specs.Flattened.{flat_steps}
 use Rattle.blif_reader.proofs.Built.{built, few_parts}
 use Rattle.blif_reader.proofs.netlist.flat_netlist.Goals as goal
 

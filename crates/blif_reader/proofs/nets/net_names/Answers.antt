@@ -3,7 +3,7 @@ use Rattle.std.specs.Prelude.{slice_index_or}
 use Rattle.std.proofs.lemmas.List.{length-map, take_all}
 use Rattle.fm_base.specs.Names.{Name}
 use Rattle.blif_model.specs.Walk.{is_clock, unclocked}
-use Rattle.blif_walk.specs.Flat.{all_names}
+use Rattle.blif_flatten.specs.Flat.{all_names}
 use Rattle.blif_reader.proofs.FlatNets.{nets-named}
 use Rattle.blif_reader.proofs.NetNumbers.{net_step}
 use Rattle.blif_reader.proofs.nets.net_names.Goals as goal

@@ -1,6 +1,6 @@
 use Rattle.std.proofs.Common.{◌≡◌, List, map, take}
 use Rattle.blif_model.specs.Walk.{Step, is_clock, unclocked}
-use Rattle.blif_walk.specs.Flat.{all_names}
+use Rattle.blif_flatten.specs.Flat.{all_names}
 use Rattle.blif_reader.proofs.nets.net_names.Given as goal
 
 abbrev pub invariant-loop-number : goal.invariant-loop-number

@@ -1,7 +1,7 @@
 use Rattle.std.proofs.Common.{◌≡◌, ◌++◌, List, length, map, take}
 use Rattle.blif_model.specs.Walk.{Step}
 use Rattle.fm_base.specs.Names.{Name}
-use Rattle.blif_walk.specs.Flat.{name_at, all_names}
+use Rattle.blif_flatten.specs.Flat.{name_at, all_names}
 use Rattle.blif_reader.specs.Numbers.{AreNetNumbers}
 use Rattle.blif_reader.specs.Parts.{AreOutputNets}
 use Rattle.blif_reader.proofs.outputs.put_outputs.Given as goal

@@ -3,10 +3,10 @@ use Rattle.std.proofs.lemmas.List.{append-nil}
 use Rattle.std.proofs.lemmas.Result.{on_ok_weaker}
 use Rattle.blif_model.specs.Walk.{outputs_at}
 use Rattle.fm_base.specs.Names.{Name}
-use Rattle.blif_walk.specs.Flat.{act_by, name_at, all_names}
+use Rattle.blif_flatten.specs.Flat.{act_by, name_at, all_names}
 use Rattle.blif_reader.specs.Parts.{AreOutputNets}
-use Rattle.blif_walk.specs.declared.flat.NameId.{NameId}
-use Rattle.blif_walk.specs.declared.flat.NumberedAct.{NumberedAct}
+use Rattle.blif_flatten.specs.declared.flat.NameId.{NameId}
+use Rattle.blif_flatten.specs.declared.flat.NumberedAct.{NumberedAct}
 use Rattle.blif_reader.proofs.OutputLines.{outputs_none}
 use Rattle.blif_reader.proofs.outputs.put_step.Goals as goal
 

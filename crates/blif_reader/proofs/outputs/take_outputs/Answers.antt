@@ -7,10 +7,10 @@ use Rattle.fm_base.specs.Names.{Name, distinct}
 use Rattle.fm_base.proofs.Distinct.{distinct-nil}
 use Rattle.blif_model.specs.Walk.{Step, nets_of, outputs_at}
 use Rattle.net_names.specs.Nets.{net_id}
-use Rattle.blif_walk.specs.Flat.{all_names, steps_by}
-use Rattle.blif_walk.specs.Flattened.{flat_steps}
+use Rattle.blif_flatten.specs.Flat.{all_names, steps_by}
+use Rattle.blif_flatten.specs.Flattened.{flat_steps}
 use Rattle.blif_reader.specs.Parts.{AreOutputNets}
-use Rattle.blif_walk.specs.declared.flat.NumberedStep.{NumberedStep}
+use Rattle.blif_flatten.specs.declared.flat.NumberedStep.{NumberedStep}
 use Rattle.blif_reader.proofs.OutputLines.{marks_none, outputs_all, outputs_step}
 use Rattle.blif_reader.proofs.PartLines.{line_within}
 use Rattle.blif_reader.proofs.outputs.take_outputs.Goals as goal

@@ -1,8 +1,8 @@
 use Rattle.std.proofs.Common.{◌≡◌, length, take}
 use Rattle.std.specs.Prelude.{flat_map}
 use Rattle.blif_model.specs.Walk.{outputs_at}
-use Rattle.blif_walk.specs.Flat.{steps_by}
-use Rattle.blif_walk.specs.Flattened.{flat_steps}
+use Rattle.blif_flatten.specs.Flat.{steps_by}
+use Rattle.blif_flatten.specs.Flattened.{flat_steps}
 use Rattle.blif_reader.specs.Parts.{AreOutputNets}
 use Rattle.blif_reader.proofs.outputs.take_outputs.Given as goal
 

@@ -1,6 +1,6 @@
 use Rattle.std.proofs.Common.{sym, ◌∙◌}
 use Rattle.std.proofs.lemmas.Result.{on_ok_weaker}
-use Rattle.blif_walk.specs.Flat.{name_at, all_names}
+use Rattle.blif_flatten.specs.Flat.{name_at, all_names}
 use Rattle.blif_reader.proofs.PartLines.{input_kept, input_left}
 use Rattle.blif_reader.proofs.parts.put_input.Goals as goal
 

@@ -1,6 +1,6 @@
 use Rattle.std.proofs.Common.{arith}
 use Rattle.std.proofs.lemmas.Result.{on_ok_weaker}
-use Rattle.blif_walk.specs.Flat.{latch_by, name_at, all_names}
+use Rattle.blif_flatten.specs.Flat.{latch_by, name_at, all_names}
 use Rattle.blif_reader.proofs.PartLines.{parts_latch}
 use Rattle.blif_reader.proofs.parts.put_latch.Goals as goal
 

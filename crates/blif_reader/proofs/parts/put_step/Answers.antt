@@ -2,9 +2,9 @@ use Rattle.std.proofs.Common.{◌∷◌, ◌++◌, [], List, ap, map, sym, ◌�
 use Rattle.std.proofs.lemmas.Result.{on_ok_weaker}
 use Rattle.blif_model.specs.Walk.{nets_of, unclocked}
 use Rattle.net_names.specs.Nets.{net_id}
-use Rattle.blif_walk.specs.Flat.{act_by, name_at, all_names}
-use Rattle.blif_walk.specs.declared.flat.NameId.{NameId}
-use Rattle.blif_walk.specs.declared.flat.NumberedAct.{NumberedAct}
+use Rattle.blif_flatten.specs.Flat.{act_by, name_at, all_names}
+use Rattle.blif_flatten.specs.declared.flat.NameId.{NameId}
+use Rattle.blif_flatten.specs.declared.flat.NumberedAct.{NumberedAct}
 use Rattle.blif_reader.specs.Parts.{net_parts}
 use Rattle.blif_reader.proofs.PartLines.{parts_inputs, parts_rest}
 use Rattle.blif_reader.proofs.parts.put_step.Goals as goal

@@ -1,8 +1,8 @@
 use Rattle.std.proofs.Common.{map}
 use Rattle.std.proofs.lemmas.Result.{on_ok_weaker}
 use Rattle.blif_model.specs.Models.{rows_below}
-use Rattle.blif_says.specs.Grouped.{all_said}
-use Rattle.blif_walk.specs.Flat.{name_at, all_names}
+use Rattle.blif_model.specs.Grouped.{all_said}
+use Rattle.blif_flatten.specs.Flat.{name_at, all_names}
 use Rattle.blif_reader.proofs.PartLines.{parts_table}
 use Rattle.blif_reader.proofs.parts.put_table.Goals as goal
 

@@ -2,9 +2,9 @@ use Rattle.std.proofs.Common.{List, ap, ◌∙◌, take}
 use Rattle.std.proofs.lemmas.List.{take_all}
 use Rattle.blif_model.specs.Walk.{Step, nets_of}
 use Rattle.net_names.specs.Nets.{net_id}
-use Rattle.blif_walk.specs.Flat.{steps_by}
-use Rattle.blif_walk.specs.Flattened.{flat_steps}
-use Rattle.blif_walk.specs.declared.flat.NumberedStep.{NumberedStep}
+use Rattle.blif_flatten.specs.Flat.{steps_by}
+use Rattle.blif_flatten.specs.Flattened.{flat_steps}
+use Rattle.blif_flatten.specs.declared.flat.NumberedStep.{NumberedStep}
 use Rattle.blif_reader.specs.Parts.{net_parts}
 use Rattle.blif_reader.proofs.PartLines.{line_within, lines_step}
 use Rattle.blif_reader.proofs.parts.take_parts.Goals as goal

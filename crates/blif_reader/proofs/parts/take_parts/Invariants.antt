@@ -1,6 +1,6 @@
 use Rattle.std.proofs.Common.{◌≡◌, take}
-use Rattle.blif_walk.specs.Flat.{steps_by}
-use Rattle.blif_walk.specs.Flattened.{flat_steps}
+use Rattle.blif_flatten.specs.Flat.{steps_by}
+use Rattle.blif_flatten.specs.Flattened.{flat_steps}
 use Rattle.blif_reader.specs.Parts.{net_parts}
 use Rattle.blif_reader.proofs.parts.take_parts.Given as goal
 

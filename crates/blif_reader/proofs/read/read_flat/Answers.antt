@@ -1,7 +1,7 @@
 use Rattle.std.proofs.Common.{◌≡◌, ◌<◌, ◌≤◌, ◌^◌, length, ap, not, sym, ◌∙◌, arith}
 use Rattle.std.specs.Prelude.{count_by}
 use Rattle.blif_model.specs.Walk.{nets_of}
-use Rattle.blif_walk.specs.Flattened.{flat_steps}
+use Rattle.blif_flatten.specs.Flattened.{flat_steps}
 use Rattle.blif_reader.proofs.FlatNets.{clock_marks}
 use Rattle.blif_reader.proofs.NetNumbers.{nets-counted}
 use Rattle.blif_reader.proofs.Reading.{walk_large, walk_refused, walk_read, walk_ready}

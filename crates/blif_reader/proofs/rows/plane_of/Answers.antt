@@ -1,7 +1,7 @@
 use Rattle.std.proofs.Common.{◌+◌, refl, ap, sym, ◌∙◌, drop}
 use Rattle.blif_model.specs.Models.{rows_below}
 use Rattle.blif_model.specs.Net.{table_plane}
-use Rattle.blif_says.specs.Grouped.{all_said}
+use Rattle.blif_model.specs.Grouped.{all_said}
 use Rattle.blif_reader.proofs.Below.{below_says, below_end, ends_rows}
 use Rattle.blif_reader.proofs.rows.plane_of.Goals as goal
 

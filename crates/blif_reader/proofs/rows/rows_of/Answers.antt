@@ -2,8 +2,8 @@ use Rattle.std.proofs.Common.{◌+◌, ◌++◌, refl, ap, sym, ◌∙◌, drop,
 use Rattle.fm_base.specs.Names.{Name}
 use Rattle.blif_model.specs.Models.{rows_below}
 use Rattle.blif_model.specs.Net.{lits_of}
-use Rattle.blif_says.specs.Grouped.{all_said}
-use Rattle.blif_says.specs.Tokens.{texts_of}
+use Rattle.blif_model.specs.Grouped.{all_said}
+use Rattle.blif_model.specs.Tokens.{texts_of}
 use Rattle.blif_reader.proofs.Below.{below_says, below_end, ends_rows, rows_step, rows_end}
 use Rattle.blif_reader.proofs.rows.rows_of.Goals as goal
 use Rattle.blif_reader.proofs.rows.rows_of.Goals.{in-Row+in_ok-row_of-in-Row+in_ok-push-in-Row, in-Passed}

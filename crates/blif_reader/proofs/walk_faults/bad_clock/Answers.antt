@@ -1,8 +1,8 @@
 use Rattle.std.proofs.Common.{◌∙◌, ap, map, sym, List}
 use Rattle.fm_base.specs.Names.{Name, is_one_of}
-use Rattle.blif_walk.specs.declared.sorts.Sort.TheVariants.{Input}
-use Rattle.blif_walk.specs.Flattened.{flat_steps}
-use Rattle.blif_walk.specs.Sorts.{names_by}
+use Rattle.blif_flatten.specs.declared.sorts.Sort.TheVariants.{Input}
+use Rattle.blif_flatten.specs.Flattened.{flat_steps}
+use Rattle.blif_flatten.specs.Sorts.{names_by}
 use Rattle.blif_reader.proofs.Faults.{bad-clock}
 use Rattle.blif_reader.proofs.walk_faults.bad_clock.Goals as goal
 

@@ -3,7 +3,7 @@ use Rattle.std.specs.Prelude.{Some}
 use Rattle.fm_base.specs.Names.{Name, is_one_of}
 use Rattle.blif_text.specs.declared.NetlistKind.TheVariants.{Undriven}
 use Rattle.blif_model.specs.LineFault.{at_line}
-use Rattle.blif_walk.specs.Flattened.{flat_steps}
+use Rattle.blif_flatten.specs.Flattened.{flat_steps}
 use Rattle.blif_reader.specs.Passes.{settled}
 use Rattle.blif_reader.proofs.Faults.{undriven-net}
 use Rattle.blif_reader.proofs.walk_faults.undriven.Goals as goal

@@ -5,7 +5,7 @@ use Rattle.std.proofs.lemmas.Result.{IfOk-weaker}
 use Rattle.fm_base.proofs.Options.{none_from, or_none}
 use Rattle.blif_model.specs.Walk.{Step}
 use Rattle.blif_model.specs.WalkFault.{walk_fault, two_clocks, bad_clock, clock_read, two_drivers, undriven}
-use Rattle.blif_walk.specs.Flattened.{flat_steps}
+use Rattle.blif_flatten.specs.Flattened.{flat_steps}
 use Rattle.blif_reader.proofs.Faults.{kind_here, kind_later}
 use Rattle.blif_reader.proofs.walk_faults.walk_fault.Goals as goal
 

@@ -1,6 +1,6 @@
 use Rattle.blif_model.specs.Walk.{nets_of}
 use Rattle.net_names.specs.Nets.{net_id}
-use Rattle.blif_walk.specs.Flat.{all_names}
+use Rattle.blif_flatten.specs.Flat.{all_names}
 use Rattle.blif_reader.proofs.NetNumbers.{by_number}
 use Rattle.blif_reader.proofs.numbers.NetNumbers.net.Goals as goal
 

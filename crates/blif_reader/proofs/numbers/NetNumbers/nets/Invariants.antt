@@ -1,7 +1,7 @@
 use Rattle.std.proofs.Common.{◌≡◌, List, map, take}
 use Rattle.blif_model.specs.Walk.{Step, nets_of}
 use Rattle.net_names.specs.Nets.{net_id}
-use Rattle.blif_walk.specs.Flat.{name_at, all_names}
+use Rattle.blif_flatten.specs.Flat.{name_at, all_names}
 use Rattle.blif_reader.specs.Numbers.{AreNetNumbers}
 use Rattle.blif_reader.proofs.numbers.NetNumbers.nets.Given as goal
 

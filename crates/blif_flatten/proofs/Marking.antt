@@ -1,0 +1,100 @@
+-- Marks of names.
+use Rattle.std.proofs.Common.{◌≡◌, ℕ, zero, suc, ◌+◌, ◌<◌, Bool, true, false, ◌||◌, List, [], ◌∷◌, ◌++◌, refl, ap, sym, subst, ◌∙◌, append_assoc, length, arith, map, take, get_or}
+use Rattle.std.specs.Prelude.{bytes_eq, flat_map, replicate, slice_index_or, slice_set}
+use Rattle.std.proofs.lemmas.List.{append-nil, take_more, map-append}
+use Rattle.std.proofs.lemmas.List.Elements.{All-head, All-tail, All-get_or}
+use Rattle.std.proofs.lemmas.List.Folds.{list_any-append}
+use Rattle.std.proofs.lemmas.Grind.{flat_map-append}
+use Rattle.std.proofs.Math.Bool.{or-false, or-true}
+use Rattle.fm_base.specs.Names.{Name, is_one_of, has_repeat}
+use Rattle.fm_base.proofs.Distinct.{distinct-apart, is_same, bytes_eq-sym}
+use Rattle.blif_model.specs.Walk.{Step}
+use Rattle.blif_flatten.specs.declared.flat.NameId.{NameId}
+use Rattle.blif_flatten.specs.declared.flat.NumberedStep.{NumberedStep}
+use Rattle.blif_flatten.specs.declared.sorts.Sort.{Sort}
+use Rattle.blif_flatten.specs.Flat.{AreBelow, name_at, all_names, act_by, ids_in, step_by, steps_by, IsFlat}
+use Rattle.blif_flatten.specs.Sorts.{named, names_by}
+use Rattle.blif_flatten.specs.Marks.{marked}
+
+-- the names of steps stand once each
+pub names_apart : (steps : List Step) → has_repeat (all_names steps) ≡ false
+unfolding all_names
+names_apart steps = distinct-apart (flat_map _ steps)
+
+-- ---- one mark
+
+pub either_left : (a b : Bool) → (a || b) ≡ false → a ≡ false
+either_left true b e = cc
+either_left false b e = refl
+
+pub either_right : (a b : Bool) → (a || b) ≡ false → b ≡ false
+either_right true b e = cc
+either_right false b e = e
+
+-- one more name that isn't this one
+one_more : (xs : List Name) (x name : Name) → bytes_eq name x ≡ false → is_one_of xs name ≡ is_one_of (xs ++ x ∷ []) name
+one_more xs x name e = sym (list_any-append (bytes_eq name) xs (x ∷ []) ∙ rw e (or-false (is_one_of xs name)))
+
+-- one more name that these lack
+others_stay : (xs names : List Name) (x : Name) → is_one_of names x ≡ false → map (is_one_of xs) names ≡ map (is_one_of (xs ++ x ∷ [])) names
+others_stay xs [] x lacks = refl
+others_stay xs (name ∷ names) x lacks =
+    let first = one_more xs x name (bytes_eq-sym name x ∙ either_left (bytes_eq x name) (is_one_of names x) lacks) in
+    let rest = others_stay xs names x (either_right (bytes_eq x name) (is_one_of names x) lacks) in
+    rw (first, rest) refl
+
+-- a name that isn't among these isn't the one at a place
+pub not_there : (names : List Name) (x : Name) (k : ℕ) → is_one_of names x ≡ false → k < length names → bytes_eq x (slice_index_or names k []) ≡ false
+not_there [] x k lacks lt = absurd (omega arith)
+not_there (name ∷ names) x zero lacks lt = either_left (bytes_eq x name) (is_one_of names x) lacks
+not_there (name ∷ names) x (suc k) lacks lt = not_there names x k (either_right (bytes_eq x name) (is_one_of names x) lacks) (omega arith)
+
+pub mark_one : (xs names : List Name) (k : ℕ) → has_repeat names ≡ false → k < length names
+    → slice_set (map (is_one_of xs) names) k true ≡ map (is_one_of (xs ++ slice_index_or names k [] ∷ [])) names
+mark_one xs [] k apart lt = absurd (omega arith)
+mark_one xs (name ∷ names) zero apart lt =
+    let here : true ≡ is_one_of (xs ++ name ∷ []) name = sym (list_any-append (bytes_eq name) xs (name ∷ []) ∙ rw (is_same name) (or-true (is_one_of xs name))) in
+    let rest = others_stay xs names name (either_left (is_one_of names name) (has_repeat names) apart) in
+    ap (λ (b : Bool). b ∷ map (is_one_of xs) names) here ∙ ap (λ (bs : List Bool). is_one_of (xs ++ name ∷ []) name ∷ bs) rest
+mark_one xs (name ∷ names) (suc k) apart lt =
+    let x = slice_index_or names k [] in
+    let here = one_more xs x name (not_there names name k (either_left (is_one_of names name) (has_repeat names) apart) (omega arith)) in
+    let rest = mark_one xs names k (either_right (is_one_of names name) (has_repeat names) apart) (omega arith) in
+    ap (λ (b : Bool). b ∷ slice_set (map (is_one_of xs) names) k true) here ∙ ap (λ (bs : List Bool). is_one_of (xs ++ x ∷ []) name ∷ bs) rest
+
+-- ---- marks of numbers
+
+pub mark_names : (xs names : List Name) (ids : List NameId) → has_repeat names ≡ false → AreBelow (length names) ids
+    → marked (map (is_one_of xs) names) ids ≡ map (is_one_of (xs ++ map (name_at names) ids)) names
+mark_names xs names [] apart below = ap (λ (all : List Name). map (is_one_of all) names) (sym (append-nil xs))
+mark_names xs names (id ∷ ids) apart below =
+    ap (λ (ms : List Bool). marked ms ids) (mark_one xs names id.0 apart (All-head (λ (i : NameId). i.0 < length names) id ids below))
+    ∙ mark_names (xs ++ name_at names id ∷ []) names ids apart (All-tail (λ (i : NameId). i.0 < length names) id ids below)
+    ∙ ap (λ (all : List Name). map (is_one_of all) names) (append_assoc xs (name_at names id ∷ []) (map (name_at names) ids))
+
+pub mark_none : (names : List Name) → replicate (length names) false ≡ map (is_one_of []) names
+mark_none [] = refl
+mark_none (name ∷ names) = ap (λ (bs : List Bool). false ∷ bs) (mark_none names)
+
+names_by-snoc : (sort : Sort) (steps : List Step) (s : Step) → names_by sort (steps ++ s ∷ []) ≡ names_by sort steps ++ named sort s.act
+unfolding names_by
+names_by-snoc sort steps s =
+    flat_map-append (λ (x : Step). named sort x.act) steps (s ∷ []) ∙ ap (λ (more : List Name). flat_map (λ (x : Step). named sort x.act) steps ++ more) (append-nil (named sort s.act))
+
+-- the marks of one step more
+pub mark_step : (sort : Sort) (names : List Name) (steps : List NumberedStep) (i : ℕ) (s : NumberedStep) (ids : List NameId) (old new : List Bool) → has_repeat names ≡ false → i < length steps → s ≡ get_or steps i s
+    → map (name_at names) ids ≡ named sort (act_by (name_at names) s.act) → AreBelow (length names) ids
+    → old ≡ map (is_one_of (names_by sort (steps_by names (take i steps)))) names → new ≡ marked old ids
+    → new ≡ map (is_one_of (names_by sort (steps_by names (take (i + 1) steps)))) names
+mark_step sort names steps i s ids old new apart lt is texts below was e =
+    let front = steps_by names (take i steps) in
+    let next : steps_by names (take (i + 1) steps) ≡ front ++ step_by (name_at names) s ∷ [] =
+    ap (steps_by names) (take_more steps i s lt ∙ ap (λ (x : NumberedStep). take i steps ++ x ∷ []) (sym is)) ∙ map-append (step_by (name_at names)) (take i steps) (s ∷ []) in
+    e ∙ ap (λ (ms : List Bool). marked ms ids) was ∙ mark_names (names_by sort front) names ids apart below
+    ∙ ap (λ (more : List Name). map (is_one_of (names_by sort front ++ more)) names) texts
+    ∙ ap (λ (all : List Name). map (is_one_of all) names) (sym (ap (names_by sort) next ∙ names_by-snoc sort front (step_by (name_at names) s)))
+
+-- a step's numbers have names
+pub step_within : (names : List Name) (steps : List NumberedStep) (i : ℕ) (s : NumberedStep) → IsFlat names steps → i < length steps → s ≡ get_or steps i s → AreBelow (length names) (ids_in s.act)
+step_within names steps i s flat lt is =
+    subst (λ (x : NumberedStep). AreBelow (length names) (ids_in x.act)) (sym is) (All-get_or (λ (x : NumberedStep). AreBelow (length names) (ids_in x.act)) steps i s lt flat.within)

@@ -1,0 +1,73 @@
+// The nets that are bound to formals, found by name.
+ghost use Rattle.std.specs.Prelude.{◌≡◌, ◌∷◌, ◌++◌, [], OnOk, OnErr, bytes_eq, find};
+ghost use Rattle.std.specs.Option.{option_map};
+
+use crate::places::{add_place, place_of};
+use fm_base::Name;
+use indexmap::IndexMap;
+use std::alloc::{AllocError, Global};
+use std::marker::Model;
+
+/// A formal, and the net that is bound to it.
+#[derive(Drop)]
+pub struct BoundNet<'a> {
+    formal: &'a [u8],
+    net: Name,
+}
+
+/// Nets that are bound to formals.
+#[derive(Drop)]
+pub struct BoundNets<'a> {
+    nets: Vec<BoundNet<'a>>,
+    places: IndexMap<&'a [u8], usize>,
+}
+
+impl<'a> Model for BoundNets<'a> {
+    ghost use Rattle.std.specs.Prelude.{List, map};
+    ghost use Rattle.blif_model.specs.Walk.{Bound};
+    ghost use Rattle.blif_flatten.specs.Places.{AreNamePlaces};
+
+    ghost Value = { List Bound };
+
+    ghost view = { λ s. map (λ b. record { formal = b.formal.now; net = b.net }) s.nets.items };
+
+    ghost invariant = { λ s. AreNamePlaces (λ b. b.formal.now) s.nets.items s.places.entries };
+}
+
+impl<'a> BoundNets<'a> {
+    /// No formal is bound yet.
+    pub fn new(alloc: Global) -> Self
+        ensures { result ≡ [] }
+    {
+        BoundNets {
+            nets: Vec::new(alloc),
+            places: IndexMap::new(alloc),
+        }
+    }
+
+    /// Binds a formal; of two with one name the first is found.
+    pub fn push(&mut self, formal: &'a [u8], net: Name) -> Result<(), AllocError>
+        ensures ok { OnOk result (self.new ≡ self.old ++ record { formal = formal.now; net = net } ∷ []) }
+        ensures err { OnErr result (self.new ≡ self.old) }
+    {
+        let place = self.nets.len();
+        self.nets.push(BoundNet { formal, net })?;
+        match add_place(&mut self.places, formal, place) {
+            Ok(()) => Ok(()),
+            Err(e) => {
+                let _ = self.nets.pop();
+                Err(e)
+            }
+        }
+    }
+
+    /// The net that a formal is bound to, if it is.
+    pub fn find(&self, name: &[u8]) -> Option<&[u8]>
+        ensures { option_map (λ t. t.now) result ≡ option_map (λ b. b.net) (find (λ b. bytes_eq b.formal name.now) self.now) }
+    {
+        match place_of(&self.places, name) {
+            Some(place) => Some(self.nets[place].net.as_slice()),
+            None => None,
+        }
+    }
+}

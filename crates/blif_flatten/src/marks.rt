@@ -1,0 +1,55 @@
+// A mark for each name of a flattened model.
+ghost use Rattle.std.specs.Prelude.{◌≡◌, IfOk, length};
+ghost use Rattle.std.specs.Option.{option_to_list};
+ghost use Rattle.blif_flatten.specs.Flat.{AreBelow};
+ghost use Rattle.blif_flatten.specs.Marks.{AreMarksOf, marked};
+ghost use Rattle.blif_flatten.specs.Sorts.{ids_of};
+
+use crate::flat::{FlatModel, NameId};
+use crate::sorts::{Mentions, Sort, mentions_in};
+use std::alloc::{AllocError, Global};
+
+fn mark_list(marks: &mut Vec<bool>, ids: &[NameId])
+    requires { AreBelow (length marks.old.items) ids.now }
+    ensures marked { marks.new.items ≡ marked marks.old.items ids.now }
+    ensures size { length marks.new.items ≡ length marks.old.items }
+{
+    for id in ids {
+        marks[id.0 as usize] = true;
+    }
+}
+
+fn mark_one(marks: &mut Vec<bool>, id: Option<NameId>)
+    requires { AreBelow (length marks.old.items) (option_to_list id) }
+    ensures marked { marks.new.items ≡ marked marks.old.items (option_to_list id) }
+    ensures size { length marks.new.items ≡ length marks.old.items }
+{
+    if let Some(id) = id {
+        marks[id.0 as usize] = true;
+    }
+}
+
+/// The names of a line are marked.
+fn mark(marks: &mut Vec<bool>, names: Mentions<'_>)
+    requires { AreBelow (length marks.old.items) (ids_of names) }
+    ensures { marks.new.items ≡ marked marks.old.items (ids_of names.entry) }
+{
+    mark_list(marks, names.list);
+    mark_one(marks, names.then);
+    mark_one(marks, names.last);
+}
+
+/// Which names of the flattened model are of a sort, in order of their numbers.
+pub fn marks_of(
+    alloc: Global,
+    flat: &FlatModel<'_, '_>,
+    sort: Sort,
+) -> Result<Vec<bool>, AllocError>
+    ensures { IfOk result (λ marks. AreMarksOf flat.now sort marks.items) }
+{
+    let mut marks = Vec::from_elem(alloc, false, flat.names.len())?;
+    for step in flat.steps.as_slice() {
+        mark(&mut marks, mentions_in(&step.act, sort));
+    }
+    Ok(marks)
+}

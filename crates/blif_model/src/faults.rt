@@ -1,0 +1,153 @@
+// The faults of lines.
+ghost use Rattle.std.specs.Prelude.{◌≡◌, [], length, nat_lt};
+ghost use Rattle.std.specs.List.{list_any};
+ghost use Rattle.std.specs.Option.{option_map};
+ghost use Rattle.fm_base.specs.Firsts.{first_after, given};
+ghost use Rattle.blif_text.specs.Lines.{is_wide};
+ghost use Rattle.blif_text.specs.Read.{line_of};
+ghost use Rattle.blif_model.specs.LineFault.{fault_of, is_read, line_fault, said};
+ghost use Rattle.blif_model.specs.Grouped.{all_said};
+ghost use Rattle.blif_model.specs.Meant.{meant};
+ghost use Rattle.blif_model.specs.Position.{spot_at};
+ghost use Rattle.blif_model.specs.Spot.{kind_at, own_kind, place_kind, plane_kind, row_kind};
+ghost use Rattle.blif_model.specs.Tokens.{texts_of};
+
+use crate::position::Position;
+use crate::rows::{is_row, output_of};
+use crate::says::Says;
+use crate::statement::line_says;
+use blif_text::lines::{TextLine, is_wide_line};
+use blif_text::token::Token;
+use blif_text::{NetlistFault, NetlistKind};
+
+/// The inputs that a table may have.
+const MOST_INPUTS: usize = 1024;
+
+fn plane_fault(output: Option<&[u8]>, tokens: &[Token<'_>]) -> Option<NetlistKind>
+    ensures { result ≡ plane_kind (option_map (λ o. o.now) output.entry) (texts_of tokens.now) }
+{
+    match output {
+        Some(first) => {
+            if first == output_of(tokens) {
+                None
+            } else {
+                Some(NetlistKind::MixedPlane)
+            }
+        }
+        None => None,
+    }
+}
+
+fn row_fault(position: &Position<'_>, tokens: &[Token<'_>]) -> Option<NetlistKind>
+    ensures { result ≡ row_kind (spot_at position.now) (texts_of tokens.now) }
+{
+    match position.inputs {
+        Some(count) => {
+            if is_row(count, tokens) {
+                plane_fault(position.output, tokens)
+            } else {
+                Some(NetlistKind::BadRow)
+            }
+        }
+        None => Some(NetlistKind::BadRow),
+    }
+}
+
+fn own_fault(position: &Position<'_>, says: Says<'_, '_>) -> Option<NetlistKind>
+    ensures { result ≡ own_kind (spot_at position.now) (meant says.entry) }
+{
+    match says {
+        Says::Wrong(why) => Some(why.kind()),
+        Says::Row(tokens) => row_fault(position, tokens),
+        Says::Table { ins, .. } => {
+            if ins.len() > MOST_INPUTS {
+                Some(NetlistKind::TooWide)
+            } else {
+                None
+            }
+        }
+        _ => None,
+    }
+}
+
+fn place_fault(position: &Position<'_>, says: Says<'_, '_>) -> Option<NetlistKind>
+    ensures { result ≡ place_kind (spot_at position.now) (meant says.entry) }
+{
+    match says {
+        Says::Passed | Says::Model(_) => None,
+        Says::Unnamed => Some(NetlistKind::BadToken),
+        says => {
+            if position.inside {
+                own_fault(position, says)
+            } else {
+                Some(NetlistKind::NoModel)
+            }
+        }
+    }
+}
+
+/// The kind of a line's fault: the width of its tokens comes last.
+fn line_kind(position: &Position<'_>, says: Says<'_, '_>, wide: bool) -> Option<NetlistKind>
+    ensures { result ≡ kind_at (spot_at position.now) (meant says.entry) wide }
+{
+    match place_fault(position, says) {
+        Some(kind) => Some(kind),
+        None => {
+            if wide {
+                Some(NetlistKind::TooWide)
+            } else {
+                None
+            }
+        }
+    }
+}
+
+/// The first line with a fault.
+fn first_fault(lines: &[TextLine<'_>]) -> Option<NetlistFault>
+    ensures { result ≡ first_after fault_of [] (all_said lines.now) }
+{
+    let mut position = Position::new();
+    for line in lines {
+        let says = line_says(line);
+        match line_kind(&position, says, is_wide_line(line)) {
+            Some(kind) => {
+                return Some(NetlistFault {
+                    line: line.number,
+                    kind,
+                });
+            }
+            None => {}
+        }
+        position = position.after(says);
+    }
+    None
+}
+
+fn says_something(line: &TextLine<'_>) -> bool
+    ensures { result ≡ is_read (said (line_of line.now)).says }
+{
+    match line_says(line) {
+        Says::Passed => false,
+        _ => true,
+    }
+}
+
+fn any_read(lines: &[TextLine<'_>]) -> bool
+    ensures { result ≡ list_any (λ l. is_read (said (line_of l)).says) lines.now }
+{
+    lines.iter().any(says_something)
+}
+
+/// The fault of a file's lines, if there is one.
+pub fn fault_in(lines: &[TextLine<'_>]) -> Option<NetlistFault>
+    ensures { result ≡ line_fault (all_said lines.now) }
+{
+    if any_read(lines) {
+        first_fault(lines)
+    } else {
+        Some(NetlistFault {
+            line: 1,
+            kind: NetlistKind::NoModel,
+        })
+    }
+}

@@ -1,6 +1,0 @@
-use Rattle.std.proofs.Common.{take}
-use Rattle.blif_walk.specs.Places.{AreNamePlaces}
-use Rattle.blif_walk.proofs.table.places_of.Given as goal
-
-abbrev pub invariant-loop-place : goal.invariant-loop-place
-invariant-loop-place l = AreNamePlaces (λ m. m.name.now) (take l.place l.models) l.places.entries
