@@ -1,9 +1,5 @@
 pub mod Ways
-pub mod Cutting
-pub mod Opening
-pub mod Leaving
-pub mod Closing
+pub mod Stack
+pub mod Parts
 pub mod Steps
-pub mod Numbering
-pub mod Ahead
 pub mod Whole

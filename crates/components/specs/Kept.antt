@@ -1,77 +1,90 @@
--- What a search in depth for components keeps. Source: the path-based algorithm of Gabow (2000). The open nodes stand on a stack,
--- cut into parts by their starts: nodes of one part reach one another, and each part reaches those above it.
-use Rattle.std.specs.Prelude.{◌≡◌, ◌≢◌, ℕ, ◌+◌, ◌-◌, ◌<◌, ◌≤◌, ◌⊎◌, List, length, slice_index, slice_index_or, sum_by, take, Vec}
+-- What Tarjan's search in depth for components keeps. Source: Tarjan (1972). The open nodes stand on a stack, cut into parts: each
+-- begins with a node whose edges aren't all done, its frame. An open node reaches those of its own part and of the parts above it.
+use Rattle.std.specs.Prelude.{◌≡◌, ◌≢◌, ℕ, ◌+◌, ◌<◌, ◌≤◌, ◌⊎◌, List, [], ◌∷◌, length, reverse, slice_index, slice_index_or, sum_by, Vec}
 use Rattle.std.specs.declared.alloc.Global.{Global}
 use Rattle.components.specs.declared.scan.Frame.{Frame}
 use Rattle.components.specs.declared.scan.Mark.{Mark}
 use Rattle.components.specs.declared.scan.Mark.TheVariants.{New, Open, Done}
-use Rattle.components.specs.declared.scan.Scan.{Scan}
 use Rattle.components.specs.declared.search.Search.{Search}
 use Rattle.components.specs.Graph.{Reaches, target, targets}
 
 abbrev pub node_mark : List Mark → ℕ → Mark
 node_mark marks x = slice_index_or marks x New
 
-abbrev pub component_frame : List Frame → ℕ → Frame
-component_frame path j = slice_index_or path j (record { place = 0; next = 0 })
-
--- the steps that are left: a node is opened, its part ends, and its edges do
+-- the steps that are left: a node is opened, and its edges end
 abbrev pub node_steps_left : Mark → ℕ
-node_steps_left New = 3
+node_steps_left New = 2
 node_steps_left (Open place) = 0
 node_steps_left (Done number) = 0
 
-abbrev pub search_work_left : List Mark → List ℕ → List Frame → ℕ
-search_work_left marks starts path = sum_by node_steps_left marks + length starts + length path
+abbrev pub search_work_left : List Mark → List Frame → ℕ
+search_work_left marks path = sum_by node_steps_left marks + length path
 
 -- no node becomes new
 abbrev pub NoneNew : List Mark → List Mark → Type 0
 NoneNew before now = (x : ℕ) → node_mark before x ≢ New → node_mark now x ≢ New
 
--- each start above the one place is above the other, too
-abbrev pub Joined : List ℕ → ℕ → ℕ → Type 0
-Joined starts p q = (i : ℕ) → i < length starts → q < slice_index starts i → p < slice_index starts i
+-- the mark of a node that is done, or open at this place or above it
+abbrev pub IsSeen : ℕ → Mark → Type 0
+IsSeen low New = ⊥
+IsSeen low (Open place) = low ≤ place
+IsSeen low (Done number) = Unit {0}
 
--- the node is done, or stands in the part of this place or above it
-abbrev pub IsVisited : List Mark → List ℕ → ℕ → ℕ → Type 0
-IsVisited marks starts p y = ((c : ℕ) × (node_mark marks y ≡ Done c)) ⊎ ((q : ℕ) × (node_mark marks y ≡ Open q) × Joined starts p q)
+-- the mark of a node that is done, with this number or a smaller one
+abbrev pub IsDone : ℕ → Mark → Type 0
+IsDone most New = ⊥
+IsDone most (Open place) = ⊥
+IsDone most (Done number) = number ≤ most
 
--- an edge of the node at this place that the search hasn't come to
-abbrev pub Pending : List Frame → ℕ → ℕ → Type 0
-Pending path p k = (j : ℕ) × (j < length path) × ((component_frame path j).place ≡ p) × ((component_frame path j).next ≤ k)
+-- what becomes of a mark where only places from this one on change: a node is opened there, or an open one is done
+abbrev pub GoesOn : ℕ → ℕ → Mark → Mark → Type 0
+GoesOn from number New now = (now ≡ New) ⊎ ((place : ℕ) × (now ≡ Open place) × (from ≤ place))
+GoesOn from number (Open place) now = (now ≡ Open place) ⊎ ((from ≤ place) × (now ≡ Done number))
+GoesOn from number (Done c) now = now ≡ Done c
 
-pub record IsComponentSearch (edges : List (Vec ℕ Global)) (marks : List Mark) (open_nodes starts : List ℕ) (path : List Frame) (count : ℕ) : Type 0 where
-  pub sized : length marks ≡ length edges
-  pub placed : (x p : ℕ) → node_mark marks x ≡ Open p → (p < length open_nodes) × (slice_index open_nodes p ≡ x)
-  pub standing : (p : ℕ) → p < length open_nodes → (slice_index open_nodes p < length marks) × (node_mark marks (slice_index open_nodes p) ≡ Open p)
-  pub within : (i : ℕ) → i < length starts → slice_index starts i < length open_nodes
-  pub ascend : (i j : ℕ) → i < j → j < length starts → slice_index starts i < slice_index starts j
-  pub bottom : 0 < length open_nodes → (0 < length starts) × (slice_index starts 0 ≡ 0)
-  pub frames : (j : ℕ) → j < length path → (component_frame path j).place < length open_nodes
-  pub rise : (i j : ℕ) → i < j → j < length path → (component_frame path i).place < (component_frame path j).place
-  pub reach : (p q : ℕ) → p < length open_nodes → q < length open_nodes → Joined starts p q → Reaches edges (slice_index open_nodes p) (slice_index open_nodes q)
-  pub edges_seen : (p k : ℕ) → p < length open_nodes → k < length (targets edges (slice_index open_nodes p))
-      → Pending path p k ⊎ IsVisited marks starts p (target edges (slice_index open_nodes p) k)
+abbrev pub MarksGoOn : ℕ → ℕ → List Mark → List Mark → Type 0
+MarksGoOn from number before now = (x : ℕ) → GoesOn from number (node_mark before x) (node_mark now x)
+
+-- the open nodes are those on the stack, each at its place
+pub record IsStack (marks : List Mark) (nodes : List ℕ) : Type 0 where
+  pub placed : (x p : ℕ) → node_mark marks x ≡ Open p → (p < length nodes) × (slice_index nodes p ≡ x)
+  pub standing : (p : ℕ) → p < length nodes → node_mark marks (slice_index nodes p) ≡ Open p
+
+-- the part of the stack from the frame's place up to this limit: `low` is a place that its nodes reach, and no edge of theirs that
+-- was looked at leads below it
+pub record IsPart (edges : List (Vec ℕ Global)) (marks : List Mark) (frame : Frame) (limit : ℕ) : Type 0 where
+  pub inside : frame.place < limit
+  pub here : node_mark marks frame.node ≡ Open frame.place
+  pub lowest : frame.low ≤ frame.place
+  pub back : (y : ℕ) × (node_mark marks y ≡ Open frame.low) × Reaches edges frame.node y
+  pub reach : (x y p q : ℕ) → node_mark marks x ≡ Open p → node_mark marks y ≡ Open q → p < limit → frame.place ≤ q → q < limit → Reaches edges x y
+  pub seen : (x p k : ℕ) → node_mark marks x ≡ Open p → frame.place ≤ p → p < limit → k < length (targets edges x)
+      → ((x ≡ frame.node) × (frame.next ≤ k)) ⊎ IsSeen frame.low (node_mark marks (target edges x k))
+
+-- the parts of a stack of so many nodes, the topmost first
+abbrev pub AreParts : List (Vec ℕ Global) → List Mark → List Frame → ℕ → Type 0
+AreParts edges marks [] limit = limit ≡ 0
+AreParts edges marks (frame ∷ frames) limit = IsPart edges marks frame limit × AreParts edges marks frames frame.place
+
+-- the components so far
+pub record AreDone (edges : List (Vec ℕ Global)) (marks : List Mark) (count : ℕ) : Type 0 where
   pub below : (x c : ℕ) → node_mark marks x ≡ Done c → c < count
-  pub down : (x c k : ℕ) → node_mark marks x ≡ Done c → k < length (targets edges x) → (d : ℕ) × (node_mark marks (target edges x k) ≡ Done d) × (d ≤ c)
+  pub down : (x c k : ℕ) → node_mark marks x ≡ Done c → k < length (targets edges x) → IsDone c (node_mark marks (target edges x k))
   pub ring : (x y c : ℕ) → node_mark marks x ≡ Done c → node_mark marks y ≡ Done c → Reaches edges x y
 
--- the same of the search as the program has it
+pub record IsComponentSearch (edges : List (Vec ℕ Global)) (marks : List Mark) (nodes : List ℕ) (frames : List Frame) (count : ℕ) : Type 0 where
+  pub sized : length marks ≡ length edges
+  pub stack : IsStack marks nodes
+  pub parts : AreParts edges marks frames (length nodes)
+  pub done : AreDone edges marks count
+
+-- the same of the search as the program has it, with these frames
+abbrev pub SearchesAt : List (Vec ℕ Global) → Search → List Frame → Type 0
+SearchesAt edges s frames = IsComponentSearch edges s.marks.items s.nodes.items frames (length s.roots.items)
+
 abbrev pub ComponentSearches : List (Vec ℕ Global) → Search → Type 0
-ComponentSearches edges s = IsComponentSearch edges s.marks.items s.nodes.items s.starts.items s.path.items (length s.roots.items)
+ComponentSearches edges s = SearchesAt edges s (reverse s.path.items)
 
--- what is found of the edges of the topmost frame: up to `stop` all are seen, `low` is the lowest place that one leads to or the
--- frame's own, and at `stop` there is a new node, or no edge
-pub record IsScan (marks : List Mark) (edges : List ℕ) (frame : Frame) (scan : Scan) : Type 0 where
-  pub upto : scan.stop ≤ length edges
-  pub passed : (k : ℕ) → frame.next ≤ k → k < scan.stop
-      → ((c : ℕ) × (node_mark marks (slice_index edges k) ≡ Done c)) ⊎ ((q : ℕ) × (node_mark marks (slice_index edges k) ≡ Open q) × (scan.low ≤ q))
-  pub linked : (scan.low ≡ frame.place) ⊎ ((k : ℕ) × (k < length edges) × (node_mark marks (slice_index edges k) ≡ Open scan.low))
-  pub stopped : scan.stop < length edges → node_mark marks (slice_index edges scan.stop) ≡ New
-
--- the starts above a place are cut away
-pub record IsCut (before : List ℕ) (low : ℕ) (now : List ℕ) : Type 0 where
-  pub few : length now ≤ length before
-  pub is : now ≡ take (length now) before
-  pub above : (i : ℕ) → length now ≤ i → i < length before → low < slice_index before i
-  pub last : 0 < length now → slice_index now (length now - 1) ≤ low
+-- all edges of the topmost part are done
+abbrev pub IsFinished : List (Vec ℕ Global) → Frame → Type 0
+IsFinished edges frame = length (targets edges frame.node) ≤ frame.next

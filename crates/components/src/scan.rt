@@ -1,6 +1,8 @@
 // The edges of a node, as far as they lead to nodes that were seen.
-ghost use Rattle.std.specs.Prelude.{◌≡◌};
-ghost use Rattle.components.specs.Kept.{IsScan, node_mark};
+ghost use Rattle.std.specs.Prelude.{◌≡◌, ◌∷◌, ◌<◌, ℕ, length, List};
+ghost use Rattle.components.specs.Graph.{target, targets};
+ghost use Rattle.components.specs.Kept.{AreParts, node_mark};
+ghost use Rattle.components.specs.declared.scan.Mark.TheVariants.{New};
 
 /// How far the search has come with a node.
 #[derive(Clone, Copy)]
@@ -12,18 +14,14 @@ pub(crate) enum Mark {
     Done(usize),
 }
 
-/// An open node, by its place on the stack, and the first of its edges that the search hasn't come to.
+/// An open node that begins a part of the stack: its place there, the lowest place that is known to be reached from the part, and
+/// the first of the node's edges that the search hasn't come to.
 #[derive(Clone, Copy)]
 pub(crate) struct Frame {
+    pub node: usize,
     pub place: usize,
-    pub next: usize,
-}
-
-/// The lowest place that the edges lead to, and the first edge that leads to a new node, or the number of edges.
-#[derive(Clone, Copy)]
-pub(crate) struct Scan {
     pub low: usize,
-    pub stop: usize,
+    pub next: usize,
 }
 
 fn mark_of(marks: &[Mark], node: usize) -> Mark
@@ -32,20 +30,29 @@ fn mark_of(marks: &[Mark], node: usize) -> Mark
     marks.get(node).copied().unwrap_or(Mark::New)
 }
 
-/// Looks at the edges from the frame's next on, up to the first that leads to a new node.
-pub(crate) fn look_ahead(marks: &[Mark], targets: &[usize], frame: Frame) -> Scan
-    ensures { IsScan marks.now targets.now frame result }
+/// The nodes to which a node has an edge.
+pub(crate) fn targets_of(edges: &[Vec<usize>], node: usize) -> &[usize]
+    ensures { result.now ≡ targets edges.now node }
 {
-    let mut low = frame.place;
-    for k in frame.next..targets.len() {
-        match mark_of(marks, targets[k]) {
-            Mark::New => return Scan { low, stop: k },
-            Mark::Open(place) => low = low.min(place),
+    match edges.get(node) {
+        Some(targets) => targets.as_slice(),
+        None => &[],
+    }
+}
+
+/// Looks at the frame's edges, up to the first that leads to a new node.
+pub(crate) fn look_ahead(edges: &[Vec<usize>], marks: &[Mark], mut frame: Frame) -> Frame
+    ensures parts { (frames : List Frame) (limit : ℕ) → AreParts edges.now marks.now (frame ∷ frames) limit → AreParts edges.now marks.now (result ∷ frames) limit }
+    ensures stopped { result.next < length (targets edges.now result.node) → node_mark marks.now (target edges.now result.node result.next) ≡ New }
+{
+    let targets = targets_of(edges, frame.node);
+    'edges: while frame.next < targets.len() {
+        match mark_of(marks, targets[frame.next]) {
+            Mark::New => break,
+            Mark::Open(place) => frame.low = frame.low.min(place),
             Mark::Done(_) => {}
         }
+        frame.next += 1;
     }
-    Scan {
-        low,
-        stop: targets.len(),
-    }
+    frame
 }

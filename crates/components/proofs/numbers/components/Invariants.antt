@@ -1,4 +1,4 @@
-use Rattle.std.proofs.Common.{◌≡◌, ◌<◌, ℕ, []}
+use Rattle.std.proofs.Common.{◌≡◌, ◌≢◌, ◌<◌, ℕ, length}
 use Rattle.components.specs.Kept.{node_mark, ComponentSearches}
 use Rattle.components.specs.declared.scan.Mark.TheVariants.{New}
 use Rattle.components.proofs.numbers.components.Given as goal
@@ -6,6 +6,6 @@ use Rattle.components.proofs.numbers.components.Given as goal
 abbrev pub invariant-loop-root : goal.invariant-loop-root
 invariant-loop-root l = record {
   search : ComponentSearches l.edges l.search;
-  idle : l.search.starts.items ≡ [];
-  seen : (x : ℕ) → x < l.root → node_mark l.search.marks.items x ≡ New → ⊥;
+  idle : length l.search.nodes.items ≡ 0;
+  seen : (x : ℕ) → x < l.root → node_mark l.search.marks.items x ≢ New;
 }

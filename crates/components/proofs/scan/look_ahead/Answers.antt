@@ -1,26 +1,30 @@
-use Rattle.std.proofs.Common.{sym, ◌∙◌, arith}
-use Rattle.components.proofs.Ahead.{ahead_open, ahead_done, linked_open}
+use Rattle.std.proofs.Common.{◌≡◌, ◌<◌, sym, ◌∙◌, ap, inl, refl, length, arith}
+use Rattle.std.specs.Prelude.{slice_index}
+use Rattle.components.specs.Graph.{target, targets}
+use Rattle.components.specs.Kept.{node_mark}
+use Rattle.components.specs.declared.scan.Mark.TheVariants.{Open, Done}
+use Rattle.components.proofs.Parts.{past}
 use Rattle.components.proofs.scan.look_ahead.Goals as goal
 use Rattle.components.proofs.scan.look_ahead.Goals.{in-Open, in-Done}
 
-pub loop-k-preserved : goal.loop-k-preserved
-loop-k-preserved c = elim c.match-mark_of.branch [
-  | in-Open w ↦
-      (let least = w.low-is ∙ w.min-low.ensures in
-      record {
-        passed = ahead_open c.args.marks.now c.args.targets.now c.args.frame.next c.loop-k.k c.loop-k.low _ c.match-mark_of.low (sym c.mark_of.ensures ∙ w.in-Open.is) least c.loop-k.invariant.passed;
-        linked = linked_open c.args.marks.now c.args.targets.now c.args.frame.place c.loop-k.k c.loop-k.low _ c.match-mark_of.low c.loop-k-test.true (sym c.mark_of.ensures ∙ w.in-Open.is) least c.loop-k.invariant.linked;
-      })
-  | in-Done w ↦ record {
-    passed = ahead_done c.args.marks.now c.args.targets.now c.args.frame.next c.loop-k.k c.loop-k.low _ c.match-mark_of.low (sym c.mark_of.ensures ∙ w.in-Done.is) w.low-is c.loop-k.invariant.passed;
-    linked = rw w.low-is c.loop-k.invariant.linked;
-  }
-]
-
-pub returns : goal.returns
-returns c = record {
-  upto = omega arith;
-  passed = λ k from upto. c.loop-k.invariant.passed k from (let h = c.loop-k-test.false in omega arith);
-  linked = c.loop-k.invariant.linked;
-  stopped = λ more. absurd (omega arith);
-}
+pub edges-preserved : goal.edges-preserved
+edges-preserved c =
+    let as_targets : c.targets_of-targets.result.now ≡ targets c.args.edges.now c.edges.frame.node = c.targets_of-targets.ensures ∙ ap (targets c.args.edges.now) (sym c.edges.invariant.node) in
+    let is : slice_index c.targets_of-targets.result.now c.edges.frame.next ≡ target c.args.edges.now c.edges.frame.node c.edges.frame.next = ap (λ xs. slice_index xs c.edges.frame.next) as_targets in
+    let more : c.edges.frame.next < length (targets c.args.edges.now c.edges.frame.node) = rw (← as_targets) c.edges-test.true in
+    elim c.match-mark_of.branch [
+      | in-Open w ↦ rw w.frame-is record {
+        node = c.edges.invariant.node;
+        parts = λ frames limit s.
+            let old = c.edges.invariant.parts frames limit s in
+            let o = sym c.mark_of.ensures ∙ w.in-Open.is in
+            (past c.args.edges.now c.args.marks.now c.edges.frame _ _ more is (omega arith) (rw o (omega arith)) (grind arith) limit old.0, old.1);
+      }
+      | in-Done w ↦ rw w.frame-is record {
+        node = c.edges.invariant.node;
+        parts = λ frames limit s.
+            let old = c.edges.invariant.parts frames limit s in
+            let o = sym c.mark_of.ensures ∙ w.in-Done.is in
+            (past c.args.edges.now c.args.marks.now c.edges.frame _ _ more is (omega arith) (rw o tt) (inl refl) limit old.0, old.1);
+      }
+    ]

@@ -1,12 +1,13 @@
-use Rattle.std.proofs.Common.{◌≡◌, ◌<◌, ◌≤◌, ◌⊎◌, ℕ, length}
-use Rattle.std.specs.Prelude.{slice_index}
-use Rattle.components.specs.Kept.{node_mark}
-use Rattle.components.specs.declared.scan.Mark.TheVariants.{Open, Done}
+use Rattle.std.proofs.Common.{◌≡◌, ◌-◌, ℕ, ◌∷◌, List, length}
+use Rattle.components.specs.declared.scan.Frame.{Frame}
+use Rattle.components.specs.Kept.{AreParts}
 use Rattle.components.proofs.scan.look_ahead.Given as goal
 
-abbrev pub invariant-loop-k : goal.invariant-loop-k
-invariant-loop-k l = record {
-  passed : (k : ℕ) → l.fn.frame.next ≤ k → k < l.k
-      → ((c : ℕ) × (node_mark l.marks (slice_index l.targets k) ≡ Done c)) ⊎ ((q : ℕ) × (node_mark l.marks (slice_index l.targets k) ≡ Open q) × (l.low ≤ q));
-  linked : (l.low ≡ l.fn.frame.place) ⊎ ((k : ℕ) × (k < length l.targets) × (node_mark l.marks (slice_index l.targets k) ≡ Open l.low));
+abbrev pub invariant-edges : goal.invariant-edges
+invariant-edges l = record {
+  node : l.frame.node ≡ l.initial.frame.node;
+  parts : (frames : List Frame) (limit : ℕ) → AreParts l.edges l.marks (l.initial.frame ∷ frames) limit → AreParts l.edges l.marks (l.frame ∷ frames) limit;
 }
+
+abbrev pub decreases-edges : goal.decreases-edges
+decreases-edges l = length l.targets - l.frame.next

@@ -1,20 +1,16 @@
-use Rattle.std.proofs.Common.{◌<◌, ◌∙◌, length, arith}
-use Rattle.std.proofs.lemmas.List.{length-set}
-use Rattle.components.specs.declared.scan.Mark.TheVariants.{Done}
+use Rattle.std.proofs.Common.{◌≡◌, ◌+◌, ◌-◌, ◌<◌, vec_len, length, arith}
 use Rattle.std.specs.Prelude.{slice_index}
-use Rattle.components.proofs.Numbering.{done_more, less_more, rest_more}
+use Rattle.std.proofs.lemmas.Grind.{common_steps}
+use Rattle.components.proofs.Stack.{numbered, top_fits}
 use Rattle.components.proofs.search.number_nodes.Goals as goal
 
-pub loop-node-preserved : goal.loop-node-preserved
-loop-node-preserved c =
-    let sized = c.loop-node.invariant.sized in
-    let node = c.requires c.loop-node.node-index c.loop-node-test.true in
-    let fits : slice_index c.args.nodes.now c.loop-node.node-index < length c.loop-node.marks.items = omega arith in
-    let old = c.loop-node.invariant.less in
-    let step = less_more c.loop-node.marks.items c.args.nodes.now c.args.number c.loop-node.node-index fits in
-    record {
-      sized = length-set c.loop-node.marks.items (slice_index c.args.nodes.now c.loop-node.node-index) (Done c.args.number) ∙ sized;
-      done = done_more c.loop-node.marks.items c.args.nodes.now c.args.number c.loop-node.node-index fits c.loop-node.invariant.done;
-      rest = rest_more c.loop-node.marks.items c.args.nodes.now c.args.number c.loop-node.node-index fits c.args.marks.now.items c.loop-node.invariant.rest;
-      less = omega arith;
-    }
+pub index_mut-requires : goal.index_mut-requires
+index_mut-requires c =
+    let size : vec_len c.nodes.nodes ≡ length c.nodes.nodes.items = grind (arith, common_steps) in
+    let fits = top_fits c.args.place c.args.number c.args.marks.now.items c.nodes.marks.items c.nodes.nodes.items c.nodes.invariant (c.len-top.result - 1) c.index.result.now (omega arith) (omega arith) c.index.ensures in
+    grind (arith, common_steps)
+
+pub nodes-preserved : goal.nodes-preserved
+nodes-preserved c = 
+    let size : vec_len c.nodes.nodes ≡ length c.nodes.nodes.items = grind (arith, common_steps) in
+    rw c.truncate.ensures.items (numbered c.args.place c.args.number c.args.marks.now.items c.nodes.marks.items c.nodes.nodes.items c.nodes.invariant (c.len-top.result - 1) c.index.result.now (omega arith) (omega arith) c.index.ensures)

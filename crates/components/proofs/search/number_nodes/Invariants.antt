@@ -1,13 +1,9 @@
-use Rattle.std.proofs.Common.{◌≡◌, ◌<◌, ◌≤◌, ℕ, length, sum_by}
-use Rattle.std.specs.Prelude.{slice_index}
-use Rattle.components.specs.Kept.{node_mark, node_steps_left}
-use Rattle.components.specs.declared.scan.Mark.TheVariants.{Done}
+use Rattle.std.proofs.Common.{length}
+use Rattle.components.proofs.Stack.{Numbers}
 use Rattle.components.proofs.search.number_nodes.Given as goal
 
-abbrev pub invariant-loop-node : goal.invariant-loop-node
-invariant-loop-node l = record {
-  sized : length l.marks.items ≡ length l.initial.marks.items;
-  done : (i : ℕ) → i < l.node-index → node_mark l.marks.items (slice_index l.nodes i) ≡ Done l.number;
-  rest : (x : ℕ) → ((i : ℕ) → i < l.node-index → slice_index l.nodes i ≡ x → ⊥) → node_mark l.marks.items x ≡ node_mark l.initial.marks.items x;
-  less : sum_by node_steps_left l.marks.items ≤ sum_by node_steps_left l.initial.marks.items;
-}
+abbrev pub invariant-nodes : goal.invariant-nodes
+invariant-nodes l = Numbers l.place l.number l.initial.marks.items l.marks.items l.nodes.items
+
+abbrev pub decreases-nodes : goal.decreases-nodes
+decreases-nodes l = length l.nodes.items

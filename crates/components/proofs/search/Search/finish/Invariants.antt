@@ -8,4 +8,4 @@ invariant-steps l = record {
 }
 
 abbrev pub decreases-steps : goal.decreases-steps
-decreases-steps l = search_work_left l.self.marks.items l.self.starts.items l.self.path.items
+decreases-steps l = search_work_left l.self.marks.items l.self.path.items

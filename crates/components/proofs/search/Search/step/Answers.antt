@@ -1,24 +1,28 @@
-use Rattle.std.proofs.Common.{◌-◌, List, length, refl, ap, ◌∙◌}
-use Rattle.std.specs.List.{slice_get}
-use Rattle.components.specs.declared.scan.Frame.{Frame}
-use Rattle.components.proofs.Closing.{close_kept}
-use Rattle.components.proofs.Steps.{frames_beneath, no_frames, on_ok, same_search}
+use Rattle.std.proofs.Common.{length, arith}
+use Rattle.components.proofs.Steps.{ahead_search, reversed}
+use Rattle.components.proofs.Ways.{edge, join}
 use Rattle.components.proofs.search.Search.step.Goals as goal
 
-pub returns-in_default-clause-search : goal.returns-in_default-clause-search
-returns-in_default-clause-search c =
-    let below = no_frames c.args.self.now.path.items
-    (c.in_default.ensures ∙ c.last.ensures.value ∙ ap (λ (p : List Frame). slice_get p (length p - 1)) c.deref.ensures.value) c.args.start in
-    on_ok c.close.result c.close.ensures.done c.close.ensures.rest c.close.ensures.sized c.close.ensures.nodes c.close.ensures.starts c.close.ensures.path c.close.ensures.roots
-    (λ done rest sized nodes starts path roots. same_search c.args.edges.now refl nodes starts path refl
-    (close_kept c.args.edges.now c.args.self.now.marks.items c.args.self.now.nodes.items c.args.self.now.starts.items c.args.self.now.path.items (length c.args.self.now.roots.items) c.requires.search c.args.start c.requires.some c.requires.start below
-    c.close.new.self.marks.items sized done rest (length c.close.new.self.roots.items) roots))
+pub close-requires-clause-place : goal.close-requires-clause-place
+close-requires-clause-place c =
+    let s = ahead_search c.as_slice.ensures.value c.look_ahead-frame.ensures.parts c.requires.search in
+    let lt = s.parts.0.inside in
+    omega arith
 
-pub returns-then-frame-start-clause-search : goal.returns-then-frame-start-clause-search
-returns-then-frame-start-clause-search c =
-    let below = frames_beneath c.args.edges.now c.args.self.now.marks.items c.args.self.now.nodes.items c.args.self.now.starts.items c.args.self.now.path.items (length c.args.self.now.roots.items)
-    c.requires.search c.in-Some.frame c.args.start (c.in-Some.ensures ∙ c.last.ensures.value ∙ ap (λ (p : List Frame). slice_get p (length p - 1)) c.deref.ensures.value) c.if-frame-start.true in
-    on_ok c.close-then-frame-start.result c.close-then-frame-start.ensures.done c.close-then-frame-start.ensures.rest c.close-then-frame-start.ensures.sized c.close-then-frame-start.ensures.nodes c.close-then-frame-start.ensures.starts c.close-then-frame-start.ensures.path c.close-then-frame-start.ensures.roots
-    (λ done rest sized nodes starts path roots. same_search c.args.edges.now refl nodes starts path refl
-    (close_kept c.args.edges.now c.args.self.now.marks.items c.args.self.now.nodes.items c.args.self.now.starts.items c.args.self.now.path.items (length c.args.self.now.roots.items) c.requires.search c.args.start c.requires.some c.requires.start below
-    c.close-then-frame-start.new.self.marks.items sized done rest (length c.close-then-frame-start.new.self.roots.items) roots))
+pub returns-in_ok-open-clause-search : goal.returns-in_ok-open-clause-search
+returns-in_ok-open-clause-search c =
+    let s = ahead_search c.as_slice.ensures.value c.look_ahead-frame.ensures.parts c.requires.search in
+    c.in_ok-open.ensures.search c.args.edges.now (rw (c.in_ok-push.ensures.items, reversed) s) (λ x p o.
+    let node = c.look_ahead-frame.result.node in
+    join c.args.edges.now x node _ (s.parts.0.reach x node p _ o s.parts.0.here (s.stack.placed x p o).0 (omega arith) s.parts.0.inside)
+    (edge c.args.edges.now node c.look_ahead-frame.result.next _ (rw c.targets_of-targets.ensures at c.if-frame-targets.true) (rw c.targets_of-targets.ensures)))
+
+pub returns-in_ok-join-clause-search : goal.returns-in_ok-join-clause-search
+returns-in_ok-join-clause-search c =
+    let s = ahead_search c.as_slice.ensures.value c.look_ahead-frame.ensures.parts c.requires.search in
+    c.in_ok-join.ensures.search c.args.edges.now s (rw c.targets_of-targets.ensures at c.if-frame-targets.false) c.if-frame.true
+
+pub returns-in_ok-close-clause-search : goal.returns-in_ok-close-clause-search
+returns-in_ok-close-clause-search c =
+    let s = ahead_search c.as_slice.ensures.value c.look_ahead-frame.ensures.parts c.requires.search in
+    c.in_ok-close.ensures.search c.args.edges.now s (rw c.targets_of-targets.ensures at c.if-frame-targets.false) c.if-frame.false
