@@ -1,22 +1,12 @@
 -- The stack of open nodes, and the marks that change with it.
-use Rattle.std.proofs.Common.{◌≡◌, ◌≢◌, ℕ, ◌+◌, ◌<◌, ◌≤◌, inl, inr, List, [], ◌∷◌, ◌++◌, length, get_or, take, sum_by, arith}
-use Rattle.std.specs.Prelude.{slice_index, slice_set}
-use Rattle.std.proofs.lemmas.Bool.{cases_lt}
+use Rattle.std.proofs.Common.{◌≡◌, ℕ, ◌+◌, ◌<◌, ◌≤◌, List, [], ◌∷◌, ◌++◌, length, get_or, take, sum_by, arith}
+use Rattle.std.specs.Prelude.{slice_set}
 use Rattle.std.proofs.lemmas.Grind.{common_steps}
 use Rattle.std.proofs.lemmas.List.{get_or_default, get_or_past}
 use Rattle.std.proofs.lemmas.List.Sums.{sum_by-set}
 use Rattle.components.specs.declared.scan.Mark.{Mark}
 use Rattle.components.specs.declared.scan.Mark.TheVariants.{New, Open, Done}
-use Rattle.components.specs.Kept.{IsDone, IsStack, MarksGoOn, NoneNew, node_mark, node_steps_left}
-
-pub marked_fits : (marks : List Mark) (x : ℕ) → node_mark marks x ≢ New → x < length marks
-marked_fits marks x ne = elim (cases_lt x (length marks)) [ inl lt ↦ lt | inr past ↦ absurd (ne (get_or_past marks x New past)) ]
-
-pub none_new : (from number : ℕ) (before now : List Mark) → MarksGoOn from number before now → NoneNew before now
-none_new from number before now go x ne = let g = go x in grind arith
-
-pub still_done : (from number : ℕ) (before now : List Mark) → MarksGoOn from number before now → (most x : ℕ) → IsDone most (node_mark before x) → IsDone most (node_mark now x)
-still_done from number before now go most x done = let g = go x in grind arith
+use Rattle.components.specs.Kept.{IsStack, MarksGoOn, node_mark, node_steps_left}
 
 pub opened : (marks : List Mark) (nodes : List ℕ) (y : ℕ) → IsStack marks nodes → y < length marks → node_mark marks y ≡ New
     → IsStack (slice_set marks y (Open (length nodes))) (nodes ++ y ∷ [])
@@ -34,13 +24,13 @@ pub record Numbers (place number : ℕ) (before marks : List Mark) (nodes : List
   pub sized : length marks ≡ length before
   pub less : sum_by node_steps_left marks ≤ sum_by node_steps_left before
 
-module _ (place number : ℕ) (before marks : List Mark) (nodes : List ℕ) (s : Numbers place number before marks nodes) (top node : ℕ)
+module _ {place number : ℕ} {before marks : List Mark} {nodes : List ℕ} (s : Numbers place number before marks nodes) (top node : ℕ)
     (lt : place ≤ top) (last : length nodes ≡ top + 1) (is : node ≡ get_or nodes top node) where
   top_is : node_mark marks node ≡ Open top
   top_is = let h = s.stack.standing top (omega arith) in let e = get_or_default nodes top node 0 (omega arith) in grind arith
 
   pub top_fits : node < length marks
-  top_fits = let h = top_is in marked_fits marks node (grind arith)
+  top_fits = let h = top_is in grind (arith, common_steps, get_or_past marks node New)
 
   pub numbered : Numbers place number before (slice_set marks node (Done number)) (take top nodes)
   numbered = let h = top_is in let f = top_fits in record {

@@ -1,32 +1,38 @@
--- What a step of the search keeps: a node is opened, the topmost part joins the one below it, or is a component.
-use Rattle.std.proofs.Common.{◌≡◌, ◌≢◌, ℕ, ◌+◌, ◌<◌, ◌≤◌, ◌⊎◌, inl, inr, List, [], ◌∷◌, ◌++◌, length, min, refl, ap, sym, subst, ◌∙◌, reverse, Vec, Global, arith}
+-- What each step of the search keeps.
+use Rattle.std.proofs.Common.{◌≡◌, ℕ, ◌+◌, ◌<◌, ◌≤◌, ◌⊎◌, inl, inr, List, [], ◌∷◌, ◌++◌, length, min, refl, ap, sym, ◌∙◌, reverse, Vec, Global, arith}
 use Rattle.std.specs.Prelude.{slice_set}
-use Rattle.std.proofs.lemmas.Bool.{cases_eq, cases_lt}
+use Rattle.std.proofs.lemmas.Bool.{cases_eq}
 use Rattle.std.proofs.lemmas.Grind.{common_steps}
 use Rattle.std.proofs.lemmas.List.{get_or-set_same, get_or-set_other, length-set, length_push, reverse-append}
 use Rattle.components.specs.declared.scan.Frame.{Frame}
 use Rattle.components.specs.declared.scan.Mark.{Mark}
 use Rattle.components.specs.declared.scan.Mark.TheVariants.{New, Open, Done}
 use Rattle.components.specs.Graph.{Reaches, target, targets}
-use Rattle.components.specs.Kept.{AreDone, AreParts, GoesOn, IsComponentSearch, IsDone, IsFinished, IsPart, IsSeen, IsStack, MarksGoOn, node_mark}
-use Rattle.components.proofs.Parts.{joined, parts_stay}
-use Rattle.components.proofs.Stack.{opened, still_done}
+use Rattle.components.specs.Kept.{GoesOn, IsComponentSearch, IsDone, IsPart, IsSeen, IsStack, MarksGoOn, node_mark}
+use Rattle.components.proofs.Parts.{joined, parts_stay, past}
+use Rattle.components.proofs.Stack.{opened}
 use Rattle.components.proofs.Ways.{along}
 
+-- the topmost frame comes first
 pub reversed : (path : List Frame) (frame : Frame) → reverse (path ++ frame ∷ []) ≡ frame ∷ reverse path
 reversed path frame = reverse-append path (frame ∷ [])
 
--- the topmost frame's edges are looked at
-pub ahead_search : {edges : List (Vec ℕ Global)} {marks same : List Mark} {nodes : List ℕ} {frame next : Frame} {frames : List Frame} {count : ℕ} → same ≡ marks
-    → ((rest : List Frame) (limit : ℕ) → AreParts edges same (frame ∷ rest) limit → AreParts edges same (next ∷ rest) limit)
-    → IsComponentSearch edges marks nodes (frame ∷ frames) count → IsComponentSearch edges marks nodes (next ∷ frames) count
-ahead_search {edges} {nodes} {frame} {next} {frames} is ahead s =
-    let P : List Mark → Type 0 = λ ms. (AreParts edges ms (frame ∷ frames) (length nodes) → AreParts edges ms (next ∷ frames) (length nodes)) in
-    record { sized = s.sized; stack = s.stack; parts = subst P is (ahead frames (length nodes)) s.parts; done = s.done }
+still_done : (from number : ℕ) (before now : List Mark) → MarksGoOn from number before now
+    → (most x : ℕ) → IsDone most (node_mark before x) → IsDone most (node_mark now x)
+still_done from number before now go most x done = let g = go x in grind arith
 
--- a node is opened
-module _ (edges : List (Vec ℕ Global)) (marks : List Mark) (nodes : List ℕ) (path : List Frame) (count y : ℕ)
-    (s : IsComponentSearch edges marks nodes (reverse path) count) (new : node_mark marks y ≡ New) (fits : y < length marks)
+-- the topmost frame goes on behind an edge
+pub past_search : {edges : List (Vec ℕ Global)} {marks : List Mark} {nodes : List ℕ} {frame : Frame} {frames : List Frame} {count : ℕ}
+    → IsComponentSearch edges marks nodes (frame ∷ frames) count → (y low : ℕ)
+    → frame.next < length (targets edges frame.node) → y ≡ target edges frame.node frame.next → low ≤ frame.low
+    → IsSeen low (node_mark marks y) → (low ≡ frame.low) ⊎ (node_mark marks y ≡ Open low)
+    → IsComponentSearch edges marks nodes (record frame { low = low; next = frame.next + 1 } ∷ frames) count
+past_search s y low more is least seen from =
+    record { sized = s.sized; stack = s.stack; parts = (past s.parts.0 y low more is least seen from, s.parts.1); done = s.done }
+
+-- a node is opened that all open nodes reach
+module _ {edges : List (Vec ℕ Global)} {marks : List Mark} {nodes : List ℕ} {frames : List Frame} {count y : ℕ}
+    (s : IsComponentSearch edges marks nodes frames count) (new : node_mark marks y ≡ New) (fits : y < length marks)
     (reaches : (x p : ℕ) → node_mark marks x ≡ Open p → Reaches edges x y) where
   abbrev n : ℕ
   n = length nodes
@@ -45,7 +51,10 @@ module _ (edges : List (Vec ℕ Global)) (marks : List Mark) (nodes : List ℕ) 
   is_new x p o above = grind (arith, common_steps, s.stack.placed x p)
 
   reaches_new : (x p : ℕ) → node_mark now x ≡ Open p → Reaches edges x y
-  reaches_new x p o = elim (cases_eq x y) [ inl e ↦ along edges x y e | inr ne ↦ reaches x p (sym (get_or-set_other marks y x (Open n) New ne) ∙ o) ]
+  reaches_new x p o = elim (cases_eq x y) [
+    | inl e ↦ along edges x y e
+    | inr ne ↦ reaches x p (sym (get_or-set_other marks y x (Open n) New ne) ∙ o)
+  ]
 
   was_done : (x c : ℕ) → node_mark now x ≡ Done c → node_mark marks x ≡ Done c
   was_done x c d = grind (arith, common_steps)
@@ -60,11 +69,12 @@ module _ (edges : List (Vec ℕ Global)) (marks : List Mark) (nodes : List ℕ) 
     seen = λ x p k o above lp lk. inl (is_new x p o above, omega arith);
   }
 
-  pub open_search : IsComponentSearch edges (slice_set marks y (Open (length nodes))) (nodes ++ y ∷ []) (reverse (path ++ record { node = y; place = length nodes; low = length nodes; next = 0 } ∷ [])) count
+  pub open_search : IsComponentSearch edges (slice_set marks y (Open (length nodes))) (nodes ++ y ∷ [])
+      (record { node = y; place = length nodes; low = length nodes; next = 0 } ∷ frames) count
   open_search = record {
     sized = length-set marks y (Open n) ∙ s.sized;
     stack = opened marks nodes y s.stack fits new;
-    parts = rw (reversed path (record { node = y; place = n; low = n; next = 0 }), length_push nodes y) (part, parts_stay edges marks now n count go (reverse path) n (omega arith) s.parts);
+    parts = rw (length_push nodes y) (part, parts_stay edges marks now n count go frames n (omega arith) s.parts);
     done = record {
       below = λ x c d. s.done.below x c (was_done x c d);
       down = λ x c k d lk. still_done n count marks now go c (target edges x k) (s.done.down x c k (was_done x c d) lk);
@@ -72,22 +82,16 @@ module _ (edges : List (Vec ℕ Global)) (marks : List Mark) (nodes : List ℕ) 
     };
   }
 
--- the topmost part reaches below its place
-pub join_search : (edges : List (Vec ℕ Global)) (marks : List Mark) (nodes : List ℕ) (frame below : Frame) (rest : List Frame) (count : ℕ)
-    → IsComponentSearch edges marks nodes (frame ∷ reverse (rest ++ below ∷ [])) count → IsFinished edges frame → frame.low < frame.place
-    → IsComponentSearch edges marks nodes (reverse (rest ++ record below { low = min below.low frame.low } ∷ [])) count
-join_search edges marks nodes frame below rest count s finished deep =
-    let parts = rw (reversed rest below) at s.parts in
-    record {
-      sized = s.sized;
-      stack = s.stack;
-      parts = rw (reversed rest (record below { low = min below.low frame.low })) (joined edges marks frame below (length nodes) parts.0 parts.1.0 finished deep, parts.1.1);
-      done = s.done;
-    }
+-- the topmost part reaches below its place, and its edges are done
+pub join_search : {edges : List (Vec ℕ Global)} {marks : List Mark} {nodes : List ℕ} {frame below : Frame} {frames : List Frame} {count : ℕ}
+    → IsComponentSearch edges marks nodes (frame ∷ below ∷ frames) count → length (targets edges frame.node) ≤ frame.next → frame.low < frame.place
+    → IsComponentSearch edges marks nodes (record below { low = min below.low frame.low } ∷ frames) count
+join_search s finished deep =
+    record { sized = s.sized; stack = s.stack; parts = (joined s.parts.0 s.parts.1.0 finished deep, s.parts.1.1); done = s.done }
 
--- the topmost part reaches none below it
-module _ (edges : List (Vec ℕ Global)) (marks now : List Mark) (nodes left : List ℕ) (frame : Frame) (frames : List Frame) (count : ℕ)
-    (s : IsComponentSearch edges marks nodes (frame ∷ frames) count) (finished : IsFinished edges frame) (high : frame.place ≤ frame.low)
+-- the topmost part reaches none below its place, and its edges are done
+module _ {edges : List (Vec ℕ Global)} {marks now : List Mark} {nodes left : List ℕ} {frame : Frame} {frames : List Frame} {count : ℕ}
+    (s : IsComponentSearch edges marks nodes (frame ∷ frames) count) (finished : length (targets edges frame.node) ≤ frame.next) (high : frame.place ≤ frame.low)
     (stack : IsStack now left) (long : length left ≡ frame.place) (go : MarksGoOn frame.place count marks now) (sized : length now ≡ length marks) where
   -- what the part leads to is done
   leads_to_done : (x : ℕ) (m : Mark) → node_mark marks x ≡ m → IsSeen frame.low m → GoesOn frame.place count m (node_mark now x) → IsDone count (node_mark now x)
@@ -124,7 +128,8 @@ module _ (edges : List (Vec ℕ Global)) (marks now : List Mark) (nodes left : L
         ]
         | inr new ↦ elim (done_back z c f) [
           | inl old ↦ (let h = s.done.below z c old in let same = new.3 in absurd (omega arith))
-          | inr as_new ↦ s.parts.0.reach x z new.0 as_new.0 new.1 as_new.1 (s.stack.placed x new.0 new.1).0 as_new.2 (s.stack.placed z as_new.0 as_new.1).0
+          | inr as_new ↦
+              s.parts.0.reach x z new.0 as_new.0 new.1 as_new.1 (s.stack.placed x new.0 new.1).0 as_new.2 (s.stack.placed z as_new.0 as_new.1).0
         ]
       ];
     };

@@ -17,12 +17,12 @@ node_steps_left New = 2
 node_steps_left (Open place) = 0
 node_steps_left (Done number) = 0
 
-abbrev pub search_work_left : List Mark → List Frame → ℕ
-search_work_left marks path = sum_by node_steps_left marks + length path
+abbrev pub search_work_left : Search → ℕ
+search_work_left s = sum_by node_steps_left s.marks.items + length s.path.items
 
 -- no node becomes new
-abbrev pub NoneNew : List Mark → List Mark → Type 0
-NoneNew before now = (x : ℕ) → node_mark before x ≢ New → node_mark now x ≢ New
+abbrev pub NoneNew : Search → Search → Type 0
+NoneNew before now = (x : ℕ) → node_mark before.marks.items x ≢ New → node_mark now.marks.items x ≢ New
 
 -- the mark of a node that is done, or open at this place or above it
 abbrev pub IsSeen : ℕ → Mark → Type 0
@@ -57,7 +57,8 @@ pub record IsPart (edges : List (Vec ℕ Global)) (marks : List Mark) (frame : F
   pub here : node_mark marks frame.node ≡ Open frame.place
   pub lowest : frame.low ≤ frame.place
   pub back : (y : ℕ) × (node_mark marks y ≡ Open frame.low) × Reaches edges frame.node y
-  pub reach : (x y p q : ℕ) → node_mark marks x ≡ Open p → node_mark marks y ≡ Open q → p < limit → frame.place ≤ q → q < limit → Reaches edges x y
+  pub reach : (x y p q : ℕ) → node_mark marks x ≡ Open p → node_mark marks y ≡ Open q → p < limit → frame.place ≤ q → q < limit
+      → Reaches edges x y
   pub seen : (x p k : ℕ) → node_mark marks x ≡ Open p → frame.place ≤ p → p < limit → k < length (targets edges x)
       → ((x ≡ frame.node) × (frame.next ≤ k)) ⊎ IsSeen frame.low (node_mark marks (target edges x k))
 
@@ -69,10 +70,12 @@ AreParts edges marks (frame ∷ frames) limit = IsPart edges marks frame limit �
 -- the components so far
 pub record AreDone (edges : List (Vec ℕ Global)) (marks : List Mark) (count : ℕ) : Type 0 where
   pub below : (x c : ℕ) → node_mark marks x ≡ Done c → c < count
-  pub down : (x c k : ℕ) → node_mark marks x ≡ Done c → k < length (targets edges x) → IsDone c (node_mark marks (target edges x k))
+  pub down : (x c k : ℕ) → node_mark marks x ≡ Done c → k < length (targets edges x)
+      → IsDone c (node_mark marks (target edges x k))
   pub ring : (x y c : ℕ) → node_mark marks x ≡ Done c → node_mark marks y ≡ Done c → Reaches edges x y
 
-pub record IsComponentSearch (edges : List (Vec ℕ Global)) (marks : List Mark) (nodes : List ℕ) (frames : List Frame) (count : ℕ) : Type 0 where
+pub record IsComponentSearch (edges : List (Vec ℕ Global)) (marks : List Mark) (nodes : List ℕ) (frames : List Frame) (count : ℕ)
+    : Type 0 where
   pub sized : length marks ≡ length edges
   pub stack : IsStack marks nodes
   pub parts : AreParts edges marks frames (length nodes)
@@ -85,6 +88,12 @@ SearchesAt edges s frames = IsComponentSearch edges s.marks.items s.nodes.items 
 abbrev pub ComponentSearches : List (Vec ℕ Global) → Search → Type 0
 ComponentSearches edges s = SearchesAt edges s (reverse s.path.items)
 
--- all edges of the topmost part are done
-abbrev pub IsFinished : List (Vec ℕ Global) → Frame → Type 0
-IsFinished edges frame = length (targets edges frame.node) ≤ frame.next
+-- where all open nodes reach this one, it is opened
+abbrev pub Opens : Search → ℕ → Search → Type 0
+Opens before node now = (edges : List (Vec ℕ Global)) → ComponentSearches edges before
+    → ((x p : ℕ) → node_mark before.marks.items x ≡ Open p → Reaches edges x node) → ComponentSearches edges now
+
+-- where this frame is topmost and its edges are all done, its part ends
+abbrev pub EndsPart : Search → Frame → Search → Type 0
+EndsPart before frame now = (edges : List (Vec ℕ Global)) → SearchesAt edges before (frame ∷ reverse before.path.items)
+    → length (targets edges frame.node) ≤ frame.next → ComponentSearches edges now

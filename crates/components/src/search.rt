@@ -1,11 +1,10 @@
 // Tarjan's search in depth for components, on a stack of its own.
-ghost use Rattle.std.specs.Prelude.{◌≡◌, ◌≢◌, ◌∷◌, ◌+◌, ◌<◌, ◌≤◌, [], ℕ, IfOk, List, OnOk, length, replicate, reverse, sum_by, Vec};
-ghost use Rattle.std.specs.declared.alloc.Global.{Global};
-ghost use Rattle.components.specs.Graph.{AreEdges, Reaches};
-ghost use Rattle.components.specs.Kept.{ComponentSearches, IsFinished, IsStack, MarksGoOn, node_mark, NoneNew, node_steps_left, SearchesAt, search_work_left};
-ghost use Rattle.components.specs.declared.scan.Mark.TheVariants.{New, Open};
+ghost use Rattle.std.specs.Prelude.{◌≡◌, ◌≢◌, ◌∷◌, ◌<◌, ◌≤◌, [], IfOk, OnOk, length, replicate, reverse, sum_by};
+ghost use Rattle.components.specs.Graph.{AreEdges, target, targets};
+ghost use Rattle.components.specs.Kept.{ComponentSearches, EndsPart, IsStack, MarksGoOn, node_mark, NoneNew, node_steps_left, Opens, SearchesAt, search_work_left};
+ghost use Rattle.components.specs.declared.scan.Mark.TheVariants.{New};
 
-use crate::scan::{Frame, Mark, look_ahead, targets_of};
+use crate::scan::{Frame, Mark, mark_of, targets_of};
 use std::alloc::{AllocError, Global};
 
 /// The marks of the nodes, the open nodes, the frames of their parts, and a node of each component so far.
@@ -50,13 +49,13 @@ impl Search {
         })
     }
 
-    /// Opens a new node that all open nodes reach, in a part of its own.
+    /// Opens a new node, in a part of its own.
     fn open(&mut self, node: usize) -> Result<(), AllocError>
         requires new { node_mark self.old.marks.items node ≡ New }
         requires fits { node < length self.old.marks.items }
-        ensures search { OnOk result ((edges : List (Vec ℕ Global)) → ComponentSearches edges self.old → ((x p : ℕ) → node_mark self.old.marks.items x ≡ Open p → Reaches edges x node) → ComponentSearches edges self.new) }
-        ensures less { OnOk result (search_work_left self.new.marks.items self.new.path.items < search_work_left self.old.marks.items self.old.path.items) }
-        ensures none_new { OnOk result (NoneNew self.old.marks.items self.new.marks.items) }
+        ensures search { OnOk result (Opens self.old node self.new) }
+        ensures less { OnOk result (search_work_left self.new < search_work_left self.old) }
+        ensures none_new { OnOk result (NoneNew self.old self.new) }
         ensures seen { OnOk result (node_mark self.new.marks.items node ≢ New) }
     {
         let place = self.nodes.len();
@@ -66,11 +65,12 @@ impl Search {
         Ok(())
     }
 
-    /// The topmost part reaches one below it, and becomes one with the next.
+    /// The topmost part reaches below its place, and becomes one with the part there.
     fn join(&mut self, frame: Frame) -> Result<(), AllocError>
-        ensures search { OnOk result ((edges : List (Vec ℕ Global)) → SearchesAt edges self.old (frame ∷ reverse self.old.path.items) → IsFinished edges frame → frame.low < frame.place → ComponentSearches edges self.new) }
-        ensures marks { self.new.marks.items ≡ self.old.marks.items }
-        ensures path { OnOk result (length self.new.path.items ≤ length self.old.path.items) }
+        requires { frame.low < frame.place }
+        ensures search { OnOk result (EndsPart self.old frame self.new) }
+        ensures less { OnOk result (search_work_left self.new ≤ search_work_left self.old) }
+        ensures none_new { OnOk result (NoneNew self.old self.new) }
     {
         if let Some(below) = self.path.pop() {
             self.path.push(Frame { low: below.low.min(frame.low), ..below })?;
@@ -78,13 +78,14 @@ impl Search {
         Ok(())
     }
 
-    /// The topmost part reaches none below it, and is a component.
+    /// The topmost part reaches none below its place, and is a component.
     fn close(&mut self, frame: Frame) -> Result<(), AllocError>
-        requires stack { IsStack self.old.marks.items self.old.nodes.items }
+        requires low { frame.place ≤ frame.low }
         requires place { frame.place ≤ length self.old.nodes.items }
-        ensures search { OnOk result ((edges : List (Vec ℕ Global)) → SearchesAt edges self.old (frame ∷ reverse self.old.path.items) → IsFinished edges frame → frame.place ≤ frame.low → ComponentSearches edges self.new) }
-        ensures marks { OnOk result (MarksGoOn frame.place (length self.old.roots.items) self.old.marks.items self.new.marks.items) }
-        ensures less { OnOk result (search_work_left self.new.marks.items self.new.path.items ≤ search_work_left self.old.marks.items self.old.path.items) }
+        requires stack { IsStack self.old.marks.items self.old.nodes.items }
+        ensures search { OnOk result (EndsPart self.old frame self.new) }
+        ensures less { OnOk result (search_work_left self.new ≤ search_work_left self.old) }
+        ensures none_new { OnOk result (NoneNew self.old self.new) }
     {
         let number = self.roots.len();
         number_nodes(&mut self.marks, &mut self.nodes, frame.place, number);
@@ -92,15 +93,33 @@ impl Search {
         Ok(())
     }
 
-    /// One step, of the topmost part: its frame's edges lead to a new node, or are all done.
+    /// The topmost frame behind its edges up to the first that leads to a new node.
+    fn look_ahead(&self, edges: &[Vec<usize>], mut frame: Frame) -> Frame
+        requires { SearchesAt edges.now self.now (frame ∷ reverse self.now.path.items) }
+        ensures search { SearchesAt edges.now self.now (result ∷ reverse self.now.path.items) }
+        ensures stopped { result.next < length (targets edges.now result.node) → node_mark self.now.marks.items (target edges.now result.node result.next) ≡ New }
+    {
+        let targets = targets_of(edges, frame.node);
+        'edges: while frame.next < targets.len() {
+            match mark_of(self.marks.as_slice(), targets[frame.next]) {
+                Mark::New => break,
+                Mark::Open(place) => frame.low = frame.low.min(place),
+                Mark::Done(_) => {}
+            }
+            frame.next += 1;
+        }
+        frame
+    }
+
+    /// A step of the topmost part: its frame's edges lead to a new node, or are all done.
     fn step(&mut self, edges: &[Vec<usize>], frame: Frame) -> Result<(), AllocError>
         requires edges { AreEdges edges.now }
         requires search { SearchesAt edges.now self.old (frame ∷ reverse self.old.path.items) }
         ensures search { OnOk result (ComponentSearches edges.now self.new) }
-        ensures less { OnOk result (search_work_left self.new.marks.items self.new.path.items ≤ search_work_left self.old.marks.items self.old.path.items) }
-        ensures none_new { OnOk result (NoneNew self.old.marks.items self.new.marks.items) }
+        ensures less { OnOk result (search_work_left self.new ≤ search_work_left self.old) }
+        ensures none_new { OnOk result (NoneNew self.old self.new) }
     {
-        let frame = look_ahead(edges, self.marks.as_slice(), frame);
+        let frame = self.look_ahead(edges, frame);
         let targets = targets_of(edges, frame.node);
         if frame.next < targets.len() {
             self.path.push(frame)?;
@@ -119,7 +138,7 @@ impl Search {
         requires search { ComponentSearches edges.now self.old }
         ensures search { OnOk result (ComponentSearches edges.now self.new) }
         ensures idle { OnOk result (length self.new.nodes.items ≡ 0) }
-        ensures none_new { OnOk result (NoneNew self.old.marks.items self.new.marks.items) }
+        ensures none_new { OnOk result (NoneNew self.old self.new) }
     {
         'steps: while let Some(frame) = self.path.pop() {
             self.step(edges, frame)?;
@@ -135,7 +154,7 @@ impl Search {
         requires root { root < length edges.now }
         ensures search { OnOk result (ComponentSearches edges.now self.new) }
         ensures idle { OnOk result (length self.new.nodes.items ≡ 0) }
-        ensures none_new { OnOk result (NoneNew self.old.marks.items self.new.marks.items) }
+        ensures none_new { OnOk result (NoneNew self.old self.new) }
         ensures seen { OnOk result (node_mark self.new.marks.items root ≢ New) }
     {
         if let Mark::New = self.marks[root] {

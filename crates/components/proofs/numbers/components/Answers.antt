@@ -1,15 +1,14 @@
-use Rattle.std.proofs.Common.{map, ap, sym, subst, ◌∙◌, length, arith}
+use Rattle.std.proofs.Common.{map, ap, sym, subst, ◌∙◌, arith}
 use Rattle.std.proofs.lemmas.Result.{IfOk-weaker}
 use Rattle.components.specs.Graph.{AreComponents}
 use Rattle.components.specs.Numbers.{node_number}
-use Rattle.components.proofs.Whole.{are_components, first_search}
+use Rattle.components.proofs.Whole.{are_components}
 use Rattle.components.proofs.numbers.components.Goals as goal
 
 pub returns : goal.returns
 returns c =
-    let s = c.loop-root.search in
+    let s = c.loop-root.invariant in
     let end = c.loop-root-test.false in
     IfOk-weaker c.numbers_of.result _ _
     (λ v e. subst (AreComponents c.args.edges.now) (sym (e ∙ ap (map node_number) c.as_slice.ensures.value))
-    (are_components c.args.edges.now s.marks.items s.nodes.items _ (length s.roots.items) c.loop-root.invariant.search c.loop-root.invariant.idle (λ x lt. c.loop-root.invariant.seen x (omega arith))))
-    c.numbers_of.ensures
+    (are_components s.search s.idle (λ x lt. s.seen x (omega arith)))) c.numbers_of.ensures

@@ -1,5 +1,4 @@
-use Rattle.std.proofs.Common.{◌≡◌, ◌+◌, ◌-◌, ◌<◌, vec_len, length, arith}
-use Rattle.std.specs.Prelude.{slice_index}
+use Rattle.std.proofs.Common.{◌≡◌, ◌-◌, vec_len, length, arith}
 use Rattle.std.proofs.lemmas.Grind.{common_steps}
 use Rattle.components.proofs.Stack.{numbered, top_fits}
 use Rattle.components.proofs.search.number_nodes.Goals as goal
@@ -7,10 +6,11 @@ use Rattle.components.proofs.search.number_nodes.Goals as goal
 pub index_mut-requires : goal.index_mut-requires
 index_mut-requires c =
     let size : vec_len c.nodes.nodes ≡ length c.nodes.nodes.items = grind (arith, common_steps) in
-    let fits = top_fits c.args.place c.args.number c.args.marks.now.items c.nodes.marks.items c.nodes.nodes.items c.nodes.invariant (c.len-top.result - 1) c.index.result.now (omega arith) (omega arith) c.index.ensures in
+    let fits = top_fits c.nodes.invariant (c.len-top.result - 1) c.index.result.now (omega arith) (omega arith) c.index.ensures in
     grind (arith, common_steps)
 
 pub nodes-preserved : goal.nodes-preserved
-nodes-preserved c = 
+nodes-preserved c =
     let size : vec_len c.nodes.nodes ≡ length c.nodes.nodes.items = grind (arith, common_steps) in
-    rw c.truncate.ensures.items (numbered c.args.place c.args.number c.args.marks.now.items c.nodes.marks.items c.nodes.nodes.items c.nodes.invariant (c.len-top.result - 1) c.index.result.now (omega arith) (omega arith) c.index.ensures)
+    rw c.truncate.ensures.items
+    (numbered c.nodes.invariant (c.len-top.result - 1) c.index.result.now (omega arith) (omega arith) c.index.ensures)

@@ -4,8 +4,8 @@ use Rattle.components.proofs.search.Search.finish.Given as goal
 abbrev pub invariant-steps : goal.invariant-steps
 invariant-steps l = record {
   search : ComponentSearches l.edges l.self;
-  none_new : NoneNew l.initial.self.marks.items l.self.marks.items;
+  none_new : NoneNew l.initial.self l.self;
 }
 
 abbrev pub decreases-steps : goal.decreases-steps
-decreases-steps l = search_work_left l.self.marks.items l.self.path.items
+decreases-steps l = search_work_left l.self
