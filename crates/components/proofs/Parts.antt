@@ -89,7 +89,9 @@ module _ {edges : List (Vec ℕ Global)} {marks : List Mark} {frame below : Fram
         here = under.here;
         lowest = let old = under.lowest in omega arith;
         back = elim (cases_lt frame.low below.low) [
-          | inl less ↦ (let e : frame.low ≡ low = omega arith in (s.back.0, s.back.1 ∙ ap Open e, far below.node below.place under.here (omega arith)))
+          | inl less ↦
+              (let e : frame.low ≡ low = omega arith in
+              (s.back.0, s.back.1 ∙ ap Open e, far below.node below.place under.here (omega arith)))
           | inr more ↦ (let e : below.low ≡ low = omega arith in (under.back.0, under.back.1 ∙ ap Open e, under.back.2))
         ];
         reach = λ x y p q o u lp above lq. elim (cases_lt q frame.place) [

@@ -11,7 +11,7 @@ use Rattle.components.specs.Graph.{Reaches, target, targets}
 use Rattle.components.specs.Kept.{GoesOn, IsComponentSearch, IsDone, IsPart, IsSeen, IsStack, MarksGoOn, node_mark}
 use Rattle.components.proofs.Parts.{joined, parts_stay, past}
 use Rattle.components.proofs.Stack.{opened}
-use Rattle.components.proofs.Ways.{along}
+use Rattle.components.proofs.Ways.{along, edge, join}
 
 -- the topmost frame comes first
 pub reversed : (path : List Frame) (frame : Frame) → reverse (path ++ frame ∷ []) ≡ frame ∷ reverse path
@@ -29,6 +29,16 @@ pub past_search : {edges : List (Vec ℕ Global)} {marks : List Mark} {nodes : L
     → IsComponentSearch edges marks nodes (record frame { low = low; next = frame.next + 1 } ∷ frames) count
 past_search s y low more is least seen from =
     record { sized = s.sized; stack = s.stack; parts = (past s.parts.0 y low more is least seen from, s.parts.1); done = s.done }
+
+-- all open nodes reach the node to which its next edge leads
+pub next_reached : {edges : List (Vec ℕ Global)} {marks : List Mark} {nodes : List ℕ} {frame : Frame} {frames : List Frame} {count : ℕ}
+    → IsComponentSearch edges marks nodes (frame ∷ frames) count → frame.next < length (targets edges frame.node)
+    → (x p : ℕ) → node_mark marks x ≡ Open p → Reaches edges x (target edges frame.node frame.next)
+next_reached {edges} {frame} s more x p o =
+    let part = s.parts.0 in
+    join edges x frame.node (target edges frame.node frame.next)
+    (part.reach x frame.node p frame.place o part.here (s.stack.placed x p o).0 (omega arith) part.inside)
+    (edge edges frame.node frame.next (target edges frame.node frame.next) more refl)
 
 -- a node is opened that all open nodes reach
 module _ {edges : List (Vec ℕ Global)} {marks : List Mark} {nodes : List ℕ} {frames : List Frame} {count y : ℕ}
@@ -84,24 +94,28 @@ module _ {edges : List (Vec ℕ Global)} {marks : List Mark} {nodes : List ℕ} 
 
 -- the topmost part reaches below its place, and its edges are done
 pub join_search : {edges : List (Vec ℕ Global)} {marks : List Mark} {nodes : List ℕ} {frame below : Frame} {frames : List Frame} {count : ℕ}
-    → IsComponentSearch edges marks nodes (frame ∷ below ∷ frames) count → length (targets edges frame.node) ≤ frame.next → frame.low < frame.place
+    → IsComponentSearch edges marks nodes (frame ∷ below ∷ frames) count
+    → length (targets edges frame.node) ≤ frame.next → frame.low < frame.place
     → IsComponentSearch edges marks nodes (record below { low = min below.low frame.low } ∷ frames) count
 join_search s finished deep =
     record { sized = s.sized; stack = s.stack; parts = (joined s.parts.0 s.parts.1.0 finished deep, s.parts.1.1); done = s.done }
 
 -- the topmost part reaches none below its place, and its edges are done
 module _ {edges : List (Vec ℕ Global)} {marks now : List Mark} {nodes left : List ℕ} {frame : Frame} {frames : List Frame} {count : ℕ}
-    (s : IsComponentSearch edges marks nodes (frame ∷ frames) count) (finished : length (targets edges frame.node) ≤ frame.next) (high : frame.place ≤ frame.low)
-    (stack : IsStack now left) (long : length left ≡ frame.place) (go : MarksGoOn frame.place count marks now) (sized : length now ≡ length marks) where
+    (s : IsComponentSearch edges marks nodes (frame ∷ frames) count) (finished : length (targets edges frame.node) ≤ frame.next)
+    (high : frame.place ≤ frame.low) (stack : IsStack now left) (long : length left ≡ frame.place)
+    (go : MarksGoOn frame.place count marks now) (sized : length now ≡ length marks) where
   -- what the part leads to is done
-  leads_to_done : (x : ℕ) (m : Mark) → node_mark marks x ≡ m → IsSeen frame.low m → GoesOn frame.place count m (node_mark now x) → IsDone count (node_mark now x)
+  leads_to_done : (x : ℕ) (m : Mark) → node_mark marks x ≡ m → IsSeen frame.low m → GoesOn frame.place count m (node_mark now x)
+      → IsDone count (node_mark now x)
   leads_to_done x New n seen g = absurd seen
   leads_to_done x (Open p) o seen (inl u) = let h = (stack.placed x p u).0 in absurd (omega arith)
   leads_to_done x (Open p) o seen (inr d) = rw d.1 (omega arith)
   leads_to_done x (Done c) d seen g = rw g (let h = s.done.below x c d in omega arith)
 
   -- what is done was done, or stood in the part
-  done_back : (x c : ℕ) → node_mark now x ≡ Done c → (node_mark marks x ≡ Done c) ⊎ ((p : ℕ) × (node_mark marks x ≡ Open p) × (frame.place ≤ p) × (c ≡ count))
+  done_back : (x c : ℕ) → node_mark now x ≡ Done c
+      → (node_mark marks x ≡ Done c) ⊎ ((p : ℕ) × (node_mark marks x ≡ Open p) × (frame.place ≤ p) × (c ≡ count))
   done_back x c d = let g = go x in grind arith
 
   pub close_search : IsComponentSearch edges now left frames (count + 1)
@@ -129,7 +143,8 @@ module _ {edges : List (Vec ℕ Global)} {marks now : List Mark} {nodes left : L
         | inr new ↦ elim (done_back z c f) [
           | inl old ↦ (let h = s.done.below z c old in let same = new.3 in absurd (omega arith))
           | inr as_new ↦
-              s.parts.0.reach x z new.0 as_new.0 new.1 as_new.1 (s.stack.placed x new.0 new.1).0 as_new.2 (s.stack.placed z as_new.0 as_new.1).0
+              s.parts.0.reach x z new.0 as_new.0 new.1 as_new.1 (s.stack.placed x new.0 new.1).0 as_new.2
+              (s.stack.placed z as_new.0 as_new.1).0
         ]
       ];
     };

@@ -60,7 +60,12 @@ impl Search {
     {
         let place = self.nodes.len();
         self.nodes.push(node)?;
-        self.path.push(Frame { node, place, low: place, next: 0 })?;
+        self.path.push(Frame {
+            node,
+            place,
+            low: place,
+            next: 0,
+        })?;
         self.marks[node] = Mark::Open(place);
         Ok(())
     }
@@ -73,7 +78,10 @@ impl Search {
         ensures none_new { OnOk result (NoneNew self.old self.new) }
     {
         if let Some(below) = self.path.pop() {
-            self.path.push(Frame { low: below.low.min(frame.low), ..below })?;
+            self.path.push(Frame {
+                low: below.low.min(frame.low),
+                ..below
+            })?;
         }
         Ok(())
     }
@@ -93,11 +101,12 @@ impl Search {
         Ok(())
     }
 
-    /// The topmost frame behind its edges up to the first that leads to a new node.
+    /// The topmost frame after its edges up to the first that leads to a new node, which stays its next.
     fn look_ahead(&self, edges: &[Vec<usize>], mut frame: Frame) -> Frame
         requires { SearchesAt edges.now self.now (frame ∷ reverse self.now.path.items) }
         ensures search { SearchesAt edges.now self.now (result ∷ reverse self.now.path.items) }
-        ensures stopped { result.next < length (targets edges.now result.node) → node_mark self.now.marks.items (target edges.now result.node result.next) ≡ New }
+        ensures stopped { result.next < length (targets edges.now result.node)
+            → node_mark self.now.marks.items (target edges.now result.node result.next) ≡ New }
     {
         let targets = targets_of(edges, frame.node);
         'edges: while frame.next < targets.len() {

@@ -1,4 +1,4 @@
-use Rattle.std.proofs.Common.{◌≡◌, inl, refl, ap, sym, ◌∙◌, arith}
+use Rattle.std.proofs.Common.{inl, refl, ap, sym, ◌∙◌, arith}
 use Rattle.std.specs.Prelude.{slice_index}
 use Rattle.components.specs.Graph.{targets}
 use Rattle.components.proofs.Steps.{past_search}
@@ -9,14 +9,16 @@ pub edges-preserved : goal.edges-preserved
 edges-preserved c =
     let old = c.edges.invariant in
     let y = slice_index c.targets_of-targets.result.now c.edges.frame.next in
-    let are : c.targets_of-targets.result.now ≡ targets c.args.edges.now c.edges.frame.node = c.targets_of-targets.ensures ∙ ap (targets c.args.edges.now) (sym old.node) in
+    let are = c.targets_of-targets.ensures ∙ ap (targets c.args.edges.now) (sym old.node) in
     let more = rw are at c.edges-test.true in
     let is = ap (λ xs. slice_index xs c.edges.frame.next) are in
     elim c.match-mark_of.branch [
       | in-Open w ↦
           (let o = rw c.as_slice.ensures.value at (sym c.mark_of.ensures ∙ w.in-Open.is) in
-          rw w.frame-is record { node = old.node; search = past_search old.search y _ more is (omega arith) (rw o (omega arith)) (grind arith) })
+          let search = past_search old.search y w.min.result more is (omega arith) (rw o (omega arith)) (grind arith) in
+          rw w.frame-is record { node = old.node; search = search })
       | in-Done w ↦
           (let d = rw c.as_slice.ensures.value at (sym c.mark_of.ensures ∙ w.in-Done.is) in
-          rw w.frame-is record { node = old.node; search = past_search old.search y _ more is (omega arith) (rw d tt) (inl refl) })
+          let search = past_search old.search y c.edges.frame.low more is (omega arith) (rw d tt) (inl refl) in
+          rw w.frame-is record { node = old.node; search = search })
     ]
