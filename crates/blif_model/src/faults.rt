@@ -3,20 +3,16 @@ ghost use Rattle.std.specs.Prelude.{◌≡◌, [], length, nat_lt};
 ghost use Rattle.std.specs.List.{list_any};
 ghost use Rattle.std.specs.Option.{option_map};
 ghost use Rattle.fm_base.specs.Firsts.{first_after, given};
-ghost use Rattle.blif_text.specs.Lines.{is_wide};
-ghost use Rattle.blif_text.specs.Read.{line_of};
-ghost use Rattle.blif_model.specs.LineFault.{fault_of, is_read, line_fault, said};
-ghost use Rattle.blif_model.specs.Grouped.{all_said};
+ghost use Rattle.blif_model.specs.LineFault.{fault_of, is_read, line_fault};
 ghost use Rattle.blif_model.specs.Meant.{meant};
 ghost use Rattle.blif_model.specs.Position.{spot_at};
 ghost use Rattle.blif_model.specs.Spot.{kind_at, own_kind, place_kind, plane_kind, row_kind};
 ghost use Rattle.blif_model.specs.Tokens.{texts_of};
 
 use crate::position::Position;
+use crate::read_line::ReadLine;
 use crate::rows::{is_row, output_of};
 use crate::says::Says;
-use crate::statement::line_says;
-use blif_text::lines::{TextLine, is_wide_line};
 use blif_text::token::Token;
 use blif_text::{NetlistFault, NetlistKind};
 
@@ -103,16 +99,16 @@ fn line_kind(position: &Position<'_>, says: Says<'_, '_>, wide: bool) -> Option<
 }
 
 /// The first line with a fault.
-fn first_fault(lines: &[TextLine<'_>]) -> Option<NetlistFault>
-    ensures { result ≡ first_after fault_of [] (all_said lines.now) }
+fn first_fault(lines: &[ReadLine<'_>]) -> Option<NetlistFault>
+    ensures { result ≡ first_after fault_of [] lines.now }
 {
     let mut position = Position::new();
     for line in lines {
-        let says = line_says(line);
-        match line_kind(&position, says, is_wide_line(line)) {
+        let says = line.says();
+        match line_kind(&position, says, line.is_wide()) {
             Some(kind) => {
                 return Some(NetlistFault {
-                    line: line.number,
+                    line: line.number(),
                     kind,
                 });
             }
@@ -123,24 +119,25 @@ fn first_fault(lines: &[TextLine<'_>]) -> Option<NetlistFault>
     None
 }
 
-fn says_something(line: &TextLine<'_>) -> bool
-    ensures { result ≡ is_read (said (line_of line.now)).says }
+fn says_something(line: &ReadLine<'_>) -> bool
+    ensures { result ≡ is_read line.now.says }
 {
-    match line_says(line) {
+    match line.says() {
         Says::Passed => false,
         _ => true,
     }
 }
 
-fn any_read(lines: &[TextLine<'_>]) -> bool
-    ensures { result ≡ list_any (λ l. is_read (said (line_of l)).says) lines.now }
+fn any_read(lines: &[ReadLine<'_>]) -> bool
+    ensures { result ≡ list_any (λ l. is_read l.says) lines.now }
 {
     lines.iter().any(says_something)
 }
 
 /// The fault of a file's lines, if there is one.
-pub fn fault_in(lines: &[TextLine<'_>]) -> Option<NetlistFault>
-    ensures { result ≡ line_fault (all_said lines.now) }
+#[tactic(auto, unfolding(crate::specs::LineFault::line_fault))]
+pub fn fault_in(lines: &[ReadLine<'_>]) -> Option<NetlistFault>
+    ensures { result ≡ line_fault lines.now }
 {
     if any_read(lines) {
         first_fault(lines)

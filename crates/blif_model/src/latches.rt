@@ -1,85 +1,66 @@
 // `.latch` lines.
-ghost use Rattle.std.specs.Prelude.{◌≡◌, ◌∷◌, []};
-ghost use Rattle.blif_model.specs.Statement.{latch_line, plain_latch, typed_latch};
+ghost use Rattle.std.specs.Prelude.{◌≡◌, ◌∷◌, [], List};
+ghost use Rattle.fm_base.specs.Names.{Name};
+ghost use Rattle.blif_model.specs.Statement.{latch_line, typed_latch};
+ghost use Rattle.blif_model.specs.Directed.{directed};
 ghost use Rattle.blif_model.specs.Tokens.{texts_of};
-ghost use Rattle.blif_model.specs.Meant.{meant};
 
-use crate::says::{Clocked, LatchSays, Malformed, Says};
+use crate::directive::Directive;
+use crate::says::Malformed;
 use crate::words::{is_edge_type, is_high, is_init_value, is_level_type};
 use blif_text::token::Token;
 
-fn plain<'m, 'a>(from: &'a [u8], to: &'a [u8], start: bool) -> Says<'m, 'a>
-    ensures { meant result ≡ plain_latch from.entry.now to.entry.now start }
-{
-    Says::Latch(LatchSays {
-        from,
-        to,
-        clocking: None,
-        start,
-    })
-}
-
-fn typed<'m, 'a>(
-    from: &'a [u8],
-    to: &'a [u8],
-    edge: &'a [u8],
-    control: &'a [u8],
-    start: bool,
-) -> Says<'m, 'a>
-    ensures { meant result ≡ typed_latch from.entry.now to.entry.now edge.entry.now control.entry.now start }
+/// A latch of a type.
+fn typed(edge: &[u8], start: bool) -> Directive
+    ensures { (from to control : Name) (names : List Name) → directed result (from ∷ to ∷ edge.now ∷ control ∷ names) ≡ typed_latch from to edge.now control start }
 {
     if is_edge_type(edge) {
-        return Says::Latch(LatchSays {
-            from,
-            to,
-            clocking: Some(Clocked { edge, control }),
-            start,
-        });
+        return Directive::Latch { start };
     }
     if is_level_type(edge) {
-        return Says::Wrong(Malformed::LevelLatch);
+        return Directive::Wrong(Malformed::LevelLatch);
     }
-    Says::Wrong(Malformed::BadLatch)
+    Directive::Wrong(Malformed::BadLatch)
 }
 
-/// A latch line with an initial value.
-fn plain_from<'m, 'a>(from: &'a [u8], to: &'a [u8], init: &'a [u8]) -> Says<'m, 'a>
-    ensures { meant result ≡ latch_line (from.entry.now ∷ to.entry.now ∷ init.entry.now ∷ []) }
+/// A latch with an initial value.
+fn plain_from(init: &[u8]) -> Directive
+    ensures { (from to : Name) → directed result (from ∷ to ∷ init.now ∷ []) ≡ latch_line (from ∷ to ∷ init.now ∷ []) }
 {
     if is_init_value(init) {
-        plain(from, to, is_high(init))
-    } else {
-        Says::Wrong(Malformed::BadLatch)
-    }
-}
-
-fn typed_from<'m, 'a>(
-    from: &'a [u8],
-    to: &'a [u8],
-    edge: &'a [u8],
-    control: &'a [u8],
-    init: &'a [u8],
-) -> Says<'m, 'a>
-    ensures { meant result ≡ latch_line (from.entry.now ∷ to.entry.now ∷ edge.entry.now ∷ control.entry.now ∷ init.entry.now ∷ []) }
-{
-    if is_init_value(init) {
-        typed(from, to, edge, control, is_high(init))
-    } else {
-        Says::Wrong(Malformed::BadLatch)
-    }
-}
-
-/// What the tokens behind `.latch` say.
-pub fn latch_says<'m, 'a>(tokens: &'m [Token<'a>]) -> Says<'m, 'a>
-    ensures { meant result ≡ latch_line (texts_of tokens.now) }
-{
-    match tokens {
-        [from, to] => plain(from.text, to.text, false),
-        [from, to, init] => plain_from(from.text, to.text, init.text),
-        [from, to, edge, control] => typed(from.text, to.text, edge.text, control.text, false),
-        [from, to, edge, control, init] => {
-            typed_from(from.text, to.text, edge.text, control.text, init.text)
+        Directive::Latch {
+            start: is_high(init),
         }
-        _ => Says::Wrong(Malformed::BadLatch),
+    } else {
+        Directive::Wrong(Malformed::BadLatch)
+    }
+}
+
+fn typed_plain(edge: &[u8]) -> Directive
+    ensures { (from to control : Name) → directed result (from ∷ to ∷ edge.now ∷ control ∷ []) ≡ latch_line (from ∷ to ∷ edge.now ∷ control ∷ []) }
+{
+    typed(edge, false)
+}
+
+fn typed_from(edge: &[u8], init: &[u8]) -> Directive
+    ensures { (from to control : Name) → directed result (from ∷ to ∷ edge.now ∷ control ∷ init.now ∷ []) ≡ latch_line (from ∷ to ∷ edge.now ∷ control ∷ init.now ∷ []) }
+{
+    if is_init_value(init) {
+        typed(edge, is_high(init))
+    } else {
+        Directive::Wrong(Malformed::BadLatch)
+    }
+}
+
+/// What the names behind `.latch` make of it.
+pub fn latch_directive(names: &[Token<'_>]) -> Directive
+    ensures { directed result (texts_of names.now) ≡ latch_line (texts_of names.now) }
+{
+    match names {
+        [_, _] => Directive::Latch { start: false },
+        [_, _, init] => plain_from(init.text),
+        [_, _, edge, _control] => typed_plain(edge.text),
+        [_, _, edge, _, init] => typed_from(edge.text, init.text),
+        _ => Directive::Wrong(Malformed::BadLatch),
     }
 }

@@ -6,8 +6,8 @@ ghost use Rattle.blif_model.specs.Grouped.{models_seen};
 
 use crate::faults::fault_in;
 use crate::models::{ModelLines, models_in};
+use crate::read_line::{ReadLine, read_lines};
 use blif_text::NetlistFault;
-use blif_text::lines::{TextLine, all_lines};
 use fm_base::Refusal;
 use std::alloc::{AllocError, Global};
 use std::marker::Model;
@@ -15,17 +15,16 @@ use std::marker::Model;
 /// The models of a file without a faulty line, in the file's order; the first is the main one. It holds the lines of the file.
 #[derive(Drop)]
 pub struct ModelList<'a> {
-    lines: Vec<TextLine<'a>>,
+    lines: Vec<ReadLine<'a>>,
 }
 
 impl<'a> Model for ModelList<'a> {
     ghost use Rattle.std.specs.Prelude.{List};
     ghost use Rattle.blif_model.specs.Models.{Model, models_of};
-    ghost use Rattle.blif_model.specs.Grouped.{all_said};
 
     ghost Value = { List Model };
 
-    ghost view = { λ s. models_of (all_said s.lines.items) };
+    ghost view = { λ s. models_of s.lines.items };
 }
 
 impl<'a> ModelList<'a> {
@@ -39,6 +38,7 @@ impl<'a> ModelList<'a> {
 
 /// The models of the bytes of a file. Refused where a line is faulty, with the first such line and its first kind of `NoModel`
 /// to `TooWide`; a file without a line that is read is `NoModel` at line 1.
+#[tactic(auto, unfolding(crate::specs::Models::file_models))]
 pub fn read_models<'a>(
     alloc: Global,
     bytes: &'a [u8],
@@ -46,7 +46,7 @@ pub fn read_models<'a>(
     requires { length bytes.now < 2 ^ 31 }
     ensures { Gives (models_read bytes.now) result }
 {
-    let Ok(lines) = all_lines(alloc, bytes) else {
+    let Ok(lines) = read_lines(alloc, bytes) else {
         return Err(Refusal::Memory);
     };
     match fault_in(lines.as_slice()) {

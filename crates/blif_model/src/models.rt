@@ -2,15 +2,12 @@
 ghost use Rattle.std.specs.Prelude.{◌≡◌, ◌<◌, ◌≤◌, ◌++◌, length, IfOk, MatchOption, OnOk};
 ghost use Rattle.std.specs.List.{position, position_or_len};
 ghost use Rattle.std.specs.Option.{option_map, option_to_list};
-ghost use Rattle.blif_text.specs.Read.{line_of};
-ghost use Rattle.blif_model.specs.LineFault.{said};
 ghost use Rattle.blif_model.specs.Models.{ends_model, model_from, models_of};
-ghost use Rattle.blif_model.specs.Grouped.{all_said, model_of, models_seen};
+ghost use Rattle.blif_model.specs.Grouped.{model_of, models_seen};
 ghost use Rattle.blif_model.specs.Meant.{meant};
 
+use crate::read_line::ReadLine;
 use crate::says::Says;
-use crate::statement::line_says;
-use blif_text::lines::TextLine;
 use std::alloc::{AllocError, Global};
 
 /// A model: its name, the number of its `.model` line, and the lines after it up to its end, rows among them. The rows of a
@@ -19,29 +16,29 @@ use std::alloc::{AllocError, Global};
 pub struct ModelLines<'m, 'a> {
     pub name: &'a [u8],
     pub line: u32,
-    pub items: &'m [TextLine<'a>],
+    pub items: &'m [ReadLine<'a>],
 }
 
-fn ends(line: &TextLine<'_>) -> bool
-    ensures { result ≡ ends_model (said (line_of line.now)).says }
+fn ends(line: &ReadLine<'_>) -> bool
+    ensures { result ≡ ends_model line.now.says }
 {
-    match line_says(line) {
+    match line.says() {
         Says::End | Says::Model(_) => true,
         _ => false,
     }
 }
 
 /// The place of the first line that ends a model.
-fn first_end(lines: &[TextLine<'_>]) -> Option<usize>
-    ensures place { result ≡ position (λ l. ends_model (said (line_of l)).says) lines.now }
+fn first_end(lines: &[ReadLine<'_>]) -> Option<usize>
+    ensures place { result ≡ position (λ l. ends_model l.says) lines.now }
     ensures within { MatchOption result (Unit {0}) (λ k. k < length lines.now) }
 {
     lines.iter().position(ends)
 }
 
 /// The place of the first line that ends a model, or the number of lines.
-fn end_place(lines: &[TextLine<'_>]) -> usize
-    ensures place { result ≡ position_or_len (λ l. ends_model (said (line_of l)).says) lines.now }
+fn end_place(lines: &[ReadLine<'_>]) -> usize
+    ensures place { result ≡ position_or_len (λ l. ends_model l.says) lines.now }
     ensures within { result ≤ length lines.now }
 {
     match first_end(lines) {
@@ -54,9 +51,9 @@ fn end_place(lines: &[TextLine<'_>]) -> usize
 fn model_at<'m, 'a>(
     number: u32,
     says: Says<'m, 'a>,
-    below: &'m [TextLine<'a>],
+    below: &'m [ReadLine<'a>],
 ) -> Option<ModelLines<'m, 'a>>
-    ensures { option_to_list (option_map model_of result) ≡ model_from number (meant says.entry) (all_said below.now) }
+    ensures { option_to_list (option_map model_of result) ≡ model_from number (meant says.entry) below.now }
 {
     match says {
         Says::Model(name) => Some(ModelLines {
@@ -71,12 +68,12 @@ fn model_at<'m, 'a>(
 /// The model that a line begins goes behind the others.
 fn put_model<'m, 'a>(
     models: &mut Vec<ModelLines<'m, 'a>>,
-    line: &'m TextLine<'a>,
-    below: &'m [TextLine<'a>],
+    line: &'m ReadLine<'a>,
+    below: &'m [ReadLine<'a>],
 ) -> Result<(), AllocError>
-    ensures { OnOk result (models_seen models.new.items ≡ models_seen models.old.items ++ model_from (said (line_of line.now)).number (said (line_of line.now)).says (all_said below.now)) }
+    ensures { OnOk result (models_seen models.new.items ≡ models_seen models.old.items ++ model_from line.now.number line.now.says below.now) }
 {
-    match model_at(line.number, line_says(line), below) {
+    match model_at(line.number(), line.says(), below) {
         Some(model) => {
             models.push(model)?;
             Ok(())
@@ -88,9 +85,9 @@ fn put_model<'m, 'a>(
 /// The models of lines, in their order.
 pub fn models_in<'m, 'a>(
     alloc: Global,
-    lines: &'m [TextLine<'a>],
+    lines: &'m [ReadLine<'a>],
 ) -> Result<Vec<ModelLines<'m, 'a>>, AllocError>
-    ensures { IfOk result (λ v. models_seen v.items ≡ models_of (all_said lines.now)) }
+    ensures { IfOk result (λ v. models_seen v.items ≡ models_of lines.now) }
 {
     let mut models = Vec::new(alloc);
     let mut rest = lines;

@@ -1,117 +1,80 @@
-// What a line says.
-ghost use Rattle.std.specs.Prelude.{◌≡◌};
-ghost use Rattle.blif_model.specs.Statement.{directive_line, end_line, instance_line, model_line, statement_of, table_line, texts};
-ghost use Rattle.blif_text.specs.Read.{line_of};
-ghost use Rattle.blif_model.specs.Meant.{meant};
+// The directive of a line, found out from its tokens.
+ghost use Rattle.std.specs.Prelude.{◌≡◌, ◌∷◌};
+ghost use Rattle.std.specs.Prelude.{Some};
+ghost use Rattle.blif_model.specs.Statement.{directive_line, instance_line, statement_of};
+ghost use Rattle.blif_model.specs.Directed.{directed, stated};
 ghost use Rattle.blif_model.specs.Tokens.{texts_of};
 
 use crate::bindings::are_bindings;
-use crate::latches::latch_says;
-use crate::says::{Malformed, Says};
+use crate::directive::Directive;
+use crate::latches::latch_directive;
+use crate::says::Malformed;
 use crate::words::{has_dot, is_read_past};
-use blif_text::lines::TextLine;
 use blif_text::token::Token;
 
-fn model_says<'m, 'a>(tokens: &'m [Token<'a>]) -> Says<'m, 'a>
-    ensures { meant result ≡ model_line (texts_of tokens.now) }
+fn instance_directive(names: &[Token<'_>]) -> Directive
+    ensures { directed result (texts_of names.now) ≡ instance_line (texts_of names.now) }
 {
-    match tokens {
-        [name] => Says::Model(name.text),
-        _ => Says::Unnamed,
-    }
-}
-
-fn end_says<'m, 'a>(tokens: &'m [Token<'a>]) -> Says<'m, 'a>
-    ensures { meant result ≡ end_line (texts_of tokens.now) }
-{
-    if tokens.is_empty() {
-        Says::End
-    } else {
-        Says::Wrong(Malformed::BadToken)
-    }
-}
-
-fn table_says<'m, 'a>(tokens: &'m [Token<'a>]) -> Says<'m, 'a>
-    ensures { meant result ≡ table_line (texts_of tokens.now) }
-{
-    match tokens {
-        [ins @ .., out] => Says::Table { ins, out: out.text },
-        [] => Says::Wrong(Malformed::BadToken),
-    }
-}
-
-fn instance_says<'m, 'a>(tokens: &'m [Token<'a>]) -> Says<'m, 'a>
-    ensures { meant result ≡ instance_line (texts_of tokens.now) }
-{
-    match tokens {
-        [name, bindings @ ..] => {
+    match names {
+        [_, bindings @ ..] => {
             if are_bindings(bindings) {
-                Says::Instance {
-                    name: name.text,
-                    bindings,
-                }
+                Directive::Instance
             } else {
-                Says::Wrong(Malformed::BadToken)
+                Directive::Wrong(Malformed::BadToken)
             }
         }
-        [] => Says::Wrong(Malformed::BadToken),
+        [] => Directive::Wrong(Malformed::BadToken),
     }
 }
 
+/// The directive of a word, with the names behind it.
 #[tactic(auto, unfolding(crate::specs::Statement::directive_line))]
-fn directive_says<'m, 'a>(word: &[u8], tokens: &'m [Token<'a>]) -> Says<'m, 'a>
-    ensures { meant result ≡ directive_line word.now (texts_of tokens.now) }
+fn directive_of(word: &[u8], names: &[Token<'_>]) -> Directive
+    ensures { directed result (texts_of names.now) ≡ directive_line word.now (texts_of names.now) }
 {
     if word == b".model".as_slice() {
-        return model_says(tokens);
+        return Directive::Model;
     }
     if word == b".inputs".as_slice() {
-        return Says::Inputs(tokens);
+        return Directive::Inputs;
     }
     if word == b".outputs".as_slice() {
-        return Says::Outputs(tokens);
+        return Directive::Outputs;
     }
     if word == b".clock".as_slice() {
-        return Says::Clock(tokens);
+        return Directive::Clock;
     }
     if word == b".names".as_slice() {
-        return table_says(tokens);
+        return Directive::Table;
     }
     if word == b".latch".as_slice() {
-        return latch_says(tokens);
+        return latch_directive(names);
     }
     if word == b".subckt".as_slice() {
-        return instance_says(tokens);
+        return instance_directive(names);
     }
     if word == b".end".as_slice() {
-        return end_says(tokens);
+        return Directive::End;
     }
     if is_read_past(word) {
-        return Says::Passed;
+        return Directive::Passed;
     }
-    Says::Wrong(Malformed::Directive)
+    Directive::Wrong(Malformed::Directive)
 }
 
-/// What the tokens of a line say.
+/// The directive of a line, or nothing for a row.
 #[tactic(auto, unfolding(crate::specs::Statement::statement_of))]
-pub fn says_of<'m, 'a>(tokens: &'m [Token<'a>]) -> Says<'m, 'a>
-    ensures { meant result ≡ statement_of (texts_of tokens.now) }
+pub fn line_directive(tokens: &[Token<'_>]) -> Option<Directive>
+    ensures { stated result (texts_of tokens.now) ≡ statement_of (texts_of tokens.now) }
 {
     match tokens {
-        [] => Says::Passed,
-        [word, rest @ ..] => {
+        [] => Some(Directive::Passed),
+        [word, names @ ..] => {
             if has_dot(word.text) {
-                directive_says(word.text, rest)
+                Some(directive_of(word.text, names))
             } else {
-                Says::Row(tokens)
+                None
             }
         }
     }
-}
-
-/// What a logical line says.
-pub fn line_says<'m, 'a>(line: &'m TextLine<'a>) -> Says<'m, 'a>
-    ensures { meant result ≡ statement_of (texts (line_of line.now)) }
-{
-    says_of(line.tokens.as_slice())
 }

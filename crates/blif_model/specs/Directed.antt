@@ -1,0 +1,42 @@
+-- What a line says, by what was found out when it was read.
+use Rattle.std.specs.Prelude.{Bool, List, [], ◌∷◌, Option, Some, None}
+use Rattle.fm_base.specs.Names.{Name}
+use Rattle.blif_text.specs.declared.NetlistKind.TheVariants as kinds
+use Rattle.blif_model.specs.Statement.{Statement, inputs, outputs, clock, latch, instance, row, passed, wrong, model_line, table_line, plain_latch, end_line}
+use Rattle.blif_model.specs.Kinds.{kind_of_malformed}
+use Rattle.blif_model.specs.Meant.{bindings_of}
+use Rattle.blif_model.specs.declared.directive.Directive.{Directive}
+use Rattle.blif_model.specs.declared.directive.Directive.TheVariants.{Model, Inputs, Outputs, Clock, Table, Latch, Instance, End, Passed, Wrong}
+
+-- the names behind `.latch`, where type and initial value are good and the latch starts so
+abbrev pub latched : Bool → List Name → Statement
+latched start (from ∷ to ∷ []) = plain_latch from to start
+latched start (from ∷ to ∷ init ∷ []) = plain_latch from to start
+latched start (from ∷ to ∷ edge ∷ control ∷ names) =
+    latch (record { from = from; to = to; clocking = Some (record { edge = edge; control = control }); start = start })
+latched start _ = wrong kinds.BadLatch
+
+-- the names behind `.subckt`, where all bindings are good
+abbrev pub instanced : List Name → Statement
+instanced (name ∷ bindings) = instance name (bindings_of bindings)
+instanced [] = wrong kinds.BadToken
+
+-- the names behind a directive
+abbrev pub directed : Directive → List Name → Statement
+directed Model names = model_line names
+directed Inputs names = inputs names
+directed Outputs names = outputs names
+directed Clock names = clock names
+directed Table names = table_line names
+directed (Latch start) names = latched start names
+directed Instance names = instanced names
+directed End names = end_line names
+directed Passed names = passed
+directed (Wrong why) names = wrong (kind_of_malformed why)
+
+-- the tokens of a line, which is a row where there is no directive
+abbrev pub stated : Option Directive → List Name → Statement
+stated None names = row names
+stated (Some Passed) names = passed
+stated (Some directive) (word ∷ names) = directed directive names
+stated (Some directive) [] = passed
