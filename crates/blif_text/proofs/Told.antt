@@ -1,61 +1,50 @@
--- The steps of the loop that looks for a wide line, and what is answered.
-use Rattle.std.proofs.Common.{◌≡◌, ℕ, zero, suc, ◌+◌, ◌<◌, ◌≤◌, true, false, List, [], ◌∷◌, refl, ap, sym, ◌∙◌, length, drop, get_or, drop-cons, add-one, arith}
-use Rattle.std.specs.Prelude.{map, Option, Some, None, Ok, Err}
+-- What is answered for the lines of a file.
+use Rattle.std.proofs.Common.{◌≡◌, ℕ, Bool, true, false, cond, List, [], ◌∷◌, refl, ap, sym, ◌∙◌}
+use Rattle.std.specs.Prelude.{find, length, map, nat_lt, Option, Some, None, Ok, Err}
+use Rattle.std.specs.List.{list_any}
+use Rattle.std.specs.Option.{option_map, option_or}
 use Rattle.std.proofs.lemmas.Simd.{map-map}
-use Rattle.fm_base.specs.Firsts.{first_where}
-use Rattle.fm_base.proofs.OnePass.{first_where-later, first_where-here}
+use Rattle.fm_base.specs.Firsts.{first_where, given}
+use Rattle.fm_base.proofs.Finding.{list_any-map}
 use Rattle.blif_text.specs.declared.NetlistKind.TheVariants.{TooWide}
 use Rattle.blif_text.specs.declared.lines.TextLine.{TextLine}
+use Rattle.blif_text.specs.declared.token.Token.{Token}
 use Rattle.blif_text.specs.declared.span.LogicalLine.{LogicalLine}
-use Rattle.blif_text.specs.Lines.{is_wide, lines_of, wide_at, wide_line}
-use Rattle.blif_text.specs.Read.{line_of, lines_seen, piece_of}
+use Rattle.blif_text.specs.Lines.{Piece, is_wide, lines_of, wide_at, wide_line}
+use Rattle.blif_text.specs.Read.{line_of, lines_seen, piece_of, pieces_of}
 use Rattle.blif_text.specs.Spans.{lines_read, lines_unless, span_of, spanned}
-use Rattle.std.proofs.lemmas.List.{drop_all}
 
--- the lines from here on begin with this one
-from_here : (lines : List TextLine) (i : ℕ) (line : TextLine) → i < length lines → line ≡ get_or lines i line
-    → lines_seen (drop i lines) ≡ line_of line ∷ lines_seen (drop (i + 1) lines)
-from_here lines i line h e =
-    let cut : drop i lines ≡ line ∷ drop (i + 1) lines = drop-cons lines i line h ∙ rw (← e, add-one) refl in
-    ap lines_seen cut
+-- the tokens of a line as pieces
+pub wide_pieces : (tokens : List Token) → list_any (λ (p : Piece). nat_lt 255 (length p.text)) (pieces_of tokens) ≡ list_any (λ (t : Token). nat_lt 255 (length t.text.now)) tokens
+wide_pieces tokens = list_any-map (λ (p : Piece). nat_lt 255 (length p.text)) piece_of tokens
 
--- the first wide line ends the search
-pub wide_here : (lines : List TextLine) (i : ℕ) (line : TextLine) (all : Option ℕ) → i < length lines → line ≡ get_or lines i line
-    → is_wide (line_of line) ≡ true → first_where wide_at (lines_seen (drop i lines)) ≡ all → Some line.number ≡ all
-wide_here lines i line all h e w told =
-    let here : wide_at (line_of line) ≡ Some line.number = rw w refl in
-    sym (first_where-here wide_at (line_of line) (lines_seen (drop (i + 1) lines)) line.number here)
-    ∙ ap (first_where wide_at) (sym (from_here lines i line h e)) ∙ told
+pub spans_of_pieces : (tokens : List Token) → map span_of (pieces_of tokens) ≡ map (λ (t : Token). span_of (piece_of t)) tokens
+spans_of_pieces tokens = map-map span_of piece_of tokens
 
--- any other goes to those before
-pub wide_later : (lines : List TextLine) (i : ℕ) (line : TextLine) (all : Option ℕ) → i < length lines → line ≡ get_or lines i line
-    → is_wide (line_of line) ≡ false → first_where wide_at (lines_seen (drop i lines)) ≡ all → first_where wide_at (lines_seen (drop (i + 1) lines)) ≡ all
-wide_later lines i line all h e w told =
-    let here : wide_at (line_of line) ≡ None = rw w refl in
-    sym (first_where-later wide_at (line_of line) (lines_seen (drop (i + 1) lines)) here)
-    ∙ ap (first_where wide_at) (sym (from_here lines i line h e)) ∙ told
+-- the number of the first wide line
+abbrev pub number_of_wide : List TextLine → Option ℕ
+number_of_wide lines = option_map (λ line. line.number) (find (λ line. is_wide (line_of line)) lines)
 
--- at the end there is none
-pub wide_nowhere : (lines : List TextLine) (i : ℕ) (all : Option ℕ) → length lines ≤ i → first_where wide_at (lines_seen (drop i lines)) ≡ all → None ≡ all
+wide_found : (lines : List TextLine) → number_of_wide lines ≡ first_where wide_at (lines_seen lines)
 unfolding first_where
-wide_nowhere lines i all h told =
-    let none : None ≡ first_where wide_at (lines_seen (drop i lines)) = rw (drop_all i lines h) refl in
-    none ∙ told
+wide_found [] = refl
+wide_found (line ∷ lines) = by_cases (is_wide (line_of line)) (wide_found lines)
+  where
+    by_cases : (b : Bool) → number_of_wide lines ≡ first_where wide_at (lines_seen lines)
+        → option_map (λ (l : TextLine). l.number) (cond b (Some line) (find (λ l. is_wide (line_of l)) lines)) ≡ option_or (given b line.number) (first_where wide_at (lines_seen lines))
+    by_cases true more = refl
+    by_cases false more = more
 
--- a line with the places of its tokens, as it is read
-pub spanned_seen : (line : TextLine) (told : LogicalLine) → told ≡ record { number = line.number; tokens = map (λ t. span_of (piece_of t)) line.tokens.items } → told ≡ spanned (line_of line)
-spanned_seen line told e = e ∙ rw (← map-map span_of piece_of line.tokens.items) refl
+wide_seen : (lines : List TextLine) (bytes : List ℕ) → lines_seen lines ≡ lines_of bytes → number_of_wide lines ≡ wide_line bytes
+unfolding wide_line
+wide_seen lines bytes s = wide_found lines ∙ ap (first_where wide_at) s
 
--- what is answered for the lines of a file
-pub answer_wide : (lines : List TextLine) (bytes : List ℕ) (line : ℕ) → lines_seen lines ≡ lines_of bytes → Some line ≡ first_where wide_at (lines_seen lines)
+pub answer_wide : (lines : List TextLine) (bytes : List ℕ) (line : ℕ) → lines_seen lines ≡ lines_of bytes → Some line ≡ number_of_wide lines
     → lines_read bytes ≡ Err (record { line = line; kind = TooWide })
-unfolding wide_line
-answer_wide lines bytes line s e =
-    ap (λ (w : Option ℕ). lines_unless w (map spanned (lines_of bytes))) (ap (first_where wide_at) (sym s) ∙ sym e)
+answer_wide lines bytes line s e = ap (λ (w : Option ℕ). lines_unless w (map spanned (lines_of bytes))) (sym (e ∙ wide_seen lines bytes s))
 
-pub answer_lines : (lines : List TextLine) (bytes : List ℕ) (told : List LogicalLine) → lines_seen lines ≡ lines_of bytes → None ≡ first_where wide_at (lines_seen lines)
-    → told ≡ map spanned (lines_seen lines) → lines_read bytes ≡ Ok told
-unfolding wide_line
+pub answer_lines : (lines : List TextLine) (bytes : List ℕ) (told : List LogicalLine) → lines_seen lines ≡ lines_of bytes → None ≡ number_of_wide lines
+    → told ≡ map (λ line. spanned (line_of line)) lines → lines_read bytes ≡ Ok told
 answer_lines lines bytes told s e t =
-    ap (λ (w : Option ℕ). lines_unless w (map spanned (lines_of bytes))) (ap (first_where wide_at) (sym s) ∙ sym e)
-    ∙ ap (λ (ls : List LogicalLine). lines_unless None ls) (ap (map spanned) (sym s) ∙ sym t)
+    ap (λ (w : Option ℕ). lines_unless w (map spanned (lines_of bytes))) (sym (e ∙ wide_seen lines bytes s))
+    ∙ ap (λ (ls : List LogicalLine). lines_unless None ls) (ap (map spanned) (sym s) ∙ map-map spanned line_of lines ∙ sym t)

@@ -1,5 +1,5 @@
 -- What the lines that are read mean.
-use Rattle.std.specs.Prelude.{ℕ, List, ◌++◌, map, Option, Some, None}
+use Rattle.std.specs.Prelude.{List, map}
 use Rattle.blif_text.specs.Lines.{Piece, Line}
 use Rattle.blif_text.specs.declared.token.Token.{Token}
 use Rattle.blif_text.specs.declared.lines.TextLine.{TextLine}
@@ -15,8 +15,3 @@ line_of line = record { number = line.number; tokens = pieces_of line.tokens.ite
 
 abbrev pub lines_seen : List TextLine → List Line
 lines_seen lines = map line_of lines
-
--- the line that waits for its end, or a new one, with more tokens
-abbrev pub grown_line : Option Line → ℕ → List Piece → Line
-grown_line None number tokens = record { number = number; tokens = tokens }
-grown_line (Some line) number tokens = record { number = line.number; tokens = line.tokens ++ tokens }

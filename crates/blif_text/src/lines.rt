@@ -1,9 +1,8 @@
 // The logical lines of a text.
-ghost use Rattle.std.specs.Prelude.{◌≡◌, ◌++◌, ◌∷◌, [], ◌+◌, ◌<◌, ◌^◌, ℕ, List, length, nat_lt, filter, IfOk, OnOk};
-ghost use Rattle.std.specs.List.{list_any};
-ghost use Rattle.std.specs.Option.{option_map};
-ghost use Rattle.blif_text.specs.Lines.{has_bytes, has_tokens, is_white, is_wide, lines_of, Piece, pieces};
-ghost use Rattle.blif_text.specs.Read.{grown_line, line_of, lines_seen, pieces_of};
+ghost use Rattle.std.specs.Prelude.{◌≡◌, ◌++◌, ◌∷◌, [], ◌+◌, ◌<◌, ◌≤◌, ◌^◌, List, length, nat_lt, filter, IfOk, OnOk};
+ghost use Rattle.std.specs.List.{enumerate_from, list_any};
+ghost use Rattle.blif_text.specs.Lines.{has_tokens, is_wide, Line, lines_of, Piece};
+ghost use Rattle.blif_text.specs.Read.{line_of, lines_seen};
 ghost use Rattle.blif_text.specs.Left.{lines_left};
 
 use crate::ink::ink_of;
@@ -19,22 +18,19 @@ pub struct TextLine<'a> {
     pub tokens: Vec<Token<'a>>,
 }
 
-/// The line that waits for its end, or a new one.
-fn resumed<'a>(alloc: Global, waiting: Option<TextLine<'a>>, number: u32) -> TextLine<'a>
-    ensures { line_of result ≡ grown_line (option_map line_of waiting.entry) number [] }
+/// A logical line without a token so far.
+fn new_line<'a>(alloc: Global, number: u32) -> TextLine<'a>
+    ensures { line_of result ≡ record { number = number; tokens = [] } }
 {
-    match waiting {
-        Some(line) => line,
-        None => TextLine {
-            number,
-            tokens: Vec::new(alloc),
-        },
+    TextLine {
+        number,
+        tokens: Vec::new(alloc),
     }
 }
 
 /// A line counts where it has a token.
 fn put_line<'a>(done: &mut Vec<TextLine<'a>>, line: TextLine<'a>) -> Result<(), AllocError>
-    ensures { OnOk result (lines_seen done.new.items ≡ lines_seen done.old.items ++ filter has_tokens (line_of line.entry ∷ [])) }
+    ensures { OnOk result ((more : List Line) → lines_seen done.new.items ++ filter has_tokens more ≡ lines_seen done.old.items ++ filter has_tokens (line_of line.entry ∷ more)) }
 {
     if line.tokens.is_empty() {
         return Ok(());
@@ -43,53 +39,45 @@ fn put_line<'a>(done: &mut Vec<TextLine<'a>>, line: TextLine<'a>) -> Result<(), 
     Ok(())
 }
 
-/// One physical line. The answer is the line that waits for its end.
+/// One physical line, which goes on with a logical line. The answer is the one that the next physical line goes on with.
 fn take_line<'a>(
     alloc: Global,
     done: &mut Vec<TextLine<'a>>,
-    waiting: Option<TextLine<'a>>,
+    line: TextLine<'a>,
     number: u32,
     place: usize,
     text: &'a [u8],
-) -> Result<Option<TextLine<'a>>, AllocError>
-    requires { place + length text.now < 2 ^ 31 }
-    ensures { IfOk result (λ o. (ps : List (ℕ × Piece)) → lines_left (lines_seen done.old.items) (option_map line_of waiting.entry) ((number, record { start = place; text = text.now }) ∷ ps) ≡ lines_left (lines_seen done.new.items) (option_map line_of o) ps) }
+) -> Result<TextLine<'a>, AllocError>
+    requires room { place + length text.now < 2 ^ 31 }
+    requires counted { number ≤ 2 ^ 31 }
+    ensures { IfOk result (λ next. (ps : List Piece) → lines_left (lines_seen done.old.items) (line_of line.entry) (enumerate_from number (record { start = place; text = text.now } ∷ ps)) ≡ lines_left (lines_seen done.new.items) (line_of next) (enumerate_from (number + 1) ps)) }
 {
     let (ink, is_joined) = ink_of(text);
-    let mut line = resumed(alloc, waiting, number);
+    let mut line = line;
     put_tokens(&mut line.tokens, place, ink)?;
     if is_joined {
-        return Ok(Some(line));
+        return Ok(line);
     }
     put_line(done, line)?;
-    Ok(None)
-}
-
-/// The line that waits for its end at the end of the text.
-fn close<'a>(done: &mut Vec<TextLine<'a>>, waiting: Option<TextLine<'a>>) -> Result<(), AllocError>
-    ensures { OnOk result (lines_seen done.new.items ≡ lines_left (lines_seen done.old.items) (option_map line_of waiting.entry) []) }
-{
-    match waiting {
-        Some(line) => put_line(done, line),
-        None => Ok(()),
-    }
+    Ok(new_line(alloc, number + 1))
 }
 
 /// The logical lines that have tokens, whatever their width.
+#[tactic(auto, using(crate::proofs::Cuts::pieces_first))]
 pub fn all_lines<'a>(alloc: Global, bytes: &'a [u8]) -> Result<Vec<TextLine<'a>>, AllocError>
     requires { length bytes.now < 2 ^ 31 }
     ensures { IfOk result (λ v. lines_seen v.items ≡ lines_of bytes.now) }
 {
     let mut done = Vec::new(alloc);
-    let mut waiting = None;
     let mut rest = bytes;
     let mut place = 0;
     let mut number = 1;
+    let mut line = new_line(alloc, number);
     'lines: loop {
         let n = feed_place(rest);
-        waiting = take_line(alloc, &mut done, waiting, number, place, &rest[..n])?;
+        line = take_line(alloc, &mut done, line, number, place, &rest[..n])?;
         if n == rest.len() {
-            close(&mut done, waiting)?;
+            put_line(&mut done, line)?;
             return Ok(done);
         }
         rest = behind(rest, n);
@@ -112,6 +100,7 @@ fn any_wide(tokens: &[Token<'_>]) -> bool
 }
 
 /// Some token of the line has more than 255 bytes.
+#[tactic(auto, using(crate::proofs::Told::wide_pieces))]
 pub fn is_wide_line(line: &TextLine<'_>) -> bool
     ensures { result ≡ is_wide (line_of line.now) }
 {

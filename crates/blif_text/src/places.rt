@@ -1,19 +1,28 @@
 // Where the first byte of a sort stands.
-ghost use Rattle.std.specs.Prelude.{◌≡◌, ◌+◌, ◌<◌, ◌≤◌, drop, length};
-ghost use Rattle.std.specs.List.{position_or_len};
+ghost use Rattle.std.specs.Prelude.{◌≡◌, ◌==◌, ◌+◌, ◌<◌, ◌≤◌, drop, length};
+ghost use Rattle.std.specs.List.{position, position_or_len};
 ghost use Rattle.blif_text.specs.Lines.{is_feed, is_hash, is_white};
 
 use memchr::memchr;
+
+/// The place of the first such byte, or the length.
+#[tactic(auto, using(crate::proofs::FirstBytes::first_here, crate::proofs::FirstBytes::first_nowhere))]
+pub fn byte_place(text: &[u8], byte: u8) -> usize
+    ensures place { result ≡ position_or_len (λ b. b == byte) text.now }
+    ensures within { result ≤ length text.now }
+{
+    match memchr(byte, text) {
+        Some(at) => at,
+        None => text.len(),
+    }
+}
 
 /// The place of the first line feed, or the length.
 pub fn feed_place(text: &[u8]) -> usize
     ensures place { result ≡ position_or_len is_feed text.now }
     ensures within { result ≤ length text.now }
 {
-    match memchr(b'\n', text) {
-        Some(at) => at,
-        None => text.len(),
-    }
+    byte_place(text, b'\n')
 }
 
 /// The place of the first hash, or the length.
@@ -21,10 +30,7 @@ pub fn hash_place(text: &[u8]) -> usize
     ensures place { result ≡ position_or_len is_hash text.now }
     ensures within { result ≤ length text.now }
 {
-    match memchr(b'#', text) {
-        Some(at) => at,
-        None => text.len(),
-    }
+    byte_place(text, b'#')
 }
 
 /// Whether the byte is white: a space, a tab or a carriage return.
@@ -34,17 +40,19 @@ pub fn is_white_byte(b: u8) -> bool
     b == b' ' || b == b'\t' || b == b'\r'
 }
 
+fn first_white(text: &[u8]) -> Option<usize>
+    ensures { result ≡ position is_white text.now }
+{
+    text.iter().position(|b| is_white_byte(*b))
+}
+
 /// The place of the first white byte, or the length.
+#[tactic(auto, using(crate::proofs::FirstBytes::place_or_len))]
 pub fn white_place(text: &[u8]) -> usize
     ensures place { result ≡ position_or_len is_white text.now }
     ensures within { result ≤ length text.now }
 {
-    for (i, b) in text.iter().enumerate() {
-        if is_white_byte(*b) {
-            return i;
-        }
-    }
-    text.len()
+    first_white(text).unwrap_or(text.len())
 }
 
 /// The text behind a byte.

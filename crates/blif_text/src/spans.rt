@@ -1,9 +1,9 @@
 // The logical lines of a text as places.
-ghost use Rattle.std.specs.Prelude.{◌≡◌, ◌≤◌, ◌^◌, length, map, IfOk};
+ghost use Rattle.std.specs.Prelude.{◌≡◌, ◌≤◌, ◌^◌, length, map, find, IfOk};
+ghost use Rattle.std.specs.Option.{option_map};
 ghost use Rattle.fm_base.specs.Answers.{Gives};
-ghost use Rattle.fm_base.specs.Firsts.{first_where};
-ghost use Rattle.blif_text.specs.Lines.{wide_at};
-ghost use Rattle.blif_text.specs.Read.{line_of, lines_seen, piece_of};
+ghost use Rattle.blif_text.specs.Lines.{is_wide};
+ghost use Rattle.blif_text.specs.Read.{line_of, piece_of};
 ghost use Rattle.blif_text.specs.Spans.{lines_read, span_of, spanned};
 
 use crate::lines::{TextLine, all_lines, is_wide_line};
@@ -28,6 +28,7 @@ fn token_spans(alloc: Global, tokens: &[Token<'_>]) -> Result<Vec<Span>, AllocEr
     tokens.iter().map(token_span).collect(alloc)
 }
 
+#[tactic(auto, using(crate::proofs::Told::spans_of_pieces))]
 fn logical_line(alloc: Global, line: &TextLine<'_>) -> Result<LogicalLine, AllocError>
     ensures { IfOk result (λ l. l ≡ spanned (line_of line.now)) }
 {
@@ -39,7 +40,7 @@ fn logical_line(alloc: Global, line: &TextLine<'_>) -> Result<LogicalLine, Alloc
 }
 
 fn logical_lines(alloc: Global, lines: &[TextLine<'_>]) -> Result<Lines, AllocError>
-    ensures { IfOk result (λ ls. ls ≡ map spanned (lines_seen lines.now)) }
+    ensures { IfOk result (λ ls. ls ≡ map (λ l. spanned (line_of l)) lines.now) }
 {
     let mut done = Seq::new(alloc);
     for line in lines {
@@ -48,16 +49,20 @@ fn logical_lines(alloc: Global, lines: &[TextLine<'_>]) -> Result<Lines, AllocEr
     Ok(done)
 }
 
+fn first_wide_line<'m, 'a>(lines: &'m [TextLine<'a>]) -> Option<&'m TextLine<'a>>
+    ensures { option_map (λ l. l.now) result ≡ find (λ l. is_wide (line_of l)) lines.now }
+{
+    lines.iter().find(|line| is_wide_line(line))
+}
+
 /// The number of the first line with a token of more than 255 bytes.
 fn first_wide(lines: &[TextLine<'_>]) -> Option<u32>
-    ensures { result ≡ first_where wide_at (lines_seen lines.now) }
+    ensures { result ≡ option_map (λ l. l.number) (find (λ l. is_wide (line_of l)) lines.now) }
 {
-    for line in lines {
-        if is_wide_line(line) {
-            return Some(line.number);
-        }
+    match first_wide_line(lines) {
+        Some(line) => Some(line.number),
+        None => None,
     }
-    None
 }
 
 /// The logical lines of a netlist file of at most 2^26 bytes, each with the number of its first physical line. Refused as

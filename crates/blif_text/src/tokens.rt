@@ -1,6 +1,6 @@
 // The tokens of a physical line.
-ghost use Rattle.std.specs.Prelude.{◌≡◌, ◌++◌, ◌∷◌, [], ◌+◌, ◌<◌, ◌^◌, length, filter, OnOk};
-ghost use Rattle.blif_text.specs.Lines.{has_bytes, is_white, pieces};
+ghost use Rattle.std.specs.Prelude.{◌≡◌, ◌++◌, ◌∷◌, ◌+◌, ◌<◌, ◌^◌, length, filter, List, OnOk};
+ghost use Rattle.blif_text.specs.Lines.{has_bytes, is_white, Piece, pieces};
 ghost use Rattle.blif_text.specs.Read.{pieces_of};
 
 use crate::places::{behind, white_place};
@@ -14,7 +14,7 @@ fn put_token<'a>(
     text: &'a [u8],
 ) -> Result<(), AllocError>
     requires { start + length text.now < 2 ^ 31 }
-    ensures { OnOk result (pieces_of tokens.new.items ≡ pieces_of tokens.old.items ++ filter has_bytes (record { start = start; text = text.now } ∷ [])) }
+    ensures { OnOk result ((more : List Piece) → pieces_of tokens.new.items ++ filter has_bytes more ≡ pieces_of tokens.old.items ++ filter has_bytes (record { start = start; text = text.now } ∷ more)) }
 {
     if text.is_empty() {
         return Ok(());
@@ -24,6 +24,7 @@ fn put_token<'a>(
 }
 
 /// The tokens of a text that begins at this place.
+#[tactic(auto, using(crate::proofs::Cuts::pieces_first))]
 pub fn put_tokens<'a>(
     tokens: &mut Vec<Token<'a>>,
     place: usize,

@@ -1,5 +1,4 @@
 use Rattle.std.proofs.Common.{◌≡◌, ◌+◌, ◌<◌, ◌≤◌, ◌^◌, length}
-use Rattle.std.specs.Option.{option_map}
 use Rattle.std.specs.List.{enumerate_from}
 use Rattle.blif_text.specs.Lines.{is_feed, pieces, lines_of}
 use Rattle.blif_text.specs.Read.{line_of, lines_seen}
@@ -10,7 +9,7 @@ abbrev pub invariant-lines : goal.invariant-lines
 invariant-lines l = record {
   in_file : l.place + length l.rest < 2 ^ 31;
   counted : l.number + length l.rest ≤ 2 ^ 31;
-  told : lines_left (lines_seen l.done.items) (option_map line_of l.waiting) (enumerate_from l.number (pieces is_feed l.place l.rest)) ≡ lines_of l.bytes;
+  told : lines_left (lines_seen l.done.items) (line_of l.line) (enumerate_from l.number (pieces is_feed l.place l.rest)) ≡ lines_of l.bytes;
 }
 
 abbrev pub decreases-lines : goal.decreases-lines

@@ -1,9 +1,0 @@
-use Rattle.blif_text.specs.Lines.{is_hash}
-use Rattle.blif_text.proofs.FirstBytes.{first_here, first_nowhere}
-use Rattle.blif_text.proofs.places.hash_place.Goals as goal
-
-pub returns-in-Some-clause-place : goal.returns-in-Some-clause-place
-returns-in-Some-clause-place c = first_here is_hash c.args.text.now c.in-Some.at c.in-Some.ensures.0 c.in-Some.ensures.1
-
-pub returns-in-None-clause-place : goal.returns-in-None-clause-place
-returns-in-None-clause-place c = first_nowhere is_hash c.args.text.now c.in-None.ensures
