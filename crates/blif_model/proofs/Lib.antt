@@ -9,7 +9,6 @@ pub mod ReadNets
 pub mod Sound
 pub mod FileNetlist
 pub mod Forms
-pub mod Spots
 pub mod FirstFaults
 pub mod Parts
 pub mod Answered

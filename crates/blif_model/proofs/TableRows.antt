@@ -49,17 +49,17 @@ row_here before tokens ins i t e =
     by_cases false e = cc
 
 -- one more line, and where the next one stands
-pub is_inside-more : (before : List Said) (line : Said) → is_inside (before ++ line ∷ []) ≡ inside_after line.says (is_inside before)
+pub is_inside_more : (before : List Said) (line : Said) → is_inside (before ++ line ∷ []) ≡ inside_after line.says (is_inside before)
 unfolding is_inside
-is_inside-more before line = fold_push (λ inside (l : Said). inside_after l.says inside) false before line
+is_inside_more before line = fold_push (λ inside (l : Said). inside_after l.says inside) false before line
 
-pub table_above-more : (before : List Said) (line : Said) → table_above (before ++ line ∷ []) ≡ table_after line.says (table_above before)
+pub table_above_more : (before : List Said) (line : Said) → table_above (before ++ line ∷ []) ≡ table_after line.says (table_above before)
 unfolding table_above
-table_above-more before line = fold_push (λ above (l : Said). table_after l.says above) None before line
+table_above_more before line = fold_push (λ above (l : Said). table_after l.says above) None before line
 
-pub plane_above-more : (before : List Said) (line : Said) → plane_above (before ++ line ∷ []) ≡ plane_after line.says (plane_above before)
+pub plane_above_more : (before : List Said) (line : Said) → plane_above (before ++ line ∷ []) ≡ plane_after line.says (plane_above before)
 unfolding plane_above
-plane_above-more before line = fold_push (λ above (l : Said). plane_after l.says above) None before line
+plane_above_more before line = fold_push (λ above (l : Said). plane_after l.says above) None before line
 
 rows_fit : (before lines : List Said) (ins : List Name) → AreSound before lines → is_inside before ≡ true → table_above before ≡ Some ins
     → list_all (is_row_of (length ins)) (rows_below lines) ≡ true
@@ -67,7 +67,7 @@ unfolding rows_below
 rows_fit before [] ins e i t = refl
 rows_fit before (line ∷ lines) ins e i t =
     let parts = sound_first before line lines e in
-    at line.says parts.0 (λ i t. rows_fit (before ++ line ∷ []) lines ins parts.1 (is_inside-more before line ∙ i) (table_above-more before line ∙ t))
+    at line.says parts.0 (λ i t. rows_fit (before ++ line ∷ []) lines ins parts.1 (is_inside_more before line ∙ i) (table_above_more before line ∙ t))
   where
     at : (says : Statement) → place_fault before says ≡ None
         → (inside_after says (is_inside before) ≡ true → table_after says (table_above before) ≡ Some ins → list_all (is_row_of (length ins)) (rows_below lines) ≡ true)
@@ -108,8 +108,8 @@ unfolding items_of
 items_fit before [] e i = tt
 items_fit before (line ∷ lines) e i =
     let parts = sound_first before line lines e in
-    by_cases (ends line) refl (λ i. items_fit (before ++ line ∷ []) lines parts.1 (is_inside-more before line ∙ i))
-    (λ ins i t. rows_fit (before ++ line ∷ []) lines ins parts.1 (is_inside-more before line ∙ i) (table_above-more before line ∙ t))
+    by_cases (ends line) refl (λ i. items_fit (before ++ line ∷ []) lines parts.1 (is_inside_more before line ∙ i))
+    (λ ins i t. rows_fit (before ++ line ∷ []) lines ins parts.1 (is_inside_more before line ∙ i) (table_above_more before line ∙ t))
   where
     still : (says : Statement) → ends_model says ≡ false → inside_after says (is_inside before) ≡ true
     still end e = cc
@@ -134,7 +134,7 @@ unfolding models_of
 models_fit before [] e = tt
 models_fit before (line ∷ lines) e =
     let parts = sound_first before line lines e in
-    begun line.says (λ i. items_fit (before ++ line ∷ []) lines parts.1 (is_inside-more before line ∙ i)) (models_fit (before ++ line ∷ []) lines parts.1)
+    begun line.says (λ i. items_fit (before ++ line ∷ []) lines parts.1 (is_inside_more before line ∙ i)) (models_fit (before ++ line ∷ []) lines parts.1)
   where
     begun : (says : Statement) → (inside_after says (is_inside before) ≡ true → AllByRecursion ItemFits (items_of (before_first ends lines)))
         → AllByRecursion ModelFits (models_of lines) → AllByRecursion ModelFits (model_from line.number says lines ++ models_of lines)

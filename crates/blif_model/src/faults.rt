@@ -1,12 +1,11 @@
 // The faults of lines.
-ghost use Rattle.std.specs.Prelude.{◌≡◌, [], length, nat_lt};
+ghost use Rattle.std.specs.Prelude.{◌≡◌, [], List};
 ghost use Rattle.std.specs.List.{list_any};
 ghost use Rattle.std.specs.Option.{option_map};
-ghost use Rattle.fm_base.specs.Firsts.{first_after, given};
-ghost use Rattle.blif_model.specs.LineFault.{fault_of, is_read, line_fault};
+ghost use Rattle.fm_base.specs.Firsts.{first_after};
+ghost use Rattle.blif_model.specs.LineFault.{fault_of, is_read, kind_of, line_fault, own_line_kind, place_fault, plane_above, plane_fault, row_fault, Said};
 ghost use Rattle.blif_model.specs.Meant.{meant};
-ghost use Rattle.blif_model.specs.Position.{spot_at};
-ghost use Rattle.blif_model.specs.Spot.{kind_at, own_kind, place_kind, plane_kind, row_kind};
+ghost use Rattle.blif_model.specs.Position.{IsBehind};
 ghost use Rattle.blif_model.specs.Tokens.{texts_of};
 
 use crate::position::Position;
@@ -20,7 +19,7 @@ use blif_text::{NetlistFault, NetlistKind};
 const MOST_INPUTS: usize = 1024;
 
 fn plane_fault(output: Option<&[u8]>, tokens: &[Token<'_>]) -> Option<NetlistKind>
-    ensures { result ≡ plane_kind (option_map (λ o. o.now) output.entry) (texts_of tokens.now) }
+    ensures { (before : List Said) → option_map (λ o. o.now) output.entry ≡ plane_above before → result ≡ plane_fault before (texts_of tokens.now) }
 {
     match output {
         Some(first) => {
@@ -34,12 +33,12 @@ fn plane_fault(output: Option<&[u8]>, tokens: &[Token<'_>]) -> Option<NetlistKin
     }
 }
 
-fn row_fault(position: &Position<'_>, tokens: &[Token<'_>]) -> Option<NetlistKind>
-    ensures { result ≡ row_kind (spot_at position.now) (texts_of tokens.now) }
+fn row_fault(position: &Position<'_, '_>, tokens: &[Token<'_>]) -> Option<NetlistKind>
+    ensures { (before : List Said) → IsBehind before position.now → result ≡ row_fault before (texts_of tokens.now) }
 {
-    match position.inputs {
-        Some(count) => {
-            if is_row(count, tokens) {
+    match position.table {
+        Some(ins) => {
+            if is_row(ins.len(), tokens) {
                 plane_fault(position.output, tokens)
             } else {
                 Some(NetlistKind::BadRow)
@@ -49,8 +48,8 @@ fn row_fault(position: &Position<'_>, tokens: &[Token<'_>]) -> Option<NetlistKin
     }
 }
 
-fn own_fault(position: &Position<'_>, says: Says<'_, '_>) -> Option<NetlistKind>
-    ensures { result ≡ own_kind (spot_at position.now) (meant says.entry) }
+fn own_fault(position: &Position<'_, '_>, says: Says<'_, '_>) -> Option<NetlistKind>
+    ensures { (before : List Said) → IsBehind before position.now → result ≡ own_line_kind before (meant says.entry) }
 {
     match says {
         Says::Wrong(why) => Some(why.kind()),
@@ -66,8 +65,8 @@ fn own_fault(position: &Position<'_>, says: Says<'_, '_>) -> Option<NetlistKind>
     }
 }
 
-fn place_fault(position: &Position<'_>, says: Says<'_, '_>) -> Option<NetlistKind>
-    ensures { result ≡ place_kind (spot_at position.now) (meant says.entry) }
+fn place_fault(position: &Position<'_, '_>, says: Says<'_, '_>) -> Option<NetlistKind>
+    ensures { (before : List Said) → IsBehind before position.now → result ≡ place_fault before (meant says.entry) }
 {
     match says {
         Says::Passed | Says::Model(_) => None,
@@ -83,8 +82,9 @@ fn place_fault(position: &Position<'_>, says: Says<'_, '_>) -> Option<NetlistKin
 }
 
 /// The kind of a line's fault: the width of its tokens comes last.
-fn line_kind(position: &Position<'_>, says: Says<'_, '_>, wide: bool) -> Option<NetlistKind>
-    ensures { result ≡ kind_at (spot_at position.now) (meant says.entry) wide }
+#[tactic(auto, unfolding(crate::specs::LineFault::kind_of))]
+fn line_kind(position: &Position<'_, '_>, says: Says<'_, '_>, wide: bool) -> Option<NetlistKind>
+    ensures { (before : List Said) (line : Said) → IsBehind before position.now → meant says.entry ≡ line.says → wide ≡ line.wide → result ≡ kind_of before line }
 {
     match place_fault(position, says) {
         Some(kind) => Some(kind),

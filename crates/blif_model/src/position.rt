@@ -1,19 +1,20 @@
 // Where a line stands, and what that makes of its rows.
-ghost use Rattle.std.specs.Prelude.{◌≡◌, []};
+ghost use Rattle.std.specs.Prelude.{◌≡◌, ◌∷◌, ◌++◌, [], List};
 ghost use Rattle.std.specs.Option.{option_map};
-ghost use Rattle.blif_model.specs.LineFault.{inside_after, plane_after};
+ghost use Rattle.blif_model.specs.LineFault.{inside_after, plane_after, Said, table_after};
 ghost use Rattle.blif_model.specs.Meant.{meant};
-ghost use Rattle.blif_model.specs.Position.{spot_at};
-ghost use Rattle.blif_model.specs.Spot.{inputs_after, spot_after, spot_of};
+ghost use Rattle.blif_model.specs.Position.{IsBehind};
+ghost use Rattle.blif_model.specs.Tokens.{texts_of};
 
 use crate::rows::output_of;
 use crate::says::Says;
+use blif_text::token::Token;
 
-/// Where a line stands: inside a model, and below which table: the number of its inputs, and the output of its first row.
+/// Where a line stands: inside a model, and below which table: its inputs, and the output of its first row.
 #[derive(Clone, Copy)]
-pub struct Position<'a> {
+pub struct Position<'m, 'a> {
     pub inside: bool,
-    pub inputs: Option<usize>,
+    pub table: Option<&'m [Token<'a>]>,
     pub output: Option<&'a [u8]>,
 }
 
@@ -27,11 +28,14 @@ fn next_inside(says: Says<'_, '_>, inside: bool) -> bool
     }
 }
 
-fn next_inputs(says: Says<'_, '_>, above: Option<usize>) -> Option<usize>
-    ensures { result ≡ inputs_after (meant says.entry) above }
+fn next_table<'m, 'a>(
+    says: Says<'m, 'a>,
+    above: Option<&'m [Token<'a>]>,
+) -> Option<&'m [Token<'a>]>
+    ensures { option_map (λ t. texts_of t.now) result ≡ table_after (meant says.entry) (option_map (λ t. texts_of t.now) above.entry) }
 {
     match says {
-        Says::Table { ins, .. } => Some(ins.len()),
+        Says::Table { ins, .. } => Some(ins),
         Says::Row(_) | Says::Passed => above,
         _ => None,
     }
@@ -50,25 +54,27 @@ fn next_output<'a>(says: Says<'_, 'a>, above: Option<&'a [u8]>) -> Option<&'a [u
     }
 }
 
-impl<'a> Position<'a> {
+impl<'m, 'a> Position<'m, 'a> {
     /// At the begin of a file.
+    #[tactic(auto, unfolding(crate::specs::LineFault::is_inside, crate::specs::LineFault::table_above, crate::specs::LineFault::plane_above))]
     pub fn new() -> Self
-        ensures { spot_at result ≡ spot_of [] }
+        ensures { IsBehind [] result }
     {
         Position {
             inside: false,
-            inputs: None,
+            table: None,
             output: None,
         }
     }
 
-    /// Behind a line.
-    pub fn after(self, says: Says<'_, 'a>) -> Self
-        ensures { spot_at result ≡ spot_after (meant says.entry) (spot_at self.entry) }
+    /// Behind a line that says this.
+    #[tactic(auto, using(crate::proofs::TableRows::is_inside_more, crate::proofs::TableRows::table_above_more, crate::proofs::TableRows::plane_above_more))]
+    pub fn after(self, says: Says<'m, 'a>) -> Self
+        ensures { (before : List Said) (line : Said) → IsBehind before self.entry → meant says.entry ≡ line.says → IsBehind (before ++ line ∷ []) result }
     {
         Position {
             inside: next_inside(says, self.inside),
-            inputs: next_inputs(says, self.inputs),
+            table: next_table(says, self.table),
             output: next_output(says, self.output),
         }
     }
