@@ -1,11 +1,11 @@
 // The bindings of a `.subckt` line.
-ghost use Rattle.std.specs.Prelude.{◌≡◌};
+ghost use Rattle.std.specs.Prelude.{◌≡◌, ◌+◌, ◌≤◌, drop, length};
 ghost use Rattle.std.specs.List.{list_all};
-ghost use Rattle.blif_model.specs.Statement.{binding_of, is_binding, is_equals};
+ghost use Rattle.blif_model.specs.Statement.{binding_of, is_binding};
 ghost use Rattle.blif_model.specs.Tokens.{texts_of};
 
+use blif_text::places::{behind, byte_place};
 use blif_text::token::Token;
-use memchr::memchr;
 
 /// A formal of the instanced model, and the name that is bound to it.
 #[derive(Clone, Copy)]
@@ -14,19 +14,26 @@ pub struct Pair<'a> {
     pub actual: &'a [u8],
 }
 
+/// The text behind a place, which may be its end.
+fn text_behind(text: &[u8], place: usize) -> &[u8]
+    requires { place ≤ length text.now }
+    ensures { result.now ≡ drop (place + 1) text.now }
+{
+    if place < text.len() {
+        behind(text, place)
+    } else {
+        b""
+    }
+}
+
 /// A token, split at its first `=`. Of a token without one the actual is empty.
 pub fn pair_of<'a>(text: &'a [u8]) -> Pair<'a>
     ensures { record { formal = result.formal.now; actual = result.actual.now } ≡ binding_of text.entry.now }
 {
-    match memchr(b'=', text) {
-        Some(at) => Pair {
-            formal: &text[..at],
-            actual: &text[at + 1..],
-        },
-        None => Pair {
-            formal: text,
-            actual: &text[text.len()..],
-        },
+    let at = byte_place(text, b'=');
+    Pair {
+        formal: &text[..at],
+        actual: text_behind(text, at),
     }
 }
 
@@ -46,6 +53,7 @@ fn all_whole(tokens: &[Token<'_>]) -> bool
 }
 
 /// The texts of all tokens are bindings.
+#[tactic(auto, using(crate::proofs::Forms::bindings_seen))]
 pub fn are_bindings(tokens: &[Token<'_>]) -> bool
     ensures { result ≡ list_all is_binding (texts_of tokens.now) }
 {

@@ -46,6 +46,7 @@ fn end_says<'m, 'a>(names: &'m [Token<'a>]) -> Says<'m, 'a>
     }
 }
 
+#[tactic(auto, using(crate::proofs::Forms::table_is, crate::proofs::Forms::table_none))]
 fn table_says<'m, 'a>(names: &'m [Token<'a>]) -> Says<'m, 'a>
     ensures { meant result ≡ table_line (texts_of names.now) }
 {

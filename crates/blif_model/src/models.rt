@@ -1,5 +1,5 @@
 // The models of lines.
-ghost use Rattle.std.specs.Prelude.{◌≡◌, ◌<◌, ◌≤◌, ◌++◌, length, IfOk, MatchOption, OnOk};
+ghost use Rattle.std.specs.Prelude.{◌≡◌, ◌<◌, ◌≤◌, ◌∷◌, ◌++◌, length, IfOk, MatchOption, OnOk};
 ghost use Rattle.std.specs.List.{position, position_or_len};
 ghost use Rattle.std.specs.Option.{option_map, option_to_list};
 ghost use Rattle.blif_model.specs.Models.{ends_model, model_from, models_of};
@@ -37,14 +37,12 @@ fn first_end(lines: &[ReadLine<'_>]) -> Option<usize>
 }
 
 /// The place of the first line that ends a model, or the number of lines.
+#[tactic(auto, using(blif_text::proofs::FirstBytes::place_or_len))]
 fn end_place(lines: &[ReadLine<'_>]) -> usize
     ensures place { result ≡ position_or_len (λ l. ends_model l.says) lines.now }
     ensures within { result ≤ length lines.now }
 {
-    match first_end(lines) {
-        Some(at) => at,
-        None => lines.len(),
-    }
+    first_end(lines).unwrap_or(lines.len())
 }
 
 /// The model that a line begins, if it begins one.
@@ -66,12 +64,13 @@ fn model_at<'m, 'a>(
 }
 
 /// The model that a line begins goes behind the others.
+#[tactic(auto, unfolding(crate::specs::Models::models_of))]
 fn put_model<'m, 'a>(
     models: &mut Vec<ModelLines<'m, 'a>>,
     line: &'m ReadLine<'a>,
     below: &'m [ReadLine<'a>],
 ) -> Result<(), AllocError>
-    ensures { OnOk result (models_seen models.new.items ≡ models_seen models.old.items ++ model_from line.now.number line.now.says below.now) }
+    ensures { OnOk result (models_seen models.new.items ++ models_of below.now ≡ models_seen models.old.items ++ models_of (line.now ∷ below.now)) }
 {
     match model_at(line.number(), line.says(), below) {
         Some(model) => {

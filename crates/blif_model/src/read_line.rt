@@ -80,6 +80,7 @@ fn kept<'a>(alloc: Global, directive: Option<Directive>, tokens: Vec<Token<'a>>)
     }
 }
 
+#[tactic(auto, using(crate::proofs::Forms::texts_seen))]
 fn read_line<'a>(alloc: Global, line: TextLine<'a>) -> ReadLine<'a>
     ensures { result ≡ said (line_of line.entry) }
 {
@@ -104,6 +105,7 @@ fn read_all<'a>(alloc: Global, lines: Vec<TextLine<'a>>) -> Result<Vec<ReadLine<
 }
 
 /// The lines of a file.
+#[tactic(auto, using(crate::proofs::Forms::lines_said))]
 pub fn read_lines<'a>(alloc: Global, bytes: &'a [u8]) -> Result<Vec<ReadLine<'a>>, AllocError>
     requires { length bytes.now < 2 ^ 31 }
     ensures { IfOk result (λ v. v.items ≡ said_lines bytes.now) }

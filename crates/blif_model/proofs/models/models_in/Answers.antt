@@ -1,10 +1,16 @@
-use Rattle.blif_model.proofs.Parts.{group_done, group_step, rest_is}
+use Rattle.std.proofs.Common.{◌++◌, List, ap, sym, ◌∙◌, arith}
+use Rattle.std.proofs.lemmas.List.{append-nil, nil_from_length}
+use Rattle.blif_model.specs.LineFault.{Said}
+use Rattle.blif_model.specs.Models.{models_of}
+use Rattle.blif_model.specs.Grouped.{models_seen}
+use Rattle.blif_model.proofs.Parts.{rest_is}
 use Rattle.blif_model.proofs.models.models_in.Goals as goal
 
 pub lines-preserved : goal.lines-preserved
 lines-preserved c =
-    group_step _ _ _ c.lines.rest.now _ c.line-item.result (rest_is c.lines.rest.now c.line-item.result c.in-len1-up.len_at_least c.line-item.is)
-    c.in_ok-put_model.ensures c.lines.invariant
+    c.in_ok-put_model.ensures ∙ ap (λ (lines : List Said). models_seen c.lines.models.items ++ models_of lines)
+    (sym (rest_is c.lines.rest.now c.line-item.result c.in-len1-up.len_at_least c.line-item.is)) ∙ c.lines.invariant
 
 pub returns : goal.returns
-returns c = group_done _ _ c.lines.rest.now c.in_default.len_below c.lines.invariant
+unfolding models_of
+returns c = sym (append-nil (models_seen c.lines.models.items)) ∙ (rw (nil_from_length c.lines.rest.now (omega arith)) at c.lines.invariant)
