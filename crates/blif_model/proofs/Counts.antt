@@ -4,10 +4,11 @@ use Rattle.std.specs.Prelude.{Option, Some, None, map, filter_map, sum_by}
 use Rattle.std.specs.Option.{option_map_or}
 use Rattle.std.proofs.lemmas.List.{length-map}
 use Rattle.std.proofs.lemmas.List.Sums.{sum_by-append, sum_by-cons}
-use Rattle.blif_model.specs.Statement.{Statement, inputs, outputs, clock, table, instance}
+use Rattle.blif_model.specs.Statement.{Statement, table, instance}
 use Rattle.blif_model.specs.Models.{Item, Instance, Model, at_model, model_named, main_of, instance_from, instances, sum_over_instances, cells_from, cell_count}
 use Rattle.blif_model.specs.Walk.{Scope, top, inside, Act, flat_table, Step, acts_of, inner_steps, scope_of, next, net_of, steps_from, enter, walk}
 use Rattle.fm_base.specs.Names.{Name}
+use Rattle.blif_model.proofs.Depth.{number_of, sum_by_numbers}
 
 -- the cells of a step
 abbrev pub act_cells : Act → ℕ
@@ -40,13 +41,8 @@ named_more g line says rows items = sym (zero-add (named_sum g items))
 act_of_line : (scope : Scope) (line : ℕ) (says : Statement) (rows : List (List Name))
     → walk_cells (map (λ act. record { line = line; act = act }) (acts_of scope says rows)) ≡ cells_from says rows
 act_of_line scope line (table ins out) rows = rw (length-map ins (net_of scope)) (zero-add (max 1 (length rows) * max 1 (length ins)))
-act_of_line top line (inputs names) rows = refl
-act_of_line (inside path bound) line (inputs names) rows = refl
-act_of_line top line (outputs names) rows = refl
-act_of_line (inside path bound) line (outputs names) rows = refl
-act_of_line top line (clock names) rows = refl
-act_of_line (inside path bound) line (clock names) rows = refl
-act_of_line scope line says rows = refl
+act_of_line top line says rows = refl
+act_of_line (inside path bound) line says rows = refl
 
 inner_of_line : (f : Scope → Name → List Step) (g : Name → ℕ) → ((scope : Scope) (name : Name) → walk_cells (f scope name) ≡ g name)
     → (scope : Scope) (j : ℕ) (says : Statement) → walk_cells (inner_steps f scope j says) ≡ named_at g says
@@ -73,28 +69,17 @@ items_cells f g same scope j (item ∷ items) =
     sum_up a i r o n all both c m os ns p q s t u v w = omega arith
 
 module _ (models : List Model) where
-  enter_cells : (depth : ℕ) (scope : Scope) (name : Name) → walk_cells (enter models (suc depth) scope name) ≡ at_model models name (sum_over_instances cell_count models depth) 0
-  unfolding enter sum_over_instances instances
-  enter_cells zero scope name = found_here (model_named models name)
+  enter_cells : (depth : ℕ) (scope : Scope) (name : Name) → walk_cells (enter models depth scope name) ≡ number_of models cell_count depth name
+  unfolding enter instances
+  enter_cells zero scope name = refl
+  enter_cells (suc depth) scope name = at (model_named models name) (enter_cells depth)
     where
-      found_here : (found : Option Model) → walk_cells (option_map_or (λ (m : Model). steps_from (λ inner other. []) scope 0 m.items) found []) ≡ option_map_or (sum_over_instances cell_count models 0) found 0
-      found_here None = refl
-      found_here (Some m) = items_cells (λ inner other. []) (λ other. 0) (λ inner other. refl) scope 0 m.items ∙ nothing (own_sum m.items) (named_sum (λ other. 0) m.items) (zeros (filter_map (λ (item : Item). instance_from item.line item.says) m.items))
-        where
-          zeros : (xs : List Instance) → sum_by (λ (i : Instance). 0) xs ≡ 0
-          zeros [] = refl
-          zeros (x ∷ xs) = sum_by-cons (λ (i : Instance). 0) x xs ∙ zero-add (sum_by (λ (i : Instance). 0) xs) ∙ zeros xs
-
-          nothing : (a b : ℕ) → b ≡ 0 → a + b ≡ a
-          nothing a b e = omega arith
-  enter_cells (suc depth) scope name = found_here (enter_cells depth) (model_named models name)
-    where
-      found_here : ((inner : Scope) (other : Name) → walk_cells (enter models (suc depth) inner other) ≡ at_model models other (sum_over_instances cell_count models depth) 0)
-          → (found : Option Model) → walk_cells (option_map_or (λ (m : Model). steps_from (enter models (suc depth)) scope 0 m.items) found []) ≡ option_map_or (sum_over_instances cell_count models (suc depth)) found 0
-      found_here same None = refl
-      found_here same (Some m) = items_cells (enter models (suc depth)) (λ other. at_model models other (sum_over_instances cell_count models depth) 0) same scope 0 m.items
+      at : (found : Option Model) → ((inner : Scope) (other : Name) → walk_cells (enter models depth inner other) ≡ number_of models cell_count depth other)
+          → walk_cells (option_map_or (λ (m : Model). steps_from (enter models depth) scope 0 m.items) found []) ≡ option_map_or (sum_over_instances cell_count models depth) found 0
+      at None same = refl
+      at (Some m) same = items_cells (enter models depth) (number_of models cell_count depth) same scope 0 m.items ∙ sym (sum_by_numbers models cell_count depth m)
 
   -- the count of cells, model by model, is the sum over the tables of the walk
   pub count-cells : walk_cells (walk models) ≡ sum_over_instances cell_count models 32 (main_of models)
   unfolding walk sum_over_instances instances
-  count-cells = items_cells (enter models 32) (λ other. at_model models other (sum_over_instances cell_count models 31) 0) (enter_cells 31) top 0 (main_of models).items
+  count-cells = items_cells (enter models 32) (number_of models cell_count 32) (enter_cells 32) top 0 (main_of models).items

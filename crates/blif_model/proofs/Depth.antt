@@ -1,18 +1,20 @@
 -- The depth of 32 suffices.
-use Rattle.std.proofs.Common.{◌≡◌, ℕ, zero, suc, ◌+◌, Bool, true, false, cond, ◌||◌, List, [], ◌∷◌, ◌++◌, refl, ap, sym, ◌∙◌, add-zero, arith}
-use Rattle.std.specs.Prelude.{Option, Some, None, filter_map, fold}
+use Rattle.std.proofs.Common.{◌≡◌, ℕ, zero, suc, ◌+◌, Bool, true, false, ◌||◌, List, [], ◌∷◌, ◌++◌, refl, ap, sym, ◌∙◌, add-zero, arith}
+use Rattle.std.specs.Prelude.{Option, Some, None, filter_map, sum_by}
 use Rattle.std.specs.List.{list_any}
-use Rattle.std.specs.Option.{option_map_or, option_or}
+use Rattle.std.specs.Option.{option_map_or}
+use Rattle.std.proofs.lemmas.List.Sums.{sum_by-cons}
 use Rattle.blif_text.specs.declared.NetlistFault.{NetlistFault}
 use Rattle.blif_text.specs.declared.NetlistKind.TheVariants.{TooDeep}
 use Rattle.blif_model.specs.LineFault.{at_line}
 use Rattle.blif_model.specs.Statement.{Statement, instance}
 use Rattle.fm_base.specs.Firsts.{first_where, given}
+use Rattle.fm_base.specs.Names.{Name}
+use Rattle.fm_base.proofs.Tests.{both_false, or_false}
+use Rattle.net_names.proofs.Answers.{none_given}
 use Rattle.blif_model.specs.Models.{Model, Item, Instance, at_model, model_named, instance_from, instances, has_nest, main_of, sum_over_instances}
 use Rattle.blif_model.specs.Walk.{Scope, Step, top, enter, scope_of, steps_of, steps_from, next, walk}
 use Rattle.blif_model.specs.ModelFault.{too_deep}
-use Rattle.fm_base.proofs.Tests.{or_false}
-use Rattle.fm_base.specs.Names.{Name}
 
 -- what is asked of a `.subckt` line by its model's name
 abbrev any_named : (Name → Bool) → List Item → Bool
@@ -37,106 +39,95 @@ module _ (f g : Scope → Name → List Step) (deep : Name → Bool) (same : (sc
       ∙ ap (λ (more : List Step). steps_of g scope j item ++ more) (same_steps scope (next j item.says) items here.1)
 
 -- the numbers of two functions agree on the `.subckt` lines that don't nest
-same_sums : (f g : Instance → ℕ) (deep : Instance → Bool) → ((i : Instance) → deep i ≡ false → f i ≡ g i)
-    → (xs : List Instance) (a : ℕ) → list_any deep xs ≡ false → fold (λ b i. b + f i) a xs ≡ fold (λ b i. b + g i) a xs
-same_sums f g deep same [] a e = refl
-same_sums f g deep same (i ∷ xs) a e =
+same_sums : (f g : Instance → ℕ) (deep : Instance → Bool) → ((i : Instance) → deep i ≡ false → f i ≡ g i) → (xs : List Instance) → list_any deep xs ≡ false → sum_by f xs ≡ sum_by g xs
+same_sums f g deep same [] e = refl
+same_sums f g deep same (i ∷ xs) e =
     let parts = or_false (deep i) (list_any deep xs) e in
-    rw (same i parts.0) (same_sums f g deep same xs (a + g i) parts.1)
+    sum_by-cons f i xs ∙ rw (same i parts.0, same_sums f g deep same xs parts.1) (sym (sum_by-cons g i xs))
 
-no_sums : (xs : List Instance) (a : ℕ) → fold (λ b i. b + 0) a xs ≡ a
-no_sums [] a = refl
-no_sums (i ∷ xs) a = rw add-zero (no_sums xs a)
+no_sum : (xs : List Instance) → sum_by (λ i. 0) xs ≡ 0
+no_sum [] = refl
+no_sum (i ∷ xs) = sum_by-cons (λ i. 0) i xs ∙ rw (no_sum xs) refl
 
 any_less : (p q : Instance → Bool) → ((i : Instance) → p i ≡ false → q i ≡ false) → (xs : List Instance) → list_any p xs ≡ false → list_any q xs ≡ false
 any_less p q less [] e = refl
 any_less p q less (i ∷ xs) e =
     let parts = or_false (p i) (list_any p xs) e in
-    rw (less i parts.0) (any_less p q less xs parts.1)
+    both_false (q i) (list_any q xs) (less i parts.0) (any_less p q less xs parts.1)
 
 -- where a search for the first finds none, none passes
 none_passes : (p : Instance → Bool) (v : Instance → NetlistFault) (xs : List Instance) → first_where (λ i. given (p i) (v i)) xs ≡ None → list_any p xs ≡ false
 unfolding first_where
 none_passes p v [] e = refl
-none_passes p v (i ∷ xs) e = by_cases (p i) (none_passes p v xs) e
-  where
-    by_cases : (b : Bool) → (first_where (λ k. given (p k) (v k)) xs ≡ None → list_any p xs ≡ false)
-        → option_or (cond b (Some (v i)) None) (first_where (λ k. given (p k) (v k)) xs) ≡ None → (b || list_any p xs) ≡ false
-    by_cases true more e = cc
-    by_cases false more e = more e
+none_passes p v (i ∷ xs) e = let parts = none_given (p i) (v i) _ e in both_false (p i) (list_any p xs) parts.0 (none_passes p v xs parts.1)
+
+-- with no model that nests, no model is there
+none_there : {X : Type 0} (found : Option Model) (f : Model → X) (default : X) → option_map_or (λ m. true) found false ≡ false → default ≡ option_map_or f found default
+none_there None f default e = refl
+none_there (Some m) f default e = cc
+
+-- what agrees at each model that doesn't nest agrees at the one that was found
+same_at : {X : Type 0} (found : Option Model) (deep : Model → Bool) (f g : Model → X) (default : X) → ((m : Model) → deep m ≡ false → f m ≡ g m)
+    → option_map_or deep found false ≡ false → option_map_or f found default ≡ option_map_or g found default
+same_at None deep f g default same e = refl
+same_at (Some m) deep f g default same e = same m e
 
 module _ (models : List Model) where
   -- the model of this name nests so deep
   abbrev nests : ℕ → Name → Bool
   nests depth name = at_model models name (has_nest models depth) false
 
-  -- with no model that nests, no model is there
-  none_nests : {X : Type 0} (found : Option Model) (f : Model → X) (default : X) → option_map_or (λ m. true) found false ≡ false
-      → default ≡ option_map_or f found default
-  none_nests None f default e = refl
-  none_nests (Some m) f default e = cc
-
-  deeper_walk : (depth : ℕ) → ((scope : Scope) (name : Name) → nests depth name ≡ false → enter models depth scope name ≡ enter models (suc depth) scope name)
-      → (scope : Scope) (found : Option Model) → option_map_or (λ m. any_named (nests depth) m.items) found false ≡ false
-      → option_map_or (λ (m : Model). steps_from (enter models depth) scope 0 m.items) found []
-      ≡ option_map_or (λ (m : Model). steps_from (enter models (suc depth)) scope 0 m.items) found []
-  deeper_walk depth same scope None e = refl
-  deeper_walk depth same scope (Some m) e = same_steps (enter models depth) (enter models (suc depth)) (nests depth) same scope 0 m.items e
-
   -- where nothing nests as deep as the walk may go, it may as well go one deeper
   pub enter-enough : (depth : ℕ) (scope : Scope) (name : Name) → nests depth name ≡ false → enter models depth scope name ≡ enter models (suc depth) scope name
   unfolding enter has_nest instances
-  enter-enough zero scope name e = none_nests (model_named models name) (λ m. steps_from (λ inner other. []) scope 0 m.items) [] e
-  enter-enough (suc depth) scope name e = deeper_walk depth (enter-enough depth) scope (model_named models name) e
+  enter-enough zero scope name e = none_there (model_named models name) (λ m. steps_from (λ inner other. []) scope 0 m.items) [] e
+  enter-enough (suc depth) scope name e =
+      same_at (model_named models name) (has_nest models (suc depth)) (λ m. steps_from (enter models depth) scope 0 m.items) (λ m. steps_from (enter models (suc depth)) scope 0 m.items) []
+      (λ m h. same_steps (enter models depth) (enter models (suc depth)) (nests depth) (enter-enough depth) scope 0 m.items h) e
 
   -- the same of a sum over the instances
   module _ (own : Model → ℕ) where
-    number : ℕ → Instance → ℕ
-    number depth i = at_model models i.name (sum_over_instances own models depth) 0
+    -- the number of an instance of this name, which has so many more in it, one in the other
+    abbrev pub number_of : ℕ → Name → ℕ
+    number_of zero name = 0
+    number_of (suc depth) name = at_model models name (sum_over_instances own models depth) 0
 
-    deeper_total : (depth : ℕ) → ((m : Model) → has_nest models (suc depth) m ≡ false → sum_over_instances own models depth m ≡ sum_over_instances own models (suc depth) m)
-        → (found : Option Model) → option_map_or (has_nest models (suc depth)) found false ≡ false
-        → option_map_or (sum_over_instances own models depth) found 0 ≡ option_map_or (sum_over_instances own models (suc depth)) found 0
-    deeper_total depth same None e = refl
-    deeper_total depth same (Some m) e = same m e
+    pub sum_by_numbers : (depth : ℕ) (m : Model) → sum_over_instances own models depth m ≡ own m + sum_by (λ i. number_of depth i.name) (instances m)
+    unfolding sum_over_instances
+    sum_by_numbers zero m = rw (no_sum (instances m)) (sym (add-zero (own m)))
+    sum_by_numbers (suc depth) m = refl
 
-    nothing : (found : Option Model) → option_map_or (λ m. true) found false ≡ false → 0 ≡ option_map_or own found 0
-    nothing found e = none_nests found own 0 e
+    same_totals : (depth : ℕ) → ((name : Name) → nests depth name ≡ false → number_of depth name ≡ number_of (suc depth) name)
+        → (m : Model) → has_nest models (suc depth) m ≡ false → sum_over_instances own models depth m ≡ sum_over_instances own models (suc depth) m
+    unfolding has_nest
+    same_totals depth same m e =
+        sum_by_numbers depth m ∙ ap (λ n. own m + n) (same_sums (λ i. number_of depth i.name) (λ i. number_of (suc depth) i.name) (λ i. nests depth i.name) (λ i. same i.name) (instances m) e)
+        ∙ sym (sum_by_numbers (suc depth) m)
+
+    same_numbers : (depth : ℕ) (name : Name) → nests depth name ≡ false → number_of depth name ≡ number_of (suc depth) name
+    unfolding has_nest
+    same_numbers zero name e = none_there (model_named models name) (sum_over_instances own models 0) 0 e
+    same_numbers (suc depth) name e =
+        same_at (model_named models name) (has_nest models (suc depth)) (sum_over_instances own models depth) (sum_over_instances own models (suc depth)) 0 (same_totals depth (same_numbers depth)) e
 
     pub total-enough : (depth : ℕ) (m : Model) → has_nest models (suc depth) m ≡ false → sum_over_instances own models depth m ≡ sum_over_instances own models (suc depth) m
-    unfolding sum_over_instances has_nest
-    total-enough zero m e =
-        sym (add-zero (own m)) ∙ ap (λ n. own m + n)
-        (sym (no_sums (instances m) 0)
-        ∙ same_sums (λ i. 0) (λ i. at_model models i.name own 0) (λ i. at_model models i.name (λ inner. true) false)
-        (λ i f. nothing (model_named models i.name) f) (instances m) 0 e)
-    total-enough (suc depth) m e =
-        ap (λ n. own m + n) (same_sums (λ i. at_model models i.name (sum_over_instances own models depth) 0) (λ i. at_model models i.name (sum_over_instances own models (suc depth)) 0)
-        (λ i. at_model models i.name (has_nest models (suc depth)) false)
-        (λ i f. deeper_total depth (total-enough depth) (model_named models i.name) f) (instances m) 0 e)
-
-  -- what holds of each model of a name, holds of the one of this name
-  less_at : (found : Option Model) (f g : Model → Bool) → ((m : Model) → f m ≡ false → g m ≡ false)
-      → option_map_or f found false ≡ false → option_map_or g found false ≡ false
-  less_at None f g less e = e
-  less_at (Some m) f g less e = less m e
+    total-enough depth m e = same_totals depth (same_numbers depth) m e
 
   -- no nest so deep, so none that is deeper
   pub nest-less : (depth : ℕ) (m : Model) → has_nest models depth m ≡ false → has_nest models (suc depth) m ≡ false
   unfolding has_nest
   nest-less zero m e = cc
-  nest-less (suc depth) m e =
-      any_less (λ i. nests depth i.name) (λ i. nests (suc depth) i.name)
-      (λ i. less_at (model_named models i.name) (has_nest models depth) (has_nest models (suc depth)) (nest-less depth))
-      (instances m) e
+  nest-less (suc depth) m e = any_less (λ i. nests depth i.name) (λ i. nests (suc depth) i.name) (λ i. nests_less depth i.name (nest-less depth)) (instances m) e
+    where
+      nests_less : (depth : ℕ) (name : Name) → ((m : Model) → has_nest models depth m ≡ false → has_nest models (suc depth) m ≡ false) → nests depth name ≡ false → nests (suc depth) name ≡ false
+      nests_less depth name less e = sym (same_at (model_named models name) (has_nest models depth) (has_nest models depth) (has_nest models (suc depth)) false (λ m h. h ∙ sym (less m h)) e) ∙ e
 
   enter-more : (more depth : ℕ) (scope : Scope) (name : Name) → nests depth name ≡ false → enter models depth scope name ≡ enter models (depth + more) scope name
   enter-more zero depth scope name e = ap (λ n. enter models n scope name) (sym (add-zero depth))
   enter-more (suc more) depth scope name e =
       let same : suc depth + more ≡ depth + suc more = omega arith in
-      enter-enough depth scope name e
-      ∙ enter-more more (suc depth) scope name (less_at (model_named models name) (has_nest models depth) (has_nest models (suc depth)) (nest-less depth) e)
-      ∙ ap (λ n. enter models n scope name) same
+      let less = same_at (model_named models name) (has_nest models depth) (has_nest models depth) (has_nest models (suc depth)) false (λ m h. h ∙ sym (nest-less depth m h)) e in
+      enter-enough depth scope name e ∙ enter-more more (suc depth) scope name (sym less ∙ e) ∙ ap (λ n. enter models n scope name) same
 
   -- where the main model is not too deep, any greater depth gives the same walk
   pub walk-enough : (more : ℕ) → too_deep models ≡ None → walk models ≡ steps_from (enter models (32 + more)) top 0 (main_of models).items

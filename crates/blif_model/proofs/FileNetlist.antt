@@ -1,10 +1,12 @@
 -- What a netlist file that isn't refused gives: each fault that could be isn't there, and the netlist is one.
-use Rattle.std.proofs.Common.{◌≡◌, ◌≤◌, ◌^◌, List, refl, subst, length}
+use Rattle.std.proofs.Common.{◌≡◌, ◌≤◌, ◌^◌, List, [], ◌∷◌, refl, subst, length}
 use Rattle.std.specs.Prelude.{Option, Some, None, Ok}
+use Rattle.std.specs.List.{AllByRecursion}
 use Rattle.std.proofs.lemmas.Bool.{ltb-false}
 use Rattle.blif_text.specs.declared.NetlistFault.{NetlistFault}
 use Rattle.circuit.specs.Circuit.{Circuit}
 use Rattle.circuit.specs.Sound.{IsNetlist}
+use Rattle.fm_base.specs.Firsts.{first_answer}
 use Rattle.fm_base.specs.Names.{Bytes}
 use Rattle.fm_base.proofs.Tests.{or_false}
 use Rattle.net_names.proofs.Answers.{not_given, same_answer}
@@ -19,6 +21,11 @@ use Rattle.blif_model.proofs.Fits.{walk-fits}
 use Rattle.blif_model.proofs.Sound.{netlist-sound}
 use Rattle.fm_base.proofs.Options.{none_both}
 
+-- where no answer comes first, none is there
+none_each : (answers : List (Option NetlistFault)) → first_answer answers ≡ None → AllByRecursion (λ answer. answer ≡ None) answers
+none_each [] e = tt
+none_each (answer ∷ answers) e = let parts = none_both answer (first_answer answers) e in (parts.0, none_each answers parts.1)
+
 -- no fault of the lines, of the models or of the walk
 pub record IsUnfaulted (bytes : Bytes) : Type 0 where
   pub lines : line_fault (said_lines bytes) ≡ None
@@ -28,23 +35,15 @@ pub record IsUnfaulted (bytes : Bytes) : Type 0 where
 pub unfaulted : (bytes : Bytes) → bad_net bytes ≡ None → IsUnfaulted bytes
 unfolding bad_net
 unfaulted bytes e =
-    let one = none_both (line_fault (said_lines bytes)) _ e in
-    let two = none_both (model_fault (file_models bytes)) _ one.1 in
-    let three = none_both (walk_fault (walk (file_models bytes))) None two.1 in
-    record { lines = one.0; models = two.0; walk = three.0 }
+    let none = none_each (line_fault (said_lines bytes) ∷ model_fault (file_models bytes) ∷ walk_fault (walk (file_models bytes)) ∷ []) e in
+    record { lines = none.0; models = none.1.0; walk = none.1.1.0 }
 
 -- at most 2^18 nets
 few_nets : (models : List Model) → model_fault models ≡ None → length (nets_of (walk models)) ≤ 2 ^ 18
 unfolding model_fault too_large
 few_nets models e =
-    let a = (none_both (two_models models) _ e).1 in
-    let b = (none_both (unknown_model models) _ a).1 in
-    let c = (none_both (bad_formal models) _ b).1 in
-    let d = (none_both (unbound models) _ c).1 in
-    let f = (none_both (recursive models) _ d).1 in
-    let g = (none_both (too_deep models) _ f).1 in
-    let h = (none_both (too_large models) None g).0 in
-    ltb-false (2 ^ 18) (count_of_nets models) (or_false _ _ (not_given _ _ h)).1
+    let none = none_each (two_models models ∷ unknown_model models ∷ bad_formal models ∷ unbound models ∷ recursive models ∷ too_deep models ∷ too_large models ∷ []) e in
+    ltb-false (2 ^ 18) (count_of_nets models) (or_false _ _ (not_given _ _ none.1.1.1.1.1.1.0)).1
 
 -- no fault of the walk is none of each kind
 pub record HasNone (steps : List Step) : Type 0 where
@@ -57,12 +56,8 @@ pub record HasNone (steps : List Step) : Type 0 where
 pub walk_unfaulted : (steps : List Step) → walk_fault steps ≡ None → HasNone steps
 unfolding walk_fault
 walk_unfaulted steps e =
-    let a = none_both (two_clocks steps) _ e in
-    let b = none_both (bad_clock steps) _ a.1 in
-    let c = none_both (clock_read steps) _ b.1 in
-    let d = none_both (two_drivers steps) _ c.1 in
-    let f = none_both (undriven steps) None d.1 in
-    record { clocks = a.0; controls = b.0; reads = c.0; drivers = d.0; driven = f.0 }
+    let none = none_each (two_clocks steps ∷ bad_clock steps ∷ clock_read steps ∷ two_drivers steps ∷ undriven steps ∷ []) e in
+    record { clocks = none.0; controls = none.1.0; reads = none.1.1.0; drivers = none.1.1.1.0; driven = none.1.1.1.1.0 }
 
 -- the netlist of a file without a fault
 pub unfaulted-netlist : (bytes : Bytes) → IsUnfaulted bytes → IsNetlist (circuit_of (walk (file_models bytes)))

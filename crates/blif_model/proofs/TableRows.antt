@@ -1,17 +1,17 @@
 -- In a file without a line fault, the rows of each table are rows for its inputs.
-use Rattle.std.proofs.Common.{◌≡◌, suc, ◌+◌, Bool, true, false, cond, not, List, [], ◌∷◌, ◌++◌, refl, ap, ◌∙◌, length, take, arith}
+use Rattle.std.proofs.Common.{◌≡◌, ℕ, Bool, true, false, cond, List, [], ◌∷◌, ◌++◌, refl, ap, sym, ◌∙◌, length, take, drop, arith}
 use Rattle.std.specs.Prelude.{Option, Some, None}
-use Rattle.std.specs.List.{list_all, before_first, prefix_len, AllByRecursion}
-use Rattle.std.specs.Option.{option_or, option_map}
-use Rattle.blif_text.specs.declared.NetlistKind.TheVariants.{BadRow}
+use Rattle.std.specs.List.{list_all, position_or_len, AllByRecursion}
+use Rattle.std.proofs.lemmas.List.{take-append-drop}
+use Rattle.std.proofs.lemmas.List.Sums.{fold_push}
 use Rattle.blif_text.specs.declared.NetlistFault.{NetlistFault}
 use Rattle.fm_base.specs.Firsts.{first_after}
-use Rattle.blif_model.specs.Statement.{Statement, model, table, end, row, passed}
-use Rattle.blif_model.specs.LineFault.{Said, at_line, is_inside, inside_after, table_above, table_after, is_row_of, plane_fault, row_fault, place_fault, kind_of, fault_of, line_fault, plane_above, plane_after}
-use Rattle.blif_model.specs.Models.{Item, Model, rows_from, rows_below, items_of, ends_model, model_from, models_of}
 use Rattle.fm_base.specs.Names.{Name}
-use Rattle.std.proofs.lemmas.List.Sums.{fold_push}
+use Rattle.fm_base.proofs.Firsts.{first_after-append}
 use Rattle.fm_base.proofs.Options.{none_both, none_mapped}
+use Rattle.blif_model.specs.Statement.{Statement, model, table, row, passed}
+use Rattle.blif_model.specs.LineFault.{Said, at_line, is_inside, inside_after, table_above, table_after, is_row_of, place_fault, kind_of, fault_of, line_fault, plane_above, plane_after}
+use Rattle.blif_model.specs.Models.{Item, Model, rows_from, rows_below, items_of, ends_model, model_from, models_of}
 
 -- the rows of a table have a cell for each input
 abbrev pub RowsFit : Statement → List (List Name) → Type 0
@@ -36,17 +36,10 @@ sound_first before line lines e =
     let parts = none_both (fault_of before line) (first_after fault_of (before ++ line ∷ []) lines) e in
     ((none_both (place_fault before line.says) _ (none_mapped (at_line line.number) (kind_of before line) parts.0)).0, parts.1)
 
--- a row in its place is a row for the inputs of the table above
-row_here : (before : List Said) (tokens ins : List Name) → is_inside before ≡ true → table_above before ≡ Some ins
-    → place_fault before (row tokens) ≡ None → is_row_of (length ins) tokens ≡ true
-row_here before tokens ins i t e =
-    let inside : row_fault before tokens ≡ None = rw i at e in
-    let below : cond (is_row_of (length ins) tokens) (plane_fault before tokens) (Some BadRow) ≡ None = rw t at inside in
-    by_cases (is_row_of (length ins) tokens) below
-  where
-    by_cases : (b : Bool) → cond b (plane_fault before tokens) (Some BadRow) ≡ None → b ≡ true
-    by_cases true e = refl
-    by_cases false e = cc
+-- nor has a line of their front
+sound_front : (before lines : List Said) (n : ℕ) → AreSound before lines → AreSound before (take n lines)
+sound_front before lines n e =
+    (none_both _ _ (sym (first_after-append fault_of before (take n lines) (drop n lines)) ∙ ap (first_after fault_of before) (take-append-drop n lines) ∙ e)).0
 
 -- one more line, and where the next one stands
 pub is_inside_more : (before : List Said) (line : Said) → is_inside (before ++ line ∷ []) ≡ inside_after line.says (is_inside before)
@@ -61,84 +54,46 @@ pub plane_above_more : (before : List Said) (line : Said) → plane_above (befor
 unfolding plane_above
 plane_above_more before line = fold_push (λ above (l : Said). plane_after l.says above) None before line
 
-rows_fit : (before lines : List Said) (ins : List Name) → AreSound before lines → is_inside before ≡ true → table_above before ≡ Some ins
-    → list_all (is_row_of (length ins)) (rows_below lines) ≡ true
+-- a row in its place is a row for the inputs of the table above
+row_here : (before : List Said) (tokens ins : List Name) → table_above before ≡ Some ins → place_fault before (row tokens) ≡ None → is_row_of (length ins) tokens ≡ true
+row_here before tokens ins t e = grind arith
+
+rows_fit : (before lines : List Said) (ins : List Name) → AreSound before lines → table_above before ≡ Some ins → list_all (is_row_of (length ins)) (rows_below lines) ≡ true
 unfolding rows_below
-rows_fit before [] ins e i t = refl
-rows_fit before (line ∷ lines) ins e i t =
+rows_fit before [] ins e t = refl
+rows_fit before (line ∷ lines) ins e t =
     let parts = sound_first before line lines e in
-    at line.says parts.0 (λ i t. rows_fit (before ++ line ∷ []) lines ins parts.1 (is_inside_more before line ∙ i) (table_above_more before line ∙ t))
+    at line.says parts.0 (λ t. rows_fit (before ++ line ∷ []) lines ins parts.1 (table_above_more before line ∙ t))
   where
-    at : (says : Statement) → place_fault before says ≡ None
-        → (inside_after says (is_inside before) ≡ true → table_after says (table_above before) ≡ Some ins → list_all (is_row_of (length ins)) (rows_below lines) ≡ true)
+    at : (says : Statement) → place_fault before says ≡ None → (table_after says (table_above before) ≡ Some ins → list_all (is_row_of (length ins)) (rows_below lines) ≡ true)
         → list_all (is_row_of (length ins)) (rows_from says (rows_below lines)) ≡ true
-    at (row tokens) f more = rw (row_here before tokens ins i t f) (more i t)
-    at passed f more = more i t
+    at (row tokens) f more = rw (row_here before tokens ins t f) (more t)
+    at passed f more = more t
     at _ f more = refl
 
-abbrev ends : Said → Bool
-ends line = ends_model line.says
-
--- up to the end of a model, line by line
-cut_more : (line : Said) (lines : List Said) → ends line ≡ false → before_first ends (line ∷ lines) ≡ line ∷ before_first ends lines
-cut_more line lines e =
-    let more : 1 + prefix_len (λ l. not (ends l)) lines ≡ suc (prefix_len (λ l. not (ends l)) lines) = omega arith in
-    rw e (ap (λ n. take n (line ∷ lines)) more)
-
-cut_here : (line : Said) (lines : List Said) → ends line ≡ true → before_first ends (line ∷ lines) ≡ []
-cut_here line lines e = rw e refl
-
--- rows end at the end of a model anyway
-rows_cut : (lines : List Said) → rows_below (before_first ends lines) ≡ rows_below lines
-unfolding rows_below
-rows_cut [] = refl
-rows_cut (line ∷ lines) = by_cases (ends line) refl (rows_cut lines)
-  where
-    none_from : (says : Statement) (below : List (List Name)) → ends_model says ≡ true → [] ≡ rows_from says below
-    none_from (row tokens) below e = cc
-    none_from passed below e = cc
-    none_from _ below e = refl
-
-    by_cases : (b : Bool) → ends line ≡ b → rows_below (before_first ends lines) ≡ rows_below lines → rows_below (before_first ends (line ∷ lines)) ≡ rows_below (line ∷ lines)
-    by_cases true e more = ap rows_below (cut_here line lines e) ∙ none_from line.says (rows_below lines) e
-    by_cases false e more = ap rows_below (cut_more line lines e) ∙ ap (rows_from line.says) more
-
-items_fit : (before lines : List Said) → AreSound before lines → is_inside before ≡ true → AllByRecursion ItemFits (items_of (before_first ends lines))
+items_fit : (before lines : List Said) → AreSound before lines → AllByRecursion ItemFits (items_of lines)
 unfolding items_of
-items_fit before [] e i = tt
-items_fit before (line ∷ lines) e i =
+items_fit before [] e = tt
+items_fit before (line ∷ lines) e =
     let parts = sound_first before line lines e in
-    by_cases (ends line) refl (λ i. items_fit (before ++ line ∷ []) lines parts.1 (is_inside_more before line ∙ i))
-    (λ ins i t. rows_fit (before ++ line ∷ []) lines ins parts.1 (is_inside_more before line ∙ i) (table_above_more before line ∙ t))
+    (at line.says (λ ins t. rows_fit (before ++ line ∷ []) lines ins parts.1 (table_above_more before line ∙ t)), items_fit (before ++ line ∷ []) lines parts.1)
   where
-    still : (says : Statement) → ends_model says ≡ false → inside_after says (is_inside before) ≡ true
-    still end e = cc
-    still (model name) e = refl
-    still _ e = i
-
-    here : (says : Statement) → ends_model says ≡ false
-        → ((ins : List Name) → inside_after says (is_inside before) ≡ true → table_after says (table_above before) ≡ Some ins → list_all (is_row_of (length ins)) (rows_below lines) ≡ true)
-        → RowsFit says (rows_below (before_first ends lines))
-    here (table ins out) e rows = rw (rows_cut lines) (rows ins i refl)
-    here (model name) e rows = tt
-    here _ e rows = tt
-
-    by_cases : (b : Bool) → ends line ≡ b → (inside_after line.says (is_inside before) ≡ true → AllByRecursion ItemFits (items_of (before_first ends lines)))
-        → ((ins : List Name) → inside_after line.says (is_inside before) ≡ true → table_after line.says (table_above before) ≡ Some ins → list_all (is_row_of (length ins)) (rows_below lines) ≡ true)
-        → AllByRecursion ItemFits (items_of (before_first ends (line ∷ lines)))
-    by_cases true e more rows = rw (cut_here line lines e) tt
-    by_cases false e more rows = rw (cut_more line lines e) (here line.says e rows, more (still line.says e))
+    at : (says : Statement) → ((ins : List Name) → table_after says (table_above before) ≡ Some ins → list_all (is_row_of (length ins)) (rows_below lines) ≡ true)
+        → RowsFit says (rows_below lines)
+    at (table ins out) rows = rows ins refl
+    at _ rows = tt
 
 models_fit : (before lines : List Said) → AreSound before lines → AllByRecursion ModelFits (models_of lines)
 unfolding models_of
 models_fit before [] e = tt
 models_fit before (line ∷ lines) e =
-    let parts = sound_first before line lines e in
-    begun line.says (λ i. items_fit (before ++ line ∷ []) lines parts.1 (is_inside_more before line ∙ i)) (models_fit (before ++ line ∷ []) lines parts.1)
+    let behind = (sound_first before line lines e).1 in
+    let front = sound_front (before ++ line ∷ []) lines (position_or_len (λ (l : Said). ends_model l.says) lines) behind in
+    begun line.says (items_fit (before ++ line ∷ []) (take (position_or_len (λ (l : Said). ends_model l.says) lines) lines) front) (models_fit (before ++ line ∷ []) lines behind)
   where
-    begun : (says : Statement) → (inside_after says (is_inside before) ≡ true → AllByRecursion ItemFits (items_of (before_first ends lines)))
+    begun : (says : Statement) → AllByRecursion ItemFits (items_of (take (position_or_len (λ (l : Said). ends_model l.says) lines) lines))
         → AllByRecursion ModelFits (models_of lines) → AllByRecursion ModelFits (model_from line.number says lines ++ models_of lines)
-    begun (model name) items more = (items refl, more)
+    begun (model name) items more = (items, more)
     begun _ items more = more
 
 none_or : (b : Bool) (found : Option NetlistFault) (fault : NetlistFault) → cond b found (Some fault) ≡ None → found ≡ None
