@@ -5,7 +5,7 @@ use Rattle.std.specs.Option.{option_map_or}
 use Rattle.std.proofs.lemmas.List.{length-map}
 use Rattle.std.proofs.lemmas.List.Sums.{sum_by-append, sum_by-cons}
 use Rattle.blif_model.specs.Statement.{Statement, table, instance}
-use Rattle.blif_model.specs.Models.{Item, Instance, Model, at_model, model_named, main_of, instance_from, instances, sum_over_instances, cells_from, cell_count}
+use Rattle.blif_model.specs.Models.{Item, Instance, Model, model_named, main_of, instance_from, instances, sum_over_instances, cells_from, cell_count}
 use Rattle.blif_model.specs.Walk.{Scope, top, inside, Act, flat_table, Step, acts_of, inner_steps, scope_of, next, net_of, steps_from, enter, walk}
 use Rattle.fm_base.specs.Names.{Name}
 use Rattle.blif_model.proofs.Depth.{number_of, sum_by_numbers}
@@ -55,18 +55,16 @@ items_cells : (f : Scope → Name → List Step) (g : Name → ℕ) → ((scope 
 unfolding steps_from
 items_cells f g same scope j [] = refl
 items_cells f g same scope j (item ∷ items) =
-    let own : own_sum (item ∷ items) ≡ cells_from item.says item.rows + own_sum items = sum_by-cons (λ (i : Item). cells_from i.says i.rows) item items in
-    let named : named_sum g (item ∷ items) ≡ named_at g item.says + named_sum g items = named_more g item.line item.says item.rows items in
     let acts : List Step = map (λ act. record { line = item.line; act = act }) (acts_of scope item.says item.rows) in
     let inner : List Step = inner_steps f scope j item.says in
-    let rest : List Step = steps_from f scope (next j item.says) items in
-    let one : walk_cells ((acts ++ inner) ++ rest) ≡ walk_cells (acts ++ inner) + walk_cells rest = sum_by-append (λ (s : Step). act_cells s.act) (acts ++ inner) rest in
-    let two : walk_cells (acts ++ inner) ≡ walk_cells acts + walk_cells inner = sum_by-append (λ (s : Step). act_cells s.act) acts inner in
-    sum_up (walk_cells acts) (walk_cells inner) (walk_cells rest) (own_sum (item ∷ items)) (named_sum g (item ∷ items)) _ _ _ _ _ _
-    one two (act_of_line scope item.line item.says item.rows) (inner_of_line f g same scope j item.says) (items_cells f g same scope (next j item.says) items) own named
-  where
-    sum_up : (a i r o n all both c m os ns : ℕ) → all ≡ both + r → both ≡ a + i → a ≡ c → i ≡ m → r ≡ os + ns → o ≡ c + os → n ≡ m + ns → all ≡ o + n
-    sum_up a i r o n all both c m os ns p q s t u v w = omega arith
+    let own = sum_by-cons (λ (i : Item). cells_from i.says i.rows) item items in
+    let named = named_more g item.line item.says item.rows items in
+    let both = sum_by-append (λ (s : Step). act_cells s.act) (acts ++ inner) (steps_from f scope (next j item.says) items) in
+    let line = sum_by-append (λ (s : Step). act_cells s.act) acts inner in
+    let here = act_of_line scope item.line item.says item.rows in
+    let there = inner_of_line f g same scope j item.says in
+    let more = items_cells f g same scope (next j item.says) items in
+    omega (arith, own, named, both, line, here, there, more)
 
 module _ (models : List Model) where
   enter_cells : (depth : ℕ) (scope : Scope) (name : Name) → walk_cells (enter models depth scope name) ≡ number_of models cell_count depth name

@@ -1,5 +1,5 @@
 -- Without TwoDrivers and Undriven each net is driven once, and what is driven is visited.
-use Rattle.std.proofs.Common.{◌≡◌, ℕ, ◌+◌, Bool, true, false, not, ◌||◌, ◌&&◌, List, [], ◌∷◌, ◌++◌, inl, inr, refl, ap, sym, subst, ◌∙◌}
+use Rattle.std.proofs.Common.{◌≡◌, ℕ, ◌+◌, true, false, not, ◌||◌, ◌&&◌, List, [], ◌∷◌, ◌++◌, inl, inr, refl, ap, sym, subst, ◌∙◌}
 use Rattle.std.specs.Prelude.{None, bytes_eq, map, flat_map}
 use Rattle.std.specs.List.{list_any}
 use Rattle.std.proofs.lemmas.List.{append-nil, map-append}
@@ -8,7 +8,7 @@ use Rattle.blif_text.specs.declared.NetlistKind.TheVariants.{TwoDrivers, Undrive
 use Rattle.blif_model.specs.LineFault.{at_line}
 use Rattle.fm_base.specs.Firsts.{first_where, first_after, given}
 use Rattle.fm_base.specs.Names.{Name, is_one_of, has_repeat}
-use Rattle.fm_base.proofs.Tests.{and_both, and_not, both_false, clash, false_of, not_false, not_not, or_cases, or_false, or_second, or_true}
+use Rattle.fm_base.proofs.Tests.{and_both, and_not, both_false, clash, false_of, not_not, or_cases, or_false, or_second, or_true}
 use Rattle.fm_base.proofs.Distinct.{bytes_eq-sym, same_name, is_same, filter-found}
 use Rattle.net_names.specs.Driven.{drives, name_count}
 use Rattle.net_names.proofs.Answers.{none_given}
@@ -64,7 +64,7 @@ net_driven steps (v ∷ vs) e name clock there =
     let here = none_given (not (is_clock steps v.name) && not (has_visit (drives_of steps) v.name)) (at_line v.line (Undriven v.name)) _ e in
     elim (or_cases (bytes_eq name v.name) (is_one_of (names_of vs) name) there) [
       | inl same ↦ not_not (has_visit (drives_of steps) name) (and_not (not (is_clock steps name)) _
-            (subst (λ (n : Name). (not (is_clock steps n) && not (has_visit (drives_of steps) n)) ≡ false) (sym (same_name name v.name same)) here.0) clock)
+          (subst (λ (n : Name). (not (is_clock steps n) && not (has_visit (drives_of steps) n)) ≡ false) (sym (same_name name v.name same)) here.0) clock)
       | inr behind ↦ net_driven steps vs here.1 name clock behind
     ]
 

@@ -1,5 +1,5 @@
 -- The forms of lines.
-use Rattle.std.proofs.Common.{◌≡◌, ◌-◌, ◌<◌, ◌≤◌, suc, List, [], ◌∷◌, refl, ap, sym, map, length, take, get_or, arith}
+use Rattle.std.proofs.Common.{◌≡◌, ◌-◌, ◌<◌, ◌≤◌, suc, List, [], ◌∷◌, refl, ap, map, length, take, get_or, arith}
 use Rattle.std.specs.List.{list_all}
 use Rattle.std.proofs.lemmas.List.Folds.{list_all-map}
 use Rattle.std.proofs.lemmas.Simd.{map-map}

@@ -6,7 +6,7 @@ use Rattle.std.proofs.lemmas.List.Folds.{list_all-append}
 use Rattle.blif_text.specs.declared.NetlistKind.TheVariants.{ClockRead}
 use Rattle.fm_base.specs.Firsts.{first_where, given}
 use Rattle.fm_base.specs.Names.{Name, is_one_of}
-use Rattle.fm_base.proofs.Tests.{and_both, both_true, not_false, or_cases, or_false, or_second}
+use Rattle.fm_base.proofs.Tests.{and_both, both_true, or_cases, or_false, or_second}
 use Rattle.fm_base.proofs.Distinct.{distinct-found, is_same, same_name}
 use Rattle.net_names.proofs.Answers.{none_given}
 use Rattle.net_names.proofs.Times.{one_of_both}

@@ -1,5 +1,5 @@
 -- The netlist of a file is one: each net has one driver and is the net of it, and all numbers are in range.
-use Rattle.std.proofs.Common.{◌≡◌, ℕ, ◌≤◌, ◌^◌, Bool, true, false, ◌||◌, ◌==◌, List, [], ◌∷◌, inl, inr, refl, ap, sym, ◌∙◌, length, arith}
+use Rattle.std.proofs.Common.{◌≡◌, ℕ, ◌≤◌, ◌^◌, Bool, true, false, ◌==◌, List, [], ◌∷◌, inl, inr, refl, ap, sym, ◌∙◌, length}
 use Rattle.std.specs.Prelude.{bytes_eq, map, flat_map, filter_map, None}
 use Rattle.std.specs.List.{AllByRecursion, cons_option, list_any, list_all}
 use Rattle.std.proofs.lemmas.List.{length-map}
@@ -21,7 +21,7 @@ use Rattle.blif_model.specs.Walk.{Act, flat_table, flat_latch, Step, Visit, tabl
 use Rattle.blif_model.specs.WalkFault.{two_drivers, undriven, clock_read, read}
 use Rattle.blif_model.specs.Net.{lit_of, lits_of, table_plane, table_of, latch_of, input_names_of, table_names_of, latch_names_of, output_names_of, drivers_of, circuit_of}
 use Rattle.blif_model.proofs.Nets.{nets-apart, nets-found}
-use Rattle.blif_model.proofs.Drivers.{drives-once, nets-driven, drives-visited, times-drives, visit-found}
+use Rattle.blif_model.proofs.Drivers.{names_of, drives-once, nets-driven, drives-visited, times-drives, visit-found}
 use Rattle.blif_model.proofs.ReadNets.{reads-nets, outputs-nets}
 use Rattle.blif_model.proofs.Fits.{ActFits, StepsFit}
 
@@ -30,10 +30,9 @@ use Rattle.blif_model.proofs.Fits.{ActFits, StepsFit}
 -- a row for so many inputs has so many literals
 row_length : (count : ℕ) (tokens : List Name) → is_row_of count tokens ≡ true → length (lits_of tokens) ≡ count
 row_length count [] e = cc
-row_length count (output ∷ []) e = let parts = and_both (count == 0) _ e in sym (eqb-true count 0 parts.0)
+row_length count (output ∷ []) e = sym (eqb-true count 0 (and_both (count == 0) _ e).0)
 row_length count (cells ∷ output ∷ []) e =
-    let parts = and_both _ _ (and_both _ _ (and_both _ _ e).0).0 in
-    length-map cells lit_of ∙ eqb-true (length cells) count parts.1
+    length-map cells lit_of ∙ eqb-true (length cells) count (and_both _ _ (and_both _ _ (and_both _ _ e).0).0).1
 row_length count (a ∷ b ∷ c ∷ more) e = cc
 
 rows_length : (count : ℕ) (rows : List (List Name)) → list_all (is_row_of count) rows ≡ true → AllByRecursion (λ row. length row ≡ count) (map lits_of rows)
@@ -90,46 +89,36 @@ module _ (steps : List Step) (once : two_drivers steps ≡ None) (driven : undri
   abbrev lats : List Name
   lats = latch_names_of steps
 
-  abbrev drive_names : List Name
-  drive_names = map (λ (v : Visit). v.name) (drives_of steps)
-
-  drive_count : (name : Name) → name_count name drive_names ≡ drives ins tabs lats name
+  drive_count : (name : Name) → name_count name (names_of (drives_of steps)) ≡ drives ins tabs lats name
   unfolding drives_of input_names_of table_names_of latch_names_of
   drive_count name = times-drives name steps steps
 
-  none_among : (p : Name → Bool) (ds : List Visit) (name : Name) → list_any (λ (d : Visit). p d.name) ds ≡ false → is_one_of (map (λ (d : Visit). d.name) ds) name ≡ true → p name ≡ false
+  none_among : (p : Name → Bool) (ds : List Visit) (name : Name) → list_any (λ d. p d.name) ds ≡ false → is_one_of (names_of ds) name ≡ true → p name ≡ false
   none_among p [] name e f = cc
   none_among p (d ∷ ds) name e f =
-      let parts = or_false (p d.name) (list_any (λ (x : Visit). p x.name) ds) e in
+      let parts = or_false (p d.name) (list_any (λ x. p x.name) ds) e in
       elim (or_cases (bytes_eq name d.name) _ f) [ inl same ↦ ap p (same_name name d.name same) ∙ parts.0 | inr there ↦ none_among p ds name parts.1 there ]
 
   -- a driven name is a net
-  driven_net : (name : Name) → is_one_of drive_names name ≡ true → is_one_of nets name ≡ true
+  driven_net : (name : Name) → is_one_of (names_of (drives_of steps)) name ≡ true → is_one_of nets name ≡ true
   unfolding nets_of
   driven_net name there =
       let clock : is_clock steps name ≡ false = none_among (is_clock steps) (drives_of steps) name (drives-once steps once).clock there in
-      nets-found steps (map (λ (v : Visit). v.name) (visits_of steps)) name ∙ rw (clock, drives-visited steps name there) refl
+      nets-found steps (names_of (visits_of steps)) name ∙ rw (clock, drives-visited steps name there) refl
 
   -- EACH NET OF THE WALK is driven once
   pub walk-driven : IsDrivenOnce nets ins tabs lats
   walk-driven =
-      driven-once nets ins tabs lats drive_names drive_count (nets-apart steps) (drives-once steps once).apart
+      driven-once nets ins tabs lats (names_of (drives_of steps)) drive_count (nets-apart steps) (drives-once steps once).apart
       (λ name e. sym (visit-found (drives_of steps) name) ∙ nets-driven steps driven name e) driven_net
 
-  abbrev made : Circuit
-  made = circuit_of steps
-
-  abbrev tables : List Table
-  tables = filter_map (λ (s : Step). table_of nets s.act) steps
-
-  abbrev latches : List Latch
-  latches = filter_map (λ (s : Step). latch_of nets s.act) steps
-
   -- the netlist of a walk
-  pub netlist-sound : clock_read steps ≡ None → StepsFit steps → length (nets_of steps) ≤ 2 ^ 18 → IsNetlist made
+  pub netlist-sound : clock_read steps ≡ None → StepsFit steps → length (nets_of steps) ≤ 2 ^ 18 → IsNetlist (circuit_of steps)
   unfolding circuit_of drivers_of output_names_of table_names_of latch_names_of
   netlist-sound unread fit small =
-      let size : length made.drivers ≡ length nets = size-of-drivers nets ins tabs lats (output_names_of steps) tables latches walk-driven (beside nets steps) in
+      let tables : List Table = filter_map (λ s. table_of nets s.act) steps in
+      let latches : List Latch = filter_map (λ s. latch_of nets s.act) steps in
+      let size : length (circuit_of steps).drivers ≡ length nets = size-of-drivers nets ins tabs lats (output_names_of steps) tables latches walk-driven (beside nets steps) in
       netlist-of-names nets ins tabs lats (output_names_of steps) tables latches walk-driven (beside nets steps) small
-      (tables_fit nets made size steps (reads-nets steps unread) fit) (sources_fit nets made size steps (reads-nets steps unread))
-      (distinct-apart (flat_map (λ (s : Step). outputs_at s.act) steps)) (λ name e. outputs-nets steps unread name e)
+      (tables_fit nets (circuit_of steps) size steps (reads-nets steps unread) fit) (sources_fit nets (circuit_of steps) size steps (reads-nets steps unread))
+      (distinct-apart (flat_map (λ s. outputs_at s.act) steps)) (outputs-nets steps unread)

@@ -28,10 +28,7 @@ fn next_inside(says: Says<'_, '_>, inside: bool) -> bool
     }
 }
 
-fn next_table<'m, 'a>(
-    says: Says<'m, 'a>,
-    above: Option<&'m [Token<'a>]>,
-) -> Option<&'m [Token<'a>]>
+fn next_table<'m, 'a>(says: Says<'m, 'a>, above: Option<&'m [Token<'a>]>) -> Option<&'m [Token<'a>]>
     ensures { option_map (λ t. texts_of t.now) result ≡ table_after (meant says.entry) (option_map (λ t. texts_of t.now) above.entry) }
 {
     match says {

@@ -1,6 +1,4 @@
-use Rattle.std.proofs.Common.{◌≡◌, take}
-use Rattle.blif_model.specs.LineFault.{kind_of}
-use Rattle.blif_model.specs.Position.{IsBehind}
+use Rattle.std.proofs.Common.{take}
 use Rattle.blif_model.proofs.FirstFaults.{fault_step, fault_nowhere, up_to_here}
 use Rattle.blif_model.proofs.faults.first_fault.Goals as goal
 
