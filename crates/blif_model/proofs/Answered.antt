@@ -8,7 +8,8 @@ use Rattle.blif_model.specs.Net.{bad_net}
 use Rattle.blif_model.specs.Answer.{models_unless, models_read}
 
 -- with models, no line is faulty, and they are those of the file
-pub models-taken : (bytes : List ℕ) (models : List Model) → models_read bytes ≡ Ok models → (line_fault (said_lines bytes) ≡ None) × (models ≡ file_models bytes)
+pub models-taken : (bytes : List ℕ) (models : List Model) → models_read bytes ≡ Ok models
+    → (line_fault (said_lines bytes) ≡ None) × (models ≡ file_models bytes)
 models-taken bytes models e = by_cases (line_fault (said_lines bytes)) e
   where
     by_cases : (f : Option NetlistFault) → models_unless f (file_models bytes) ≡ Ok models → (f ≡ None) × (models ≡ file_models bytes)

@@ -34,7 +34,8 @@ named_at g _ = 0
 pub named_more : (g : Name → ℕ) (line : ℕ) (says : Statement) (rows : List (List Name)) (items : List Item)
     → named_sum g (record { line = line; says = says; rows = rows } ∷ items) ≡ named_at g says + named_sum g items
 named_more g line (instance name bindings) rows items =
-    sum_by-cons (λ (i : Instance). g i.name) (record { line = line; name = name; bindings = bindings }) (filter_map (λ (item : Item). instance_from item.line item.says) items)
+    sum_by-cons (λ (i : Instance). g i.name) (record { line = line; name = name; bindings = bindings })
+    (filter_map (λ (item : Item). instance_from item.line item.says) items)
 named_more g line says rows items = sym (zero-add (named_sum g items))
 
 -- the cells of a line's own step, and of its instance
@@ -67,15 +68,20 @@ items_cells f g same scope j (item ∷ items) =
     omega (arith, own, named, both, line, here, there, more)
 
 module _ (models : List Model) where
-  enter_cells : (depth : ℕ) (scope : Scope) (name : Name) → walk_cells (enter models depth scope name) ≡ number_of models cell_count depth name
+  enter_cells : (depth : ℕ) (scope : Scope) (name : Name)
+      → walk_cells (enter models depth scope name) ≡ number_of models cell_count depth name
   unfolding enter instances
   enter_cells zero scope name = refl
   enter_cells (suc depth) scope name = at (model_named models name) (enter_cells depth)
     where
-      at : (found : Option Model) → ((inner : Scope) (other : Name) → walk_cells (enter models depth inner other) ≡ number_of models cell_count depth other)
-          → walk_cells (option_map_or (λ (m : Model). steps_from (enter models depth) scope 0 m.items) found []) ≡ option_map_or (sum_over_instances cell_count models depth) found 0
+      at : (found : Option Model)
+          → ((inner : Scope) (other : Name) → walk_cells (enter models depth inner other) ≡ number_of models cell_count depth other)
+          → walk_cells (option_map_or (λ (m : Model). steps_from (enter models depth) scope 0 m.items) found [])
+          ≡ option_map_or (sum_over_instances cell_count models depth) found 0
       at None same = refl
-      at (Some m) same = items_cells (enter models depth) (number_of models cell_count depth) same scope 0 m.items ∙ sym (sum_by_numbers models cell_count depth m)
+      at (Some m) same =
+          items_cells (enter models depth) (number_of models cell_count depth) same scope 0 m.items
+          ∙ sym (sum_by_numbers models cell_count depth m)
 
   -- the count of cells, model by model, is the sum over the tables of the walk
   pub count-cells : walk_cells (walk models) ≡ sum_over_instances cell_count models 32 (main_of models)

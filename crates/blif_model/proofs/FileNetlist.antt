@@ -42,7 +42,9 @@ unfaulted bytes e =
 few_nets : (models : List Model) → model_fault models ≡ None → length (nets_of (walk models)) ≤ 2 ^ 18
 unfolding model_fault too_large
 few_nets models e =
-    let none = none_each (two_models models ∷ unknown_model models ∷ bad_formal models ∷ unbound models ∷ recursive models ∷ too_deep models ∷ too_large models ∷ []) e in
+    let none =
+    none_each (two_models models ∷ unknown_model models ∷ bad_formal models ∷ unbound models ∷ recursive models
+    ∷ too_deep models ∷ too_large models ∷ []) e in
     ltb-false (2 ^ 18) (count_of_nets models) (or_false _ _ (not_given _ _ none.1.1.1.1.1.1.0)).1
 
 -- no fault of the walk is none of each kind
@@ -73,5 +75,6 @@ unfolding netlist_of
 netlist-is bytes c e = by_cases (bad_net bytes) refl e
   where
     by_cases : (o : Option NetlistFault) → bad_net bytes ≡ o → netlist_unless o (walk (file_models bytes)) ≡ Ok c → IsNetlist c
-    by_cases None none e = subst IsNetlist (same_answer (circuit_of (walk (file_models bytes))) c _ refl e) (unfaulted-netlist bytes (unfaulted bytes none))
+    by_cases None none e =
+        subst IsNetlist (same_answer (circuit_of (walk (file_models bytes))) c _ refl e) (unfaulted-netlist bytes (unfaulted bytes none))
     by_cases (Some fault) some e = cc

@@ -9,11 +9,13 @@ use Rattle.blif_text.specs.declared.NetlistFault.{NetlistFault}
 use Rattle.blif_model.specs.LineFault.{Said, at_line, kind_of, fault_of}
 
 -- the lines before the next one end with this one
-pub up_to_here : (lines : List Said) (i : ℕ) (line : Said) → i < length lines → line ≡ get_or lines i line → take (i + 1) lines ≡ take i lines ++ line ∷ []
+pub up_to_here : (lines : List Said) (i : ℕ) (line : Said) → i < length lines → line ≡ get_or lines i line
+    → take (i + 1) lines ≡ take i lines ++ line ∷ []
 up_to_here lines i line h e = take_more lines i line h ∙ rw (← e) refl
 
 -- the first fault from this line on is its own, or else that of the lines behind it
-pub fault_step : (lines : List Said) (i : ℕ) (line : Said) (kind : Option NetlistKind) (all : Option NetlistFault) → i < length lines → line ≡ get_or lines i line
+pub fault_step : (lines : List Said) (i : ℕ) (line : Said) (kind : Option NetlistKind) (all : Option NetlistFault) → i < length lines
+    → line ≡ get_or lines i line
     → kind ≡ kind_of (take i lines) line → first_after fault_of (take i lines) (drop i lines) ≡ all
     → option_or (option_map (at_line line.number) kind) (first_after fault_of (take (i + 1) lines) (drop (i + 1) lines)) ≡ all
 unfolding first_after

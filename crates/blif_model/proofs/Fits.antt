@@ -26,11 +26,13 @@ acts_fit scope line (table ins out) rows fits = (rw (length-map ins (net_of scop
 acts_fit top line says rows fits = search
 acts_fit (inside path bound) line says rows fits = search
 
-inner_fit : (f : Scope → Name → List Step) → ((scope : Scope) (name : Name) → StepsFit (f scope name)) → (scope : Scope) (j : ℕ) (says : Statement) → StepsFit (inner_steps f scope j says)
+inner_fit : (f : Scope → Name → List Step) → ((scope : Scope) (name : Name) → StepsFit (f scope name))
+    → (scope : Scope) (j : ℕ) (says : Statement) → StepsFit (inner_steps f scope j says)
 inner_fit f fits scope j (instance name bindings) = fits (scope_of scope j bindings) name
 inner_fit f fits scope j says = tt
 
-steps_fit : (f : Scope → Name → List Step) → ((scope : Scope) (name : Name) → StepsFit (f scope name)) → (scope : Scope) (j : ℕ) (items : List Item)
+steps_fit : (f : Scope → Name → List Step) → ((scope : Scope) (name : Name) → StepsFit (f scope name))
+    → (scope : Scope) (j : ℕ) (items : List Item)
     → AllByRecursion ItemFits items → StepsFit (steps_from f scope j items)
 unfolding steps_from
 steps_fit f fits scope j [] all = tt
@@ -38,20 +40,24 @@ steps_fit f fits scope j (item ∷ items) all =
     all-append _ _ _ (all-append _ _ _ (acts_fit scope item.line item.says item.rows all.0) (inner_fit f fits scope j item.says))
     (steps_fit f fits scope (next j item.says) items all.1)
 
-found_fits : (models : List Model) (name : Name) → AllByRecursion ModelFits models → MatchOption (model_named models name) (Unit {0}) ModelFits
+found_fits : (models : List Model) (name : Name) → AllByRecursion ModelFits models
+    → MatchOption (model_named models name) (Unit {0}) ModelFits
 found_fits [] name all = tt
 found_fits (x ∷ xs) name all = by_cases (bytes_eq x.name name) (found_fits xs name all.1)
   where
-    by_cases : (b : Bool) → MatchOption (model_named xs name) (Unit {0}) ModelFits → MatchOption (cond b (Some x) (model_named xs name)) (Unit {0}) ModelFits
+    by_cases : (b : Bool) → MatchOption (model_named xs name) (Unit {0}) ModelFits
+        → MatchOption (cond b (Some x) (model_named xs name)) (Unit {0}) ModelFits
     by_cases true more = all.0
     by_cases false more = more
 
-enter_fits : (models : List Model) → AllByRecursion ModelFits models → (depth : ℕ) (scope : Scope) (name : Name) → StepsFit (enter models depth scope name)
+enter_fits : (models : List Model) → AllByRecursion ModelFits models → (depth : ℕ) (scope : Scope) (name : Name)
+    → StepsFit (enter models depth scope name)
 unfolding enter
 enter_fits models all zero scope name = tt
 enter_fits models all (suc depth) scope name = at (model_named models name) (found_fits models name all) (enter_fits models all depth)
   where
-    at : (o : Option Model) → MatchOption o (Unit {0}) ModelFits → ((inner : Scope) (other : Name) → StepsFit (enter models depth inner other))
+    at : (o : Option Model) → MatchOption o (Unit {0}) ModelFits
+        → ((inner : Scope) (other : Name) → StepsFit (enter models depth inner other))
         → StepsFit (option_map_or (λ (m : Model). steps_from (enter models depth) scope 0 m.items) o [])
     at None found fits = tt
     at (Some m) found fits = steps_fit (enter models depth) fits scope 0 m.items found

@@ -13,4 +13,6 @@ nets-found steps names name =
 -- no net stands twice
 pub nets-apart : (steps : List Step) → has_repeat (nets_of steps) ≡ false
 unfolding nets_of
-nets-apart steps = no_repeat_where (λ n. not (is_clock steps n)) (distinct (map (λ (v : Visit). v.name) (visits_of steps))) (distinct-apart (map (λ (v : Visit). v.name) (visits_of steps)))
+nets-apart steps =
+    no_repeat_where (λ n. not (is_clock steps n)) (distinct (map (λ (v : Visit). v.name) (visits_of steps)))
+    (distinct-apart (map (λ (v : Visit). v.name) (visits_of steps)))

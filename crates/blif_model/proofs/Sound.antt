@@ -35,35 +35,46 @@ row_length count (cells ∷ output ∷ []) e =
     length-map cells lit_of ∙ eqb-true (length cells) count (and_both _ _ (and_both _ _ (and_both _ _ e).0).0).1
 row_length count (a ∷ b ∷ c ∷ more) e = cc
 
-rows_length : (count : ℕ) (rows : List (List Name)) → list_all (is_row_of count) rows ≡ true → AllByRecursion (λ row. length row ≡ count) (map lits_of rows)
+rows_length : (count : ℕ) (rows : List (List Name)) → list_all (is_row_of count) rows ≡ true
+    → AllByRecursion (λ row. length row ≡ count) (map lits_of rows)
 rows_length count [] e = tt
-rows_length count (row ∷ rows) e = let parts = and_both (is_row_of count row) _ e in (row_length count row parts.0, rows_length count rows parts.1)
+rows_length count (row ∷ rows) e =
+    let parts = and_both (is_row_of count row) _ e in (row_length count row parts.0, rows_length count rows parts.1)
 
 module _ (nets : List Name) (c : Circuit) (size : length c.drivers ≡ length nets) where
-  tables_fit : (some : List Step) → AllByRecursion (λ s. list_all (is_one_of nets) (read s.act) ≡ true) some → StepsFit some → AllByRecursion (IsTable c) (filter_map (λ s. table_of nets s.act) some)
+  tables_fit : (some : List Step) → AllByRecursion (λ s. list_all (is_one_of nets) (read s.act) ≡ true) some → StepsFit some
+      → AllByRecursion (IsTable c) (filter_map (λ s. table_of nets s.act) some)
   tables_fit some e f =
-      all-brought (IsTable c) (λ (s : Step). list_all (is_one_of nets) (read s.act) ≡ true) (λ (s : Step). ActFits s.act) (λ (s : Step). table_of nets s.act) (λ s q r. at s.act q r) some e f
+      all-brought (IsTable c) (λ (s : Step). list_all (is_one_of nets) (read s.act) ≡ true) (λ (s : Step). ActFits s.act)
+      (λ (s : Step). table_of nets s.act) (λ s q r. at s.act q r) some e f
     where
-      at : (act : Act) → list_all (is_one_of nets) (read act) ≡ true → ActFits act → AllByRecursion (IsTable c) (cons_option (table_of nets act) [])
-      at (flat_table ins out rows) e f = (is-table nets c size ins (map lits_of rows) (table_plane rows) e (rows_length (length ins) rows f), tt)
+      at : (act : Act) → list_all (is_one_of nets) (read act) ≡ true → ActFits act
+          → AllByRecursion (IsTable c) (cons_option (table_of nets act) [])
+      at (flat_table ins out rows) e f =
+          (is-table nets c size ins (map lits_of rows) (table_plane rows) e (rows_length (length ins) rows f), tt)
       at act e f = tt
 
   sources_fit : (some : List Step) → AllByRecursion (λ s. list_all (is_one_of nets) (read s.act) ≡ true) some
       → AllByRecursion (λ (latch : Latch). IsNet c latch.from) (filter_map (λ s. latch_of nets s.act) some)
   sources_fit some e =
-      all-brought (λ (latch : Latch). IsNet c latch.from) (λ (s : Step). list_all (is_one_of nets) (read s.act) ≡ true) (λ (s : Step). list_all (is_one_of nets) (read s.act) ≡ true)
+      all-brought (λ (latch : Latch). IsNet c latch.from) (λ (s : Step). list_all (is_one_of nets) (read s.act) ≡ true)
+      (λ (s : Step). list_all (is_one_of nets) (read s.act) ≡ true)
       (λ (s : Step). latch_of nets s.act) (λ s q r. at s.act q) some e e
     where
-      at : (act : Act) → list_all (is_one_of nets) (read act) ≡ true → AllByRecursion (λ (latch : Latch). IsNet c latch.from) (cons_option (latch_of nets act) [])
+      at : (act : Act) → list_all (is_one_of nets) (read act) ≡ true
+          → AllByRecursion (λ (latch : Latch). IsNet c latch.from) (cons_option (latch_of nets act) [])
       at (flat_latch l) e = (is-net nets c size l.from (and_both (is_one_of nets l.from) true e).0, tt)
       at act e = tt
 
 -- tables and latches stand beside the nets that they drive
 beside : (nets : List Name) (some : List Step)
-    → AreAligned nets (flat_map (λ s. table_net s.act) some) (flat_map (λ s. latch_net s.act) some) (filter_map (λ s. table_of nets s.act) some) (filter_map (λ s. latch_of nets s.act) some)
+    → AreAligned nets (flat_map (λ s. table_net s.act) some) (flat_map (λ s. latch_net s.act) some)
+    (filter_map (λ s. table_of nets s.act) some) (filter_map (λ s. latch_of nets s.act) some)
 beside nets some = record {
   counted = as-many (λ (s : Step). table_of nets s.act) (λ (s : Step). table_net s.act) (λ s. table_at s.act) some;
-  ordered = in-order (λ (latch : Latch). latch.to) (net_id nets) (λ (s : Step). latch_of nets s.act) (λ (s : Step). latch_net s.act) (λ s. latch_at s.act) some;
+  ordered =
+      in-order (λ (latch : Latch). latch.to) (net_id nets) (λ (s : Step). latch_of nets s.act) (λ (s : Step). latch_net s.act)
+      (λ s. latch_at s.act) some;
 }
   where
     table_at : (act : Act) → length (cons_option (table_of nets act) []) ≡ length (table_net act)
@@ -93,11 +104,13 @@ module _ (steps : List Step) (once : two_drivers steps ≡ None) (driven : undri
   unfolding drives_of input_names_of table_names_of latch_names_of
   drive_count name = times-drives name steps steps
 
-  none_among : (p : Name → Bool) (ds : List Visit) (name : Name) → list_any (λ d. p d.name) ds ≡ false → is_one_of (names_of ds) name ≡ true → p name ≡ false
+  none_among : (p : Name → Bool) (ds : List Visit) (name : Name) → list_any (λ d. p d.name) ds ≡ false → is_one_of (names_of ds) name ≡ true
+      → p name ≡ false
   none_among p [] name e f = cc
   none_among p (d ∷ ds) name e f =
       let parts = or_false (p d.name) (list_any (λ x. p x.name) ds) e in
-      elim (or_cases (bytes_eq name d.name) _ f) [ inl same ↦ ap p (same_name name d.name same) ∙ parts.0 | inr there ↦ none_among p ds name parts.1 there ]
+      elim (or_cases (bytes_eq name d.name) _ f)
+      [ inl same ↦ ap p (same_name name d.name same) ∙ parts.0 | inr there ↦ none_among p ds name parts.1 there ]
 
   -- a driven name is a net
   driven_net : (name : Name) → is_one_of (names_of (drives_of steps)) name ≡ true → is_one_of nets name ≡ true
@@ -118,7 +131,9 @@ module _ (steps : List Step) (once : two_drivers steps ≡ None) (driven : undri
   netlist-sound unread fit small =
       let tables : List Table = filter_map (λ s. table_of nets s.act) steps in
       let latches : List Latch = filter_map (λ s. latch_of nets s.act) steps in
-      let size : length (circuit_of steps).drivers ≡ length nets = size-of-drivers nets ins tabs lats (output_names_of steps) tables latches walk-driven (beside nets steps) in
+      let size : length (circuit_of steps).drivers ≡ length nets =
+      size-of-drivers nets ins tabs lats (output_names_of steps) tables latches walk-driven (beside nets steps) in
       netlist-of-names nets ins tabs lats (output_names_of steps) tables latches walk-driven (beside nets steps) small
-      (tables_fit nets (circuit_of steps) size steps (reads-nets steps unread) fit) (sources_fit nets (circuit_of steps) size steps (reads-nets steps unread))
+      (tables_fit nets (circuit_of steps) size steps (reads-nets steps unread) fit)
+      (sources_fit nets (circuit_of steps) size steps (reads-nets steps unread))
       (distinct-apart (flat_map (λ s. outputs_at s.act) steps)) (outputs-nets steps unread)

@@ -39,7 +39,8 @@ sound_first before line lines e =
 -- nor has a line of their front
 sound_front : (before lines : List Said) (n : ℕ) → AreSound before lines → AreSound before (take n lines)
 sound_front before lines n e =
-    (none_both _ _ (sym (first_after-append fault_of before (take n lines) (drop n lines)) ∙ ap (first_after fault_of before) (take-append-drop n lines) ∙ e)).0
+    (none_both _ _ (sym (first_after-append fault_of before (take n lines) (drop n lines))
+    ∙ ap (first_after fault_of before) (take-append-drop n lines) ∙ e)).0
 
 -- one more line, and where the next one stands
 pub is_inside_more : (before : List Said) (line : Said) → is_inside (before ++ line ∷ []) ≡ inside_after line.says (is_inside before)
@@ -55,17 +56,20 @@ unfolding plane_above
 plane_above_more before line = fold_push (λ above (l : Said). plane_after l.says above) None before line
 
 -- a row in its place is a row for the inputs of the table above
-row_here : (before : List Said) (tokens ins : List Name) → table_above before ≡ Some ins → place_fault before (row tokens) ≡ None → is_row_of (length ins) tokens ≡ true
+row_here : (before : List Said) (tokens ins : List Name) → table_above before ≡ Some ins → place_fault before (row tokens) ≡ None
+    → is_row_of (length ins) tokens ≡ true
 row_here before tokens ins t e = grind arith
 
-rows_fit : (before lines : List Said) (ins : List Name) → AreSound before lines → table_above before ≡ Some ins → list_all (is_row_of (length ins)) (rows_below lines) ≡ true
+rows_fit : (before lines : List Said) (ins : List Name) → AreSound before lines → table_above before ≡ Some ins
+    → list_all (is_row_of (length ins)) (rows_below lines) ≡ true
 unfolding rows_below
 rows_fit before [] ins e t = refl
 rows_fit before (line ∷ lines) ins e t =
     let parts = sound_first before line lines e in
     at line.says parts.0 (λ t. rows_fit (before ++ line ∷ []) lines ins parts.1 (table_above_more before line ∙ t))
   where
-    at : (says : Statement) → place_fault before says ≡ None → (table_after says (table_above before) ≡ Some ins → list_all (is_row_of (length ins)) (rows_below lines) ≡ true)
+    at : (says : Statement) → place_fault before says ≡ None
+        → (table_after says (table_above before) ≡ Some ins → list_all (is_row_of (length ins)) (rows_below lines) ≡ true)
         → list_all (is_row_of (length ins)) (rows_from says (rows_below lines)) ≡ true
     at (row tokens) f more = rw (row_here before tokens ins t f) (more t)
     at passed f more = more t
@@ -75,10 +79,14 @@ items_fit : (before lines : List Said) → AreSound before lines → AllByRecurs
 unfolding items_of
 items_fit before [] e = tt
 items_fit before (line ∷ lines) e =
-    let parts = sound_first before line lines e in
-    (at line.says (λ ins t. rows_fit (before ++ line ∷ []) lines ins parts.1 (table_above_more before line ∙ t)), items_fit (before ++ line ∷ []) lines parts.1)
+    let parts = sound_first before line lines e in (
+      at line.says (λ ins t. rows_fit (before ++ line ∷ []) lines ins parts.1 (table_above_more before line ∙ t)),
+      items_fit (before ++ line ∷ []) lines parts.1,
+    )
   where
-    at : (says : Statement) → ((ins : List Name) → table_after says (table_above before) ≡ Some ins → list_all (is_row_of (length ins)) (rows_below lines) ≡ true)
+    at : (says : Statement)
+        → ((ins : List Name) → table_after says (table_above before) ≡ Some ins
+        → list_all (is_row_of (length ins)) (rows_below lines) ≡ true)
         → RowsFit says (rows_below lines)
     at (table ins out) rows = rows ins refl
     at _ rows = tt
@@ -89,7 +97,8 @@ models_fit before [] e = tt
 models_fit before (line ∷ lines) e =
     let behind = (sound_first before line lines e).1 in
     let front = sound_front (before ++ line ∷ []) lines (position_or_len (λ (l : Said). ends_model l.says) lines) behind in
-    begun line.says (items_fit (before ++ line ∷ []) (take (position_or_len (λ (l : Said). ends_model l.says) lines) lines) front) (models_fit (before ++ line ∷ []) lines behind)
+    begun line.says (items_fit (before ++ line ∷ []) (take (position_or_len (λ (l : Said). ends_model l.says) lines) lines) front)
+    (models_fit (before ++ line ∷ []) lines behind)
   where
     begun : (says : Statement) → AllByRecursion ItemFits (items_of (take (position_or_len (λ (l : Said). ends_model l.says) lines) lines))
         → AllByRecursion ModelFits (models_of lines) → AllByRecursion ModelFits (model_from line.number says lines ++ models_of lines)

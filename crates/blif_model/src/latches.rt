@@ -36,12 +36,6 @@ fn plain_from(init: &[u8]) -> Directive
     }
 }
 
-fn typed_plain(edge: &[u8]) -> Directive
-    ensures { (from to control : Name) → directed result (from ∷ to ∷ edge.now ∷ control ∷ []) ≡ latch_line (from ∷ to ∷ edge.now ∷ control ∷ []) }
-{
-    typed(edge, false)
-}
-
 fn typed_from(edge: &[u8], init: &[u8]) -> Directive
     ensures { (from to control : Name) → directed result (from ∷ to ∷ edge.now ∷ control ∷ init.now ∷ []) ≡ latch_line (from ∷ to ∷ edge.now ∷ control ∷ init.now ∷ []) }
 {
@@ -59,7 +53,7 @@ pub fn latch_directive(names: &[Token<'_>]) -> Directive
     match names {
         [_, _] => Directive::Latch { start: false },
         [_, _, init] => plain_from(init.text),
-        [_, _, edge, _control] => typed_plain(edge.text),
+        [_, _, edge, _control] => typed(edge.text, false),
         [_, _, edge, _, init] => typed_from(edge.text, init.text),
         _ => Directive::Wrong(Malformed::BadLatch),
     }

@@ -35,11 +35,13 @@ pieces_first p place next xs rest n e h at is =
 
 join_twice : (n m : ℕ) (ts us : List Piece) (lines : List Line) → join n ts (join m us lines) ≡ join n (ts ++ us) lines
 join_twice n m ts us [] = refl
-join_twice n m ts us (line ∷ lines) = ap (λ (all : List Piece). record { number = n; tokens = all } ∷ lines) (sym (append_assoc ts us line.tokens))
+join_twice n m ts us (line ∷ lines) =
+    ap (λ (all : List Piece). record { number = n; tokens = all } ∷ lines) (sym (append_assoc ts us line.tokens))
 
 -- a physical line that the next one is joined to
 pub left_joined : (done : List Line) (line : Line) (number : ℕ) (p : Piece) (ps : List (ℕ × Piece)) (grown : Line) → is_joined p.text ≡ true
-    → grown ≡ record { number = line.number; tokens = line.tokens ++ tokens_of p } → lines_left done line ((number, p) ∷ ps) ≡ lines_left done grown ps
+    → grown ≡ record { number = line.number; tokens = line.tokens ++ tokens_of p }
+    → lines_left done line ((number, p) ∷ ps) ≡ lines_left done grown ps
 unfolding joined
 left_joined done line number p ps grown e is =
     ap (λ (lines : List Line). done ++ filter has_tokens (join line.number line.tokens lines)) (cond-true (is_joined p.text) _ _ e)
@@ -59,14 +61,17 @@ left_ended done line number p ps grown e is =
 pub left_new : (done : List Line) (line : Line) (number : ℕ) (ps : List Piece) → line ≡ record { number = number; tokens = [] }
     → lines_left done line (enumerate_from number ps) ≡ done ++ filter has_tokens (joined (enumerate_from number ps))
 unfolding joined
-left_new done line number ps e = ap (λ (l : Line). lines_left done l (enumerate_from number ps)) e ∙ ap (λ (lines : List Line). done ++ lines) (begun ps)
+left_new done line number ps e =
+    ap (λ (l : Line). lines_left done l (enumerate_from number ps)) e ∙ ap (λ (lines : List Line). done ++ lines) (begun ps)
   where
-    by_cases : (b : Bool) (us : List Piece) (more : List Line) → join number [] (cond b (join number us more) (record { number = number; tokens = us } ∷ more))
+    by_cases : (b : Bool) (us : List Piece) (more : List Line)
+        → join number [] (cond b (join number us more) (record { number = number; tokens = us } ∷ more))
         ≡ cond b (join number us more) (record { number = number; tokens = us } ∷ more)
     by_cases true us more = join_twice number number [] us more
     by_cases false us more = refl
 
-    begun : (ps : List Piece) → filter has_tokens (join number [] (joined (enumerate_from number ps))) ≡ filter has_tokens (joined (enumerate_from number ps))
+    begun : (ps : List Piece)
+        → filter has_tokens (join number [] (joined (enumerate_from number ps))) ≡ filter has_tokens (joined (enumerate_from number ps))
     begun [] = refl
     begun (p ∷ ps) = ap (filter has_tokens) (by_cases (is_joined p.text) (tokens_of p) (joined (enumerate_from (number + 1) ps)))
 

@@ -16,11 +16,14 @@ first_here p xs k none at =
 -- it found none
 pub first_nowhere : (p : ℕ → Bool) (xs : List ℕ) → Nowhere (Passes p xs) 0 (length xs) → length xs ≡ position_or_len p xs
 first_nowhere p xs none =
-    sym (position_or_len_is p xs (length xs) 0 (omega arith) (λ j l. false_from_ne_true _ (none j (omega arith) l)) (λ h. absurd (omega arith)))
+    sym (position_or_len_is p xs (length xs) 0 (omega arith) (λ j l. false_from_ne_true _ (none j (omega arith) l))
+    (λ h. absurd (omega arith)))
 
 -- the place of the first item that passes, or the length where there is none
 pub place_or_len : {X : Type 0} (p : X → Bool) (xs : List X) → unwrap_or (position p xs) (length xs) ≡ position_or_len p xs
-place_or_len p xs = by_cases (nat_lt (position_or_len p xs) (length xs)) (prefix_len-le-length (λ x. not (p x)) xs) (ltb-false (position_or_len p xs) (length xs))
+place_or_len p xs =
+    by_cases (nat_lt (position_or_len p xs) (length xs)) (prefix_len-le-length (λ x. not (p x)) xs)
+    (ltb-false (position_or_len p xs) (length xs))
   where
     by_cases : (b : Bool) → position_or_len p xs ≤ length xs → (b ≡ false → length xs ≤ position_or_len p xs)
         → unwrap_or (cond b (Some (position_or_len p xs)) None) (length xs) ≡ position_or_len p xs

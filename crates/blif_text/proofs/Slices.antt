@@ -12,7 +12,8 @@ abbrev pub Stands : List ℕ → Piece → Type 0
 Stands source piece = (rest : List ℕ) × (drop piece.start source ≡ piece.text ++ rest)
 
 -- the place of a text names it
-pub span-names : (source : List ℕ) (piece : Piece) → Stands source piece → slice_range source (span_of piece).start (span_of piece).end ≡ piece.text
+pub span-names : (source : List ℕ) (piece : Piece) → Stands source piece
+    → slice_range source (span_of piece).start (span_of piece).end ≡ piece.text
 span-names source piece (rest, e) =
     let size : piece.start + length piece.text - piece.start ≡ length piece.text = omega arith in
     rw (size, e) (take-append_seam piece.text rest)
@@ -23,7 +24,8 @@ AllStand source ps = AllByRecursion (Stands source) ps
 
 -- the first piece grows by a byte in front
 grown : (source : List ℕ) (place x : ℕ) (rest : List ℕ) (parts : List (List ℕ)) (text : List ℕ)
-    → drop place source ≡ x ∷ (text ++ rest) → AllStand source (placed (place + 1) parts) → AllStand source (placed place (onto_first x parts))
+    → drop place source ≡ x ∷ (text ++ rest) → AllStand source (placed (place + 1) parts)
+    → AllStand source (placed place (onto_first x parts))
 unfolding placed
 grown source place x rest [] text e all = ((text ++ rest, e), tt)
 grown source place x rest (part ∷ parts) text e all =
@@ -31,7 +33,8 @@ grown source place x rest (part ∷ parts) text e all =
     let here : text ++ rest ≡ part ++ all.0.0 = sym (ap (drop 1) e) ∙ drop-drop 1 place source ∙ all.0.1 in
     ((all.0.0, e ∙ ap (λ (more : List ℕ). x ∷ more) here), subst (λ n. AllStand source (placed n parts)) same all.1)
 
-pub pieces-stand : (is_cut : ℕ → Bool) (source text rest : List ℕ) (place : ℕ) → drop place source ≡ text ++ rest → AllStand source (pieces is_cut place text)
+pub pieces-stand : (is_cut : ℕ → Bool) (source text rest : List ℕ) (place : ℕ) → drop place source ≡ text ++ rest
+    → AllStand source (pieces is_cut place text)
 unfolding placed
 pieces-stand is_cut source [] rest place e = ((rest, e), tt)
 pieces-stand is_cut source (x ∷ text) rest place e =
@@ -45,9 +48,13 @@ pieces-stand is_cut source (x ∷ text) rest place e =
     cut_here false all = grown source place x rest (slice_split is_cut text) text e all
 
 -- with a text its front stands
-front_stands : (source : List ℕ) (place n : ℕ) (text : List ℕ) → Stands source (record { start = place; text = text }) → Stands source (record { start = place; text = take n text })
-front_stands source place n text (rest, e) =
-    (drop n text ++ rest, e ∙ ap (λ (t : List ℕ). t ++ rest) (sym (take-append-drop n text)) ∙ append_assoc (take n text) (drop n text) rest)
+front_stands : (source : List ℕ) (place n : ℕ) (text : List ℕ) → Stands source (record { start = place; text = text })
+    → Stands source (record { start = place; text = take n text })
+front_stands source place n text (rest, e) = (
+  drop n text ++ rest,
+  e ∙ ap (λ (t : List ℕ). t ++ rest) (sym (take-append-drop n text))
+      ∙ append_assoc (take n text) (drop n text) rest,
+)
 
 ink_stands : (source : List ℕ) (line : Piece) → Stands source line → Stands source (record { start = line.start; text = inked line.text })
 unfolding bare
@@ -57,7 +64,10 @@ ink_stands source line stands =
     (front_stands source line.start (position_or_len is_hash line.text) line.text stands))
   where
     by_cases : (b : Bool) → Stands source (record { start = line.start; text = bare line.text })
-        → Stands source (record { start = line.start; text = cond b (take (length (bare line.text) - 1) (bare line.text)) (bare line.text) })
+        → Stands source (record {
+          start = line.start;
+          text = cond b (take (length (bare line.text) - 1) (bare line.text)) (bare line.text);
+        })
     by_cases true whole = front_stands source line.start (length (bare line.text) - 1) (bare line.text) whole
     by_cases false whole = whole
 
@@ -77,13 +87,15 @@ all-append P (x ∷ xs) ys all more = (all.0, all-append P xs ys all.1 more)
 tokens-stand : (source : List ℕ) (line : Piece) → Stands source line → AllStand source (tokens_of line)
 tokens-stand source line stands =
     let ink = ink_stands source line stands in
-    all-filter (Stands source) has_bytes (pieces is_white line.start (inked line.text)) (pieces-stand is_white source (inked line.text) ink.0 line.start ink.1)
+    all-filter (Stands source) has_bytes (pieces is_white line.start (inked line.text))
+    (pieces-stand is_white source (inked line.text) ink.0 line.start ink.1)
 
 -- all tokens of all lines stand in the file
 abbrev pub AllLinesStand : List ℕ → List Line → Type 0
 AllLinesStand source lines = AllByRecursion (λ line. AllStand source line.tokens) lines
 
-join-stand : (source : List ℕ) (number : ℕ) (tokens : List Piece) (lines : List Line) → AllStand source tokens → AllLinesStand source lines → AllLinesStand source (join number tokens lines)
+join-stand : (source : List ℕ) (number : ℕ) (tokens : List Piece) (lines : List Line) → AllStand source tokens → AllLinesStand source lines
+    → AllLinesStand source (join number tokens lines)
 join-stand source number tokens [] all more = (all, tt)
 join-stand source number tokens (line ∷ lines) all more = (all-append (Stands source) tokens line.tokens all more.0, more.1)
 
@@ -93,7 +105,9 @@ joined-stand source n [] all = tt
 joined-stand source n (p ∷ ps) all = by_cases (is_joined p.text) (joined-stand source (n + 1) ps all.1)
   where
     by_cases : (b : Bool) → AllLinesStand source (joined (enumerate_from (n + 1) ps))
-        → AllLinesStand source (cond b (join n (tokens_of p) (joined (enumerate_from (n + 1) ps))) (record { number = n; tokens = tokens_of p } ∷ joined (enumerate_from (n + 1) ps)))
+        → AllLinesStand source
+        (cond b (join n (tokens_of p) (joined (enumerate_from (n + 1) ps)))
+        (record { number = n; tokens = tokens_of p } ∷ joined (enumerate_from (n + 1) ps)))
     by_cases true more = join-stand source n (tokens_of p) (joined (enumerate_from (n + 1) ps)) (tokens-stand source p all.0) more
     by_cases false more = (tokens-stand source p all.0, more)
 

@@ -15,7 +15,9 @@ use Rattle.blif_text.specs.Read.{line_of, lines_seen, piece_of, pieces_of}
 use Rattle.blif_text.specs.Spans.{lines_read, lines_unless, span_of, spanned}
 
 -- the tokens of a line as pieces
-pub wide_pieces : (tokens : List Token) → list_any (λ (p : Piece). nat_lt 255 (length p.text)) (pieces_of tokens) ≡ list_any (λ (t : Token). nat_lt 255 (length t.text.now)) tokens
+pub wide_pieces : (tokens : List Token)
+    → list_any (λ (p : Piece). nat_lt 255 (length p.text)) (pieces_of tokens)
+    ≡ list_any (λ (t : Token). nat_lt 255 (length t.text.now)) tokens
 wide_pieces tokens = list_any-map (λ (p : Piece). nat_lt 255 (length p.text)) piece_of tokens
 
 pub spans_of_pieces : (tokens : List Token) → map span_of (pieces_of tokens) ≡ map (λ (t : Token). span_of (piece_of t)) tokens
@@ -31,7 +33,8 @@ wide_found [] = refl
 wide_found (line ∷ lines) = by_cases (is_wide (line_of line)) (wide_found lines)
   where
     by_cases : (b : Bool) → number_of_wide lines ≡ first_where wide_at (lines_seen lines)
-        → option_map (λ (l : TextLine). l.number) (cond b (Some line) (find (λ l. is_wide (line_of l)) lines)) ≡ option_or (given b line.number) (first_where wide_at (lines_seen lines))
+        → option_map (λ (l : TextLine). l.number) (cond b (Some line) (find (λ l. is_wide (line_of l)) lines))
+        ≡ option_or (given b line.number) (first_where wide_at (lines_seen lines))
     by_cases true more = refl
     by_cases false more = more
 
@@ -43,7 +46,8 @@ pub answer_wide : (lines : List TextLine) (bytes : List ℕ) (line : ℕ) → li
     → lines_read bytes ≡ Err (record { line = line; kind = TooWide })
 answer_wide lines bytes line s e = ap (λ (w : Option ℕ). lines_unless w (map spanned (lines_of bytes))) (sym (e ∙ wide_seen lines bytes s))
 
-pub answer_lines : (lines : List TextLine) (bytes : List ℕ) (told : List LogicalLine) → lines_seen lines ≡ lines_of bytes → None ≡ number_of_wide lines
+pub answer_lines : (lines : List TextLine) (bytes : List ℕ) (told : List LogicalLine) → lines_seen lines ≡ lines_of bytes
+    → None ≡ number_of_wide lines
     → told ≡ map (λ line. spanned (line_of line)) lines → lines_read bytes ≡ Ok told
 answer_lines lines bytes told s e t =
     ap (λ (w : Option ℕ). lines_unless w (map spanned (lines_of bytes))) (sym (e ∙ wide_seen lines bytes s))
