@@ -1,9 +1,6 @@
-pub mod Nets
-pub mod Entering
-pub mod Coming
-pub mod Splits
 pub mod FirstPlaces
 pub mod NameSets
 pub mod Items
 pub mod Numbering
+pub mod Walking
 pub mod Marking

@@ -5,7 +5,6 @@ use Rattle.fm_base.specs.Names.{Name, distinct}
 use Rattle.blif_model.specs.Models.{rows_below}
 use Rattle.blif_model.specs.Walk.{FlatLatch, Act, takes, gives, clocks, visits, flat_table, flat_latch, Step, visited}
 use Rattle.blif_model.specs.WalkFault.{control_of}
-use Rattle.blif_model.specs.Grouped.{all_said}
 use Rattle.blif_flatten.specs.declared.flat.NameId.{NameId}
 use Rattle.blif_flatten.specs.declared.flat.NumberedLatch.{NumberedLatch}
 use Rattle.blif_flatten.specs.declared.flat.NumberedTable.{NumberedTable}
@@ -23,7 +22,7 @@ abbrev pub latch_by : (NameId → Name) → NumberedLatch → FlatLatch
 latch_by name_of l = record { from = name_of l.from; to = name_of l.to; edge = option_map (λ e. e.now) l.edge; control = option_map name_of l.control; start = l.start }
 
 abbrev pub table_by : (NameId → Name) → NumberedTable → Act
-table_by name_of t = flat_table (map name_of t.ins) (name_of t.out) (rows_below (all_said t.below.now))
+table_by name_of t = flat_table (map name_of t.ins) (name_of t.out) (rows_below t.below.now)
 
 abbrev pub act_by : (NameId → Name) → NumberedAct → Act
 act_by name_of (Inputs ids) = takes (map name_of ids)

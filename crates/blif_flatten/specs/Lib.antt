@@ -1,10 +1,9 @@
 pub mod Places
 pub mod Seen
 pub mod Ports
-pub mod Coming
-pub mod Passing
 pub mod Flat
 pub mod Flattened
+pub mod Numbering
+pub mod Walked
 pub mod Sorts
 pub mod Marks
-pub mod Numbering

@@ -1,22 +1,25 @@
-// What a line does with its nets.
-ghost use Rattle.std.specs.Prelude.{◌≡◌, map, IfOk};
-ghost use Rattle.std.specs.Option.{option_to_list};
+// What a line does with its nets, by their numbers.
+ghost use Rattle.std.specs.Prelude.{◌≡◌, ◌++◌, [], List, map, IfOk};
+ghost use Rattle.std.specs.Option.{option_map, option_map_or, option_to_list};
+ghost use Rattle.blif_model.specs.Meant.{bindings_of, clocking_of, latch_line_of, meant};
 ghost use Rattle.blif_model.specs.Models.{rows_below};
-ghost use Rattle.blif_model.specs.Walk.{acts_of, net_of, port, flat_latch_of, control_net};
-ghost use Rattle.blif_model.specs.Grouped.{all_said};
-ghost use Rattle.blif_model.specs.Meant.{bindings_of, latch_line_of, meant};
 ghost use Rattle.blif_model.specs.Tokens.{texts_of};
-ghost use Rattle.blif_flatten.specs.Seen.{act_at, scope_at, flat_latch_at};
+ghost use Rattle.blif_model.specs.Walk.{acts_of, control_net, flat_latch, flat_latch_of, flat_table, net_of, port, visits};
+ghost use Rattle.fm_base.specs.Names.{Name};
+ghost use Rattle.blif_flatten.specs.declared.flat.NameId.{NameId};
+ghost use Rattle.blif_flatten.specs.Flat.{act_by, ids_in, mentioned, name_at};
+ghost use Rattle.blif_flatten.specs.Numbering.{HaveNumbers, IsLineNumbered};
 ghost use Rattle.blif_flatten.specs.Ports.{own_act};
+ghost use Rattle.blif_flatten.specs.Seen.{scope_at};
 
-use crate::frames::{LatchNets, NetAct, Place, TableNets};
-use crate::text::{net_name, net_names};
-use blif_model::bindings::pair_of;
+use crate::flat::{NameId, NumberedAct, NumberedLatch, NumberedTable};
+use crate::names::{Mention, NetNames};
+use crate::place::Place;
+use blif_model::read_line::ReadLine;
 use blif_model::says::{Clocked, LatchSays, Says};
-use blif_text::lines::TextLine;
 use blif_text::token::Token;
-use fm_base::{Name, Names, Seq};
-use std::alloc::{AllocError, Global};
+use fm_base::Seq;
+use std::alloc::AllocError;
 
 /// The sorts of port lines.
 #[derive(Clone, Copy)]
@@ -26,111 +29,130 @@ pub enum Port {
     Clocking,
 }
 
-fn main_act<'m, 'a>(port: Port, nets: Names) -> NetAct<'m, 'a>
-    ensures { act_at result ≡ own_act port nets }
+fn main_act<'m, 'a>(port: Port, ids: Seq<NameId>) -> NumberedAct<'m, 'a>
+    ensures act { (f : NameId → Name) → act_by f result ≡ own_act port (map f ids) }
+    ensures ids { ids_in result ≡ ids }
+    ensures names { (texts : List Name) → mentioned (own_act port texts) ≡ texts ++ [] }
 {
     match port {
-        Port::In => NetAct::Takes(nets),
-        Port::Out => NetAct::Gives(nets),
-        Port::Clocking => NetAct::Clocks(nets),
+        Port::In => NumberedAct::Inputs(ids),
+        Port::Out => NumberedAct::Outputs(ids),
+        Port::Clocking => NumberedAct::Clocks(ids),
     }
 }
 
 fn port_act<'m, 'a>(
-    alloc: Global,
+    names: &mut NetNames,
     place: &Place<'_>,
     kind: Port,
-    names: &[Token<'_>],
-) -> Result<NetAct<'m, 'a>, AllocError>
-    ensures { IfOk result (λ a. act_at a ≡ port (scope_at place.now) (own_act kind) (texts_of names.now)) }
+    tokens: &[Token<'_>],
+) -> Result<NumberedAct<'m, 'a>, AllocError>
+    ensures act { IfOk result (λ a. act_by (name_at names.new.index) a ≡ port (scope_at place.now) (own_act kind) (texts_of tokens.now)) }
+    ensures numbered { IfOk result (λ a. IsLineNumbered names.old.index names.new.index (Some a)) }
 {
-    let nets = net_names(alloc, place, names)?;
+    let ids = names.number_all(place, Mention::Whole, tokens)?;
     match place {
-        Place::Main => Ok(main_act(kind, nets)),
-        Place::Inner { .. } => Ok(NetAct::Visits(nets)),
+        Place::Main => Ok(main_act(kind, ids)),
+        Place::Inner { .. } => Ok(NumberedAct::PortNets(ids)),
     }
 }
 
 /// The nets of the actuals.
-fn actual_nets(
-    alloc: Global,
+fn actual_nets<'m, 'a>(
+    names: &mut NetNames,
     place: &Place<'_>,
     bindings: &[Token<'_>],
-) -> Result<Names, AllocError>
-    ensures { IfOk result (λ ns. ns ≡ map (λ b. net_of (scope_at place.now) b.actual) (bindings_of (texts_of bindings.now))) }
+) -> Result<NumberedAct<'m, 'a>, AllocError>
+    ensures act { IfOk result (λ a. act_by (name_at names.new.index) a ≡ visits (map (λ b. net_of (scope_at place.now) b.actual) (bindings_of (texts_of bindings.now)))) }
+    ensures numbered { IfOk result (λ a. IsLineNumbered names.old.index names.new.index (Some a)) }
 {
-    let mut nets = Seq::new(alloc);
-    for binding in bindings {
-        nets.push(net_name(alloc, place, pair_of(binding.text).actual)?)?;
-    }
-    Ok(nets)
+    let ids = names.number_all(place, Mention::Actual, bindings)?;
+    Ok(NumberedAct::PortNets(ids))
 }
 
-fn control_name(
-    alloc: Global,
+fn table_act<'m, 'a>(
+    names: &mut NetNames,
     place: &Place<'_>,
-    clocking: Clocked<'_>,
-) -> Result<Option<Name>, AllocError>
-    ensures { IfOk result (λ o. o ≡ control_net (scope_at place.now) (record { edge = clocking.entry.edge.now; control = clocking.entry.control.now })) }
+    ins: &[Token<'_>],
+    out: &[u8],
+    below: &'m [ReadLine<'a>],
+) -> Result<NumberedAct<'m, 'a>, AllocError>
+    ensures act { IfOk result (λ a. act_by (name_at names.new.index) a ≡ flat_table (map (net_of (scope_at place.now)) (texts_of ins.now)) (net_of (scope_at place.now) out.now) (rows_below below.entry.now)) }
+    ensures numbered { IfOk result (λ a. IsLineNumbered names.old.index names.new.index (Some a)) }
 {
-    if clocking.control == b"NIL".as_slice() {
-        return Ok(None);
-    }
-    Ok(Some(net_name(alloc, place, clocking.control)?))
+    let ins = names.number_all(place, Mention::Whole, ins)?;
+    let out = names.number(place, out)?;
+    Ok(NumberedAct::Table(NumberedTable { ins, out, below }))
 }
 
-fn latch_nets<'a>(
-    alloc: Global,
+/// The number of the net of a control, but none for `NIL`.
+#[tactic(auto, using(crate::proofs::Numbering::numbered_none))]
+fn control_number(
+    names: &mut NetNames,
+    place: &Place<'_>,
+    clocking: Option<Clocked<'_>>,
+) -> Result<Option<NameId>, AllocError>
+    ensures { IfOk result (λ o. HaveNumbers names.old.index names.new.index (option_to_list (option_map_or (control_net (scope_at place.now)) (clocking_of clocking.entry) None)) (option_to_list o)) }
+{
+    match clocking {
+        None => Ok(None),
+        Some(clocking) => {
+            if clocking.control == b"NIL".as_slice() {
+                return Ok(None);
+            }
+            Ok(Some(names.number(place, clocking.control)?))
+        }
+    }
+}
+
+fn edge_of(clocking: Option<Clocked<'_>>) -> Option<&[u8]>
+    ensures { option_map (λ e. e.now) result ≡ option_map (λ c. c.edge) (clocking_of clocking.entry) }
+{
+    match clocking {
+        None => None,
+        Some(clocking) => Some(clocking.edge),
+    }
+}
+
+fn latch_act<'m, 'a>(
+    names: &mut NetNames,
     place: &Place<'_>,
     line: LatchSays<'a>,
-) -> Result<LatchNets<'a>, AllocError>
-    ensures { IfOk result (λ s. flat_latch_at s ≡ flat_latch_of (scope_at place.now) (latch_line_of line.entry)) }
+) -> Result<NumberedAct<'m, 'a>, AllocError>
+    ensures act { IfOk result (λ a. act_by (name_at names.new.index) a ≡ flat_latch (flat_latch_of (scope_at place.now) (latch_line_of line.entry))) }
+    ensures numbered { IfOk result (λ a. IsLineNumbered names.old.index names.new.index (Some a)) }
 {
-    let from = net_name(alloc, place, line.from)?;
-    let to = net_name(alloc, place, line.to)?;
-    match line.clocking {
-        None => Ok(LatchNets {
-            from,
-            to,
-            edge: None,
-            control: None,
-            start: line.start,
-        }),
-        Some(clocking) => {
-            let control = control_name(alloc, place, clocking)?;
-            Ok(LatchNets {
-                from,
-                to,
-                edge: Some(clocking.edge),
-                control,
-                start: line.start,
-            })
-        }
-    }
+    let from = names.number(place, line.from)?;
+    let to = names.number(place, line.to)?;
+    let control = control_number(names, place, line.clocking)?;
+    Ok(NumberedAct::Latch(NumberedLatch {
+        from,
+        to,
+        edge: edge_of(line.clocking),
+        control,
+        start: line.start,
+    }))
 }
 
-/// What a line does with its nets, if anything. `below` has the lines below it.
+/// What a line does with its nets, if anything. `below` has the lines below it. Its names get their numbers from left to
+/// right, and last that of a latch's control.
+#[tactic(auto, using(crate::proofs::Numbering::steps_none))]
 pub fn act_of<'m, 'a>(
-    alloc: Global,
+    names: &mut NetNames,
     place: &Place<'_>,
     says: Says<'m, 'a>,
-    below: &'m [TextLine<'a>],
-) -> Result<Option<NetAct<'m, 'a>>, AllocError>
-    ensures { IfOk result (λ o. acts_of (scope_at place.now) (meant says.entry) (rows_below (all_said below.entry.now)) ≡ map act_at (option_to_list o)) }
+    below: &'m [ReadLine<'a>],
+) -> Result<Option<NumberedAct<'m, 'a>>, AllocError>
+    ensures act { IfOk result (λ o. acts_of (scope_at place.now) (meant says.entry) (rows_below below.entry.now) ≡ map (act_by (name_at names.new.index)) (option_to_list o)) }
+    ensures numbered { IfOk result (IsLineNumbered names.old.index names.new.index) }
 {
     match says {
-        Says::Inputs(names) => Ok(Some(port_act(alloc, place, Port::In, names)?)),
-        Says::Outputs(names) => Ok(Some(port_act(alloc, place, Port::Out, names)?)),
-        Says::Clock(names) => Ok(Some(port_act(alloc, place, Port::Clocking, names)?)),
-        Says::Table { ins, out } => {
-            let ins = net_names(alloc, place, ins)?;
-            let out = net_name(alloc, place, out)?;
-            Ok(Some(NetAct::Table(TableNets { ins, out, below })))
-        }
-        Says::Latch(line) => Ok(Some(NetAct::Latch(latch_nets(alloc, place, line)?))),
-        Says::Instance { bindings, .. } => {
-            Ok(Some(NetAct::Visits(actual_nets(alloc, place, bindings)?)))
-        }
+        Says::Inputs(tokens) => Ok(Some(port_act(names, place, Port::In, tokens)?)),
+        Says::Outputs(tokens) => Ok(Some(port_act(names, place, Port::Out, tokens)?)),
+        Says::Clock(tokens) => Ok(Some(port_act(names, place, Port::Clocking, tokens)?)),
+        Says::Table { ins, out } => Ok(Some(table_act(names, place, ins, out, below)?)),
+        Says::Latch(line) => Ok(Some(latch_act(names, place, line)?)),
+        Says::Instance { bindings, .. } => Ok(Some(actual_nets(names, place, bindings)?)),
         _ => Ok(None),
     }
 }

@@ -1,6 +1,7 @@
 // The nets that are bound to formals, found by name.
 ghost use Rattle.std.specs.Prelude.{◌≡◌, ◌∷◌, ◌++◌, [], OnOk, OnErr, bytes_eq, find};
-ghost use Rattle.std.specs.Option.{option_map};
+ghost use Rattle.std.specs.Option.{option_map_or};
+ghost use Rattle.fm_base.specs.Names.{Name};
 
 use crate::places::{add_place, place_of};
 use fm_base::Name;
@@ -23,15 +24,15 @@ pub struct BoundNets<'a> {
 }
 
 impl<'a> Model for BoundNets<'a> {
-    ghost use Rattle.std.specs.Prelude.{List, map};
+    ghost use Rattle.std.specs.Prelude.{List};
     ghost use Rattle.blif_model.specs.Walk.{Bound};
-    ghost use Rattle.blif_flatten.specs.Places.{AreNamePlaces};
+    ghost use Rattle.blif_flatten.specs.Places.{AreNamePlaces, bounds_seen};
 
     ghost Value = { List Bound };
 
-    ghost view = { λ s. map (λ b. record { formal = b.formal.now; net = b.net }) s.nets.items };
+    ghost view = { λ s. bounds_seen s.nets.items };
 
-    ghost invariant = { λ s. AreNamePlaces (λ b. b.formal.now) s.nets.items s.places.entries };
+    ghost invariant = { λ s. AreNamePlaces (λ b. b.formal) (bounds_seen s.nets.items) s.places.entries };
 }
 
 impl<'a> BoundNets<'a> {
@@ -63,7 +64,7 @@ impl<'a> BoundNets<'a> {
 
     /// The net that a formal is bound to, if it is.
     pub fn find(&self, name: &[u8]) -> Option<&[u8]>
-        ensures { option_map (λ t. t.now) result ≡ option_map (λ b. b.net) (find (λ b. bytes_eq b.formal name.now) self.now) }
+        ensures { (other : Name) → option_map_or (λ net. net.now) result other ≡ option_map_or (λ b. b.net) (find (λ b. bytes_eq b.formal name.now) self.now) other }
     {
         match place_of(&self.places, name) {
             Some(place) => Some(self.nets[place].net.as_slice()),

@@ -1,7 +1,7 @@
 // The flattened main model with a number for each name.
 ghost use Rattle.blif_flatten.specs.Flat.{IsFlat};
 
-use blif_text::lines::TextLine;
+use blif_model::read_line::ReadLine;
 use fm_base::{NameIndex, Seq};
 
 /// The number of a name: its place in the order of first mention.
@@ -23,7 +23,7 @@ pub struct NumberedLatch<'a> {
 pub struct NumberedTable<'m, 'a> {
     pub ins: Seq<NameId>,
     pub out: NameId,
-    pub below: &'m [TextLine<'a>],
+    pub below: &'m [ReadLine<'a>],
 }
 
 /// What a line of the flattened model does with its nets.

@@ -28,7 +28,7 @@ impl<'m, 'a> Model for ModelTable<'m, 'a> {
 
     ghost view = { λ s. models_seen s.models.items };
 
-    ghost invariant = { λ s. AreNamePlaces (λ m. m.name.now) s.models.items s.places.entries };
+    ghost invariant = { λ s. AreNamePlaces (λ m. m.name) (models_seen s.models.items) s.places.entries };
 }
 
 /// The place of the first model of each name.
@@ -36,7 +36,7 @@ fn places_of<'a>(
     alloc: Global,
     models: &[ModelLines<'_, 'a>],
 ) -> Result<IndexMap<&'a [u8], usize>, AllocError>
-    ensures { IfOk result (λ p. AreNamePlaces (λ m. m.name.now) models.now p.entries) }
+    ensures { IfOk result (λ p. AreNamePlaces (λ m. m.name) (models_seen models.now) p.entries) }
 {
     let mut places = IndexMap::new(alloc);
     for (place, model) in models.iter().enumerate() {

@@ -1,26 +1,19 @@
-use Rattle.std.proofs.Common.{sym, ap, ◌∙◌, Some}
-use Rattle.std.specs.Option.{option_map}
-use Rattle.std.specs.Prelude.{bytes_eq, find}
+use Rattle.std.proofs.Common.{sym, ◌∙◌}
+use Rattle.std.specs.Prelude.{bytes_eq}
 use Rattle.blif_model.specs.Walk.{Bound}
+use Rattle.blif_flatten.specs.Places.{bounds_seen}
 use Rattle.blif_flatten.specs.declared.bound.BoundNet.{BoundNet}
-use Rattle.blif_flatten.proofs.Nets.{net_found}
-use Rattle.blif_flatten.proofs.FirstPlaces.{first_found}
+use Rattle.blif_flatten.proofs.FirstPlaces.{found_at, placed}
 use Rattle.blif_flatten.proofs.bound.BoundNets.find.Goals as goal
 
 pub returns-in-Some : goal.returns-in-Some
-returns-in-Some c =
-    let x = c.index.result.now in
-    let bs = c.self.inside.nets.items in
-    let name = c.args.name.now in
-    let first = rw (← c.place_of.ensures, c.in-Some.is) at (c.self.invariant name) in
-    let found = first_found bs (λ (b : BoundNet). bytes_eq b.formal.now name) c.in-Some.place x first c.index.ensures in
-    ap Some c.as_slice.ensures ∙ ap (option_map (λ (b : BoundNet). b.net)) found ∙ net_found bs name
-    ∙ ap (λ s. option_map (λ (b : Bound). b.net) (find (λ b. bytes_eq b.formal name) s)) c.self.view_is
+returns-in-Some c other =
+    let here = sym (c.place_of.ensures ∙ c.self.invariant c.args.name.now) ∙ c.in-Some.is in
+    let found = found_at (λ (b : Bound). bytes_eq b.formal c.args.name.now) (λ (b : BoundNet). record { formal = b.formal.now; net = b.net }) c.self.inside.nets.items c.in-Some.place c.index.result.now here c.index.ensures in
+    c.as_slice.ensures ∙ rw (← c.self.view_is, found)
 
 pub returns-in-None : goal.returns-in-None
-returns-in-None c =
-    let bs = c.self.inside.nets.items in
-    let name = c.args.name.now in
-    let first = rw (← c.place_of.ensures, c.in-None.is) at (c.self.invariant name) in
-    ap (option_map (λ (b : BoundNet). b.net)) (sym first) ∙ net_found bs name
-    ∙ ap (λ s. option_map (λ (b : Bound). b.net) (find (λ b. bytes_eq b.formal name) s)) c.self.view_is
+returns-in-None c other =
+    let here = sym (c.place_of.ensures ∙ c.self.invariant c.args.name.now) ∙ c.in-None.is in
+    let none = rw here at (placed (λ (b : Bound). bytes_eq b.formal c.args.name.now) (bounds_seen c.self.inside.nets.items)) in
+    rw (← c.self.view_is, none)

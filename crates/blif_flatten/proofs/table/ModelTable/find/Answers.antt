@@ -1,26 +1,18 @@
-use Rattle.std.proofs.Common.{sym, ap, ◌∙◌}
-use Rattle.std.specs.Option.{option_map}
+use Rattle.std.proofs.Common.{sym, ◌∙◌}
 use Rattle.std.specs.Prelude.{bytes_eq}
-use Rattle.blif_model.specs.Models.{Model, model_named}
-use Rattle.blif_model.specs.declared.models.ModelLines.{ModelLines}
-use Rattle.blif_model.specs.Grouped.{model_of}
-use Rattle.blif_flatten.proofs.FirstPlaces.{first_found}
+use Rattle.blif_model.specs.Models.{Model}
+use Rattle.blif_model.specs.Grouped.{model_of, models_seen}
+use Rattle.blif_flatten.proofs.FirstPlaces.{found_at, placed}
 use Rattle.blif_flatten.proofs.table.ModelTable.find.Goals as goal
-use Rattle.fm_base.proofs.Finding.{find-map}
 
 pub returns-in-Some : goal.returns-in-Some
 returns-in-Some c =
-    let x = c.index.result.now in
-    let ms = c.self.inside.models.items in
-    let name = c.args.name.now in
-    let first = rw (← c.place_of.ensures, c.in-Some.is) at (c.self.invariant name) in
-    let found = first_found ms (λ (m : ModelLines). bytes_eq m.name.now name) c.in-Some.place x first c.index.ensures in
-    ap (option_map model_of) found
-    ∙ sym (find-map (λ (m : Model). bytes_eq m.name name) model_of ms) ∙ ap (λ s. model_named s name) c.self.view_is
+    let here = sym (c.place_of.ensures ∙ c.self.invariant c.args.name.now) ∙ c.in-Some.is in
+    let found = found_at (λ (m : Model). bytes_eq m.name c.args.name.now) model_of c.self.inside.models.items c.in-Some.place c.index.result.now here c.index.ensures in
+    rw (← c.self.view_is, found)
 
 pub returns-in-None : goal.returns-in-None
 returns-in-None c =
-    let ms = c.self.inside.models.items in
-    let name = c.args.name.now in
-    let first = rw (← c.place_of.ensures, c.in-None.is) at (c.self.invariant name) in
-    ap (option_map model_of) (sym first) ∙ sym (find-map (λ (m : Model). bytes_eq m.name name) model_of ms) ∙ ap (λ s. model_named s name) c.self.view_is
+    let here = sym (c.place_of.ensures ∙ c.self.invariant c.args.name.now) ∙ c.in-None.is in
+    let none = rw here at (placed (λ (m : Model). bytes_eq m.name c.args.name.now) (models_seen c.self.inside.models.items)) in
+    rw (← c.self.view_is, none)

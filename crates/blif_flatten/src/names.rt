@@ -1,0 +1,69 @@
+// The names of nets, which get their numbers where they are met.
+ghost use Rattle.std.specs.Prelude.{◌≡◌, ◌∷◌, [], map, IfOk};
+ghost use Rattle.blif_model.specs.Tokens.{texts_of};
+ghost use Rattle.blif_model.specs.Walk.{net_of};
+ghost use Rattle.blif_flatten.specs.Numbering.{HaveNumbers};
+ghost use Rattle.blif_flatten.specs.Seen.{mention, scope_at};
+
+use crate::flat::NameId;
+use crate::place::{Place, net_in};
+use blif_model::bindings::pair_of;
+use blif_text::token::Token;
+use fm_base::{NameIndex, Seq};
+use std::alloc::{AllocError, Global};
+
+/// How a token mentions a name: it is the name, or the name stands behind its first `=`.
+#[derive(Clone, Copy)]
+pub enum Mention {
+    Whole,
+    Actual,
+}
+
+/// The name that a token mentions.
+fn mentioned<'a>(how: Mention, token: &Token<'a>) -> &'a [u8]
+    ensures { result.now ≡ mention how token.now.text.now }
+{
+    match how {
+        Mention::Whole => token.text,
+        Mention::Actual => pair_of(token.text).actual,
+    }
+}
+
+/// The names so far, and a buffer in which the names of nets in instances are put together.
+#[derive(Drop)]
+pub struct NetNames {
+    pub alloc: Global,
+    pub index: NameIndex,
+    pub buffer: Vec<u8>,
+}
+
+impl NetNames {
+    /// The number of the net of a name. There is no room for more than 2^32 names.
+    pub fn number(&mut self, place: &Place<'_>, name: &[u8]) -> Result<NameId, AllocError>
+        ensures { IfOk result (λ id. HaveNumbers self.old.index self.new.index (net_of (scope_at place.now) name.now ∷ []) (id ∷ [])) }
+    {
+        let net = net_in(&mut self.buffer, place, name)?;
+        let number = self.index.enter(net)?;
+        if number > u32::MAX as usize {
+            return Err(AllocError);
+        }
+        Ok(NameId(number as u32))
+    }
+
+    /// The numbers of the nets of names.
+    #[tactic(auto, using(crate::proofs::Numbering::numbered_none))]
+    pub fn number_all(
+        &mut self,
+        place: &Place<'_>,
+        how: Mention,
+        tokens: &[Token<'_>],
+    ) -> Result<Seq<NameId>, AllocError>
+        ensures { IfOk result (λ ids. HaveNumbers self.old.index self.new.index (map (λ t. net_of (scope_at place.now) (mention how t)) (texts_of tokens.now)) ids) }
+    {
+        let mut ids = Seq::new(self.alloc);
+        for token in tokens {
+            ids.push(self.number(place, mentioned(how, token))?)?;
+        }
+        Ok(ids)
+    }
+}
