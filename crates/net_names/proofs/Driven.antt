@@ -1,94 +1,81 @@
 -- The driver of a name, found by its place among the inputs, the nets of tables or those of latches.
-use Rattle.std.proofs.Common.{◌≡◌, ℕ, zero, suc, ◌+◌, ◌≤◌, Bool, true, false, cond, List, [], ◌∷◌, ◌++◌, refl, ap, sym, ◌∙◌, arith}
-use Rattle.std.specs.Prelude.{bytes_eq, map, flat_map, find, Option, Some, None}
+use Rattle.std.proofs.Common.{◌≡◌, ℕ, zero, suc, ◌+◌, ◌≤◌, true, false, List, [], ◌∷◌, ◌++◌, refl, ap, ◌∙◌, length, arith}
+use Rattle.std.specs.Prelude.{bytes_eq, map, flat_map, find, Some}
 use Rattle.std.specs.List.{slice_get, enumerate_from}
-use Rattle.std.specs.Option.{option_or, option_map_or}
-use Rattle.std.proofs.lemmas.List.Folds.{find-append}
+use Rattle.std.specs.Option.{option_map}
+use Rattle.std.proofs.lemmas.Bool.Decides.{nat_tests}
+use Rattle.std.proofs.lemmas.List.{map-append}
+use Rattle.std.proofs.lemmas.Option.{slice_get-map}
 use Rattle.circuit.specs.declared.parts.Driver.{Driver}
 use Rattle.circuit.specs.declared.parts.Driver.TheVariants.{Input, Table as FromTable, Latch as FromLatch}
-use Rattle.fm_base.specs.Names.{Name, is_one_of}
-use Rattle.fm_base.proofs.Tests.{or_false, false_of}
+use Rattle.fm_base.specs.Names.{Name}
 use Rattle.fm_base.proofs.Distinct.{is_same, bytes_eq-sym}
 use Rattle.net_names.specs.Nets.{driver_of}
-use Rattle.net_names.specs.Driven.{all_drivers, drives, name_count}
+use Rattle.net_names.specs.Driven.{all_drivers, drives, name_count, IsDrivenBy}
 use Rattle.net_names.proofs.Times.{times-append, times-found, at-found}
 
--- names beside drivers, numbered from n
+-- ---- names beside drivers
+
+-- they are numbered from n
 abbrev pub entries : ℕ → (ℕ → Driver) → List Name → List (Name × Driver)
 entries n driver names = map (λ p. (p.1, driver p.0)) (enumerate_from n names)
 
-abbrev pub is_of : Name → Name × Driver → Bool
-is_of name p = bytes_eq p.0 name
+abbrev pub entry_names : List (Name × Driver) → List Name
+entry_names pairs = map (λ p. p.0) pairs
 
-pub entry_none : (n : ℕ) (driver : ℕ → Driver) (names : List Name) (name : Name) → is_one_of names name ≡ false → find (is_of name) (entries n driver names) ≡ None
-entry_none n driver [] name e = refl
-entry_none n driver (x ∷ xs) name e =
-    let parts = or_false (bytes_eq name x) (is_one_of xs name) e in
-    rw (bytes_eq-sym x name ∙ parts.0) (entry_none (n + 1) driver xs name parts.1)
+names-of-entries : (n : ℕ) (driver : ℕ → Driver) (names : List Name) → entry_names (entries n driver names) ≡ names
+names-of-entries n driver [] = refl
+names-of-entries n driver (x ∷ xs) = ap (λ (more : List Name). x ∷ more) (names-of-entries (n + 1) driver xs)
 
-pub entry_at : (n : ℕ) (driver : ℕ → Driver) (names : List Name) (k : ℕ) (name : Name) → name_count name names ≤ 1 → slice_get names k ≡ Some name
-    → find (is_of name) (entries n driver names) ≡ Some (name, driver (n + k))
-entry_at n driver [] k name h e = cc
-entry_at n driver (x ∷ xs) zero name h e =
-    let same : x ≡ name = cc in
-    let first : n ≡ n + 0 = omega arith in
-    rw (ap (bytes_eq x) (sym same) ∙ is_same x) (ap (λ (m : Name). Some (m, driver n)) same ∙ ap (λ j. Some (name, driver j)) first)
-entry_at n driver (x ∷ xs) (suc k) name h e = by_cases (bytes_eq name x) refl h (λ g. entry_at (n + 1) driver xs k name g e)
-  where
-    by_cases : (b : Bool) → bytes_eq name x ≡ b → cond b 1 0 + name_count name xs ≤ 1
-        → (name_count name xs ≤ 1 → find (is_of name) (entries (n + 1) driver xs) ≡ Some (name, driver ((n + 1) + k)))
-        → find (is_of name) (entries n driver (x ∷ xs)) ≡ Some (name, driver (n + suc k))
-    by_cases true f g more = let twice : 1 ≤ name_count name xs = times-found name xs (at-found xs k name e) in absurd (omega arith)
-    by_cases false f g more =
-        let next : (n + 1) + k ≡ n + suc k = omega arith in
-        rw (bytes_eq-sym x name ∙ f) (more (omega arith) ∙ ap (λ j. Some (name, driver j)) next)
+entry-at : (n m : ℕ) (driver : ℕ → Driver) (names : List Name) (k : ℕ) (name : Name) → n + k ≡ m → slice_get names k ≡ Some name → slice_get (entries n driver names) k ≡ Some (name, driver m)
+entry-at n m driver [] k name h e = cc
+entry-at n m driver (x ∷ xs) zero name h e = let here : n ≡ m = omega arith in cc
+entry-at n m driver (x ∷ xs) (suc k) name h e = entry-at (n + 1) m driver xs k name (omega arith) e
 
-pub none_of : (name : Name) (names : List Name) → name_count name names ≡ 0 → is_one_of names name ≡ false
-none_of name names h = false_of (is_one_of names name) (λ e. let some = times-found name names e in omega arith)
+-- a name beside a driver stands among the names
+pub entry-counted : (pairs : List (Name × Driver)) (j : ℕ) (name : Name) (d : Driver) → slice_get pairs j ≡ Some (name, d) → 1 ≤ name_count name (entry_names pairs)
+entry-counted pairs j name d e = times-found name (entry_names pairs) (at-found (entry_names pairs) j name (slice_get-map (λ p. p.0) pairs j ∙ ap (option_map (λ p. p.0)) e))
 
--- the names of inputs, of the nets of tables and of those of latches, in which a name stands once at most
+-- where the name stands once, that driver is found
+entry-found : (pairs : List (Name × Driver)) (j : ℕ) (name : Name) (d : Driver) → slice_get pairs j ≡ Some (name, d) → name_count name (entry_names pairs) ≤ 1
+    → find (λ p. bytes_eq p.0 name) pairs ≡ Some (name, d)
+entry-found [] j name d e h = cc
+entry-found (p ∷ ps) zero name d e h = grind (arith, nat_tests, is_same name)
+entry-found (p ∷ ps) (suc j) name d e h = grind (arith, nat_tests, entry-found ps j name d, entry-counted ps j name d, bytes_eq-sym p.0 name)
+
+get-left : {X : Type 0} (xs ys : List X) (k : ℕ) (x : X) → slice_get xs k ≡ Some x → slice_get (xs ++ ys) k ≡ Some x
+get-left [] ys k x e = cc
+get-left (y ∷ xs) ys zero x e = e
+get-left (y ∷ xs) ys (suc k) x e = get-left xs ys k x e
+
+get-right : {X : Type 0} (xs ys : List X) (k : ℕ) (x : X) → slice_get ys k ≡ Some x → (j : ℕ) × (slice_get (xs ++ ys) j ≡ Some x)
+get-right [] ys k x e = (k, e)
+get-right (y ∷ xs) ys k x e = let there = get-right xs ys k x e in (suc there.0, there.1)
+
+-- ---- the nets of inputs, of tables and of latches
+
 module _ (inputs tables latches : List Name) where
-  found_in : (name : Name) → driver_of (all_drivers inputs tables latches) name
-      ≡ option_map_or (λ (p : Name × Driver). p.1)
-      (option_or (option_or (find (is_of name) (entries 0 Input inputs)) (find (is_of name) (entries 0 FromTable tables))) (find (is_of name) (entries 0 FromLatch latches))) (Input 0)
-  found_in name =
-      ap (λ (o : Option (Name × Driver)). option_map_or (λ (p : Name × Driver). p.1) o (Input 0))
-      (find-append (is_of name) (entries 0 Input inputs ++ entries 0 FromTable tables) (entries 0 FromLatch latches)
-      ∙ ap (λ (o : Option (Name × Driver)). option_or o (find (is_of name) (entries 0 FromLatch latches))) (find-append (is_of name) (entries 0 Input inputs) (entries 0 FromTable tables)))
+  pub drives-counted : (name : Name) → name_count name (entry_names (all_drivers inputs tables latches)) ≡ drives inputs tables latches name
+  drives-counted name = simp (map-append, times-append) (rw (names-of-entries 0 Input inputs, names-of-entries 0 FromTable tables, names-of-entries 0 FromLatch latches))
 
-  pub driver-input : (k : ℕ) (name : Name) → drives inputs tables latches name ≤ 1 → slice_get inputs k ≡ Some name → driver_of (all_drivers inputs tables latches) name ≡ Input k
-  driver-input k name h e =
-      let first : 0 + k ≡ k = omega arith in
-      found_in name ∙ rw (entry_at 0 Input inputs k name (omega arith) e) (ap Input first)
+  -- what a name is driven by stands beside it
+  pub driver-listed : (name : Name) (d : Driver) → IsDrivenBy inputs tables latches name d → (j : ℕ) × (slice_get (all_drivers inputs tables latches) j ≡ Some (name, d))
+  driver-listed name (Input k) by = (k, get-left (entries 0 Input inputs ++ entries 0 FromTable tables) _ k _ (get-left (entries 0 Input inputs) _ k _ (entry-at 0 k Input inputs k name (omega arith) by)))
+  driver-listed name (FromTable k) by =
+      let there = get-right (entries 0 Input inputs) (entries 0 FromTable tables) k (name, FromTable k) (entry-at 0 k FromTable tables k name (omega arith) by) in
+      (there.0, get-left (entries 0 Input inputs ++ entries 0 FromTable tables) _ there.0 _ there.1)
+  driver-listed name (FromLatch k) by =
+      get-right (entries 0 Input inputs ++ entries 0 FromTable tables) (entries 0 FromLatch latches) k (name, FromLatch k) (entry-at 0 k FromLatch latches k name (omega arith) by)
 
-  pub driver-table : (k : ℕ) (name : Name) → drives inputs tables latches name ≤ 1 → slice_get tables k ≡ Some name → driver_of (all_drivers inputs tables latches) name ≡ FromTable k
-  driver-table k name h e =
-      let first : 0 + k ≡ k = omega arith in
-      let here : 1 ≤ name_count name tables = times-found name tables (at-found tables k name e) in
-      let no_input : name_count name inputs ≡ 0 = omega arith in
-      found_in name
-      ∙ rw (entry_none 0 Input inputs name (none_of name inputs no_input), entry_at 0 FromTable tables k name (omega arith) e) (ap FromTable first)
-
-  pub driver-latch : (k : ℕ) (name : Name) → drives inputs tables latches name ≤ 1 → slice_get latches k ≡ Some name → driver_of (all_drivers inputs tables latches) name ≡ FromLatch k
-  driver-latch k name h e =
-      let first : 0 + k ≡ k = omega arith in
-      let here : 1 ≤ name_count name latches = times-found name latches (at-found latches k name e) in
-      let no_input : name_count name inputs ≡ 0 = omega arith in
-      let no_table : name_count name tables ≡ 0 = omega arith in
-      found_in name
-      ∙ rw (
-        entry_none 0 Input inputs name (none_of name inputs no_input),
-        entry_none 0 FromTable tables name (none_of name tables no_table),
-        entry_at 0 FromLatch latches k name (omega arith) e,
-      ) (ap FromLatch first)
+  pub driver-is : (name : Name) (d : Driver) → drives inputs tables latches name ≤ 1 → IsDrivenBy inputs tables latches name d → driver_of (all_drivers inputs tables latches) name ≡ d
+  driver-is name d h by =
+      let at = driver-listed name d by in
+      rw (entry-found (all_drivers inputs tables latches) at.0 name d at.1 (rw (drives-counted name) h))
 
 -- where each line drives what it has as inputs, as nets of tables and as nets of latches, all lines do
 pub drives-of-lines : {S : Type 0} (driven inputs tables latches : S → List Name) (name : Name) → ((s : S) → name_count name (driven s) ≡ drives (inputs s) (tables s) (latches s) name) → (lines : List S)
     → name_count name (flat_map driven lines) ≡ drives (flat_map inputs lines) (flat_map tables lines) (flat_map latches lines) name
 drives-of-lines driven inputs tables latches name each [] = refl
 drives-of-lines driven inputs tables latches name each (s ∷ lines) =
-    sum_up _ _ _ _ _ _ _ _ _ _ _ _ (drives-of-lines driven inputs tables latches name each lines) (times-append name (driven s) (flat_map driven lines)) (each s)
-    (times-append name (inputs s) (flat_map inputs lines)) (times-append name (tables s) (flat_map tables lines)) (times-append name (latches s) (flat_map latches lines))
-  where
-    sum_up : (r all d a t l ra rt rl xa xt xl : ℕ) → r ≡ ra + rt + rl → all ≡ d + r → d ≡ a + t + l → xa ≡ a + ra → xt ≡ t + rt → xl ≡ l + rl → all ≡ xa + xt + xl
-    sum_up r all d a t l ra rt rl xa xt xl e f g h i j = omega arith
+    omega (arith, drives-of-lines driven inputs tables latches name each lines, each s, times-append name (driven s) (flat_map driven lines),
+    times-append name (inputs s) (flat_map inputs lines), times-append name (tables s) (flat_map tables lines), times-append name (latches s) (flat_map latches lines))

@@ -20,8 +20,8 @@ use Rattle.fm_base.proofs.Tests.{and_both, or_second}
 use Rattle.fm_base.proofs.Distinct.{is_same}
 use Rattle.net_names.specs.Nets.{driver_of, net_id}
 use Rattle.net_names.specs.Driven.{all_drivers, AreAligned, circuit_with, IsDrivenBy, IsDrivenOnce}
-use Rattle.net_names.proofs.Driven.{driver-input, driver-table, driver-latch}
-use Rattle.net_names.proofs.Once.{driver-by, few-latches, input-net, latch-net, one-name, table-net}
+use Rattle.net_names.proofs.Driven.{driver-is}
+use Rattle.net_names.proofs.Once.{driver-by, driven-net, few-latches, one-name}
 use Rattle.net_names.proofs.Times.{at-found, image-at, names-apart, place, place-at, place-found}
 
 -- ---- the numbers of nets
@@ -91,51 +91,39 @@ module _ (nets ins tabs lats outs : List Name) (tables : List Table) (latches : 
 
   -- a net of the list is driven
   driven_there : (n : ℕ) (name : Name) → slice_get nets n ≡ Some name → IsDrivenBy ins tabs lats name (driver_of drivers name)
-  driven_there n name there = driver-by nets ins tabs lats once name (once.least name (at-found nets n name there))
+  driven_there n name there = driver-by nets ins tabs lats once name (at-found nets n name there)
 
   nets_sound : (n : ℕ) → n < length made.drivers → IsNetOf made n (driver_at made n)
   nets_sound n h =
       let name : Name = get_or nets n [] in
       let there = name_there n h in
-      let e : driver_at made n ≡ driver_of drivers name = get_or_from_slice_get made.drivers n _ (Input 0) (driver_there n name there) in
-      subst (IsNetOf made n) (sym e) (net_of_driver n name _ there (driven_there n name there))
+      rw (get_or_from_slice_get made.drivers n _ (Input 0) (driver_there n name there)) (net_of_driver n name _ there (driven_there n name there))
 
   drivers_apart : AreApart made.drivers
   drivers_apart i j d e f =
-      let a : Name = get_or nets i [] in
-      let b : Name = get_or nets j [] in
-      let first = name_there i (slice_get_within made.drivers i d e) in
-      let second = name_there j (slice_get_within made.drivers j d f) in
-      let p : Some (driver_of drivers a) ≡ Some d = sym (driver_there i a first) ∙ e in
-      let q : Some (driver_of drivers b) ≡ Some d = sym (driver_there j b second) ∙ f in
-      let same : driver_of drivers a ≡ driver_of drivers b = cc in
-      let one = one-name nets ins tabs lats once a b _ _ same (driven_there i a first) (driven_there j b second) in
-      names-apart nets once.apart i j a first (second ∙ ap Some (sym one))
+      let a = image-at (driver_of drivers) nets i d e in
+      let b = image-at (driver_of drivers) nets j d f in
+      let one = one-name nets ins tabs lats once a.0 b.0 d (rw a.2 at (driven_there i a.0 a.1)) (rw b.2 at (driven_there j b.0 b.1)) in
+      names-apart nets once.apart i j a.0 a.1 (b.1 ∙ ap Some (sym one))
 
-  -- the driver of a name that is a net
-  driver_of_net : (name : Name) (d : Driver) → is_one_of nets name ≡ true → driver_of drivers name ≡ d → slice_get made.drivers (place nets name) ≡ Some d
-  driver_of_net name d e f = driver_there (place nets name) name (place-found nets name e) ∙ ap Some f
+  -- the driver at the place of a name that it drives
+  driver_put : (name : Name) (d : Driver) → IsDrivenBy ins tabs lats name d → slice_get made.drivers (place nets name) ≡ Some d
+  driver_put name d by =
+      driver_there (place nets name) name (place-found nets name (driven-net nets ins tabs lats once name d by)) ∙ ap Some (driver-is ins tabs lats name d (once.most name) by)
 
   inputs_sound : (k : ℕ) (net : NetId) → slice_get made.inputs k ≡ Some net → slice_get made.drivers net.0 ≡ Some (Input k)
-  inputs_sound k net e =
-      let found = image-at (net_id nets) ins k net e in
-      ap (λ (id : NetId). slice_get made.drivers id.0) (sym found.2)
-      ∙ driver_of_net found.0 (Input k) (input-net nets ins tabs lats once k found.0 found.1) (driver-input ins tabs lats k found.0 (once.most found.0) found.1)
+  inputs_sound k net e = let found = image-at (net_id nets) ins k net e in rw (← found.2) (driver_put found.0 (Input k) found.1)
 
   latches_sound : (k : ℕ) (latch : Latch) → slice_get latches k ≡ Some latch → slice_get made.drivers latch.to.0 ≡ Some (FromLatch k)
   latches_sound k latch e =
       let there : slice_get (map (net_id nets) lats) k ≡ Some latch.to =
       ap (λ (ids : List NetId). slice_get ids k) (sym beside.ordered) ∙ slice_get-map (λ (l : Latch). l.to) latches k ∙ ap (option_map (λ (l : Latch). l.to)) e in
-      let found = image-at (net_id nets) lats k latch.to there in
-      ap (λ (id : NetId). slice_get made.drivers id.0) (sym found.2)
-      ∙ driver_of_net found.0 (FromLatch k) (latch-net nets ins tabs lats once k found.0 found.1) (driver-latch ins tabs lats k found.0 (once.most found.0) found.1)
+      let found = image-at (net_id nets) lats k latch.to there in rw (← found.2) (driver_put found.0 (FromLatch k) found.1)
 
   tables_driven : (k : ℕ) → k < length tables → (net : ℕ) × (slice_get made.drivers net ≡ Some (FromTable k))
   tables_driven k h =
-      let same = beside.counted in
       let name : Name = get_or tabs k [] in
-      let there = slice_get-get_or tabs k [] (omega arith) in
-      (place nets name, driver_of_net name (FromTable k) (table-net nets ins tabs lats once k name there) (driver-table ins tabs lats k name (once.most name) there))
+      (place nets name, driver_put name (FromTable k) (slice_get-get_or tabs k [] (omega (arith, h, beside.counted))))
 
   latches_few : length latches ≤ length nets
   latches_few =
