@@ -17,31 +17,15 @@ use Rattle.blif_flatten.specs.Places.{AreNamePlaces, place_in}
 -- a name with no place gets one
 pub added_new : (f g : List ℕ → Option ℕ) (name : List ℕ) (place : ℕ) → f name ≡ None → ((q : List ℕ) → g q ≡ cond (bytes_eq name q) (Some place) (f q))
     → (q : List ℕ) → g q ≡ option_or (f q) (cond (bytes_eq name q) (Some place) None)
-added_new f g name place none e q = e q ∙ by_cases (bytes_eq name q) refl
-  where
-    by_cases : (b : Bool) → bytes_eq name q ≡ b → cond b (Some place) (f q) ≡ option_or (f q) (cond b (Some place) None)
-    by_cases true same =
-        let here : f q ≡ None = ap f (sym ((bytes_eq-Decides name q).0 same)) ∙ none in
-        rw here refl
-    by_cases false same = sym (or_none (f q))
+added_new f g name place none e q = grind (arith, nat_tests, e q, (bytes_eq-Decides name q).0, or_none (f q))
 
 -- the first place that passes, when one more comes
 place_push : {X : Type 0} (p : X → Bool) (xs : List X) (x : X) → position p (xs ++ x ∷ []) ≡ option_or (position p xs) (cond (p x) (Some (length xs)) None)
-place_push p xs x = rw (position_or_len_push p xs x, length-append xs (x ∷ [])) (by_cases (p x) (position_or_len p xs) (length xs) (prefix_len-le-length _ xs))
-  where
-    by_cases : (b : Bool) (n m : ℕ) → n ≤ m
-        → cond (ltb (cond (eqb n m) (m + cond b 0 1) n) (m + 1)) (Some (cond (eqb n m) (m + cond b 0 1) n)) None ≡ option_or (cond (ltb n m) (Some n) None) (cond b (Some m) None)
-    by_cases true n m h = grind (arith, nat_tests)
-    by_cases false n m h = grind (arith, nat_tests)
+place_push p xs x = grind (arith, nat_tests, position_or_len_push p xs x, length-append xs (x ∷ []), prefix_len-le-length)
 
 -- what stands at the first place that passes
 pub placed : {X : Type 0} (p : X → Bool) (xs : List X) → MatchOption (position p xs) (find p xs ≡ None) (λ k. (k < length xs) × (find p xs ≡ slice_get xs k))
-placed p xs = rw (find_at p xs) (by_cases (cases_lt (position_or_len p xs) (length xs)))
-  where
-    by_cases : (position_or_len p xs < length xs) ⊎ (length xs ≤ position_or_len p xs)
-        → MatchOption (position p xs) (slice_get xs (position_or_len p xs) ≡ None) (λ k. (k < length xs) × (slice_get xs (position_or_len p xs) ≡ slice_get xs k))
-    by_cases (inl lt) = rw (lt-ltb (position_or_len p xs) (length xs) lt) (lt, refl)
-    by_cases (inr le) = rw (le-ltb (position_or_len p xs) (length xs) le) (slice_get_past xs (position_or_len p xs) le)
+placed p xs = grind (arith, nat_tests, find_at p xs, slice_get_past)
 
 -- an item is found by its place
 pub found_at : {X Y : Type 0} (p : Y → Bool) (f : X → Y) (xs : List X) (k : ℕ) (x : X) → position p (map f xs) ≡ Some k → x ≡ get_or xs k x → find p (map f xs) ≡ Some (f x)

@@ -4,9 +4,11 @@ use Rattle.std.specs.Prelude.{bytes_eq, flat_map, replicate, slice_index_or, sli
 use Rattle.std.proofs.lemmas.List.{append-nil, take_more, map-append}
 use Rattle.std.proofs.lemmas.List.Elements.{All-head, All-tail, All-get_or}
 use Rattle.std.proofs.lemmas.List.Folds.{list_any-append}
+use Rattle.std.proofs.lemmas.Bool.Decides.{nat_tests}
 use Rattle.std.proofs.lemmas.Grind.{flat_map-append}
 use Rattle.std.proofs.Math.Bool.{or-false, or-true}
 use Rattle.fm_base.specs.Names.{Name, is_one_of, has_repeat}
+use Rattle.fm_base.proofs.Tests.{or_false}
 use Rattle.fm_base.proofs.Distinct.{distinct-apart, is_same, bytes_eq-sym}
 use Rattle.blif_model.specs.Walk.{Step}
 use Rattle.blif_flatten.specs.declared.flat.NameId.{NameId}
@@ -24,24 +26,19 @@ names_apart steps = distinct-apart (flat_map _ steps)
 -- ---- one mark
 
 pub either_left : (a b : Bool) → (a || b) ≡ false → a ≡ false
-either_left true b e = cc
-either_left false b e = refl
+either_left a b e = (or_false a b e).0
 
 pub either_right : (a b : Bool) → (a || b) ≡ false → b ≡ false
-either_right true b e = cc
-either_right false b e = e
+either_right a b e = (or_false a b e).1
 
--- one more name that isn't this one
-one_more : (xs : List Name) (x name : Name) → bytes_eq name x ≡ false → is_one_of xs name ≡ is_one_of (xs ++ x ∷ []) name
-one_more xs x name e = sym (list_any-append (bytes_eq name) xs (x ∷ []) ∙ rw e (or-false (is_one_of xs name)))
+-- one more name that isn't this one, and one that is
+one_more : (xs : List Name) (x name : Name) → is_one_of (xs ++ x ∷ []) name ≡ (is_one_of xs name || bytes_eq name x)
+one_more xs x name = list_any-append (bytes_eq name) xs (x ∷ []) ∙ ap (λ b. is_one_of xs name || b) (or-false (bytes_eq name x))
 
 -- one more name that these lack
 others_stay : (xs names : List Name) (x : Name) → is_one_of names x ≡ false → map (is_one_of xs) names ≡ map (is_one_of (xs ++ x ∷ [])) names
 others_stay xs [] x lacks = refl
-others_stay xs (name ∷ names) x lacks =
-    let first = one_more xs x name (bytes_eq-sym name x ∙ either_left (bytes_eq x name) (is_one_of names x) lacks) in
-    let rest = others_stay xs names x (either_right (bytes_eq x name) (is_one_of names x) lacks) in
-    rw (first, rest) refl
+others_stay xs (name ∷ names) x lacks = grind (arith, nat_tests, others_stay xs names x, one_more xs x name, bytes_eq-sym x name, or-false)
 
 -- a name that isn't among these isn't the one at a place
 pub not_there : (names : List Name) (x : Name) (k : ℕ) → is_one_of names x ≡ false → k < length names → bytes_eq x (slice_index_or names k []) ≡ false
@@ -52,15 +49,8 @@ not_there (name ∷ names) x (suc k) lacks lt = not_there names x k (either_righ
 pub mark_one : (xs names : List Name) (k : ℕ) → has_repeat names ≡ false → k < length names
     → slice_set (map (is_one_of xs) names) k true ≡ map (is_one_of (xs ++ slice_index_or names k [] ∷ [])) names
 mark_one xs [] k apart lt = absurd (omega arith)
-mark_one xs (name ∷ names) zero apart lt =
-    let here : true ≡ is_one_of (xs ++ name ∷ []) name = sym (list_any-append (bytes_eq name) xs (name ∷ []) ∙ rw (is_same name) (or-true (is_one_of xs name))) in
-    let rest = others_stay xs names name (either_left (is_one_of names name) (has_repeat names) apart) in
-    ap (λ (b : Bool). b ∷ map (is_one_of xs) names) here ∙ ap (λ (bs : List Bool). is_one_of (xs ++ name ∷ []) name ∷ bs) rest
-mark_one xs (name ∷ names) (suc k) apart lt =
-    let x = slice_index_or names k [] in
-    let here = one_more xs x name (not_there names name k (either_left (is_one_of names name) (has_repeat names) apart) (omega arith)) in
-    let rest = mark_one xs names k (either_right (is_one_of names name) (has_repeat names) apart) (omega arith) in
-    ap (λ (b : Bool). b ∷ slice_set (map (is_one_of xs) names) k true) here ∙ ap (λ (bs : List Bool). is_one_of (xs ++ x ∷ []) name ∷ bs) rest
+mark_one xs (name ∷ names) zero apart lt = grind (arith, nat_tests, others_stay xs names name, one_more xs name name, is_same name, or-true)
+mark_one xs (name ∷ names) (suc k) apart lt = grind (arith, nat_tests, mark_one xs names k, one_more xs (slice_index_or names k []) name, not_there names name k, or-false)
 
 -- ---- marks of numbers
 
