@@ -1,7 +1,7 @@
 -- Marks of names.
-use Rattle.std.proofs.Common.{◌≡◌, ℕ, zero, suc, ◌+◌, ◌<◌, Bool, true, false, ◌||◌, List, [], ◌∷◌, ◌++◌, refl, ap, sym, subst, ◌∙◌, append_assoc, length, arith, map, take, get_or}
+use Rattle.std.proofs.Common.{◌≡◌, ℕ, zero, suc, ◌+◌, ◌<◌, Bool, true, false, ◌||◌, List, [], ◌∷◌, ◌++◌, refl, ap, sym, ◌∙◌, append_assoc, length, arith, map, take, get_or}
 use Rattle.std.specs.Prelude.{bytes_eq, flat_map, replicate, slice_index_or, slice_set}
-use Rattle.std.proofs.lemmas.List.{append-nil, take_more, map-append}
+use Rattle.std.proofs.lemmas.List.{append-nil, map_more}
 use Rattle.std.proofs.lemmas.List.Elements.{All-head, All-tail, All-get_or}
 use Rattle.std.proofs.lemmas.List.Folds.{list_any-append}
 use Rattle.std.proofs.lemmas.Bool.Decides.{nat_tests}
@@ -71,20 +71,17 @@ unfolding names_by
 names_by-snoc sort steps s =
     flat_map-append (λ (x : Step). named sort x.act) steps (s ∷ []) ∙ ap (λ (more : List Name). flat_map (λ (x : Step). named sort x.act) steps ++ more) (append-nil (named sort s.act))
 
--- the marks of one step more
-pub mark_step : (sort : Sort) (names : List Name) (steps : List NumberedStep) (i : ℕ) (s : NumberedStep) (ids : List NameId) (old new : List Bool) → has_repeat names ≡ false → i < length steps → s ≡ get_or steps i s
-    → map (name_at names) ids ≡ named sort (act_by (name_at names) s.act) → AreBelow (length names) ids
-    → old ≡ map (is_one_of (names_by sort (steps_by names (take i steps)))) names → new ≡ marked old ids
-    → new ≡ map (is_one_of (names_by sort (steps_by names (take (i + 1) steps)))) names
-mark_step sort names steps i s ids old new apart lt is texts below was e =
-    let front = steps_by names (take i steps) in
-    let next : steps_by names (take (i + 1) steps) ≡ front ++ step_by (name_at names) s ∷ [] =
-    ap (steps_by names) (take_more steps i s lt ∙ ap (λ (x : NumberedStep). take i steps ++ x ∷ []) (sym is)) ∙ map-append (step_by (name_at names)) (take i steps) (s ∷ []) in
-    e ∙ ap (λ (ms : List Bool). marked ms ids) was ∙ mark_names (names_by sort front) names ids apart below
-    ∙ ap (λ (more : List Name). map (is_one_of (names_by sort front ++ more)) names) texts
-    ∙ ap (λ (all : List Name). map (is_one_of all) names) (sym (ap (names_by sort) next ∙ names_by-snoc sort front (step_by (name_at names) s)))
-
 -- a step's numbers have names
 pub step_within : (names : List Name) (steps : List NumberedStep) (i : ℕ) (s : NumberedStep) → IsFlat names steps → i < length steps → s ≡ get_or steps i s → AreBelow (length names) (ids_in s.act)
-step_within names steps i s flat lt is =
-    subst (λ (x : NumberedStep). AreBelow (length names) (ids_in x.act)) (sym is) (All-get_or (λ (x : NumberedStep). AreBelow (length names) (ids_in x.act)) steps i s lt flat.within)
+step_within names steps i s flat lt is = rw is (All-get_or (λ (x : NumberedStep). AreBelow (length names) (ids_in x.act)) steps i s lt flat.within)
+
+-- the marks of one step more
+pub mark_step : (sort : Sort) (names : List Name) (steps : List NumberedStep) (i : ℕ) (s : NumberedStep) (ids : List NameId) (old new : List Bool) → IsFlat names steps → i < length steps → s ≡ get_or steps i s
+    → map (name_at names) ids ≡ named sort (act_by (name_at names) s.act) → (AreBelow (length names) (ids_in s.act) → AreBelow (length names) ids)
+    → old ≡ map (is_one_of (names_by sort (steps_by names (take i steps)))) names → new ≡ marked old ids
+    → new ≡ map (is_one_of (names_by sort (steps_by names (take (i + 1) steps)))) names
+mark_step sort names steps i s ids old new flat lt is texts below was e =
+    let done = steps_by names (take i steps) in
+    let apart : has_repeat names ≡ false = rw flat.first (names_apart (steps_by names steps)) in
+    rw (map_more (step_by (name_at names)) steps i s lt, ← is, names_by-snoc sort done (step_by (name_at names) s), ← texts)
+    (rw (e, was) (mark_names (names_by sort done) names ids apart (below (step_within names steps i s flat lt is))))

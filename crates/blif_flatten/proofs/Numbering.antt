@@ -6,7 +6,7 @@ use Rattle.std.specs.Borrow.{Bor}
 use Rattle.std.proofs.lemmas.List.{append-nil, get_or_append_left, length-append, map-append, map_more}
 use Rattle.std.proofs.lemmas.List.Elements.{All-nil, All-cons, All-append, All-weaker}
 use Rattle.std.proofs.lemmas.List.Sums.{fold-append}
-use Rattle.std.proofs.lemmas.Grind.{flat_map-append}
+use Rattle.std.proofs.lemmas.Grind.{common_steps, flat_map-append}
 use Rattle.std.proofs.lemmas.Option.{get_or_from_slice_get, slice_get_within}
 use Rattle.fm_base.specs.Names.{Name, is_one_of, distinct}
 use Rattle.fm_base.specs.Index.{with_name}
@@ -26,23 +26,17 @@ use Rattle.blif_flatten.specs.Numbering.{AreNumbered, HaveNumbers, own_step}
 
 -- ---- names that grow
 
--- names go to the end alone
-grown : (old texts : List Name) → (more : List Name) × (fold with_name old texts ≡ old ++ more)
-grown old [] = ([], sym (append-nil old))
-grown old (text ∷ texts) = by_cases (is_one_of old text) (grown old texts) (grown (old ++ text ∷ []) texts)
-  where
-    by_cases : (b : Bool) → (more : List Name) × (fold with_name old texts ≡ old ++ more) → (more : List Name) × (fold with_name (old ++ text ∷ []) texts ≡ (old ++ text ∷ []) ++ more)
-        → (more : List Name) × (fold with_name (cond b old (old ++ text ∷ [])) texts ≡ old ++ more)
-    by_cases true known new = known
-    by_cases false known new = (text ∷ new.0, new.1 ∙ append_assoc old (text ∷ []) new.0)
-
 longer : (old texts : List Name) → length old ≤ length (fold with_name old texts)
-longer old texts = let more = grown old texts in rw (more.1, length-append old more.0) (omega arith)
+longer old [] = omega arith
+longer old (text ∷ texts) = grind (arith, common_steps, longer (with_name old text) texts)
+
+-- a name that is there keeps its place
+name_stays : (old texts : List Name) (n : ℕ) → n < length old → get_or (fold with_name old texts) n [] ≡ get_or old n []
+name_stays old [] n lt = refl
+name_stays old (text ∷ texts) n lt = grind (arith, common_steps, name_stays (with_name old text) texts n)
 
 below_later : (old new texts : List Name) (ids : List NameId) → new ≡ fold with_name old texts → AreBelow (length old) ids → AreBelow (length new) ids
-below_later old new texts ids e below =
-    let size : length old ≤ length new = rw e (longer old texts) in
-    All-weaker (λ (id : NameId). id.0 < length old) (λ (id : NameId). id.0 < length new) (λ id lt. omega (arith, lt, size)) ids below
+below_later old new texts ids e below = λ k d lt. omega (arith, below k d lt, longer old texts, ap length e)
 
 -- what holds whatever names go there later still holds where some have
 kept : {X : Type 0} (value : List Name → X) (x : X) (old new texts : List Name) → new ≡ fold with_name old texts
@@ -57,9 +51,7 @@ numbered_none names = record { names = refl; same = λ later. refl; within = All
 pub numbered_one : (old new : List Name) (text : Name) (n : ℕ) → new ≡ with_name old text → slice_get new n ≡ Some text → HaveNumbers old new (text ∷ []) (record { 0 = n } ∷ [])
 numbered_one old new text n e at = record {
   names = e;
-  same = λ later.
-      let more = grown new later in
-      rw (more.1, get_or_append_left new more.0 [] n (slice_get_within new n text at), get_or_from_slice_get new n text [] at);
+  same = λ later. rw (name_stays new later n (slice_get_within new n text at), get_or_from_slice_get new n text [] at);
   within = All-cons (λ (id : NameId). id.0 < length new) _ [] (slice_get_within new n text at) (All-nil (λ (id : NameId). id.0 < length new));
 }
 

@@ -1,8 +1,9 @@
 -- How the walk goes on, line by line.
-use Rattle.std.proofs.Common.{◌≡◌, ℕ, zero, suc, ◌<◌, ◌≤◌, List, [], ◌∷◌, ◌++◌, refl, ap, sym, ◌∙◌, append_assoc, length, arith, map}
+use Rattle.std.proofs.Common.{◌≡◌, ℕ, zero, suc, ◌<◌, ◌≤◌, ◌-◌, List, [], ◌∷◌, ◌++◌, refl, ap, sym, ◌∙◌, append_assoc, length, arith, map, get_or, take, drop}
 use Rattle.std.specs.Prelude.{Option, Some, None}
 use Rattle.std.specs.Option.{option_to_list}
 use Rattle.std.specs.List.{slice_get}
+use Rattle.std.proofs.Math.Seq.{take-length}
 use Rattle.std.proofs.lemmas.List.{append-nil}
 use Rattle.fm_base.specs.Names.{Name}
 use Rattle.blif_model.specs.LineFault.{Said}
@@ -41,12 +42,19 @@ line_walked w new line act acts numbered e =
     let both = steps_both [] w.names.index new w.steps.items (own_step line act) w.numbered (numbered line) in
     (both.0, rw (e, ← step_of_line (name_at new) line act) both.1)
 
+-- the lines below the first
+abbrev pub below : List Said → List Said
+below lines = take (length lines - 1) (drop 1 lines)
+
 -- the steps of the first line, and those of the lines below it
-pub first_line : (f : Scope → Name → List Step) (scope : Scope) (j : ℕ) (lines : List Said) (line : Said) (below : List Said) → lines ≡ line ∷ below
+pub first_line : (f : Scope → Name → List Step) (scope : Scope) (j : ℕ) (lines : List Said) (line : Said) → 0 < length lines → line ≡ get_or lines 0 line
     → steps_from f scope j (items_of lines)
-    ≡ steps_of f scope j (record { line = line.number; says = line.says; rows = rows_below below }) ++ steps_from f scope (next j line.says) (items_of below)
+    ≡ steps_of f scope j (record { line = line.number; says = line.says; rows = rows_below (below lines) }) ++ steps_from f scope (next j line.says) (items_of (below lines))
 unfolding steps_from items_of
-first_line f scope j lines line below e = rw e
+first_line f scope j [] line some is = absurd (omega arith)
+first_line f scope j (x ∷ xs) line some is =
+    let size : suc (length xs) - 1 ≡ length xs = omega arith in
+    rw (size, take-length xs, is)
 
 pub no_line : (f : Scope → Name → List Step) (scope : Scope) (j : ℕ) (lines : List Said) → length lines < 1 → steps_from f scope j (items_of lines) ≡ []
 unfolding steps_from items_of

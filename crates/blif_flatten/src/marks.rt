@@ -9,20 +9,18 @@ use crate::flat::{FlatModel, NameId};
 use crate::sorts::{Mentions, Sort, mentions_in};
 use std::alloc::{AllocError, Global};
 
-fn mark_list(marks: &mut Vec<bool>, ids: &[NameId])
-    requires { AreBelow (length marks.old.items) ids.now }
-    ensures marked { marks.new.items ≡ marked marks.old.items ids.now }
-    ensures size { length marks.new.items ≡ length marks.old.items }
+fn mark_list(marks: &mut [bool], ids: &[NameId])
+    requires { AreBelow (length marks.old) ids.now }
+    ensures { marks.new ≡ marked marks.old ids.now }
 {
     for id in ids {
         marks[id.0 as usize] = true;
     }
 }
 
-fn mark_one(marks: &mut Vec<bool>, id: Option<NameId>)
-    requires { AreBelow (length marks.old.items) (option_to_list id) }
-    ensures marked { marks.new.items ≡ marked marks.old.items (option_to_list id) }
-    ensures size { length marks.new.items ≡ length marks.old.items }
+fn mark_one(marks: &mut [bool], id: Option<NameId>)
+    requires { AreBelow (length marks.old) (option_to_list id) }
+    ensures { marks.new ≡ marked marks.old (option_to_list id) }
 {
     if let Some(id) = id {
         marks[id.0 as usize] = true;
@@ -30,9 +28,9 @@ fn mark_one(marks: &mut Vec<bool>, id: Option<NameId>)
 }
 
 /// The names of a line are marked.
-fn mark(marks: &mut Vec<bool>, names: Mentions<'_>)
-    requires { AreBelow (length marks.old.items) (ids_of names) }
-    ensures { marks.new.items ≡ marked marks.old.items (ids_of names.entry) }
+fn mark(marks: &mut [bool], names: Mentions<'_>)
+    requires { AreBelow (length marks.old) (ids_of names) }
+    ensures { marks.new ≡ marked marks.old (ids_of names.entry) }
 {
     mark_list(marks, names.list);
     mark_one(marks, names.then);
@@ -49,7 +47,7 @@ pub fn marks_of(
 {
     let mut marks = Vec::from_elem(alloc, false, flat.names.len())?;
     for step in flat.steps.as_slice() {
-        mark(&mut marks, mentions_in(&step.act, sort));
+        mark(marks.as_mut_slice(), mentions_in(&step.act, sort));
     }
     Ok(marks)
 }

@@ -79,7 +79,7 @@ impl<'m, 'a> ModelTable<'m, 'a> {
     pub fn find(&self, name: &[u8]) -> Option<ModelLines<'m, 'a>>
         ensures { option_map model_of result ≡ model_named self.now name.now }
     {
-        match place_of(&self.places, name) {
+        match self.place(name) {
             Some(place) => Some(self.models[place]),
             None => None,
         }

@@ -1,10 +1,11 @@
-use Rattle.std.proofs.Common.{◌≡◌, ◌∙◌, ap, false, length, subst, sym, List, ℕ}
+use Rattle.std.proofs.Common.{◌≡◌, ◌∙◌, ap, false, length, subst, sym, List, ℕ, arith}
 use Rattle.std.specs.Prelude.{replicate}
+use Rattle.std.proofs.lemmas.Grind.{common_steps}
 use Rattle.std.proofs.lemmas.List.{length-map}
-use Rattle.fm_base.specs.Names.{Name, has_repeat}
-use Rattle.blif_flatten.specs.Flat.{AreBelow, name_at, steps_by}
+use Rattle.fm_base.proofs.Lists.{written_whole}
+use Rattle.blif_flatten.specs.Flat.{name_at}
 use Rattle.blif_flatten.specs.Sorts.{ids_of, names_by}
-use Rattle.blif_flatten.proofs.Marking.{mark_step, mark_none, names_apart, step_within}
+use Rattle.blif_flatten.proofs.Marking.{mark_step, mark_none, step_within}
 use Rattle.blif_flatten.proofs.marks.marks_of.Goals as goal
 
 pub loop-step-init : goal.loop-step-init
@@ -16,16 +17,14 @@ mark-requires c =
     let flat = c.args.flat.now in
     let lt = rw c.as_slice-step-items.ensures.value at c.loop-step-test.true in
     let is = rw c.as_slice-step-items.ensures.value at c.step-item.is in
-    let below = step_within flat.names flat.steps.items c.loop-step.step-index c.step-item.result flat.is_flat lt is in
-    let size : length c.loop-step.marks.items ≡ length flat.names = ap length c.loop-step.invariant ∙ length-map flat.names _ in
-    subst (λ (n : ℕ). AreBelow n (ids_of c.mentions_in.result)) (sym size) (c.mentions_in.ensures.within (length flat.names) below)
+    rw (c.as_mut_slice.ensures.value, c.loop-step.invariant, length-map)
+    (c.mentions_in.ensures.within (length flat.names) (step_within flat.names flat.steps.items c.loop-step.step-index c.step-item.result flat.is_flat lt is))
 
 pub loop-step-preserved : goal.loop-step-preserved
 loop-step-preserved c =
     let flat = c.args.flat.now in
     let lt = rw c.as_slice-step-items.ensures.value at c.loop-step-test.true in
     let is = rw c.as_slice-step-items.ensures.value at c.step-item.is in
-    let below = step_within flat.names flat.steps.items c.loop-step.step-index c.step-item.result flat.is_flat lt is in
-    let apart = subst (λ (names : List Name). has_repeat names ≡ false) (sym flat.is_flat.first) (names_apart (steps_by flat.names flat.steps.items)) in
-    mark_step c.args.sort flat.names flat.steps.items c.loop-step.step-index c.step-item.result (ids_of c.mentions_in.result) c.loop-step.marks.items c.mark.new.marks.items apart lt is
-    (c.mentions_in.ensures.names (name_at flat.names)) (c.mentions_in.ensures.within (length flat.names) below) c.loop-step.invariant c.mark.ensures
+    written_whole c.mark.new.marks c.loop-step.marks.items c.loop-step.marks.len (grind (arith, common_steps)) (grind (arith, common_steps))
+    ∙ mark_step c.args.sort flat.names flat.steps.items c.loop-step.step-index c.step-item.result (ids_of c.mentions_in.result) c.loop-step.marks.items c.mark.new.marks flat.is_flat lt is
+    (c.mentions_in.ensures.names (name_at flat.names)) (c.mentions_in.ensures.within (length flat.names)) c.loop-step.invariant (rw c.as_mut_slice.ensures.value at c.mark.ensures)

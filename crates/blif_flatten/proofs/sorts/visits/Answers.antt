@@ -7,5 +7,4 @@ use Rattle.blif_flatten.proofs.sorts.visits.Goals as goal
 pub returns-in-Latch-clause-within : goal.returns-in-Latch-clause-within
 returns-in-Latch-clause-within c n below =
     let l = c.in-Latch.latch in
-    let P : NameId → Type 0 = λ id. id.0 < n in
-    all_left P (l.from ∷ l.to ∷ []) (option_to_list l.control) (rw c.in-Latch.is at below)
+    all_left (λ (id : NameId). id.0 < n) (l.from ∷ l.to ∷ []) (option_to_list l.control) (rw c.in-Latch.is at below)

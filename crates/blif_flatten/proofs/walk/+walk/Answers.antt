@@ -1,8 +1,7 @@
-use Rattle.std.proofs.Common.{◌≡◌, ◌∷◌, ◌-◌, length, take, drop, suc, refl, ap, sym, ◌∙◌, arith}
+use Rattle.std.proofs.Common.{◌≡◌, ◌-◌, length, drop, suc, sym, arith}
 use Rattle.std.specs.Prelude.{None, Some}
 use Rattle.std.proofs.lemmas.List.{length-drop, length-take}
 use Rattle.std.proofs.lemmas.Result.{IfOk-weaker}
-use Rattle.std.proofs.lemmas.Slice.{first_rest}
 use Rattle.blif_model.specs.Grouped.{model_of}
 use Rattle.blif_model.specs.Meant.{bindings_of}
 use Rattle.blif_model.specs.Tokens.{texts_of}
@@ -38,24 +37,17 @@ walk_item-returns-in-Some t c =
 
 pub walk_lines-returns-in-None : goal.walk_lines-returns-in-None
 walk_lines-returns-in-None t c =
-    let rest = c.lines.rest.now in
-    let line = c.line-item.result in
-    let below = take (length rest - 1) (drop 1 rest) in
-    let e : rest ≡ line ∷ below = first_rest rest line c.in-len1-up.len_at_least ∙ ap (λ x. x ∷ below) (sym c.line-item.is) in
-    c.lines.invariant.on None (rw (first_line (enter c.args.models.now c.args.depth) (scope_at c.args.place.now) c.lines.instance rest line below e)
+    c.lines.invariant.on None
+    (rw (first_line (enter c.args.models.now c.args.depth) (scope_at c.args.place.now) c.lines.instance c.lines.rest.now c.line-item.result c.in-len1-up.len_at_least c.line-item.is)
     (walked_past c.lines.walked _ _ (rw c.in-None.is at c.in_ok-walk_item.ensures)))
 
 pub walk_lines-lines-preserved : goal.walk_lines-lines-preserved
-walk_lines-lines-preserved t c =
-    let rest = c.lines.rest.now in
-    let line = c.line-item.result in
-    let below = take (length rest - 1) (drop 1 rest) in
-    let e : rest ≡ line ∷ below = first_rest rest line c.in-len1-up.len_at_least ∙ ap (λ x. x ∷ below) (sym c.line-item.is) in
-    record {
-      on = λ o on. c.lines.invariant.on o (rw (first_line (enter c.args.models.now c.args.depth) (scope_at c.args.place.now) c.lines.instance rest line below e)
-          (walked_then c.lines.walked c.in-Some.more _ _ o (rw c.in-Some.is at c.in_ok-walk_item.ensures) (rw (c.next_instance-instance.ensures.next, c.says.ensures) at on)));
-      room = omega (arith, length-take (length rest - 1) (drop 1 rest), length-drop 1 rest, c.next_instance-instance.ensures.most);
-    }
+walk_lines-lines-preserved t c = record {
+  on = λ o on. c.lines.invariant.on o
+      (rw (first_line (enter c.args.models.now c.args.depth) (scope_at c.args.place.now) c.lines.instance c.lines.rest.now c.line-item.result c.in-len1-up.len_at_least c.line-item.is)
+      (walked_then c.lines.walked c.in-Some.more _ _ o (rw c.in-Some.is at c.in_ok-walk_item.ensures) (rw (c.next_instance-instance.ensures.next, c.says.ensures) at on)));
+  room = omega (arith, length-take (length c.lines.rest.now - 1) (drop 1 c.lines.rest.now), length-drop 1 c.lines.rest.now, c.next_instance-instance.ensures.most);
+}
 
 pub walk_lines-returns : goal.walk_lines-returns
 walk_lines-returns t c =
