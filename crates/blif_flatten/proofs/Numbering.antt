@@ -1,14 +1,15 @@
 -- Names that get numbers.
-use Rattle.std.proofs.Common.{◌≡◌, ℕ, ◌+◌, ◌<◌, ◌≤◌, Bool, true, false, cond, List, [], ◌∷◌, ◌++◌, refl, ap, sym, ◌∙◌, append_assoc, length, arith, fold, map, take, get_or}
+use Rattle.std.proofs.Common.{◌≡◌, ℕ, ◌+◌, ◌<◌, ◌≤◌, Bool, true, false, cond, List, [], ◌∷◌, ◌++◌, length, get_or, take, fold, map}
+use Rattle.std.proofs.Common.{refl, ap, sym, ◌∙◌, append_assoc, arith}
 use Rattle.std.specs.Prelude.{Option, Some, None, flat_map, slice_get}
 use Rattle.std.specs.Option.{option_map, option_to_list}
 use Rattle.std.specs.Borrow.{Bor}
-use Rattle.std.proofs.lemmas.List.{append-nil, get_or_append_left, length-append, map-append, map_more}
-use Rattle.std.proofs.lemmas.List.Elements.{All-nil, All-cons, All-append, All-weaker}
+use Rattle.std.proofs.lemmas.List.{append-nil, map-append, map_more}
+use Rattle.std.proofs.lemmas.List.Elements.{All-nil, All-cons, All-append}
 use Rattle.std.proofs.lemmas.List.Sums.{fold-append}
 use Rattle.std.proofs.lemmas.Grind.{common_steps, flat_map-append}
 use Rattle.std.proofs.lemmas.Option.{get_or_from_slice_get, slice_get_within}
-use Rattle.fm_base.specs.Names.{Name, is_one_of, distinct}
+use Rattle.fm_base.specs.Names.{Name, distinct}
 use Rattle.fm_base.specs.Index.{with_name}
 use Rattle.fm_base.proofs.Distinct.{distinct-snoc, distinct-found, distinct-nil}
 use Rattle.blif_text.specs.declared.token.Token.{Token}
@@ -21,8 +22,8 @@ use Rattle.blif_flatten.specs.declared.flat.NumberedAct.{NumberedAct}
 use Rattle.blif_flatten.specs.declared.flat.NumberedAct.TheVariants.{Table, Latch}
 use Rattle.blif_flatten.specs.declared.flat.NumberedLatch.{NumberedLatch}
 use Rattle.blif_flatten.specs.declared.flat.NumberedStep.{NumberedStep}
-use Rattle.blif_flatten.specs.Flat.{AreBelow, IsFlat, act_by, all_names, ids_in, latch_by, mentioned, name_at, step_by, steps_by}
-use Rattle.blif_flatten.specs.Numbering.{AreNumbered, HaveNumbers, own_step}
+use Rattle.blif_flatten.specs.Flat.{AreBelow, IsFlat, act_by, all_names, ids_in, mentioned, name_at, step_by, steps_by}
+use Rattle.blif_flatten.specs.Numbering.{AreNumbered, HaveNumbers, IsNumberedAs, own_step}
 
 -- ---- names that grow
 
@@ -35,74 +36,78 @@ name_stays : (old texts : List Name) (n : ℕ) → n < length old → get_or (fo
 name_stays old [] n lt = refl
 name_stays old (text ∷ texts) n lt = grind (arith, common_steps, name_stays (with_name old text) texts n)
 
-below_later : (old new texts : List Name) (ids : List NameId) → new ≡ fold with_name old texts → AreBelow (length old) ids → AreBelow (length new) ids
-below_later old new texts ids e below = λ k d lt. omega (arith, below k d lt, longer old texts, ap length e)
+-- names that went to others
+module _ (old new texts : List Name) (grown : new ≡ fold with_name old texts) where
+  below_later : (ids : List NameId) → AreBelow (length old) ids → AreBelow (length new) ids
+  below_later ids below = λ k d lt. omega (arith, below k d lt, longer old texts, ap length grown)
 
--- what holds whatever names go there later still holds where some have
-kept : {X : Type 0} (value : List Name → X) (x : X) (old new texts : List Name) → new ≡ fold with_name old texts
-    → ((later : List Name) → value (fold with_name old later) ≡ x) → (later : List Name) → value (fold with_name new later) ≡ x
-kept value x old new texts e same later = rw (e, ← fold-append with_name old texts later) (same (texts ++ later))
+  -- what holds whatever names go there later still holds
+  kept : {X : Type 0} (value : List Name → X) (x : X) → ((later : List Name) → value (fold with_name old later) ≡ x)
+      → (later : List Name) → value (fold with_name new later) ≡ x
+  kept value x same later = rw (grown, ← fold-append with_name old texts later) (same (texts ++ later))
 
 -- ---- numbers of names
 
 pub numbered_none : (names : List Name) → HaveNumbers names names [] []
-numbered_none names = record { names = refl; same = λ later. refl; within = All-nil (λ (id : NameId). id.0 < length names) }
+numbered_none names = record { names = refl; same = λ later. refl; within = λ k d lt. absurd (omega arith) }
 
-pub numbered_one : (old new : List Name) (text : Name) (n : ℕ) → new ≡ with_name old text → slice_get new n ≡ Some text → HaveNumbers old new (text ∷ []) (record { 0 = n } ∷ [])
-numbered_one old new text n e at = record {
-  names = e;
-  same = λ later. rw (name_stays new later n (slice_get_within new n text at), get_or_from_slice_get new n text [] at);
-  within = All-cons (λ (id : NameId). id.0 < length new) _ [] (slice_get_within new n text at) (All-nil (λ (id : NameId). id.0 < length new));
-}
+pub numbered_one : (old new : List Name) (text : Name) (n : ℕ) → new ≡ with_name old text → slice_get new n ≡ Some text
+    → HaveNumbers old new (text ∷ []) (record { 0 = n } ∷ [])
+numbered_one old new text n e at =
+    let lt = slice_get_within new n text at in
+    record {
+      names = e;
+      same = λ later. rw (name_stays new later n lt, get_or_from_slice_get new n text [] at);
+      within = All-cons (λ (id : NameId). id.0 < length new) _ [] lt (All-nil (λ (id : NameId). id.0 < length new));
+    }
 
 -- names, and names behind them
-pub numbered_both : (old mid new xs ys : List Name) (ids js : List NameId) → HaveNumbers old mid xs ids → HaveNumbers mid new ys js → HaveNumbers old new (xs ++ ys) (ids ++ js)
-numbered_both old mid new xs ys ids js a b = record {
-  names = b.names ∙ ap (λ (names : List Name). fold with_name names ys) a.names ∙ sym (fold-append with_name old xs ys);
+pub numbered_both : {old mid new xs ys : List Name} {ids js : List NameId} → HaveNumbers old mid xs ids → HaveNumbers mid new ys js
+    → HaveNumbers old new (xs ++ ys) (ids ++ js)
+numbered_both {old} {mid} {new} {xs} {ys} {ids} {js} a b = record {
+  names = rw (fold-append with_name old xs ys, ← a.names) b.names;
   same = λ later.
-      rw (map-append (name_at (fold with_name new later)) ids js, kept (λ (names : List Name). map (name_at names) ids) xs mid new ys b.names a.same later, b.same later);
-  within = All-append (λ (id : NameId). id.0 < length new) ids js (below_later mid new ys ids b.names a.within) b.within;
+      let front = kept _ _ ys b.names (λ (names : List Name). map (name_at names) ids) xs a.same later in
+      rw (map-append (name_at (fold with_name new later)) ids js, front, b.same later);
+  within = All-append (λ (id : NameId). id.0 < length new) ids js (below_later _ _ ys b.names ids a.within) b.within;
 }
 
 -- the loop over names
-pub numbered_next : (net_of : Name → Name) (old mid new : List Name) (tokens : List Token) (i : ℕ) (token : Token) (ids : List NameId) (id : NameId) → i < length tokens → token ≡ get_or tokens i token
-    → HaveNumbers old mid (map net_of (texts_of (take i tokens))) ids → HaveNumbers mid new (net_of token.text.now ∷ []) (id ∷ []) → HaveNumbers old new (map net_of (texts_of (take (i + 1) tokens))) (ids ++ id ∷ [])
-numbered_next net_of old mid new tokens i token ids id lt is before one =
-    let texts : List Name = texts_of (take i tokens) in
-    rw (map_more (λ (t : Token). t.text.now) tokens i token lt, ← is, map-append net_of texts (token.text.now ∷ []))
-    (numbered_both old mid new (map net_of texts) (net_of token.text.now ∷ []) ids (id ∷ []) before one)
+pub numbered_next : {old mid new : List Name} (net_of : Name → Name) (tokens : List Token) (i : ℕ) (token : Token) {ids : List NameId} {id : NameId}
+    → i < length tokens → token ≡ get_or tokens i token → HaveNumbers old mid (map net_of (texts_of (take i tokens))) ids
+    → HaveNumbers mid new (net_of token.text.now ∷ []) (id ∷ []) → HaveNumbers old new (map net_of (texts_of (take (i + 1) tokens))) (ids ++ id ∷ [])
+numbered_next net_of tokens i token lt is before one =
+    rw (map_more (λ (t : Token). t.text.now) tokens i token lt, ← is, map-append net_of (texts_of (take i tokens)) (token.text.now ∷ []))
+    (numbered_both before one)
 
 -- ---- the names of a line
-
--- what the act of a line is, and that its names have numbers, whatever the number of the line is
-abbrev Numbered : (old new : List Name) → Act → NumberedAct → Type 0
-Numbered old new act numbered = (act_by (name_at new) numbered ≡ act) × ((line : ℕ) → AreNumbered old new (record { line = line; act = numbered } ∷ []))
 
 abbrev one_step : ℕ → Act → List Step
 one_step line act = record { line = line; act = act } ∷ []
 
-act_numbered : (old new : List Name) (act : Act) (numbered : NumberedAct) → HaveNumbers old new (mentioned act) (ids_in numbered)
-    → ((later : List Name) → act_by (name_at (fold with_name new later)) numbered ≡ act) → Numbered old new act numbered
-act_numbered old new act numbered have same = (
+act_numbered : {old new : List Name} (act : Act) (numbered : NumberedAct) → HaveNumbers old new (mentioned act) (ids_in numbered)
+    → ((later : List Name) → act_by (name_at (fold with_name new later)) numbered ≡ act) → IsNumberedAs old new act numbered
+act_numbered {old} {new} act numbered have same = (
   same [],
   λ line. record {
-    names = have.names ∙ ap (fold with_name old) (sym (append-nil (mentioned (act_by (name_at new) numbered)) ∙ ap mentioned (same [])));
+    names = have.names ∙ ap (fold with_name old) (sym (append-nil _ ∙ ap mentioned (same [])));
     same = λ later. ap (one_step line) (same later ∙ sym (same []));
-    within = All-cons (λ (s : NumberedStep). AreBelow (length new) (ids_in s.act)) _ [] have.within (All-nil (λ (s : NumberedStep). AreBelow (length new) (ids_in s.act)));
+    within = All-cons (λ (s : NumberedStep). AreBelow (length new) (ids_in s.act)) _ [] have.within (λ k d lt. absurd (omega arith));
   },
 )
 
-pub ports_numbered : (old new texts : List Name) (ids : List NameId) (own : List Name → Act) (numbered : NumberedAct) → HaveNumbers old new texts ids → mentioned (own texts) ≡ texts ++ []
-    → ids_in numbered ≡ ids → ((f : NameId → Name) → act_by f numbered ≡ own (map f ids)) → Numbered old new (own texts) numbered
-ports_numbered old new texts ids own numbered have brings is act =
-    act_numbered old new (own texts) numbered (rw (brings, append-nil texts, is) have) (λ later. act (name_at (fold with_name new later)) ∙ ap own (have.same later))
+pub ports_numbered : {old new texts : List Name} {ids : List NameId} (own : List Name → Act) (numbered : NumberedAct) → HaveNumbers old new texts ids
+    → mentioned (own texts) ≡ texts ++ [] → ids_in numbered ≡ ids → ((f : NameId → Name) → act_by f numbered ≡ own (map f ids))
+    → IsNumberedAs old new (own texts) numbered
+ports_numbered {old} {new} {texts} own numbered have brings is act =
+    act_numbered (own texts) numbered (rw (brings, append-nil texts, is) have) (λ later. act _ ∙ ap own (have.same later))
 
-pub table_numbered : (old mid new ins : List Name) (out : Name) (ids : List NameId) (id : NameId) (below : Bor (List Said)) → HaveNumbers old mid ins ids → HaveNumbers mid new (out ∷ []) (id ∷ [])
-    → Numbered old new (flat_table ins out (rows_below below.now)) (Table (record { ins = ids; out = id; below = below }))
-table_numbered old mid new ins out ids id below a b =
-    act_numbered old new (flat_table ins out (rows_below below.now)) (Table (record { ins = ids; out = id; below = below }))
-    (rw (append-nil (ins ++ out ∷ [])) (numbered_both old mid new ins (out ∷ []) ids (id ∷ []) a b))
-    (λ later. cc (kept (λ (names : List Name). map (name_at names) ids) ins mid new (out ∷ []) b.names a.same later, b.same later))
+pub table_numbered : {old mid new ins : List Name} {out : Name} {ids : List NameId} {id : NameId} (below : Bor (List Said))
+    → HaveNumbers old mid ins ids → HaveNumbers mid new (out ∷ []) (id ∷ [])
+    → IsNumberedAs old new (flat_table ins out (rows_below below.now)) (Table (record { ins = ids; out = id; below = below }))
+table_numbered {old} {mid} {new} {ins} {out} {ids} below a b =
+    act_numbered _ _ (rw (append-nil (ins ++ out ∷ [])) (numbered_both a b))
+    (λ later. cc (kept _ _ (out ∷ []) b.names (λ (names : List Name). map (name_at names) ids) ins a.same later, b.same later))
 
 option_listed : (f : NameId → Name) (o : Option NameId) (p : Option Name) → map f (option_to_list o) ≡ option_to_list p → option_map f o ≡ p
 option_listed f None None e = refl
@@ -110,48 +115,46 @@ option_listed f (Some id) (Some name) e = cc
 option_listed f None (Some name) e = cc
 option_listed f (Some id) None e = cc
 
-pub latch_numbered : (old one two new : List Name) (s : FlatLatch) (l : NumberedLatch) → HaveNumbers old one (s.from ∷ []) (l.from ∷ []) → HaveNumbers one two (s.to ∷ []) (l.to ∷ [])
-    → HaveNumbers two new (option_to_list s.control) (option_to_list l.control) → option_map (λ e. e.now) l.edge ≡ s.edge → l.start ≡ s.start → Numbered old new (flat_latch s) (Latch l)
-latch_numbered old one two new s l from to control edge start =
-    let all = numbered_both old two new _ _ _ _ (numbered_both old one two _ _ _ _ from to) control in
-    act_numbered old new (flat_latch s) (Latch l) all (λ later.
+pub latch_numbered : {old one two new : List Name} (s : FlatLatch) (l : NumberedLatch) → HaveNumbers old one (s.from ∷ []) (l.from ∷ [])
+    → HaveNumbers one two (s.to ∷ []) (l.to ∷ []) → HaveNumbers two new (option_to_list s.control) (option_to_list l.control)
+    → option_map (λ e. e.now) l.edge ≡ s.edge → l.start ≡ s.start → IsNumberedAs old new (flat_latch s) (Latch l)
+latch_numbered {old} {one} {two} {new} s l from to control edge start =
+    let all = numbered_both (numbered_both from to) control in
+    act_numbered (flat_latch s) (Latch l) all (λ later.
     let f : NameId → Name = name_at (fold with_name new later) in
     let texts : f l.from ∷ f l.to ∷ map f (option_to_list l.control) ≡ s.from ∷ s.to ∷ option_to_list s.control = all.same later in
     let first : f l.from ≡ s.from = cc in
     let second : f l.to ≡ s.to = cc in
-    let third : option_map f l.control ≡ s.control = option_listed f l.control s.control (cc) in
-    ap flat_latch (rw (first, second, third, edge, start)))
+    ap flat_latch (rw (first, second, option_listed f l.control s.control (cc), edge, start)))
 
 -- ---- steps
 
 pub steps_none : (names : List Name) → AreNumbered names names []
-steps_none names = record { names = refl; same = λ later. refl; within = All-nil (λ (s : NumberedStep). AreBelow (length names) (ids_in s.act)) }
+steps_none names = record { names = refl; same = λ later. refl; within = λ k d lt. absurd (omega arith) }
 
 abbrev names_in : List Step → List Name
 names_in steps = flat_map (λ (s : Step). mentioned s.act) steps
 
 -- steps, and steps behind them
-pub steps_both : (old mid new : List Name) (xs ys : List NumberedStep) → AreNumbered old mid xs → AreNumbered mid new ys
+pub steps_both : {old mid new : List Name} {xs ys : List NumberedStep} → AreNumbered old mid xs → AreNumbered mid new ys
     → AreNumbered old new (xs ++ ys) × (steps_by new (xs ++ ys) ≡ steps_by mid xs ++ steps_by new ys)
-steps_both old mid new xs ys a b =
+steps_both {old} {mid} {new} {xs} {ys} a b =
     let front = steps_by mid xs in
     let back = steps_by new ys in
-    let all : (later : List Name) → steps_by (fold with_name new later) (xs ++ ys) ≡ front ++ back =
-    λ later. rw (map-append (step_by (name_at (fold with_name new later))) xs ys, kept (λ (names : List Name). steps_by names xs) front mid new (names_in back) b.names a.same later, b.same later) in (
+    let all : (later : List Name) → steps_by (fold with_name new later) (xs ++ ys) ≡ front ++ back = λ later.
+    let stay = kept _ _ (names_in back) b.names (λ (names : List Name). steps_by names xs) front a.same later in
+    rw (map-append (step_by (name_at (fold with_name new later))) xs ys, stay, b.same later) in (
       record {
-        names =
-            b.names ∙ ap (λ (names : List Name). fold with_name names (names_in back)) a.names ∙ sym (fold-append with_name old (names_in front) (names_in back))
-            ∙ ap (fold with_name old) (sym (ap names_in (all []) ∙ flat_map-append (λ (s : Step). mentioned s.act) front back));
+        names = rw (all [], flat_map-append (λ (s : Step). mentioned s.act) front back, fold-append with_name old (names_in front) (names_in back), ← a.names) b.names;
         same = λ later. all later ∙ sym (all []);
-        within = All-append (λ (s : NumberedStep). AreBelow (length new) (ids_in s.act)) xs ys
-            (All-weaker (λ (s : NumberedStep). AreBelow (length mid) (ids_in s.act)) (λ (s : NumberedStep). AreBelow (length new) (ids_in s.act))
-            (λ s below. below_later mid new (names_in back) (ids_in s.act) b.names below) xs a.within) b.within;
+        within = All-append (λ (s : NumberedStep). AreBelow (length new) (ids_in s.act)) xs ys (λ k d lt. below_later _ _ (names_in back) b.names (ids_in (get_or xs k d).act) (a.within k d lt)) b.within;
       },
       all [],
     )
 
 -- the step of a line, and the act that it stands for
-pub step_of_line : (f : NameId → Name) (line : ℕ) (act : Option NumberedAct) → map (step_by f) (own_step line act) ≡ map (λ a. record { line = line; act = a }) (map (act_by f) (option_to_list act))
+pub step_of_line : (f : NameId → Name) (line : ℕ) (act : Option NumberedAct)
+    → map (step_by f) (own_step line act) ≡ map (λ a. record { line = line; act = a }) (map (act_by f) (option_to_list act))
 step_of_line f line None = refl
 step_of_line f line (Some act) = refl
 
@@ -161,24 +164,21 @@ step_of_line f line (Some act) = refl
 distinct_more : (done texts : List Name) → distinct (done ++ texts) ≡ fold with_name (distinct done) texts
 distinct_more done [] = ap distinct (append-nil done)
 distinct_more done (text ∷ texts) =
-    sym (ap distinct (append_assoc done (text ∷ []) texts))
-    ∙ distinct_more (done ++ text ∷ []) texts
-    ∙ ap (λ (seen : List Name). fold with_name seen texts) (distinct-snoc done text ∙ ap (λ b. cond b (distinct done) (distinct done ++ text ∷ [])) (sym (distinct-found done text)))
+    rw (← append_assoc done (text ∷ []) texts, distinct_more (done ++ text ∷ []) texts, distinct-snoc done text, distinct-found done text)
 
 names_more : (steps more : List Step) → all_names (steps ++ more) ≡ fold with_name (all_names steps) (names_in more)
 unfolding all_names
-names_more steps more = ap distinct (flat_map-append (λ (s : Step). mentioned s.act) steps more) ∙ distinct_more (names_in steps) (names_in more)
+names_more steps more = rw (flat_map-append (λ (s : Step). mentioned s.act) steps more) (distinct_more (names_in steps) (names_in more))
 
 -- more steps have no fewer names
 pub names_longer : (steps more : List Step) → length (all_names steps) ≤ length (all_names (steps ++ more))
 names_longer steps more = rw (names_more steps more) (longer (all_names steps) (names_in more))
 
-names_none : all_names [] ≡ []
+pub all_are : {names : List Name} {steps : List NumberedStep} → AreNumbered [] names steps → names ≡ all_names (steps_by names steps)
 unfolding all_names
-names_none = distinct-nil
-
-pub all_are : (names : List Name) (steps : List NumberedStep) → AreNumbered [] names steps → names ≡ all_names (steps_by names steps)
-all_are names steps a = a.names ∙ sym (names_more [] (steps_by names steps) ∙ ap (λ (seen : List Name). fold with_name seen (names_in (steps_by names steps))) names_none)
+all_are {names} {steps} a =
+    let texts = names_in (steps_by names steps) in
+    a.names ∙ sym (distinct_more [] texts ∙ ap (λ (seen : List Name). fold with_name seen texts) distinct-nil)
 
 pub flat_of : (names : List Name) (steps : List NumberedStep) → AreNumbered [] names steps → IsFlat names steps
-flat_of names steps a = record { within = a.within; first = all_are names steps a }
+flat_of names steps a = record { within = a.within; first = all_are a }

@@ -39,7 +39,7 @@ walked_past a xs ys past =
 pub line_walked : (w : Walked) (new : List Name) (line : ℕ) (act : Option NumberedAct) (acts : List Act) → IsLineNumbered w.names.index new act → acts ≡ map (act_by (name_at new)) (option_to_list act)
     → AreNumbered [] new (w.steps.items ++ own_step line act) × (steps_by new (w.steps.items ++ own_step line act) ≡ walked_steps w ++ map (λ a. record { line = line; act = a }) acts)
 line_walked w new line act acts numbered e =
-    let both = steps_both [] w.names.index new w.steps.items (own_step line act) w.numbered (numbered line) in
+    let both = steps_both w.numbered (numbered line) in
     (both.0, rw (e, ← step_of_line (name_at new) line act) both.1)
 
 -- the lines below the first

@@ -1,12 +1,13 @@
 -- What the numbering of names does.
-use Rattle.std.specs.Prelude.{◌≡◌, ℕ, List, All, Option, flat_map, fold, length, map}
+use Rattle.std.specs.Prelude.{◌≡◌, ℕ, List, All, Option, Some, flat_map, fold, length, map}
 use Rattle.std.specs.Option.{option_to_list}
 use Rattle.fm_base.specs.Index.{with_name}
 use Rattle.fm_base.specs.Names.{Name}
+use Rattle.blif_model.specs.Walk.{Act}
 use Rattle.blif_flatten.specs.declared.flat.NameId.{NameId}
 use Rattle.blif_flatten.specs.declared.flat.NumberedAct.{NumberedAct}
 use Rattle.blif_flatten.specs.declared.flat.NumberedStep.{NumberedStep}
-use Rattle.blif_flatten.specs.Flat.{AreBelow, ids_in, mentioned, name_at, steps_by}
+use Rattle.blif_flatten.specs.Flat.{AreBelow, act_by, ids_in, mentioned, name_at, steps_by}
 
 -- names went to those that were there, where they are new; each number is that of its name, whatever names go there later
 pub record HaveNumbers (old new : List Name) (texts : List Name) (ids : List NameId) : Type 0 where
@@ -27,3 +28,7 @@ own_step line act = map (λ a. record { line = line; act = a }) (option_to_list 
 -- the names of a line, whatever its number is
 abbrev pub IsLineNumbered : (old new : List Name) → Option NumberedAct → Type 0
 IsLineNumbered old new act = (line : ℕ) → AreNumbered old new (own_step line act)
+
+-- the act that numbers stand for, and the names of its line
+abbrev pub IsNumberedAs : (old new : List Name) → Act → NumberedAct → Type 0
+IsNumberedAs old new act numbered = (act_by (name_at new) numbered ≡ act) × IsLineNumbered old new (Some numbered)

@@ -8,7 +8,7 @@ ghost use Rattle.blif_model.specs.Walk.{acts_of, control_net, flat_latch, flat_l
 ghost use Rattle.fm_base.specs.Names.{Name};
 ghost use Rattle.blif_flatten.specs.declared.flat.NameId.{NameId};
 ghost use Rattle.blif_flatten.specs.Flat.{act_by, ids_in, mentioned, name_at};
-ghost use Rattle.blif_flatten.specs.Numbering.{HaveNumbers, IsLineNumbered};
+ghost use Rattle.blif_flatten.specs.Numbering.{HaveNumbers, IsLineNumbered, IsNumberedAs};
 ghost use Rattle.blif_flatten.specs.Ports.{own_act};
 ghost use Rattle.blif_flatten.specs.Seen.{scope_at};
 
@@ -47,8 +47,7 @@ fn port_act<'m, 'a>(
     kind: Port,
     tokens: &[Token<'_>],
 ) -> Result<NumberedAct<'m, 'a>, AllocError>
-    ensures act { IfOk result (λ a. act_by (name_at names.new.index) a ≡ port (scope_at place.now) (own_act kind) (texts_of tokens.now)) }
-    ensures numbered { IfOk result (λ a. IsLineNumbered names.old.index names.new.index (Some a)) }
+    ensures { IfOk result (IsNumberedAs names.old.index names.new.index (port (scope_at place.now) (own_act kind) (texts_of tokens.now))) }
 {
     let ids = names.number_all(place, Mention::Whole, tokens)?;
     match place {
@@ -63,8 +62,7 @@ fn actual_nets<'m, 'a>(
     place: &Place<'_>,
     bindings: &[Token<'_>],
 ) -> Result<NumberedAct<'m, 'a>, AllocError>
-    ensures act { IfOk result (λ a. act_by (name_at names.new.index) a ≡ visits (map (λ b. net_of (scope_at place.now) b.actual) (bindings_of (texts_of bindings.now)))) }
-    ensures numbered { IfOk result (λ a. IsLineNumbered names.old.index names.new.index (Some a)) }
+    ensures { IfOk result (IsNumberedAs names.old.index names.new.index (visits (map (λ b. net_of (scope_at place.now) b.actual) (bindings_of (texts_of bindings.now))))) }
 {
     let ids = names.number_all(place, Mention::Actual, bindings)?;
     Ok(NumberedAct::PortNets(ids))
@@ -77,8 +75,7 @@ fn table_act<'m, 'a>(
     out: &[u8],
     below: &'m [ReadLine<'a>],
 ) -> Result<NumberedAct<'m, 'a>, AllocError>
-    ensures act { IfOk result (λ a. act_by (name_at names.new.index) a ≡ flat_table (map (net_of (scope_at place.now)) (texts_of ins.now)) (net_of (scope_at place.now) out.now) (rows_below below.entry.now)) }
-    ensures numbered { IfOk result (λ a. IsLineNumbered names.old.index names.new.index (Some a)) }
+    ensures { IfOk result (IsNumberedAs names.old.index names.new.index (flat_table (map (net_of (scope_at place.now)) (texts_of ins.now)) (net_of (scope_at place.now) out.now) (rows_below below.entry.now))) }
 {
     let ins = names.number_all(place, Mention::Whole, ins)?;
     let out = names.number(place, out)?;
@@ -119,8 +116,7 @@ fn latch_act<'m, 'a>(
     place: &Place<'_>,
     line: LatchSays<'a>,
 ) -> Result<NumberedAct<'m, 'a>, AllocError>
-    ensures act { IfOk result (λ a. act_by (name_at names.new.index) a ≡ flat_latch (flat_latch_of (scope_at place.now) (latch_line_of line.entry))) }
-    ensures numbered { IfOk result (λ a. IsLineNumbered names.old.index names.new.index (Some a)) }
+    ensures { IfOk result (IsNumberedAs names.old.index names.new.index (flat_latch (flat_latch_of (scope_at place.now) (latch_line_of line.entry)))) }
 {
     let from = names.number(place, line.from)?;
     let to = names.number(place, line.to)?;
