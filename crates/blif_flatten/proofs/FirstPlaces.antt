@@ -1,5 +1,5 @@
 -- Where the first of a name stands, when one more comes.
-use Rattle.std.proofs.Common.{◌≡◌, ℕ, ◌+◌, ◌<◌, ◌≤◌, Bool, true, false, cond, eqb, ltb, List, [], ◌∷◌, ◌++◌, refl, ap, sym, ◌∙◌, length, map, get_or, inl, inr, ◌⊎◌, arith}
+use Rattle.std.proofs.Common.{◌≡◌, ℕ, ◌<◌, Bool, cond, List, [], ◌∷◌, ◌++◌, refl, ap, sym, ◌∙◌, length, map, get_or, arith}
 use Rattle.std.specs.Prelude.{Option, Some, None, MatchOption, bytes_eq, find, position}
 use Rattle.std.specs.Option.{option_map, option_or}
 use Rattle.std.specs.List.{position_or_len, slice_get}
@@ -15,26 +15,31 @@ use Rattle.fm_base.proofs.Options.{or_none}
 use Rattle.blif_flatten.specs.Places.{AreNamePlaces, place_in}
 
 -- a name with no place gets one
-pub added_new : (f g : List ℕ → Option ℕ) (name : List ℕ) (place : ℕ) → f name ≡ None → ((q : List ℕ) → g q ≡ cond (bytes_eq name q) (Some place) (f q))
+pub added_new : (f g : List ℕ → Option ℕ) (name : List ℕ) (place : ℕ) → f name ≡ None
+    → ((q : List ℕ) → g q ≡ cond (bytes_eq name q) (Some place) (f q))
     → (q : List ℕ) → g q ≡ option_or (f q) (cond (bytes_eq name q) (Some place) None)
 added_new f g name place none e q = grind (arith, nat_tests, e q, (bytes_eq-Decides name q).0, or_none (f q))
 
 -- the first place that passes, when one more comes
-place_push : {X : Type 0} (p : X → Bool) (xs : List X) (x : X) → position p (xs ++ x ∷ []) ≡ option_or (position p xs) (cond (p x) (Some (length xs)) None)
+place_push : {X : Type 0} (p : X → Bool) (xs : List X) (x : X)
+    → position p (xs ++ x ∷ []) ≡ option_or (position p xs) (cond (p x) (Some (length xs)) None)
 place_push p xs x = grind (arith, nat_tests, position_or_len_push p xs x, length-append xs (x ∷ []), prefix_len-le-length)
 
 -- what stands at the first place that passes
-pub placed : {X : Type 0} (p : X → Bool) (xs : List X) → MatchOption (position p xs) (find p xs ≡ None) (λ k. (k < length xs) × (find p xs ≡ slice_get xs k))
+pub placed : {X : Type 0} (p : X → Bool) (xs : List X)
+    → MatchOption (position p xs) (find p xs ≡ None) (λ k. (k < length xs) × (find p xs ≡ slice_get xs k))
 placed p xs = grind (arith, nat_tests, find_at p xs, slice_get_past)
 
 -- an item is found by its place
-pub found_at : {X Y : Type 0} (p : Y → Bool) (f : X → Y) (xs : List X) (k : ℕ) (x : X) → position p (map f xs) ≡ Some k → x ≡ get_or xs k x → find p (map f xs) ≡ Some (f x)
+pub found_at : {X Y : Type 0} (p : Y → Bool) (f : X → Y) (xs : List X) (k : ℕ) (x : X) → position p (map f xs) ≡ Some k
+    → x ≡ get_or xs k x → find p (map f xs) ≡ Some (f x)
 found_at p f xs k x here is =
     let found = rw here at (placed p (map f xs)) in
     found.1 ∙ slice_get-map f xs k ∙ ap (option_map f) (slice_get_read xs (length xs) k x refl (omega (arith, found.0, length-map xs f)) is)
 
 -- the places of names, when one more comes
-pub places_push : {X : Type 0} (name_of : X → List ℕ) (xs : List X) (x : X) (n : ℕ) (old new : List (Bor (List ℕ) × ℕ)) → n ≡ length xs → AreNamePlaces name_of xs old
+pub places_push : {X : Type 0} (name_of : X → List ℕ) (xs : List X) (x : X) (n : ℕ) (old new : List (Bor (List ℕ) × ℕ))
+    → n ≡ length xs → AreNamePlaces name_of xs old
     → ((q : List ℕ) → place_in new q ≡ option_or (place_in old q) (cond (bytes_eq (name_of x) q) (Some n) None))
     → AreNamePlaces name_of (xs ++ x ∷ []) new
 places_push name_of xs x n old new size h e name =

@@ -1,5 +1,6 @@
 -- Marks of names.
-use Rattle.std.proofs.Common.{◌≡◌, ℕ, zero, suc, ◌+◌, ◌<◌, Bool, true, false, ◌||◌, List, [], ◌∷◌, ◌++◌, refl, ap, sym, ◌∙◌, append_assoc, length, arith, map, take, get_or}
+use Rattle.std.proofs.Common.{◌≡◌, ℕ, zero, suc, ◌+◌, ◌<◌, Bool, true, false, ◌||◌, List, [], ◌∷◌, ◌++◌, length, map, take, get_or}
+use Rattle.std.proofs.Common.{refl, ap, sym, ◌∙◌, append_assoc, arith}
 use Rattle.std.specs.Prelude.{bytes_eq, flat_map, replicate, slice_index_or, slice_set}
 use Rattle.std.proofs.lemmas.List.{append-nil, map_more}
 use Rattle.std.proofs.lemmas.List.Elements.{All-head, All-tail, All-get_or}
@@ -36,12 +37,14 @@ one_more : (xs : List Name) (x name : Name) → is_one_of (xs ++ x ∷ []) name 
 one_more xs x name = list_any-append (bytes_eq name) xs (x ∷ []) ∙ ap (λ b. is_one_of xs name || b) (or-false (bytes_eq name x))
 
 -- one more name that these lack
-others_stay : (xs names : List Name) (x : Name) → is_one_of names x ≡ false → map (is_one_of xs) names ≡ map (is_one_of (xs ++ x ∷ [])) names
+others_stay : (xs names : List Name) (x : Name) → is_one_of names x ≡ false
+    → map (is_one_of xs) names ≡ map (is_one_of (xs ++ x ∷ [])) names
 others_stay xs [] x lacks = refl
 others_stay xs (name ∷ names) x lacks = grind (arith, nat_tests, others_stay xs names x, one_more xs x name, bytes_eq-sym x name, or-false)
 
 -- a name that isn't among these isn't the one at a place
-pub not_there : (names : List Name) (x : Name) (k : ℕ) → is_one_of names x ≡ false → k < length names → bytes_eq x (slice_index_or names k []) ≡ false
+pub not_there : (names : List Name) (x : Name) (k : ℕ) → is_one_of names x ≡ false → k < length names
+    → bytes_eq x (slice_index_or names k []) ≡ false
 not_there [] x k lacks lt = absurd (omega arith)
 not_there (name ∷ names) x zero lacks lt = either_left (bytes_eq x name) (is_one_of names x) lacks
 not_there (name ∷ names) x (suc k) lacks lt = not_there names x k (either_right (bytes_eq x name) (is_one_of names x) lacks) (omega arith)
@@ -50,7 +53,8 @@ pub mark_one : (xs names : List Name) (k : ℕ) → has_repeat names ≡ false �
     → slice_set (map (is_one_of xs) names) k true ≡ map (is_one_of (xs ++ slice_index_or names k [] ∷ [])) names
 mark_one xs [] k apart lt = absurd (omega arith)
 mark_one xs (name ∷ names) zero apart lt = grind (arith, nat_tests, others_stay xs names name, one_more xs name name, is_same name, or-true)
-mark_one xs (name ∷ names) (suc k) apart lt = grind (arith, nat_tests, mark_one xs names k, one_more xs (slice_index_or names k []) name, not_there names name k, or-false)
+mark_one xs (name ∷ names) (suc k) apart lt =
+    grind (arith, nat_tests, mark_one xs names k, one_more xs (slice_index_or names k []) name, not_there names name k, or-false)
 
 -- ---- marks of numbers
 
@@ -69,15 +73,19 @@ mark_none (name ∷ names) = ap (λ (bs : List Bool). false ∷ bs) (mark_none n
 names_by-snoc : (sort : Sort) (steps : List Step) (s : Step) → names_by sort (steps ++ s ∷ []) ≡ names_by sort steps ++ named sort s.act
 unfolding names_by
 names_by-snoc sort steps s =
-    flat_map-append (λ (x : Step). named sort x.act) steps (s ∷ []) ∙ ap (λ (more : List Name). flat_map (λ (x : Step). named sort x.act) steps ++ more) (append-nil (named sort s.act))
+    rw (flat_map-append (λ (x : Step). named sort x.act) steps (s ∷ []), append-nil (named sort s.act))
 
 -- a step's numbers have names
-pub step_within : (names : List Name) (steps : List NumberedStep) (i : ℕ) (s : NumberedStep) → IsFlat names steps → i < length steps → s ≡ get_or steps i s → AreBelow (length names) (ids_in s.act)
-step_within names steps i s flat lt is = rw is (All-get_or (λ (x : NumberedStep). AreBelow (length names) (ids_in x.act)) steps i s lt flat.within)
+pub step_within : (names : List Name) (steps : List NumberedStep) (i : ℕ) (s : NumberedStep) → IsFlat names steps
+    → i < length steps → s ≡ get_or steps i s → AreBelow (length names) (ids_in s.act)
+step_within names steps i s flat lt is =
+    rw is (All-get_or (λ (x : NumberedStep). AreBelow (length names) (ids_in x.act)) steps i s lt flat.within)
 
 -- the marks of one step more
-pub mark_step : (sort : Sort) (names : List Name) (steps : List NumberedStep) (i : ℕ) (s : NumberedStep) (ids : List NameId) (old new : List Bool) → IsFlat names steps → i < length steps → s ≡ get_or steps i s
-    → map (name_at names) ids ≡ named sort (act_by (name_at names) s.act) → (AreBelow (length names) (ids_in s.act) → AreBelow (length names) ids)
+pub mark_step : (sort : Sort) (names : List Name) (steps : List NumberedStep) (i : ℕ) (s : NumberedStep) (ids : List NameId)
+    (old new : List Bool) → IsFlat names steps → i < length steps → s ≡ get_or steps i s
+    → map (name_at names) ids ≡ named sort (act_by (name_at names) s.act)
+    → (AreBelow (length names) (ids_in s.act) → AreBelow (length names) ids)
     → old ≡ map (is_one_of (names_by sort (steps_by names (take i steps)))) names → new ≡ marked old ids
     → new ≡ map (is_one_of (names_by sort (steps_by names (take (i + 1) steps)))) names
 mark_step sort names steps i s ids old new flat lt is texts below was e =

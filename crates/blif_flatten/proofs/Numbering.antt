@@ -73,9 +73,10 @@ numbered_both {old} {mid} {new} {xs} {ys} {ids} {js} a b = record {
 }
 
 -- the loop over names
-pub numbered_next : {old mid new : List Name} (net_of : Name → Name) (tokens : List Token) (i : ℕ) (token : Token) {ids : List NameId} {id : NameId}
-    → i < length tokens → token ≡ get_or tokens i token → HaveNumbers old mid (map net_of (texts_of (take i tokens))) ids
-    → HaveNumbers mid new (net_of token.text.now ∷ []) (id ∷ []) → HaveNumbers old new (map net_of (texts_of (take (i + 1) tokens))) (ids ++ id ∷ [])
+pub numbered_next : {old mid new : List Name} {ids : List NameId} {id : NameId} (net_of : Name → Name) (tokens : List Token) (i : ℕ)
+    (token : Token) → i < length tokens → token ≡ get_or tokens i token → HaveNumbers old mid (map net_of (texts_of (take i tokens))) ids
+    → HaveNumbers mid new (net_of token.text.now ∷ []) (id ∷ [])
+    → HaveNumbers old new (map net_of (texts_of (take (i + 1) tokens))) (ids ++ id ∷ [])
 numbered_next net_of tokens i token lt is before one =
     rw (map_more (λ (t : Token). t.text.now) tokens i token lt, ← is, map-append net_of (texts_of (take i tokens)) (token.text.now ∷ []))
     (numbered_both before one)
@@ -96,9 +97,9 @@ act_numbered {old} {new} act numbered have same = (
   },
 )
 
-pub ports_numbered : {old new texts : List Name} {ids : List NameId} (own : List Name → Act) (numbered : NumberedAct) → HaveNumbers old new texts ids
-    → mentioned (own texts) ≡ texts ++ [] → ids_in numbered ≡ ids → ((f : NameId → Name) → act_by f numbered ≡ own (map f ids))
-    → IsNumberedAs old new (own texts) numbered
+pub ports_numbered : {old new texts : List Name} {ids : List NameId} (own : List Name → Act) (numbered : NumberedAct)
+    → HaveNumbers old new texts ids → mentioned (own texts) ≡ texts ++ [] → ids_in numbered ≡ ids
+    → ((f : NameId → Name) → act_by f numbered ≡ own (map f ids)) → IsNumberedAs old new (own texts) numbered
 ports_numbered {old} {new} {texts} own numbered have brings is act =
     act_numbered (own texts) numbered (rw (brings, append-nil texts, is) have) (λ later. act _ ∙ ap own (have.same later))
 
@@ -145,9 +146,11 @@ steps_both {old} {mid} {new} {xs} {ys} a b =
     let stay = kept _ _ (names_in back) b.names (λ (names : List Name). steps_by names xs) front a.same later in
     rw (map-append (step_by (name_at (fold with_name new later))) xs ys, stay, b.same later) in (
       record {
-        names = rw (all [], flat_map-append (λ (s : Step). mentioned s.act) front back, fold-append with_name old (names_in front) (names_in back), ← a.names) b.names;
+        names = rw (all [], flat_map-append (λ (s : Step). mentioned s.act) front back,
+            fold-append with_name old (names_in front) (names_in back), ← a.names) b.names;
         same = λ later. all later ∙ sym (all []);
-        within = All-append (λ (s : NumberedStep). AreBelow (length new) (ids_in s.act)) xs ys (λ k d lt. below_later _ _ (names_in back) b.names (ids_in (get_or xs k d).act) (a.within k d lt)) b.within;
+        within = All-append (λ (s : NumberedStep). AreBelow (length new) (ids_in s.act)) xs ys
+            (λ k d lt. below_later _ _ (names_in back) b.names (ids_in (get_or xs k d).act) (a.within k d lt)) b.within;
       },
       all [],
     )

@@ -1,5 +1,6 @@
 -- How the walk goes on, line by line.
-use Rattle.std.proofs.Common.{◌≡◌, ℕ, zero, suc, ◌<◌, ◌≤◌, ◌-◌, List, [], ◌∷◌, ◌++◌, refl, ap, sym, ◌∙◌, append_assoc, length, arith, map, get_or, take, drop}
+use Rattle.std.proofs.Common.{◌≡◌, ℕ, zero, suc, ◌<◌, ◌≤◌, ◌-◌, List, [], ◌∷◌, ◌++◌, length, map, get_or, take, drop}
+use Rattle.std.proofs.Common.{refl, ap, ◌∙◌, append_assoc, arith}
 use Rattle.std.specs.Prelude.{Option, Some, None}
 use Rattle.std.specs.Option.{option_to_list}
 use Rattle.std.specs.List.{slice_get}
@@ -21,23 +22,20 @@ pub walked_none : (a : Walked) (xs : List Step) → xs ≡ [] → IsWalkedOn a x
 walked_none a xs e = (refl, rw (e, append-nil (walked_steps a)))
 
 -- by steps, and by steps behind them
-pub walked_then : (a b : Walked) (xs ys : List Step) (o : Option Walked) → IsWalkedOn a xs (Some b) → IsWalkedOn b ys o → IsWalkedOn a (xs ++ ys) o
-walked_then a b xs ys None one two =
-    let all : walked_steps b ++ ys ≡ walked_steps a ++ (xs ++ ys) = rw one.1 (append_assoc (walked_steps a) xs ys) in
-    let size : length (all_names (walked_steps b ++ ys)) ≡ length (all_names (walked_steps a ++ (xs ++ ys))) = ap (λ (steps : List Step). length (all_names steps)) all in
-    omega (arith, one.0, two)
+pub walked_then : (a b : Walked) (xs ys : List Step) (o : Option Walked) → IsWalkedOn a xs (Some b) → IsWalkedOn b ys o
+    → IsWalkedOn a (xs ++ ys) o
+walked_then a b xs ys None one two = rw (← append_assoc (walked_steps a) xs ys, ← one.1, ← one.0) two
 walked_then a b xs ys (Some c) one two = (two.0 ∙ one.0, two.1 ∙ rw one.1 (append_assoc (walked_steps a) xs ys))
 
 -- a name too many stays one
 pub walked_past : (a : Walked) (xs ys : List Step) → IsWalkedOn a xs None → IsWalkedOn a (xs ++ ys) None
-walked_past a xs ys past =
-    let size : length (all_names ((walked_steps a ++ xs) ++ ys)) ≡ length (all_names (walked_steps a ++ (xs ++ ys))) =
-    ap (λ (steps : List Step). length (all_names steps)) (append_assoc (walked_steps a) xs ys) in
-    omega (arith, past, names_longer (walked_steps a ++ xs) ys)
+walked_past a xs ys past = rw (← append_assoc (walked_steps a) xs ys) (omega (arith, past, names_longer (walked_steps a ++ xs) ys))
 
 -- by the step of a line
-pub line_walked : (w : Walked) (new : List Name) (line : ℕ) (act : Option NumberedAct) (acts : List Act) → IsLineNumbered w.names.index new act → acts ≡ map (act_by (name_at new)) (option_to_list act)
-    → AreNumbered [] new (w.steps.items ++ own_step line act) × (steps_by new (w.steps.items ++ own_step line act) ≡ walked_steps w ++ map (λ a. record { line = line; act = a }) acts)
+pub line_walked : (w : Walked) (new : List Name) (line : ℕ) (act : Option NumberedAct) (acts : List Act)
+    → IsLineNumbered w.names.index new act → acts ≡ map (act_by (name_at new)) (option_to_list act)
+    → AreNumbered [] new (w.steps.items ++ own_step line act)
+    × (steps_by new (w.steps.items ++ own_step line act) ≡ walked_steps w ++ map (λ a. record { line = line; act = a }) acts)
 line_walked w new line act acts numbered e =
     let both = steps_both w.numbered (numbered line) in
     (both.0, rw (e, ← step_of_line (name_at new) line act) both.1)
@@ -47,27 +45,30 @@ abbrev pub below : List Said → List Said
 below lines = take (length lines - 1) (drop 1 lines)
 
 -- the steps of the first line, and those of the lines below it
-pub first_line : (f : Scope → Name → List Step) (scope : Scope) (j : ℕ) (lines : List Said) (line : Said) → 0 < length lines → line ≡ get_or lines 0 line
-    → steps_from f scope j (items_of lines)
-    ≡ steps_of f scope j (record { line = line.number; says = line.says; rows = rows_below (below lines) }) ++ steps_from f scope (next j line.says) (items_of (below lines))
+pub first_line : (f : Scope → Name → List Step) (scope : Scope) (j : ℕ) (lines : List Said) (line : Said) → 0 < length lines
+    → line ≡ get_or lines 0 line → steps_from f scope j (items_of lines)
+    ≡ steps_of f scope j (record { line = line.number; says = line.says; rows = rows_below (below lines) })
+    ++ steps_from f scope (next j line.says) (items_of (below lines))
 unfolding steps_from items_of
 first_line f scope j [] line some is = absurd (omega arith)
 first_line f scope j (x ∷ xs) line some is =
     let size : suc (length xs) - 1 ≡ length xs = omega arith in
     rw (size, take-length xs, is)
 
-pub no_line : (f : Scope → Name → List Step) (scope : Scope) (j : ℕ) (lines : List Said) → length lines < 1 → steps_from f scope j (items_of lines) ≡ []
+pub no_line : (f : Scope → Name → List Step) (scope : Scope) (j : ℕ) (lines : List Said) → length lines < 1
+    → steps_from f scope j (items_of lines) ≡ []
 unfolding steps_from items_of
 no_line f scope j [] few = refl
 no_line f scope j (line ∷ lines) few = absurd (omega arith)
 
-pub enter_none : (models : List Model) (depth : ℕ) (scope : Scope) (name : Name) → model_named models name ≡ None → enter models depth scope name ≡ []
+pub enter_none : (models : List Model) (depth : ℕ) (scope : Scope) (name : Name) → model_named models name ≡ None
+    → enter models depth scope name ≡ []
 unfolding enter
 enter_none models zero scope name e = refl
 enter_none models (suc depth) scope name e = rw e
 
-pub enter_some : (models : List Model) (depth less : ℕ) (scope : Scope) (name : Name) (m : Model) → depth ≡ suc less → model_named models name ≡ Some m
-    → enter models depth scope name ≡ steps_from (enter models less) scope 0 m.items
+pub enter_some : (models : List Model) (depth less : ℕ) (scope : Scope) (name : Name) (m : Model) → depth ≡ suc less
+    → model_named models name ≡ Some m → enter models depth scope name ≡ steps_from (enter models less) scope 0 m.items
 unfolding enter
 enter_some models depth less scope name m d e = rw (d, e)
 

@@ -8,4 +8,6 @@ use Rattle.blif_flatten.proofs.Numbering.{ports_numbered}
 use Rattle.blif_flatten.proofs.acts.actual_nets.Goals as goal
 
 pub returns : goal.returns
-returns c = rw (map-map _ binding_of (texts_of c.args.bindings.now)) (ports_numbered visits (PortNets c.in_ok-ids.ids) c.in_ok-ids.ensures refl refl (λ f. refl))
+returns c =
+    rw (map-map _ binding_of (texts_of c.args.bindings.now))
+    (ports_numbered visits (PortNets c.in_ok-ids.ids) c.in_ok-ids.ensures refl refl (λ f. refl))

@@ -7,4 +7,5 @@ pub returns-in-None : goal.returns-in-None
 returns-in-None c = walked_none c.args.walked _ (walk_none c.args.models.now (sym (rw c.in-None.is at c.main.ensures)))
 
 pub returns-in-Some : goal.returns-in-Some
-returns-in-Some c = rw (walk_some c.args.models.now (model_of c.in-Some.main) (sym (rw c.in-Some.is at c.main.ensures))) c.walk_lines.ensures
+returns-in-Some c =
+    rw (walk_some c.args.models.now (model_of c.in-Some.main) (sym (rw c.in-Some.is at c.main.ensures))) c.walk_lines.ensures

@@ -1,4 +1,4 @@
-use Rattle.std.proofs.Common.{◌≡◌, ◌∙◌, ap, false, length, subst, sym, List, ℕ, arith}
+use Rattle.std.proofs.Common.{◌≡◌, ◌∙◌, ap, false, length, ℕ, arith}
 use Rattle.std.specs.Prelude.{replicate}
 use Rattle.std.proofs.lemmas.Grind.{common_steps}
 use Rattle.std.proofs.lemmas.List.{length-map}
@@ -10,21 +10,25 @@ use Rattle.blif_flatten.proofs.marks.marks_of.Goals as goal
 
 pub loop-step-init : goal.loop-step-init
 unfolding names_by
-loop-step-init c = c.in_ok-marks.ensures.items_if_clones_equal (λ y same. same) ∙ ap (λ (n : ℕ). replicate n false) c.len.ensures ∙ mark_none c.args.flat.now.names
+loop-step-init c =
+    c.in_ok-marks.ensures.items_if_clones_equal (λ y same. same) ∙ ap (λ (n : ℕ). replicate n false) c.len.ensures
+    ∙ mark_none c.args.flat.now.names
 
 pub mark-requires : goal.mark-requires
 mark-requires c =
     let flat = c.args.flat.now in
     let lt = rw c.as_slice-step-items.ensures.value at c.loop-step-test.true in
     let is = rw c.as_slice-step-items.ensures.value at c.step-item.is in
-    rw (c.as_mut_slice.ensures.value, c.loop-step.invariant, length-map)
-    (c.mentions_in.ensures.within (length flat.names) (step_within flat.names flat.steps.items c.loop-step.step-index c.step-item.result flat.is_flat lt is))
+    let below = step_within flat.names flat.steps.items c.loop-step.step-index c.step-item.result flat.is_flat lt is in
+    rw (c.as_mut_slice.ensures.value, c.loop-step.invariant, length-map) (c.mentions_in.ensures.within (length flat.names) below)
 
 pub loop-step-preserved : goal.loop-step-preserved
 loop-step-preserved c =
     let flat = c.args.flat.now in
     let lt = rw c.as_slice-step-items.ensures.value at c.loop-step-test.true in
     let is = rw c.as_slice-step-items.ensures.value at c.step-item.is in
+    let within = c.mentions_in.ensures.within (length flat.names) in
+    let marked = rw c.as_mut_slice.ensures.value at c.mark.ensures in
     written_whole c.mark.new.marks c.loop-step.marks.items c.loop-step.marks.len (grind (arith, common_steps)) (grind (arith, common_steps))
-    ∙ mark_step c.args.sort flat.names flat.steps.items c.loop-step.step-index c.step-item.result (ids_of c.mentions_in.result) c.loop-step.marks.items c.mark.new.marks flat.is_flat lt is
-    (c.mentions_in.ensures.names (name_at flat.names)) (c.mentions_in.ensures.within (length flat.names)) c.loop-step.invariant (rw c.as_mut_slice.ensures.value at c.mark.ensures)
+    ∙ mark_step c.args.sort flat.names flat.steps.items c.loop-step.step-index c.step-item.result (ids_of c.mentions_in.result)
+    c.loop-step.marks.items c.mark.new.marks flat.is_flat lt is (c.mentions_in.ensures.names (name_at flat.names)) within c.loop-step.invariant marked

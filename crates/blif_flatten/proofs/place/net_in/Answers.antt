@@ -10,4 +10,5 @@ returns-in-Some c = rw c.in-Inner.is (rw c.in-Some.is at (c.find.ensures (c.in-I
 pub returns-in_ok-join-in-None : goal.returns-in_ok-join-in-None
 unfolding net_of
 returns-in_ok-join-in-None c =
-    rw c.in-Inner.is (c.as_slice-in-None.ensures.value ∙ rw c.as_slice.ensures at c.in_ok-join-in-None.ensures ∙ rw c.in-None.is at (c.find.ensures (c.in-Inner.path ++ codes "." ++ c.args.name.now)))
+    rw c.in-Inner.is (c.as_slice-in-None.ensures.value ∙ rw c.as_slice.ensures at c.in_ok-join-in-None.ensures
+    ∙ rw c.in-None.is at (c.find.ensures (c.in-Inner.path ++ codes "." ++ c.args.name.now)))

@@ -17,17 +17,20 @@ walk_instance-returns-then-depth-eq0 t c = walked_none c.args.walked _ (rw (c.in
 
 pub walk_instance-returns-in-None : goal.walk_instance-returns-in-None
 walk_instance-returns-in-None t c =
-    rw c.in-Instance.is (walked_none c.args.walked _ (enter_none c.args.models.now c.args.depth _ c.in-Instance.name.now (sym (rw c.in-None.is at c.find.ensures))))
+    let none = sym (rw c.in-None.is at c.find.ensures) in
+    rw c.in-Instance.is (walked_none c.args.walked _ (enter_none c.args.models.now c.args.depth _ c.in-Instance.name.now none))
 
 pub walk_instance-returns-in_ok-inner-in-Some : goal.walk_instance-returns-in_ok-inner-in-Some
 walk_instance-returns-in_ok-inner-in-Some t c =
     let less : c.args.depth ≡ suc (c.args.depth - 1) = omega arith in
-    let inner = enter_some c.args.models.now c.args.depth (c.args.depth - 1) (scope_of (scope_at c.args.place.now) c.args.instance (bindings_of (texts_of c.in-Instance.bindings.now))) c.in-Instance.name.now
-    (model_of c.in-Some.model) less (sym (rw c.in-Some.is at c.find.ensures)) in
+    let scope = scope_of (scope_at c.args.place.now) c.args.instance (bindings_of (texts_of c.in-Instance.bindings.now)) in
+    let found = sym (rw c.in-Some.is at c.find.ensures) in
+    let inner = enter_some c.args.models.now c.args.depth (c.args.depth - 1) scope c.in-Instance.name.now (model_of c.in-Some.model) less found in
     rw (c.in-Instance.is, inner, ← c.in_ok-inner-in-Some.ensures) c.walk_lines.ensures
 
 pub walk_item-returns-in-None : goal.walk_item-returns-in-None
-walk_item-returns-in-None t c = walked_past c.args.walked _ _ (rw (c.in-None.is, c.says-says.ensures, c.number.ensures) at c.in_ok-walk_line.ensures)
+walk_item-returns-in-None t c =
+    walked_past c.args.walked _ _ (rw (c.in-None.is, c.says-says.ensures, c.number.ensures) at c.in_ok-walk_line.ensures)
 
 pub walk_item-returns-in-Some : goal.walk_item-returns-in-Some
 walk_item-returns-in-Some t c =
@@ -37,17 +40,21 @@ walk_item-returns-in-Some t c =
 
 pub walk_lines-returns-in-None : goal.walk_lines-returns-in-None
 walk_lines-returns-in-None t c =
-    c.lines.invariant.on None
-    (rw (first_line (enter c.args.models.now c.args.depth) (scope_at c.args.place.now) c.lines.instance c.lines.rest.now c.line-item.result c.in-len1-up.len_at_least c.line-item.is)
-    (walked_past c.lines.walked _ _ (rw c.in-None.is at c.in_ok-walk_item.ensures)))
+    let first = first_line (enter c.args.models.now c.args.depth) (scope_at c.args.place.now) c.lines.instance c.lines.rest.now
+    c.line-item.result c.in-len1-up.len_at_least c.line-item.is in
+    c.lines.invariant.on None (rw first (walked_past c.lines.walked _ _ (rw c.in-None.is at c.in_ok-walk_item.ensures)))
 
 pub walk_lines-lines-preserved : goal.walk_lines-lines-preserved
-walk_lines-lines-preserved t c = record {
-  on = λ o on. c.lines.invariant.on o
-      (rw (first_line (enter c.args.models.now c.args.depth) (scope_at c.args.place.now) c.lines.instance c.lines.rest.now c.line-item.result c.in-len1-up.len_at_least c.line-item.is)
-      (walked_then c.lines.walked c.in-Some.more _ _ o (rw c.in-Some.is at c.in_ok-walk_item.ensures) (rw (c.next_instance-instance.ensures.next, c.says.ensures) at on)));
-  room = omega (arith, length-take (length c.lines.rest.now - 1) (drop 1 c.lines.rest.now), length-drop 1 c.lines.rest.now, c.next_instance-instance.ensures.most);
-}
+walk_lines-lines-preserved t c =
+    let rest = c.lines.rest.now in
+    let first = first_line (enter c.args.models.now c.args.depth) (scope_at c.args.place.now) c.lines.instance rest
+    c.line-item.result c.in-len1-up.len_at_least c.line-item.is in
+    let item = rw c.in-Some.is at c.in_ok-walk_item.ensures in
+    record {
+      on = λ o on. c.lines.invariant.on o
+          (rw first (walked_then c.lines.walked c.in-Some.more _ _ o item (rw (c.next_instance-instance.ensures.next, c.says.ensures) at on)));
+      room = omega (arith, length-take (length rest - 1) (drop 1 rest), length-drop 1 rest, c.next_instance-instance.ensures.most);
+    }
 
 pub walk_lines-returns : goal.walk_lines-returns
 walk_lines-returns t c =

@@ -11,10 +11,12 @@ returns-then-len-most c =
 
 pub invariant_of-result : goal.invariant_of-result
 invariant_of-result c =
-    let on = line_walked c.args.walked c.act_of.new.names.index c.args.line c.in_ok-act.act _ c.in_ok-act.ensures.numbered c.in_ok-act.ensures.act in
+    let acts = c.in_ok-act.ensures in
+    let on = line_walked c.args.walked c.act_of.new.names.index c.args.line c.in_ok-act.act _ acts.numbered acts.act in
     record { numbered = rw c.in_ok-put_step.ensures on.0; fits = omega arith }
 
 pub returns : goal.returns
 returns c =
-    let on = line_walked c.args.walked c.act_of.new.names.index c.args.line c.in_ok-act.act _ c.in_ok-act.ensures.numbered c.in_ok-act.ensures.act in
+    let acts = c.in_ok-act.ensures in
+    let on = line_walked c.args.walked c.act_of.new.names.index c.args.line c.in_ok-act.act _ acts.numbered acts.act in
     (refl, rw c.in_ok-put_step.ensures on.1)

@@ -6,4 +6,6 @@ use Rattle.blif_flatten.specs.Seen.{mention, scope_at}
 use Rattle.blif_flatten.proofs.names.NetNames.number_all.Given as goal
 
 abbrev pub invariant-loop-token : goal.invariant-loop-token
-invariant-loop-token l = HaveNumbers l.initial.self.index l.self.index (map (λ t. net_of (scope_at l.place) (mention l.how t)) (texts_of (take l.token-index l.tokens))) l.ids
+invariant-loop-token l =
+    HaveNumbers l.initial.self.index l.self.index
+    (map (λ t. net_of (scope_at l.place) (mention l.how t)) (texts_of (take l.token-index l.tokens))) l.ids
