@@ -1,12 +1,12 @@
 -- Where the first of a name stands, when one more comes.
-use Rattle.std.proofs.Common.{◌≡◌, ℕ, ◌<◌, Bool, cond, List, [], ◌∷◌, ◌++◌, refl, ap, sym, ◌∙◌, length, map, get_or, arith}
+use Rattle.std.proofs.Common.{◌≡◌, ℕ, ◌<◌, Bool, cond, List, [], ◌∷◌, ◌++◌, refl, ap, sym, ◌∙◌, length, arith}
 use Rattle.std.specs.Prelude.{Option, Some, None, MatchOption, bytes_eq, find, position}
-use Rattle.std.specs.Option.{option_map, option_or}
+use Rattle.std.specs.Option.{option_or}
 use Rattle.std.specs.List.{position_or_len, slice_get}
 use Rattle.std.specs.Borrow.{Bor}
 use Rattle.std.proofs.lemmas.Bool.{cases_lt, lt-ltb, le-ltb}
 use Rattle.std.proofs.lemmas.Bool.Decides.{nat_tests}
-use Rattle.std.proofs.lemmas.List.{length-append, length-map}
+use Rattle.std.proofs.lemmas.List.{length-append}
 use Rattle.std.proofs.lemmas.List.Folds.{find_at, position_or_len_push}
 use Rattle.std.proofs.lemmas.List.Sums.{prefix_len-le-length}
 use Rattle.std.proofs.lemmas.Option.{slice_get-map, slice_get_past, slice_get_read}
@@ -30,12 +30,8 @@ pub placed : {X : Type 0} (p : X → Bool) (xs : List X)
     → MatchOption (position p xs) (find p xs ≡ None) (λ k. (k < length xs) × (find p xs ≡ slice_get xs k))
 placed p xs = grind (arith, nat_tests, find_at p xs, slice_get_past)
 
--- an item is found by its place
-pub found_at : {X Y : Type 0} (p : Y → Bool) (f : X → Y) (xs : List X) (k : ℕ) (x : X) → position p (map f xs) ≡ Some k
-    → x ≡ get_or xs k x → find p (map f xs) ≡ Some (f x)
-found_at p f xs k x here is =
-    let found = rw here at (placed p (map f xs)) in
-    found.1 ∙ slice_get-map f xs k ∙ ap (option_map f) (slice_get_read xs (length xs) k x refl (omega (arith, found.0, length-map xs f)) is)
+-- how an item is found by its place
+pub ruleset finds = (slice_get-map, slice_get_read)
 
 -- the places of names, when one more comes
 pub places_push : {X : Type 0} (name_of : X → List ℕ) (xs : List X) (x : X) (n : ℕ) (old new : List (Bor (List ℕ) × ℕ))

@@ -76,6 +76,7 @@ impl<'m, 'a> ModelTable<'m, 'a> {
     }
 
     /// The first model of a name.
+    #[tactic(auto, using(crate::proofs::FirstPlaces::finds))]
     pub fn find(&self, name: &[u8]) -> Option<ModelLines<'m, 'a>>
         ensures { option_map model_of result ≡ model_named self.now name.now }
     {
