@@ -19,7 +19,13 @@ abbrev pub name_at : List Name → NameId → Name
 name_at names id = slice_index_or names id.0 []
 
 abbrev pub latch_by : (NameId → Name) → NumberedLatch → FlatLatch
-latch_by name_of l = record { from = name_of l.from; to = name_of l.to; edge = option_map (λ e. e.now) l.edge; control = option_map name_of l.control; start = l.start }
+latch_by name_of l = record {
+  from = name_of l.from;
+  to = name_of l.to;
+  edge = option_map (λ e. e.now) l.edge;
+  control = option_map name_of l.control;
+  start = l.start;
+}
 
 abbrev pub table_by : (NameId → Name) → NumberedTable → Act
 table_by name_of t = flat_table (map name_of t.ins) (name_of t.out) (rows_below t.below.now)

@@ -11,7 +11,8 @@ pub not_given : {X : Type 0} (b : Bool) (fault : X) → cond b (Some fault) None
 not_given true fault e = cc
 not_given false fault e = refl
 
-pub none_given : {X : Type 0} (b : Bool) (fault : X) (more : Option X) → option_or (cond b (Some fault) None) more ≡ None → (b ≡ false) × (more ≡ None)
+pub none_given : {X : Type 0} (b : Bool) (fault : X) (more : Option X)
+    → option_or (cond b (Some fault) None) more ≡ None → (b ≡ false) × (more ≡ None)
 none_given b fault more e = let parts = none_both (cond b (Some fault) None) more e in (not_given b fault parts.0, parts.1)
 
 -- a question has one answer

@@ -15,11 +15,13 @@ one_less : (name : Name) (xs : List Name) → is_one_of xs name ≡ true → len
 one_less name [] e = cc
 one_less name (x ∷ xs) e = grind (arith, nat_tests, one_less name xs)
 
-others_stay : (name other : Name) (xs : List Name) → bytes_eq other name ≡ false → is_one_of xs other ≡ true → is_one_of (without name xs) other ≡ true
+others_stay : (name other : Name) (xs : List Name) → bytes_eq other name ≡ false → is_one_of xs other ≡ true
+    → is_one_of (without name xs) other ≡ true
 others_stay name other [] n e = cc
 others_stay name other (x ∷ xs) n e = grind (arith, nat_tests, others_stay name other xs, same_name name x)
 
-pub no_more : (xs ys : List Name) → has_repeat xs ≡ false → ((name : Name) → is_one_of xs name ≡ true → is_one_of ys name ≡ true) → length xs ≤ length ys
+pub no_more : (xs ys : List Name) → has_repeat xs ≡ false → ((name : Name) → is_one_of xs name ≡ true → is_one_of ys name ≡ true)
+    → length xs ≤ length ys
 no_more [] ys e among = omega arith
 no_more (x ∷ xs) ys e among =
     let parts = or_false (is_one_of xs x) (has_repeat xs) e in

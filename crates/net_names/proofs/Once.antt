@@ -12,7 +12,8 @@ use Rattle.net_names.proofs.Few.{no_more}
 use Rattle.net_names.proofs.Times.{once_no_repeat, place, place-found, times-found, times-none, times-once, times-there}
 
 -- where the names that are driven, by whatever, differ and are the nets, each net is driven once
-pub driven-once : (nets inputs tables latches driven : List Name) → ((name : Name) → name_count name driven ≡ drives inputs tables latches name)
+pub driven-once : (nets inputs tables latches driven : List Name)
+    → ((name : Name) → name_count name driven ≡ drives inputs tables latches name)
     → has_repeat nets ≡ false → has_repeat driven ≡ false → ((name : Name) → is_one_of nets name ≡ true → is_one_of driven name ≡ true)
     → ((name : Name) → is_one_of driven name ≡ true → is_one_of nets name ≡ true) → IsDrivenOnce nets inputs tables latches
 driven-once nets inputs tables latches driven count apart once there net = record {
@@ -22,21 +23,26 @@ driven-once nets inputs tables latches driven count apart once there net = recor
   net = λ name h. net name (times-there name driven (omega (arith, count name, h)));
 }
 
+-- a name is driven by the driver that is found for it
+abbrev IsDriven : (inputs tables latches : List Name) → Name → Type 0
+IsDriven inputs tables latches name = IsDrivenBy inputs tables latches name (driver_of (all_drivers inputs tables latches) name)
+
 module _ (nets inputs tables latches : List Name) (once : IsDrivenOnce nets inputs tables latches) where
   -- what is driven is a net
   pub driven-net : (name : Name) (d : Driver) → IsDrivenBy inputs tables latches name d → is_one_of nets name ≡ true
   driven-net name d by =
       let at = driver-listed inputs tables latches name d by in
-      once.net name (omega (arith, entry-counted (all_drivers inputs tables latches) at.0 name d at.1, drives-counted inputs tables latches name))
+      once.net name (omega (arith, entry-counted (all_drivers inputs tables latches) at.0 name d at.1,
+      drives-counted inputs tables latches name))
 
   -- which of the three drives a net
-  pub driver-by : (name : Name) → is_one_of nets name ≡ true → IsDrivenBy inputs tables latches name (driver_of (all_drivers inputs tables latches) name)
+  pub driver-by : (name : Name) → is_one_of nets name ≡ true → IsDriven inputs tables latches name
   driver-by name is = by_cases (is_one_of inputs name) (is_one_of tables name) refl refl
     where
-      this : (d : Driver) → IsDrivenBy inputs tables latches name d → IsDrivenBy inputs tables latches name (driver_of (all_drivers inputs tables latches) name)
+      this : (d : Driver) → IsDrivenBy inputs tables latches name d → IsDriven inputs tables latches name
       this d by = subst (IsDrivenBy inputs tables latches name) (sym (driver-is inputs tables latches name d (once.most name) by)) by
 
-      by_cases : (a b : Bool) → is_one_of inputs name ≡ a → is_one_of tables name ≡ b → IsDrivenBy inputs tables latches name (driver_of (all_drivers inputs tables latches) name)
+      by_cases : (a b : Bool) → is_one_of inputs name ≡ a → is_one_of tables name ≡ b → IsDriven inputs tables latches name
       by_cases true b e f = this (Input (place inputs name)) (place-found inputs name e)
       by_cases false true e f = this (FromTable (place tables name)) (place-found tables name f)
       by_cases false false e f =

@@ -1,5 +1,6 @@
 -- The drivers that are put one by one are those of the nets.
-use Rattle.std.proofs.Common.{◌≡◌, ◌≢◌, ℕ, zero, suc, ◌+◌, ◌≤◌, ◌<◌, true, false, List, [], ◌∷◌, ◌++◌, refl, ap, sym, ◌∙◌, length, fold, get_or, map, set, replicate, arith}
+use Rattle.std.proofs.Common.{◌≡◌, ◌≢◌, ℕ, zero, suc, ◌+◌, ◌≤◌, ◌<◌, true, false, List, [], ◌∷◌, length, fold, get_or, map, set, replicate}
+use Rattle.std.proofs.Common.{refl, ap, sym, ◌∙◌, arith}
 use Rattle.std.specs.Prelude.{bytes_eq, Some}
 use Rattle.std.specs.List.{slice_get}
 use Rattle.std.proofs.lemmas.Bool.Decides.{nat_tests}
@@ -22,7 +23,8 @@ module _ (nets : List Name) where
   abbrev put : List Driver → Name × Driver → List Driver
   put drivers p = set drivers (place nets p.0) p.1
 
-  put-entries : (driver : ℕ → Driver) (n : ℕ) (names : List Name) (drivers : List Driver) → put_drivers driver n (map (net_id nets) names) drivers ≡ fold put drivers (entries n driver names)
+  put-entries : (driver : ℕ → Driver) (n : ℕ) (names : List Name) (drivers : List Driver)
+      → put_drivers driver n (map (net_id nets) names) drivers ≡ fold put drivers (entries n driver names)
   put-entries driver n [] drivers = refl
   put-entries driver n (x ∷ xs) drivers = put-entries driver (n + 1) xs (put drivers (x, driver n))
 
@@ -36,14 +38,15 @@ place-is [] x name e = cc
 place-is (y ∷ nets) x name e = grind (arith, nat_tests, place-is nets x name)
 
 module _ (nets : List Name) (k : ℕ) (name : Name) (there : slice_get nets k ≡ Some name) (z : Driver) where
-  put-others : (pairs : List (Name × Driver)) (drivers : List Driver) → name_count name (entry_names pairs) ≡ 0 → get_or (fold (put nets) drivers pairs) k z ≡ get_or drivers k z
+  put-others : (pairs : List (Name × Driver)) (drivers : List Driver) → name_count name (entry_names pairs) ≡ 0
+      → get_or (fold (put nets) drivers pairs) k z ≡ get_or drivers k z
   put-others [] drivers none = refl
   put-others (p ∷ ps) drivers none =
       let other : k ≢ place nets p.0 = λ same. let here = place-is nets p.0 name (rw (← same) there) in grind (arith, nat_tests) in
       put-others ps (put nets drivers p) (omega arith) ∙ get_or-set_other drivers (place nets p.0) k p.1 z other
 
-  put-once : (pairs : List (Name × Driver)) (drivers : List Driver) (j : ℕ) (d : Driver) → has_repeat nets ≡ false → k < length drivers → slice_get pairs j ≡ Some (name, d)
-      → name_count name (entry_names pairs) ≤ 1 → get_or (fold (put nets) drivers pairs) k z ≡ d
+  put-once : (pairs : List (Name × Driver)) (drivers : List Driver) (j : ℕ) (d : Driver) → has_repeat nets ≡ false → k < length drivers
+      → slice_get pairs j ≡ Some (name, d) → name_count name (entry_names pairs) ≤ 1 → get_or (fold (put nets) drivers pairs) k z ≡ d
   put-once [] drivers j d apart lt e h = cc
   put-once (p ∷ ps) drivers zero d apart lt e h =
       let is : p ≡ (name, d) = cc in
@@ -64,13 +67,17 @@ module _ (nets inputs tables latches : List Name) (once : IsDrivenOnce nets inpu
   at k z h =
       let name : Name = get_or nets k [] in
       let there : slice_get nets k ≡ Some name = slice_get-get_or nets k [] h in
-      let listed = driver-listed inputs tables latches name (driver_of all name) (driver-by nets inputs tables latches once name (at-found nets k name there)) in
-      put-once nets k name there z all first listed.0 (driver_of all name) once.apart (rw length-replicate h) listed.1 (rw (drives-counted inputs tables latches name) (once.most name))
+      let by = driver-by nets inputs tables latches once name (at-found nets k name there) in
+      let listed = driver-listed inputs tables latches name (driver_of all name) by in
+      let most : name_count name (entry_names all) ≤ 1 = rw (drives-counted inputs tables latches name) (once.most name) in
+      put-once nets k name there z all first listed.0 (driver_of all name) once.apart (rw length-replicate h) listed.1 most
       ∙ sym (get_or-map (driver_of all) nets k [] z h)
 
   -- the drivers that are put are those of the nets
-  pub drivers-put : drivers_by (map (net_id nets) inputs) (map (net_id nets) tables) (map (net_id nets) latches) (length nets) ≡ map (driver_of all) nets
+  pub drivers-put : drivers_by (map (net_id nets) inputs) (map (net_id nets) tables) (map (net_id nets) latches) (length nets)
+      ≡ map (driver_of all) nets
   drivers-put =
-      rw (put-entries nets Input 0 inputs first, put-entries nets FromTable 0 tables, put-entries nets FromLatch 0 latches, ← fold-append (put nets) first (entries 0 Input inputs), ← fold-append (put nets) first)
+      rw (put-entries nets Input 0 inputs first, put-entries nets FromTable 0 tables, put-entries nets FromLatch 0 latches,
+      ← fold-append (put nets) first (entries 0 Input inputs), ← fold-append (put nets) first)
       (let size : length (fold (put nets) first all) ≡ length nets = put-length nets all first ∙ length-replicate (length nets) (Input 0) in
       same_lists _ _ (size ∙ sym (length-map nets (driver_of all))) (λ k z h. at k z (omega (arith, h, size))))

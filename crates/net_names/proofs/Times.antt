@@ -1,5 +1,5 @@
 -- How often a name stands in a list, and where.
-use Rattle.std.proofs.Common.{◌≡◌, ℕ, zero, suc, ◌+◌, ◌≤◌, Bool, true, false, cond, not, ◌||◌, List, [], ◌∷◌, ◌++◌, refl, ap, sym, ◌∙◌, length, arith}
+use Rattle.std.proofs.Common.{◌≡◌, ℕ, zero, suc, ◌+◌, ◌≤◌, true, false, cond, not, ◌||◌, List, [], ◌∷◌, ◌++◌, refl, sym, ◌∙◌, length, arith}
 use Rattle.std.specs.Prelude.{bytes_eq, map, Some}
 use Rattle.std.specs.List.{slice_get, position_or_len}
 use Rattle.std.proofs.lemmas.Bool.Decides.{nat_tests}
@@ -35,7 +35,8 @@ times-once name (x ∷ xs) e = grind (arith, nat_tests, times-once name xs, time
 
 pub once_no_repeat : (xs : List Name) → ((name : Name) → name_count name xs ≤ 1) → has_repeat xs ≡ false
 once_no_repeat [] h = refl
-once_no_repeat (x ∷ xs) h = grind (arith, nat_tests, times-found, is_same x, h x, once_no_repeat xs (λ name. grind (arith, nat_tests, h name)))
+once_no_repeat (x ∷ xs) h =
+    grind (arith, nat_tests, times-found, is_same x, h x, once_no_repeat xs (λ name. grind (arith, nat_tests, h name)))
 
 -- ---- where
 
@@ -53,9 +54,10 @@ abbrev pub place : List Name → Name → ℕ
 place names name = position_or_len (λ n. bytes_eq n name) names
 
 -- the place of a key is that of its text
-pub place-of-key : {K : Type 0} (text : K → Name) (keys : List K) (name : Name) → position_or_len (λ key. bytes_eq name (text key)) keys ≡ place (map text keys) name
+pub place-of-key : {K : Type 0} (text : K → Name) (keys : List K) (name : Name)
+    → position_or_len (λ key. bytes_eq name (text key)) keys ≡ place (map text keys) name
 place-of-key text [] name = refl
-place-of-key text (key ∷ keys) name = rw (bytes_eq-sym name (text key)) (ap (λ n. cond (not (bytes_eq (text key) name)) (1 + n) 0) (place-of-key text keys name))
+place-of-key text (key ∷ keys) name = rw (bytes_eq-sym name (text key), place-of-key text keys name)
 
 pub place-found : (names : List Name) (name : Name) → is_one_of names name ≡ true → slice_get names (place names name) ≡ Some name
 place-found [] name e = cc
@@ -78,7 +80,8 @@ names-apart names e i j name f g = sym (place-at names i name e f) ∙ place-at 
 -- ---- images
 
 -- what an image has at a place
-pub image-at : {X Y : Type 0} (f : X → Y) (xs : List X) (k : ℕ) (y : Y) → slice_get (map f xs) k ≡ Some y → (x : X) × (slice_get xs k ≡ Some x) × (f x ≡ y)
+pub image-at : {X Y : Type 0} (f : X → Y) (xs : List X) (k : ℕ) (y : Y) → slice_get (map f xs) k ≡ Some y
+    → (x : X) × (slice_get xs k ≡ Some x) × (f x ≡ y)
 image-at f [] k y e = cc
 image-at f (x ∷ xs) zero y e = (x, refl, cc)
 image-at f (x ∷ xs) (suc k) y e = image-at f xs k y e

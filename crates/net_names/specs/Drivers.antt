@@ -20,4 +20,5 @@ put_drivers driver n (net ∷ nets) drivers = put_drivers driver (n + 1) nets (s
 -- the drivers of so many nets
 abbrev pub drivers_by : List NetId → List NetId → List NetId → ℕ → List Driver
 drivers_by inputs tables latches count =
-    put_drivers drivers.Latch 0 latches (put_drivers drivers.Table 0 tables (put_drivers drivers.Input 0 inputs (replicate count (drivers.Input 0))))
+    put_drivers drivers.Latch 0 latches
+    (put_drivers drivers.Table 0 tables (put_drivers drivers.Input 0 inputs (replicate count (drivers.Input 0))))

@@ -28,7 +28,8 @@ loop-step-preserved c =
     let lt = rw c.as_slice-step-items.ensures.value at c.loop-step-test.true in
     let is = rw c.as_slice-step-items.ensures.value at c.step-item.is in
     let within = c.mentions_in.ensures.within (length flat.names) in
+    let names = c.mentions_in.ensures.names (name_at flat.names) in
     let marked = rw c.as_mut_slice.ensures.value at c.mark.ensures in
     written_whole c.mark.new.marks c.loop-step.marks.items c.loop-step.marks.len (grind (arith, common_steps)) (grind (arith, common_steps))
     ∙ mark_step c.args.sort flat.names flat.steps.items c.loop-step.step-index c.step-item.result (ids_of c.mentions_in.result)
-    c.loop-step.marks.items c.mark.new.marks flat.is_flat lt is (c.mentions_in.ensures.names (name_at flat.names)) within c.loop-step.invariant marked
+    c.loop-step.marks.items c.mark.new.marks flat.is_flat lt is names within c.loop-step.invariant marked

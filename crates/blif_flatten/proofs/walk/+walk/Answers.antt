@@ -2,7 +2,6 @@ use Rattle.std.proofs.Common.{◌≡◌, ◌-◌, length, drop, suc, sym, arith}
 use Rattle.std.specs.Prelude.{None, Some}
 use Rattle.std.proofs.lemmas.List.{length-drop, length-take}
 use Rattle.std.proofs.lemmas.Result.{IfOk-weaker}
-use Rattle.blif_model.specs.Grouped.{model_of}
 use Rattle.blif_model.specs.Meant.{bindings_of}
 use Rattle.blif_model.specs.Tokens.{texts_of}
 use Rattle.blif_model.specs.Walk.{enter, inner_steps, scope_of, steps_from}
@@ -25,7 +24,7 @@ walk_instance-returns-in_ok-inner-in-Some t c =
     let less : c.args.depth ≡ suc (c.args.depth - 1) = omega arith in
     let scope = scope_of (scope_at c.args.place.now) c.args.instance (bindings_of (texts_of c.in-Instance.bindings.now)) in
     let found = sym (rw c.in-Some.is at c.find.ensures) in
-    let inner = enter_some c.args.models.now c.args.depth (c.args.depth - 1) scope c.in-Instance.name.now (model_of c.in-Some.model) less found in
+    let inner = enter_some c.args.models.now c.args.depth (c.args.depth - 1) scope c.in-Instance.name.now _ less found in
     rw (c.in-Instance.is, inner, ← c.in_ok-inner-in-Some.ensures) c.walk_lines.ensures
 
 pub walk_item-returns-in-None : goal.walk_item-returns-in-None
@@ -51,8 +50,9 @@ walk_lines-lines-preserved t c =
     c.line-item.result c.in-len1-up.len_at_least c.line-item.is in
     let item = rw c.in-Some.is at c.in_ok-walk_item.ensures in
     record {
-      on = λ o on. c.lines.invariant.on o
-          (rw first (walked_then c.lines.walked c.in-Some.more _ _ o item (rw (c.next_instance-instance.ensures.next, c.says.ensures) at on)));
+      on = λ o on.
+          let more = rw (c.next_instance-instance.ensures.next, c.says.ensures) at on in
+          c.lines.invariant.on o (rw first (walked_then c.lines.walked c.in-Some.more _ _ o item more));
       room = omega (arith, length-take (length rest - 1) (drop 1 rest), length-drop 1 rest, c.next_instance-instance.ensures.most);
     }
 

@@ -11,5 +11,5 @@ invariant_of-self-in-Ok c =
     let nets = c.self.inside.nets.items in
     let size : c.len-place.result ≡ length (bounds_seen nets) = grind (arith, common_steps) in
     rw (c.in_ok-push.ensures.items, map-append)
-    (places_push (λ (b : Bound). b.formal) (bounds_seen nets) _ c.len-place.result c.self.inside.places.entries c.add_place.new.places.entries
-    size c.self.invariant c.in-Ok.ensures.added)
+    (places_push (λ (b : Bound). b.formal) (bounds_seen nets) _ c.len-place.result c.self.inside.places.entries
+    c.add_place.new.places.entries size c.self.invariant c.in-Ok.ensures.added)
