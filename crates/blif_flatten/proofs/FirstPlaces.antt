@@ -1,10 +1,9 @@
 -- Where the first of a name stands, when one more comes.
-use Rattle.std.proofs.Common.{◌≡◌, ℕ, ◌<◌, Bool, cond, List, [], ◌∷◌, ◌++◌, refl, ap, sym, ◌∙◌, length, arith}
+use Rattle.std.proofs.Common.{◌≡◌, ℕ, ◌<◌, Bool, cond, List, [], ◌∷◌, ◌++◌, sym, ◌∙◌, length, arith}
 use Rattle.std.specs.Prelude.{Option, Some, None, MatchOption, bytes_eq, find, position}
 use Rattle.std.specs.Option.{option_or}
-use Rattle.std.specs.List.{position_or_len, slice_get}
+use Rattle.std.specs.List.{slice_get}
 use Rattle.std.specs.Borrow.{Bor}
-use Rattle.std.proofs.lemmas.Bool.{cases_lt, lt-ltb, le-ltb}
 use Rattle.std.proofs.lemmas.Bool.Decides.{nat_tests}
 use Rattle.std.proofs.lemmas.List.{length-append}
 use Rattle.std.proofs.lemmas.List.Folds.{find_at, position_or_len_push}

@@ -1,5 +1,5 @@
 -- The items of a list that are left, one by one.
-use Rattle.std.proofs.Common.{◌≡◌, ℕ, ◌+◌, ◌<◌, List, ◌∷◌, sym, length, get_or, drop}
+use Rattle.std.proofs.Common.{◌≡◌, ℕ, ◌+◌, ◌<◌, List, ◌∷◌, length, get_or, drop}
 use Rattle.std.proofs.lemmas.List.{drop_more}
 
 -- the next item, and those behind it

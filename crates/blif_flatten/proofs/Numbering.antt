@@ -1,5 +1,5 @@
 -- Names that get numbers.
-use Rattle.std.proofs.Common.{◌≡◌, ℕ, ◌+◌, ◌<◌, ◌≤◌, Bool, true, false, cond, List, [], ◌∷◌, ◌++◌, length, get_or, take, fold, map}
+use Rattle.std.proofs.Common.{◌≡◌, ℕ, ◌+◌, ◌<◌, ◌≤◌, List, [], ◌∷◌, ◌++◌, length, get_or, take, fold, map}
 use Rattle.std.proofs.Common.{refl, ap, sym, ◌∙◌, append_assoc, arith}
 use Rattle.std.specs.Prelude.{Option, Some, None, flat_map, slice_get}
 use Rattle.std.specs.Option.{option_map, option_to_list}
@@ -146,8 +146,9 @@ steps_both {old} {mid} {new} {xs} {ys} a b =
     let stay = kept _ _ (names_in back) b.names (λ (names : List Name). steps_by names xs) front a.same later in
     rw (map-append (step_by (name_at (fold with_name new later))) xs ys, stay, b.same later) in (
       record {
-        names = rw (all [], flat_map-append (λ (s : Step). mentioned s.act) front back,
-            fold-append with_name old (names_in front) (names_in back), ← a.names) b.names;
+        names =
+            let joined = flat_map-append (λ (s : Step). mentioned s.act) front back in
+            rw (all [], joined, fold-append with_name old (names_in front) (names_in back), ← a.names) b.names;
         same = λ later. all later ∙ sym (all []);
         within = All-append (λ (s : NumberedStep). AreBelow (length new) (ids_in s.act)) xs ys
             (λ k d lt. below_later _ _ (names_in back) b.names (ids_in (get_or xs k d).act) (a.within k d lt)) b.within;

@@ -1,5 +1,5 @@
 -- How the walk goes on, line by line.
-use Rattle.std.proofs.Common.{◌≡◌, ℕ, zero, suc, ◌<◌, ◌≤◌, ◌-◌, List, [], ◌∷◌, ◌++◌, length, map, get_or, take, drop}
+use Rattle.std.proofs.Common.{◌≡◌, ℕ, zero, suc, ◌<◌, ◌-◌, List, [], ◌∷◌, ◌++◌, length, map, get_or, take, drop}
 use Rattle.std.proofs.Common.{refl, ap, ◌∙◌, append_assoc, arith}
 use Rattle.std.specs.Prelude.{Option, Some, None}
 use Rattle.std.specs.Option.{option_to_list}
@@ -12,7 +12,7 @@ use Rattle.blif_model.specs.Models.{Model, items_of, model_named, rows_below}
 use Rattle.blif_model.specs.Walk.{Act, Scope, Step, enter, next, steps_from, steps_of, top, walk}
 use Rattle.blif_flatten.specs.declared.walked.Walked.{Walked}
 use Rattle.blif_flatten.specs.declared.flat.NumberedAct.{NumberedAct}
-use Rattle.blif_flatten.specs.Flat.{act_by, all_names, name_at, steps_by}
+use Rattle.blif_flatten.specs.Flat.{act_by, name_at, steps_by}
 use Rattle.blif_flatten.specs.Numbering.{AreNumbered, IsLineNumbered, own_step}
 use Rattle.blif_flatten.specs.Walked.{IsWalkedOn, walked_steps}
 use Rattle.blif_flatten.proofs.Numbering.{names_longer, step_of_line, steps_both}

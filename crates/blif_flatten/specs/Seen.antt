@@ -1,7 +1,6 @@
 -- What places mean, the nets that are bound to formals, and the names that tokens mention.
-use Rattle.std.specs.Prelude.{List, map}
 use Rattle.blif_model.specs.Statement.{binding_of}
-use Rattle.blif_model.specs.Walk.{Bound, Scope, top, inside}
+use Rattle.blif_model.specs.Walk.{Scope, top, inside}
 use Rattle.blif_flatten.specs.declared.names.Mention.{Mention}
 use Rattle.blif_flatten.specs.declared.names.Mention.TheVariants.{Whole, Actual}
 use Rattle.blif_flatten.specs.declared.place.Place.{Place}

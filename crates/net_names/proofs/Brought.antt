@@ -1,6 +1,6 @@
 -- What lines bring, from what each of them does: tables and latches, beside the nets that they drive.
-use Rattle.std.proofs.Common.{◌≡◌, ◌+◌, List, [], ◌∷◌, ◌++◌, refl, ap, sym, ◌∙◌, length, arith}
-use Rattle.std.specs.Prelude.{Option, Some, None, filter_map, flat_map, map}
+use Rattle.std.proofs.Common.{◌≡◌, List, [], ◌∷◌, refl, length, arith}
+use Rattle.std.specs.Prelude.{Option, filter_map, flat_map, map}
 use Rattle.std.specs.List.{AllByRecursion, cons_option}
 use Rattle.std.proofs.lemmas.Grind.{common_steps}
 

@@ -1,8 +1,7 @@
 -- The driver of a name, found by its place among the inputs, the nets of tables or those of latches.
-use Rattle.std.proofs.Common.{◌≡◌, ℕ, zero, suc, ◌+◌, ◌≤◌, true, false, List, [], ◌∷◌, ◌++◌, refl, ap, ◌∙◌, length, arith}
+use Rattle.std.proofs.Common.{◌≡◌, ℕ, zero, suc, ◌+◌, ◌≤◌, List, [], ◌∷◌, ◌++◌, refl, ap, arith}
 use Rattle.std.specs.Prelude.{bytes_eq, map, flat_map, find, Some}
 use Rattle.std.specs.List.{slice_get, enumerate_from}
-use Rattle.std.specs.Option.{option_map}
 use Rattle.std.proofs.lemmas.Bool.Decides.{nat_tests}
 use Rattle.std.proofs.lemmas.List.{map-append}
 use Rattle.std.proofs.lemmas.Option.{slice_get-map}
@@ -94,6 +93,4 @@ pub drives-of-lines : {S : Type 0} (driven inputs tables latches : S → List Na
     → name_count name (flat_map driven lines) ≡ drives (flat_map inputs lines) (flat_map tables lines) (flat_map latches lines) name
 drives-of-lines driven inputs tables latches name each [] = refl
 drives-of-lines driven inputs tables latches name each (s ∷ lines) =
-    omega (arith, drives-of-lines driven inputs tables latches name each lines, each s,
-    times-append name (driven s) (flat_map driven lines), times-append name (inputs s) (flat_map inputs lines),
-    times-append name (tables s) (flat_map tables lines), times-append name (latches s) (flat_map latches lines))
+    omega (arith, drives-of-lines driven inputs tables latches name each lines, each s, times-append)

@@ -1,7 +1,5 @@
 -- Where each net is driven once: what drives it, and that inputs, tables and latches drive no more than nets.
-use Rattle.std.proofs.Common.{◌≡◌, ℕ, ◌≤◌, Bool, true, false, List, refl, ap, sym, subst, ◌∙◌, length, arith}
-use Rattle.std.specs.Prelude.{Some}
-use Rattle.std.specs.List.{slice_get}
+use Rattle.std.proofs.Common.{◌≡◌, ◌≤◌, Bool, true, false, List, refl, sym, subst, length, arith}
 use Rattle.circuit.specs.declared.parts.Driver.{Driver}
 use Rattle.circuit.specs.declared.parts.Driver.TheVariants.{Input, Table as FromTable, Latch as FromLatch}
 use Rattle.fm_base.specs.Names.{Name, is_one_of, has_repeat}
@@ -32,8 +30,8 @@ module _ (nets inputs tables latches : List Name) (once : IsDrivenOnce nets inpu
   pub driven-net : (name : Name) (d : Driver) → IsDrivenBy inputs tables latches name d → is_one_of nets name ≡ true
   driven-net name d by =
       let at = driver-listed inputs tables latches name d by in
-      once.net name (omega (arith, entry-counted (all_drivers inputs tables latches) at.0 name d at.1,
-      drives-counted inputs tables latches name))
+      let some = entry-counted (all_drivers inputs tables latches) at.0 name d at.1 in
+      once.net name (omega (arith, drives-counted inputs tables latches name))
 
   -- which of the three drives a net
   pub driver-by : (name : Name) → is_one_of nets name ≡ true → IsDriven inputs tables latches name

@@ -1,6 +1,6 @@
 -- The drivers that are put one by one are those of the nets.
 use Rattle.std.proofs.Common.{◌≡◌, ◌≢◌, ℕ, zero, suc, ◌+◌, ◌≤◌, ◌<◌, true, false, List, [], ◌∷◌, length, fold, get_or, map, set, replicate}
-use Rattle.std.proofs.Common.{refl, ap, sym, ◌∙◌, arith}
+use Rattle.std.proofs.Common.{refl, sym, ◌∙◌, arith}
 use Rattle.std.specs.Prelude.{bytes_eq, Some}
 use Rattle.std.specs.List.{slice_get}
 use Rattle.std.proofs.lemmas.Bool.Decides.{nat_tests}
@@ -10,11 +10,11 @@ use Rattle.std.proofs.lemmas.Option.{slice_get-get_or}
 use Rattle.circuit.specs.declared.parts.Driver.{Driver}
 use Rattle.circuit.specs.declared.parts.Driver.TheVariants.{Input, Table as FromTable, Latch as FromLatch}
 use Rattle.fm_base.specs.Names.{Name, has_repeat}
-use Rattle.fm_base.proofs.Distinct.{same_name, is_same, bytes_eq-sym}
+use Rattle.fm_base.proofs.Distinct.{is_same}
 use Rattle.net_names.specs.Nets.{net_id, driver_of}
-use Rattle.net_names.specs.Driven.{all_drivers, drives, name_count, IsDrivenOnce}
+use Rattle.net_names.specs.Driven.{all_drivers, name_count, IsDrivenOnce}
 use Rattle.net_names.specs.Drivers.{drivers_by, put_drivers}
-use Rattle.net_names.proofs.Driven.{driver-listed, drives-counted, entries, entry_names, entry-counted}
+use Rattle.net_names.proofs.Driven.{driver-listed, drives-counted, entries, entry_names}
 use Rattle.net_names.proofs.Once.{driver-by}
 use Rattle.net_names.proofs.Times.{at-found, place, place-at}
 
@@ -77,7 +77,7 @@ module _ (nets inputs tables latches : List Name) (once : IsDrivenOnce nets inpu
   pub drivers-put : drivers_by (map (net_id nets) inputs) (map (net_id nets) tables) (map (net_id nets) latches) (length nets)
       ≡ map (driver_of all) nets
   drivers-put =
-      rw (put-entries nets Input 0 inputs first, put-entries nets FromTable 0 tables, put-entries nets FromLatch 0 latches,
-      ← fold-append (put nets) first (entries 0 Input inputs), ← fold-append (put nets) first)
+      rw (put-entries nets Input 0 inputs first, put-entries nets FromTable 0 tables, put-entries nets FromLatch 0 latches)
+      (rw (← fold-append (put nets) first (entries 0 Input inputs), ← fold-append (put nets) first)
       (let size : length (fold (put nets) first all) ≡ length nets = put-length nets all first ∙ length-replicate (length nets) (Input 0) in
-      same_lists _ _ (size ∙ sym (length-map nets (driver_of all))) (λ k z h. at k z (omega (arith, h, size))))
+      same_lists _ _ (size ∙ sym (length-map nets (driver_of all))) (λ k z h. at k z (omega (arith, h, size)))))

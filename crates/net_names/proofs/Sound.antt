@@ -127,8 +127,9 @@ module _ (nets ins tabs lats outs : List Name) (tables : List Table) (latches : 
 
   latches_few : length latches ≤ length nets
   latches_few =
-      omega (arith, length-map latches (λ (latch : Latch). latch.to), ap length beside.ordered, length-map lats (net_id nets),
-      few-latches nets ins tabs lats once)
+      let same = ap length beside.ordered in
+      let few = few-latches nets ins tabs lats once in
+      omega (arith, length-map latches (λ (latch : Latch). latch.to), length-map lats (net_id nets))
 
   outputs_sound : AreAmong outs nets → All (IsNet made) made.outputs
   outputs_sound among = All-map (IsNet made) (net_id nets) outs (λ k d lt.

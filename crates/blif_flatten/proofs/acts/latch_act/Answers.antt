@@ -7,5 +7,5 @@ use Rattle.blif_flatten.proofs.acts.latch_act.Goals as goal
 
 pub returns : goal.returns
 returns c =
-    latch_numbered (flat_latch_of (scope_at c.args.place.now) (latch_line_of c.args.line)) _ 
+    latch_numbered (flat_latch_of (scope_at c.args.place.now) (latch_line_of c.args.line)) _
     c.in_ok-from.ensures c.in_ok-to.ensures c.in_ok-control.ensures c.edge_of.ensures refl
