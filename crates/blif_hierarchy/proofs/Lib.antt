@@ -1,9 +1,8 @@
-pub mod Sums
 pub mod FirstLines
-pub mod PortNames
-pub mod SecondNames
 pub mod Bindings
-pub mod Levels
-pub mod Rings
-pub mod Within
+pub mod SecondNames
+pub mod Called
+pub mod Sums
+pub mod Numbers
 pub mod Bounds
+pub mod Rings

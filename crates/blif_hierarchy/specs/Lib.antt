@@ -1,5 +1,6 @@
-pub mod Callees
 pub mod Lines
+pub mod Callees
+pub mod Rounds
+pub mod Numbered
 pub mod Ports
 pub mod Links
-pub mod Marks

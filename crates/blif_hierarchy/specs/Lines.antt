@@ -1,14 +1,12 @@
--- The first answer that a `.subckt` line gives.
-use Rattle.std.specs.Prelude.{ℕ, List, Option, None, filter_map}
-use Rattle.std.specs.Option.{option_map_or}
-use Rattle.fm_base.specs.Firsts.{first_where}
-use Rattle.blif_model.specs.Models.{Item, Instance, instance_from}
-use Rattle.blif_model.specs.Statement.{Statement}
+-- The `.subckt` lines among lines.
+use Rattle.std.specs.Prelude.{Option, option_and_then}
+use Rattle.blif_model.specs.LineFault.{Said}
+use Rattle.blif_model.specs.Models.{Instance, instance_from}
+
+-- the instance of a line, if it is a `.subckt` line
+abbrev pub instance_at : Said → Option Instance
+instance_at line = instance_from line.number line.says
 
 -- the answer of a line: any line but a `.subckt` line gives none
-abbrev pub instance_answer : {Y : Type 0} → (Instance → Option Y) → ℕ → Statement → Option Y
-instance_answer answer number says = option_map_or answer (instance_from number says) None
-
--- the first answer among items
-abbrev pub first_among : {Y : Type 0} → (Instance → Option Y) → List Item → Option Y
-first_among answer items = first_where answer (filter_map (λ item. instance_from item.line item.says) items)
+abbrev pub instance_answer : {Y : Type 0} → (Instance → Option Y) → Said → Option Y
+instance_answer answer line = option_and_then answer (instance_at line)

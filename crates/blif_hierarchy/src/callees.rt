@@ -1,46 +1,43 @@
 // The models that a model instances, by their places.
-ghost use Rattle.std.specs.Prelude.{◌≡◌, ◌+◌, ◌<◌, ℕ, All, IfOk, OnOk, length, sum_by};
-ghost use Rattle.blif_model.specs.Models.{items_of, Model};
-ghost use Rattle.blif_model.specs.Statement.{statement_of, texts};
+ghost use Rattle.std.specs.Prelude.{◌≡◌, ◌<◌, ◌++◌, [], All, IfOk, OnOk, filter_map, length};
+ghost use Rattle.std.specs.List.{cons_option};
+ghost use Rattle.blif_model.specs.LineFault.{said};
 ghost use Rattle.blif_text.specs.Read.{line_of};
-ghost use Rattle.blif_model.specs.Grouped.{all_said};
-ghost use Rattle.blif_hierarchy.specs.Callees.{AllCallees, AreCallees, callee_number, number_at};
+ghost use Rattle.blif_hierarchy.specs.Callees.{AllCallees, callee_of, models_at};
+ghost use Rattle.blif_hierarchy.specs.Lines.{instance_answer};
 
+use blif_flatten::table::ModelTable;
 use blif_model::says::Says;
 use blif_model::statement::line_says;
 use blif_text::lines::TextLine;
-use blif_flatten::table::ModelTable;
 use std::alloc::{AllocError, Global};
 
-/// The place of the model that a line instances, if it does.
-fn put_callee<'a>(
-    models: &ModelTable<'_, 'a>,
+/// The place of the model that a line instances goes behind the others, where there is one.
+fn put_callee(
+    models: &ModelTable<'_, '_>,
     places: &mut Vec<usize>,
-    line: &TextLine<'a>,
+    line: &TextLine<'_>,
 ) -> Result<(), AllocError>
     ensures within { OnOk result (All (λ k. k < length models.now) places.old.items → All (λ k. k < length models.now) places.new.items) }
-    ensures sums { OnOk result ((f : Model → ℕ) → sum_by (λ k. number_at f models.now k) places.new.items ≡ sum_by (λ k. number_at f models.now k) places.old.items + callee_number f models.now (statement_of (texts (line_of line.now)))) }
+    ensures models { OnOk result (models_at models.now places.new.items ≡ models_at models.now places.old.items ++ cons_option (instance_answer (callee_of models.now) (said (line_of line.now))) []) }
 {
-    match line_says(line) {
-        Says::Instance { name, .. } => match models.place(name) {
-            Some(place) => {
-                places.push(place)?;
-                Ok(())
-            }
-            None => Ok(()),
-        },
-        _ => Ok(()),
+    let Says::Instance { name, .. } = line_says(line) else {
+        return Ok(());
+    };
+    if let Some(place) = models.place(name) {
+        places.push(place)?;
     }
+    Ok(())
 }
 
 /// The places of a model's instances.
-fn callees_of<'a>(
+fn callees_of(
     alloc: Global,
-    models: &ModelTable<'_, 'a>,
-    lines: &[TextLine<'a>],
+    models: &ModelTable<'_, '_>,
+    lines: &[TextLine<'_>],
 ) -> Result<Vec<usize>, AllocError>
     ensures within { IfOk result (λ v. All (λ k. k < length models.now) v.items) }
-    ensures sums { IfOk result (λ v. AreCallees models.now (items_of (all_said lines.now)) v.items) }
+    ensures models { IfOk result (λ v. models_at models.now v.items ≡ filter_map (λ line. instance_answer (callee_of models.now) (said (line_of line))) lines.now) }
 {
     let mut places = Vec::new(alloc);
     for line in lines {

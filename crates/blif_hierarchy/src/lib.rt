@@ -1,13 +1,14 @@
-// Numbers of the models, summed over all instances.
+// What is asked of the models of a netlist file without flattening it: what their instances bind, how they nest, and the sum of
+// a number of each model over all instances.
 #![tactic(auto)]
 
 pub mod callees;
-mod lines;
+mod faults;
+pub mod graph;
 mod links;
 pub mod names;
 pub mod nest_faults;
-mod nest_rounds;
+mod numbered;
 pub mod port_faults;
 mod ports;
 pub mod rounds;
-mod same_ring;

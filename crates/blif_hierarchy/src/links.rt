@@ -1,62 +1,59 @@
 // `.subckt` lines against the models that they name.
-ghost use Rattle.std.specs.Prelude.{◌≡◌, ◌||◌, IfOk, false, map, not};
+ghost use Rattle.std.specs.Prelude.{◌≡◌, ◌||◌, ◌∷◌, [], IfOk, None, false, filter_map, fold, map, not};
 ghost use Rattle.std.specs.List.{list_any};
 ghost use Rattle.std.specs.Option.{option_map, option_map_or};
-ghost use Rattle.fm_base.specs.Firsts.{given};
 ghost use Rattle.fm_base.specs.Names.{is_one_of};
 ghost use Rattle.blif_text.specs.Read.{line_of};
-ghost use Rattle.blif_model.specs.LineFault.{at_line};
+ghost use Rattle.blif_model.specs.LineFault.{said};
 ghost use Rattle.blif_model.specs.ModelFault.{has_other};
-ghost use Rattle.blif_model.specs.Models.{items_of, model_named};
-ghost use Rattle.blif_model.specs.Statement.{statement_of, texts};
-ghost use Rattle.blif_model.specs.Grouped.{all_said};
+ghost use Rattle.blif_model.specs.Models.{model_named};
 ghost use Rattle.blif_model.specs.Meant.{bindings_of};
 ghost use Rattle.blif_model.specs.Tokens.{texts_of};
-ghost use Rattle.blif_hierarchy.specs.Lines.{instance_answer, first_among};
-ghost use Rattle.blif_hierarchy.specs.Links.{has_fault, fault_by_link, link_kind, link_fault};
-ghost use Rattle.blif_hierarchy.specs.Ports.{ports_in};
+ghost use Rattle.blif_hierarchy.specs.Lines.{instance_at};
+ghost use Rattle.blif_hierarchy.specs.Links.{file_links, first_links, link_fault, links_at, with_instances};
+ghost use Rattle.blif_hierarchy.specs.Ports.{ports_of};
 
+use crate::faults::{fault_at, line_if};
 use crate::names::NameSet;
 use crate::ports::{BoundNames, Ports, bound_names};
+use blif_flatten::table::ModelTable;
 use blif_model::says::Says;
 use blif_model::statement::line_says;
 use blif_text::lines::TextLine;
 use blif_text::token::Token;
 use blif_text::{NetlistFault, NetlistKind};
-use blif_flatten::table::ModelTable;
 use std::alloc::{AllocError, Global};
 
-/// The faults of a `.subckt` line by itself.
+/// For each fault of a `.subckt` line by itself the number of the first line that has it.
 #[derive(Clone, Copy)]
-pub enum Link {
+pub struct LinkLines {
     /// The line names no model.
-    UnknownModel,
+    pub unknown: Option<u32>,
     /// The line binds a name that is no formal of the model, or one formal twice.
-    BadFormal,
+    pub formal: Option<u32>,
     /// The line leaves a formal input unbound.
-    Unbound,
+    pub unbound: Option<u32>,
 }
 
-/// The fault at a line, where there is one.
-fn fault_if(faulty: bool, line: u32, link: Link) -> Option<NetlistFault>
-    ensures { result ≡ given faulty (at_line line (link_kind link)) }
-{
-    if !faulty {
-        return None;
+impl LinkLines {
+    /// The first lines, where these others stand behind.
+    fn or(self, later: LinkLines) -> LinkLines
+        ensures { result ≡ first_links self later }
+    {
+        LinkLines {
+            unknown: self.unknown.or(later.unknown),
+            formal: self.formal.or(later.formal),
+            unbound: self.unbound.or(later.unbound),
+        }
     }
-    match link {
-        Link::UnknownModel => Some(NetlistFault {
-            line,
-            kind: NetlistKind::UnknownModel,
-        }),
-        Link::BadFormal => Some(NetlistFault {
-            line,
-            kind: NetlistKind::BadFormal,
-        }),
-        Link::Unbound => Some(NetlistFault {
-            line,
-            kind: NetlistKind::Unbound,
-        }),
+
+    /// The fault that goes first.
+    pub fn fault(self) -> Option<NetlistFault>
+        ensures { result ≡ link_fault self }
+    {
+        let unknown = fault_at(self.unknown, NetlistKind::UnknownModel);
+        let formal = fault_at(self.formal, NetlistKind::BadFormal);
+        unknown.or(formal.or(fault_at(self.unbound, NetlistKind::Unbound)))
     }
 }
 
@@ -80,8 +77,8 @@ fn ports_named<'t, 'a>(
     ports: &'t [Ports<'a>],
     name: &[u8],
 ) -> Option<&'t Ports<'a>>
-    requires { ports.now ≡ map (λ m. ports_in m.items) models.now }
-    ensures { option_map (λ p. p.now) result ≡ option_map (λ m. ports_in m.items) (model_named models.now name.now) }
+    requires { ports.now ≡ map ports_of models.now }
+    ensures { option_map (λ p. p.now) result ≡ option_map ports_of (model_named models.now name.now) }
 {
     match models.place(name) {
         Some(place) => ports.get(place),
@@ -109,85 +106,81 @@ fn has_unbound(inner: Option<&Ports<'_>>, bound: &BoundNames<'_>) -> bool
     }
 }
 
-/// A `.subckt` line of this name and these bindings has the fault.
-fn has_fault(
+/// The faults of a `.subckt` line of this number, this name and these bindings.
+fn own_links(
     alloc: Global,
-    link: Link,
     models: &ModelTable<'_, '_>,
     ports: &[Ports<'_>],
+    line: u32,
     name: &[u8],
     bindings: &[Token<'_>],
-) -> Result<bool, AllocError>
-    requires { ports.now ≡ map (λ m. ports_in m.items) models.now }
-    ensures { IfOk result (λ b. b ≡ has_fault link models.now name.now (bindings_of (texts_of bindings.now))) }
+) -> Result<LinkLines, AllocError>
+    requires { ports.now ≡ map ports_of models.now }
+    ensures { IfOk result (λ own. own ≡ links_at models.now (record { line = line; name = name.now; bindings = bindings_of (texts_of bindings.now) })) }
 {
     let inner = ports_named(models, ports, name);
-    match link {
-        Link::UnknownModel => Ok(inner.is_none()),
-        Link::BadFormal => {
-            let bound = bound_names(alloc, bindings)?;
-            Ok(has_bad_formal(inner, &bound))
-        }
-        Link::Unbound => {
-            let bound = bound_names(alloc, bindings)?;
-            Ok(has_unbound(inner, &bound))
-        }
-    }
+    let bound = bound_names(alloc, bindings)?;
+    Ok(LinkLines {
+        unknown: line_if(inner.is_none(), line),
+        formal: line_if(has_bad_formal(inner, &bound), line),
+        unbound: line_if(has_unbound(inner, &bound), line),
+    })
 }
 
-/// The fault of a line.
-fn line_fault(
+/// The first lines, with one more.
+fn with_line(
     alloc: Global,
-    link: Link,
     models: &ModelTable<'_, '_>,
     ports: &[Ports<'_>],
+    first: LinkLines,
     line: &TextLine<'_>,
-) -> Result<Option<NetlistFault>, AllocError>
-    requires { ports.now ≡ map (λ m. ports_in m.items) models.now }
-    ensures { IfOk result (λ o. o ≡ instance_answer (fault_by_link link models.now) (line_of line.now).number (statement_of (texts (line_of line.now)))) }
+) -> Result<LinkLines, AllocError>
+    requires { ports.now ≡ map ports_of models.now }
+    ensures { IfOk result (λ links. links ≡ with_instances models.now first (filter_map (λ line. instance_at (said (line_of line))) (line.now ∷ []))) }
 {
     match line_says(line) {
         Says::Instance { name, bindings } => {
-            let faulty = has_fault(alloc, link, models, ports, name, bindings)?;
-            Ok(fault_if(faulty, line.number, link))
+            let own = own_links(alloc, models, ports, line.number, name, bindings)?;
+            Ok(first.or(own))
         }
-        _ => Ok(None),
+        _ => Ok(first),
     }
 }
 
-/// The fault of the first faulty line of a model.
-fn first_in_model(
+/// The first lines, with those of one more model.
+fn with_lines(
     alloc: Global,
-    link: Link,
     models: &ModelTable<'_, '_>,
     ports: &[Ports<'_>],
+    first: LinkLines,
     lines: &[TextLine<'_>],
-) -> Result<Option<NetlistFault>, AllocError>
-    requires { ports.now ≡ map (λ m. ports_in m.items) models.now }
-    ensures { IfOk result (λ o. o ≡ first_among (fault_by_link link models.now) (items_of (all_said lines.now))) }
+) -> Result<LinkLines, AllocError>
+    requires { ports.now ≡ map ports_of models.now }
+    ensures { IfOk result (λ links. links ≡ with_instances models.now first (filter_map (λ line. instance_at (said (line_of line))) lines.now)) }
 {
+    let mut links = first;
     for line in lines {
-        if let Some(fault) = line_fault(alloc, link, models, ports, line)? {
-            return Ok(Some(fault));
-        }
+        links = with_line(alloc, models, ports, links, line)?;
     }
-    Ok(None)
+    Ok(links)
 }
 
-/// The fault of the first faulty line of the file.
-pub fn first_fault(
+/// The first lines of the file.
+pub fn file_links(
     alloc: Global,
-    link: Link,
     models: &ModelTable<'_, '_>,
     ports: &[Ports<'_>],
-) -> Result<Option<NetlistFault>, AllocError>
-    requires { ports.now ≡ map (λ m. ports_in m.items) models.now }
-    ensures { IfOk result (λ o. o ≡ link_fault link models.now) }
+) -> Result<LinkLines, AllocError>
+    requires { ports.now ≡ map ports_of models.now }
+    ensures { IfOk result (λ links. links ≡ file_links models.now) }
 {
+    let mut links = LinkLines {
+        unknown: None,
+        formal: None,
+        unbound: None,
+    };
     for model in models.lines() {
-        if let Some(fault) = first_in_model(alloc, link, models, ports, model.items)? {
-            return Ok(Some(fault));
-        }
+        links = with_lines(alloc, models, ports, links, model.items)?;
     }
-    Ok(None)
+    Ok(links)
 }

@@ -1,78 +1,88 @@
 // Instances that nest without end, or too deep.
-ghost use Rattle.std.specs.Prelude.{◌≡◌, None, Some, IfOk, length, map, slice_get};
+ghost use Rattle.std.specs.Prelude.{◌≡◌, ℕ, None, IfOk, map};
 ghost use Rattle.std.specs.Option.{option_or};
 ghost use Rattle.blif_model.specs.ModelFault.{recursive, too_deep, two_models};
-ghost use Rattle.blif_model.specs.Models.{has_nest, reaches};
+ghost use Rattle.blif_model.specs.Models.{has_nest};
 ghost use Rattle.blif_hierarchy.specs.Callees.{AllCallees};
-ghost use Rattle.blif_model.specs.Grouped.{model_of};
-ghost use Rattle.blif_hierarchy.specs.Lines.{first_among};
+ghost use Rattle.blif_hierarchy.specs.Rounds.{one_if};
 ghost use Rattle.components.specs.Graph.{AreComponents, AreEdges};
-ghost use Rattle.blif_hierarchy.specs.Marks.{nesting_fault};
-ghost use Rattle.blif_hierarchy.specs.declared.lines.Nesting.TheVariants as nestings;
 
-use crate::callees::all_callees;
-use crate::lines::{Nesting, first_fault};
-use crate::nest_rounds::deep_marks;
-use crate::same_ring::{is_on_ring, ring_marks};
-use blif_model::models::ModelLines;
-use blif_text::NetlistFault;
+use crate::faults::fault_at;
+use crate::graph::ModelGraph;
+use crate::numbered::{main_line, ring_line};
+use crate::rounds::after_rounds;
 use blif_flatten::table::ModelTable;
+use blif_model::models::ModelLines;
+use blif_text::{NetlistFault, NetlistKind};
 use components::components;
 use std::alloc::{AllocError, Global};
 
-/// The first line of the model at a place that instances a model of its component.
-fn ring_fault(
-    alloc: Global,
-    models: &ModelTable<'_, '_>,
-    callees: &[Vec<usize>],
-    numbers: &[usize],
-    place: usize,
-    model: &ModelLines<'_, '_>,
-) -> Result<Option<NetlistFault>, AllocError>
-    requires callees { AllCallees models.now models.now callees.now }
-    requires within { AreEdges callees.now }
-    requires numbers { AreComponents callees.now numbers.now }
-    requires apart { two_models models.now ≡ None }
-    requires here { slice_get models.now place ≡ Some (model_of model.now) }
-    ensures { IfOk result (λ o. o ≡ first_among (nesting_fault models.now (reaches models.now (length models.now) (model_of model.now).name) nestings.Recursive) (model_of model.now).items) }
+/// The number of each model's component.
+fn ring_numbers(alloc: Global, callees: &[Vec<usize>]) -> Result<Vec<u64>, AllocError>
+    requires { AreEdges callees.now }
+    ensures { IfOk result (λ v. AreComponents callees.now v.items) }
 {
-    if !is_on_ring(callees, numbers, place) {
-        return Ok(None);
-    }
-    let marks = ring_marks(alloc, numbers, place)?;
-    Ok(first_fault(models, marks.as_slice(), Nesting::Recursive, model.items))
+    let numbers = components(alloc, callees)?;
+    numbers.iter().map(|number| *number as u64).collect(alloc)
 }
 
-/// The first line of the file on a way back to its own model.
-fn recursive(
+/// The fault of the first line of the file on a way back to its own model.
+pub fn ring_fault(
     alloc: Global,
     models: &ModelTable<'_, '_>,
     callees: &[Vec<usize>],
-    numbers: &[usize],
 ) -> Result<Option<NetlistFault>, AllocError>
     requires callees { AllCallees models.now models.now callees.now }
     requires within { AreEdges callees.now }
-    requires numbers { AreComponents callees.now numbers.now }
     requires apart { two_models models.now ≡ None }
     ensures { IfOk result (λ o. o ≡ recursive models.now) }
 {
-    for (place, model) in models.lines().iter().enumerate() {
-        if let Some(fault) = ring_fault(alloc, models, callees, numbers, place, model)? {
-            return Ok(Some(fault));
-        }
-    }
-    Ok(None)
+    let numbers = ring_numbers(alloc, callees)?;
+    Ok(fault_at(
+        ring_line(models, numbers.as_slice()),
+        NetlistKind::Recursive,
+    ))
 }
 
-/// The first line of the main model whose instance has 32 more in it.
-fn too_deep(models: &ModelTable<'_, '_>, deep: &[bool]) -> Option<NetlistFault>
-    requires { deep.now ≡ map (has_nest models.now 32) models.now }
-    ensures { result ≡ too_deep models.now }
+/// One number for all models.
+fn all_alike(
+    alloc: Global,
+    models: &[ModelLines<'_, '_>],
+    number: u64,
+) -> Result<Vec<u64>, AllocError>
+    ensures { IfOk result (λ v. v.items ≡ map (λ m. number) models.now) }
 {
-    match models.main() {
-        Some(model) => first_fault(models, deep, Nesting::TooDeep, model.items),
-        None => None,
-    }
+    models.iter().map(|_| number).collect(alloc)
+}
+
+/// 1 for each model with 32 instances in it, one in the other, and 0 for the others.
+fn nest_numbers(
+    alloc: Global,
+    models: &ModelTable<'_, '_>,
+    callees: &[Vec<usize>],
+) -> Result<Vec<u64>, AllocError>
+    requires { AllCallees models.now models.now callees.now }
+    ensures { IfOk result (λ v. v.items ≡ map (λ m. one_if (has_nest models.now 32 m)) models.now) }
+{
+    let own = all_alike(alloc, models.lines(), 0)?;
+    let first = all_alike(alloc, models.lines(), 1)?;
+    after_rounds(alloc, 32, own.as_slice(), callees, first.as_slice(), 1)
+}
+
+/// The fault of the first line of the main model whose instance has 32 more in it.
+pub fn deep_fault(
+    alloc: Global,
+    models: &ModelTable<'_, '_>,
+    callees: &[Vec<usize>],
+) -> Result<Option<NetlistFault>, AllocError>
+    requires { AllCallees models.now models.now callees.now }
+    ensures { IfOk result (λ o. o ≡ too_deep models.now) }
+{
+    let numbers = nest_numbers(alloc, models, callees)?;
+    Ok(fault_at(
+        main_line(models, numbers.as_slice(), 1),
+        NetlistKind::TooDeep,
+    ))
 }
 
 /// The fault of the nests of models, if there is one: Recursive, then TooDeep.
@@ -83,12 +93,6 @@ pub fn nest_fault(
     requires { two_models models.now ≡ None }
     ensures { IfOk result (λ o. o ≡ option_or (recursive models.now) (too_deep models.now)) }
 {
-    let callees = all_callees(alloc, models)?;
-    let numbers = components(alloc, callees.as_slice())?;
-    let ring = recursive(alloc, models, callees.as_slice(), numbers.as_slice())?;
-    if ring.is_some() {
-        return Ok(ring);
-    }
-    let deep = deep_marks(alloc, models, callees.as_slice())?;
-    Ok(too_deep(models, deep.as_slice()))
+    let graph = ModelGraph::new(alloc, models)?;
+    graph.nest_fault(alloc)
 }

@@ -3,11 +3,11 @@ ghost use Rattle.std.specs.Prelude.{◌≡◌, ◌∷◌, [], IfOk};
 ghost use Rattle.fm_base.specs.Firsts.{first_answer};
 ghost use Rattle.blif_model.specs.ModelFault.{bad_formal, two_models, unbound, unknown_model};
 
-use crate::links::{Link, first_fault};
+use crate::links::file_links;
 use crate::names::NameSet;
 use crate::ports::all_ports;
-use blif_text::{NetlistFault, NetlistKind};
 use blif_flatten::table::ModelTable;
+use blif_text::{NetlistFault, NetlistKind};
 use std::alloc::{AllocError, Global};
 
 /// The first `.model` line that has the name of an earlier one.
@@ -29,6 +29,18 @@ fn two_models(
     Ok(None)
 }
 
+/// The fault of the bindings, if there is one: the kinds from UnknownModel to Unbound.
+fn link_fault(
+    alloc: Global,
+    models: &ModelTable<'_, '_>,
+) -> Result<Option<NetlistFault>, AllocError>
+    ensures { IfOk result (λ o. o ≡ first_answer (unknown_model models.now ∷ bad_formal models.now ∷ unbound models.now ∷ [])) }
+{
+    let ports = all_ports(alloc, models.lines())?;
+    let links = file_links(alloc, models, ports.as_slice())?;
+    Ok(links.fault())
+}
+
 /// The fault of model names and bindings, if there is one: the kinds from TwoModels to Unbound, in this order.
 pub fn port_fault(
     alloc: Global,
@@ -40,14 +52,5 @@ pub fn port_fault(
     if second.is_some() {
         return Ok(second);
     }
-    let ports = all_ports(alloc, models.lines())?;
-    let unknown = first_fault(alloc, Link::UnknownModel, models, ports.as_slice())?;
-    if unknown.is_some() {
-        return Ok(unknown);
-    }
-    let formal = first_fault(alloc, Link::BadFormal, models, ports.as_slice())?;
-    if formal.is_some() {
-        return Ok(formal);
-    }
-    first_fault(alloc, Link::Unbound, models, ports.as_slice())
+    link_fault(alloc, models)
 }

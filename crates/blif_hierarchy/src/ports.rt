@@ -1,11 +1,11 @@
 // The formals of models, and the formals that lines bind.
 ghost use Rattle.std.specs.Prelude.{◌≡◌, IfOk, OnOk, fold, map};
 ghost use Rattle.fm_base.specs.Index.{with_name};
-ghost use Rattle.blif_model.specs.Models.{formal_names, items_of, port_names};
 ghost use Rattle.blif_model.specs.Grouped.{all_said};
+ghost use Rattle.blif_model.specs.Models.{formal_names, port_names};
 ghost use Rattle.blif_model.specs.Meant.{bindings_of, meant};
 ghost use Rattle.blif_model.specs.Tokens.{texts_of};
-ghost use Rattle.blif_hierarchy.specs.Ports.{bound_in, ports_in, with_bound};
+ghost use Rattle.blif_hierarchy.specs.Ports.{bound_in, ports_among, with_bound};
 
 use crate::names::NameSet;
 use blif_model::bindings::pair_of;
@@ -55,7 +55,7 @@ fn add_line<'a>(ports: &mut Ports<'a>, says: Says<'_, 'a>) -> Result<(), AllocEr
 
 /// The formals of a model's lines.
 fn ports_of<'a>(alloc: Global, lines: &[TextLine<'a>]) -> Result<Ports<'a>, AllocError>
-    ensures { IfOk result (λ p. p ≡ ports_in (items_of (all_said lines.now))) }
+    ensures { IfOk result (λ p. p ≡ ports_among (all_said lines.now)) }
 {
     let mut ports = Ports {
         formals: NameSet::new(alloc),
@@ -72,7 +72,7 @@ pub fn all_ports<'a>(
     alloc: Global,
     models: &[ModelLines<'_, 'a>],
 ) -> Result<Vec<Ports<'a>>, AllocError>
-    ensures { IfOk result (λ v. v.items ≡ map (λ m. ports_in (items_of (all_said m.items.now))) models.now) }
+    ensures { IfOk result (λ v. v.items ≡ map (λ m. ports_among (all_said m.items.now)) models.now) }
 {
     let mut all = Vec::new(alloc);
     for model in models {

@@ -1,9 +1,9 @@
 // Rounds over the models.
 ghost use Rattle.std.specs.Prelude.{◌≡◌, ◌+◌, ◌≤◌, ◌<◌, ◌^◌, ℕ, IfOk, length, map, min, sum_by, slice_index};
 ghost use Rattle.blif_model.specs.Models.{Model, sum_over_instances};
-ghost use Rattle.blif_hierarchy.specs.Callees.{next_round};
+ghost use Rattle.blif_hierarchy.specs.Rounds.{next_round, rounds};
 
-use crate::callees::all_callees;
+use crate::graph::ModelGraph;
 use blif_flatten::table::ModelTable;
 use std::alloc::{AllocError, Global};
 
@@ -29,7 +29,7 @@ fn round(
     cap: u64,
 ) -> Result<Vec<u64>, AllocError>
     requires { cap < 2 ^ 32 }
-    ensures { IfOk result (λ v. v.items ≡ next_round cap before.now own.now callees.now) }
+    ensures { IfOk result (λ v. v.items ≡ next_round cap own.now callees.now before.now) }
 {
     own.iter()
         .zip(callees)
@@ -37,7 +37,27 @@ fn round(
         .collect(alloc)
 }
 
-/// The numbers of all models, summed over all instances in them down to depth 32, up to the cap.
+/// The numbers so many levels deeper than these first ones.
+pub fn after_rounds(
+    alloc: Global,
+    depth: u32,
+    own: &[u64],
+    callees: &[Vec<usize>],
+    first: &[u64],
+    cap: u64,
+) -> Result<Vec<u64>, AllocError>
+    requires { cap < 2 ^ 32 }
+    ensures { IfOk result (λ v. v.items ≡ rounds cap own.now callees.now first.now depth) }
+{
+    let mut numbers = Vec::from_slice(alloc, first)?;
+    'rounds: for _depth in 0..depth {
+        numbers = round(alloc, own, callees, numbers.as_slice(), cap)?;
+    }
+    Ok(numbers)
+}
+
+/// The numbers of all models, summed over all instances in them down to depth 32, up to the cap. Whoever asks for several sums
+/// makes one `ModelGraph` for them.
 pub fn capped_totals(
     alloc: Global,
     models: &ModelTable<'_, '_>,
@@ -47,10 +67,6 @@ pub fn capped_totals(
     requires { cap < 2 ^ 32 }
     ensures { IfOk result (λ v. (f : Model → ℕ) → own.now ≡ map (λ m. min cap (f m)) models.now → v.items ≡ map (λ m. min cap (sum_over_instances f models.now 32 m)) models.now) }
 {
-    let callees = all_callees(alloc, models)?;
-    let mut numbers = Vec::from_slice(alloc, own)?;
-    'rounds: for _depth in 0..32u32 {
-        numbers = round(alloc, own, callees.as_slice(), numbers.as_slice(), cap)?;
-    }
-    Ok(numbers)
+    let graph = ModelGraph::new(alloc, models)?;
+    graph.capped_totals(alloc, own, cap)
 }

@@ -1,12 +1,14 @@
-use Rattle.blif_hierarchy.proofs.Sums.{callees_step, callees_end}
+use Rattle.blif_text.specs.Read.{line_of}
+use Rattle.blif_text.specs.declared.lines.TextLine.{TextLine}
+use Rattle.blif_model.specs.LineFault.{said}
+use Rattle.blif_hierarchy.specs.Callees.{callee_of}
+use Rattle.blif_hierarchy.specs.Lines.{instance_answer}
+use Rattle.blif_hierarchy.proofs.Called.{line_more}
 use Rattle.blif_hierarchy.proofs.callees.callees_of.Goals as goal
 
 pub loop-line-preserved : goal.loop-line-preserved
 loop-line-preserved c = record {
   within = c.in_ok-put_callee.ensures.within c.loop-line.invariant.within;
-  sums = λ f. callees_step c.args.models.now f c.args.lines.now c.loop-line.line-index c.line-item.result c.loop-line.places.items c.put_callee.new.places.items
-      c.loop-line-test.true c.line-item.is (c.loop-line.invariant.sums f) (c.in_ok-put_callee.ensures.sums f);
+  models = line_more c.args.models.now (λ (line : TextLine). instance_answer (callee_of c.args.models.now) (said (line_of line))) c.args.lines.now c.loop-line.line-index c.line-item.result _ _
+      c.loop-line-test.true c.line-item.is c.in_ok-put_callee.ensures.models c.loop-line.invariant.models;
 }
-
-pub returns-clause-sums : goal.returns-clause-sums
-returns-clause-sums c = λ f. callees_end c.args.models.now f c.args.lines.now c.loop-line.line-index _ c.loop-line-test.false (c.loop-line.invariant.sums f)

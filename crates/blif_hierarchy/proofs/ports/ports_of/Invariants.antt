@@ -1,11 +1,11 @@
-use Rattle.std.proofs.Common.{◌≡◌, fold, drop, []}
-use Rattle.fm_base.specs.Index.{with_name}
+use Rattle.std.proofs.Common.{◌≡◌, flat_map, take}
+use Rattle.blif_model.specs.Grouped.{all_said}
 use Rattle.blif_model.specs.Models.{formal_names, port_names}
-use Rattle.blif_hierarchy.proofs.PortNames.{names_in}
+use Rattle.blif_hierarchy.specs.Ports.{once}
 use Rattle.blif_hierarchy.proofs.ports.ports_of.Given as goal
 
 abbrev pub invariant-loop-line : goal.invariant-loop-line
 invariant-loop-line l = record {
-  formals : fold with_name l.ports.formals (names_in port_names (drop l.line-index l.lines)) ≡ fold with_name [] (names_in port_names l.lines);
-  inputs : fold with_name l.ports.inputs (names_in formal_names (drop l.line-index l.lines)) ≡ fold with_name [] (names_in formal_names l.lines);
+  formals : l.ports.formals ≡ once (flat_map (λ line. port_names line.says) (all_said (take l.line-index l.lines)));
+  inputs : l.ports.inputs ≡ once (flat_map (λ line. formal_names line.says) (all_said (take l.line-index l.lines)));
 }

@@ -1,0 +1,13 @@
+use Rattle.std.proofs.Common.{option_map, ap, ◌∙◌}
+use Rattle.blif_text.specs.declared.NetlistKind.TheVariants.{TooDeep}
+use Rattle.blif_model.specs.LineFault.{at_line}
+use Rattle.blif_model.specs.Models.{Model, has_nest}
+use Rattle.blif_hierarchy.specs.Rounds.{one_if}
+use Rattle.blif_hierarchy.proofs.Rings.{deep_lines}
+use Rattle.blif_hierarchy.proofs.nest_faults.deep_fault.Goals as goal
+
+pub returns : goal.returns
+returns c =
+    c.fault_at.ensures
+    ∙ ap (option_map (λ n. at_line n TooDeep)) (c.main_line.ensures (λ (m : Model). one_if (has_nest c.args.models.now 32 m)) (c.as_slice.ensures.value ∙ c.in_ok-numbers.ensures))
+    ∙ deep_lines c.args.models.now
