@@ -11,6 +11,10 @@ numbered_line models f number i = given (at_model models i.name (λ m. f m == nu
 abbrev pub first_numbered : List Model → (Model → ℕ) → ℕ → Model → Option ℕ
 first_numbered models f number m = first_where (numbered_line models f number) (instances m)
 
--- the first line of a file that instances a model of the number of its own
+-- the first line of a model that instances one of the number of its own
+abbrev pub own_line : List Model → (Model → ℕ) → Model → Option ℕ
+own_line models f m = first_numbered models f (f m) m
+
+-- the first such line of a file
 abbrev pub ring_line : List Model → (Model → ℕ) → Option ℕ
-ring_line models f = first_where (λ m. first_numbered models f (f m) m) models
+ring_line models f = first_where (own_line models f) models

@@ -1,6 +1,6 @@
 -- The formals of models and of bindings, each once.
-use Rattle.std.specs.Prelude.{◌||◌, List, [], flat_map, fold}
-use Rattle.fm_base.specs.Names.{Name, has_repeat, is_one_of}
+use Rattle.std.specs.Prelude.{List, [], flat_map, fold}
+use Rattle.fm_base.specs.Names.{Name, has_repeat}
 use Rattle.fm_base.specs.Index.{with_name}
 use Rattle.blif_model.specs.LineFault.{Said}
 use Rattle.blif_model.specs.Models.{Model, formal_inputs, formal_names, formals, port_names}
@@ -21,10 +21,6 @@ ports_among lines = record {
   formals = once (flat_map (λ line. port_names line.says) lines);
   inputs = once (flat_map (λ line. formal_names line.says) lines);
 }
-
--- one more formal is bound
-abbrev pub with_bound : BoundNames → Name → BoundNames
-with_bound b name = record { formals = with_name b.formals name; is_twice = b.is_twice || is_one_of b.formals name }
 
 -- the formals that are bound
 abbrev pub bound_in : List Name → BoundNames

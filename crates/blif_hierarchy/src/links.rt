@@ -3,8 +3,6 @@ ghost use Rattle.std.specs.Prelude.{◌≡◌, ◌||◌, ◌∷◌, [], IfOk, No
 ghost use Rattle.std.specs.List.{list_any};
 ghost use Rattle.std.specs.Option.{option_map, option_map_or};
 ghost use Rattle.fm_base.specs.Names.{is_one_of};
-ghost use Rattle.blif_text.specs.Read.{line_of};
-ghost use Rattle.blif_model.specs.LineFault.{said};
 ghost use Rattle.blif_model.specs.ModelFault.{has_other};
 ghost use Rattle.blif_model.specs.Models.{model_named};
 ghost use Rattle.blif_model.specs.Meant.{bindings_of};
@@ -17,9 +15,8 @@ use crate::faults::{fault_at, line_if};
 use crate::names::NameSet;
 use crate::ports::{BoundNames, Ports, bound_names};
 use blif_flatten::table::ModelTable;
+use blif_model::read_line::ReadLine;
 use blif_model::says::Says;
-use blif_model::statement::line_says;
-use blif_text::lines::TextLine;
 use blif_text::token::Token;
 use blif_text::{NetlistFault, NetlistKind};
 use std::alloc::{AllocError, Global};
@@ -65,6 +62,7 @@ fn any_outside(names: &[&[u8]], set: &NameSet<'_>) -> bool
 }
 
 /// Some name of a set isn't in the other.
+#[tactic(auto, using(crate::proofs::Bindings::name_steps))]
 fn has_other(names: &NameSet<'_>, others: &NameSet<'_>) -> bool
     ensures { result ≡ has_other names.now others.now }
 {
@@ -116,7 +114,7 @@ fn own_links(
     bindings: &[Token<'_>],
 ) -> Result<LinkLines, AllocError>
     requires { ports.now ≡ map ports_of models.now }
-    ensures { IfOk result (λ own. own ≡ links_at models.now (record { line = line; name = name.now; bindings = bindings_of (texts_of bindings.now) })) }
+    ensures { IfOk result (λ own. own ≡ links_at (model_named models.now name.now) (record { line = line; name = name.now; bindings = bindings_of (texts_of bindings.now) })) }
 {
     let inner = ports_named(models, ports, name);
     let bound = bound_names(alloc, bindings)?;
@@ -133,14 +131,14 @@ fn with_line(
     models: &ModelTable<'_, '_>,
     ports: &[Ports<'_>],
     first: LinkLines,
-    line: &TextLine<'_>,
+    line: &ReadLine<'_>,
 ) -> Result<LinkLines, AllocError>
     requires { ports.now ≡ map ports_of models.now }
-    ensures { IfOk result (λ links. links ≡ with_instances models.now first (filter_map (λ line. instance_at (said (line_of line))) (line.now ∷ []))) }
+    ensures { IfOk result (λ links. links ≡ with_instances models.now first (filter_map instance_at (line.now ∷ []))) }
 {
-    match line_says(line) {
+    match line.says() {
         Says::Instance { name, bindings } => {
-            let own = own_links(alloc, models, ports, line.number, name, bindings)?;
+            let own = own_links(alloc, models, ports, line.number(), name, bindings)?;
             Ok(first.or(own))
         }
         _ => Ok(first),
@@ -148,15 +146,16 @@ fn with_line(
 }
 
 /// The first lines, with those of one more model.
+#[tactic(auto, using(crate::proofs::FirstLines::line_steps))]
 fn with_lines(
     alloc: Global,
     models: &ModelTable<'_, '_>,
     ports: &[Ports<'_>],
     first: LinkLines,
-    lines: &[TextLine<'_>],
+    lines: &[ReadLine<'_>],
 ) -> Result<LinkLines, AllocError>
     requires { ports.now ≡ map ports_of models.now }
-    ensures { IfOk result (λ links. links ≡ with_instances models.now first (filter_map (λ line. instance_at (said (line_of line))) lines.now)) }
+    ensures { IfOk result (λ links. links ≡ with_instances models.now first (filter_map instance_at lines.now)) }
 {
     let mut links = first;
     for line in lines {
@@ -166,6 +165,7 @@ fn with_lines(
 }
 
 /// The first lines of the file.
+#[tactic(auto, using(crate::proofs::FirstLines::model_steps))]
 pub fn file_links(
     alloc: Global,
     models: &ModelTable<'_, '_>,

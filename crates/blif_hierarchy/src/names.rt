@@ -40,6 +40,7 @@ impl<'a> NameSet<'a> {
     }
 
     /// Whether a name is there.
+    #[tactic(auto, using(crate::proofs::Bindings::name_steps))]
     pub fn contains(&self, name: &[u8]) -> bool
         ensures { result ≡ is_one_of self.now name.now }
     {

@@ -1,17 +1,14 @@
 // Lines that instance a model of a number.
-ghost use Rattle.std.specs.Prelude.{◌≡◌, ◌==◌, ℕ, false, map, slice_index};
+ghost use Rattle.std.specs.Prelude.{◌≡◌, ◌==◌, ℕ, false, map, option_and_then, slice_get, slice_index};
 ghost use Rattle.fm_base.specs.Firsts.{first_where};
-ghost use Rattle.blif_text.specs.Read.{line_of};
-ghost use Rattle.blif_model.specs.LineFault.{said};
-ghost use Rattle.blif_model.specs.Models.{Model, at_model, instances, main_of};
+ghost use Rattle.blif_model.specs.Models.{Model, at_model, instances};
 ghost use Rattle.blif_hierarchy.specs.Lines.{instance_answer};
 ghost use Rattle.blif_hierarchy.specs.Numbered.{first_numbered, numbered_line, ring_line};
 
 use crate::faults::line_if;
 use blif_flatten::table::ModelTable;
+use blif_model::read_line::ReadLine;
 use blif_model::says::Says;
-use blif_model::statement::line_says;
-use blif_text::lines::TextLine;
 
 fn number_at(numbers: &[u64], place: usize) -> u64
     ensures { result ≡ slice_index numbers.now place }
@@ -34,13 +31,13 @@ fn numbered_line(
     models: &ModelTable<'_, '_>,
     numbers: &[u64],
     number: u64,
-    line: &TextLine<'_>,
+    line: &ReadLine<'_>,
 ) -> Option<u32>
-    ensures { (f : Model → ℕ) → numbers.now ≡ map f models.now → result ≡ instance_answer (numbered_line models.now f number) (said (line_of line.now)) }
+    ensures { (f : Model → ℕ) → numbers.now ≡ map f models.now → result ≡ instance_answer (numbered_line models.now f number) line.now }
 {
-    match line_says(line) {
+    match line.says() {
         Says::Instance { name, .. } => {
-            line_if(has_number(models, numbers, number, name), line.number)
+            line_if(has_number(models, numbers, number, name), line.number())
         }
         _ => None,
     }
@@ -51,9 +48,9 @@ fn first_numbered(
     models: &ModelTable<'_, '_>,
     numbers: &[u64],
     number: u64,
-    lines: &[TextLine<'_>],
+    lines: &[ReadLine<'_>],
 ) -> Option<u32>
-    ensures { (f : Model → ℕ) → numbers.now ≡ map f models.now → result ≡ first_where (λ line. instance_answer (numbered_line models.now f number) (said (line_of line))) lines.now }
+    ensures { (f : Model → ℕ) → numbers.now ≡ map f models.now → result ≡ first_where (instance_answer (numbered_line models.now f number)) lines.now }
 {
     for line in lines {
         if let Some(found) = numbered_line(models, numbers, number, line) {
@@ -78,7 +75,7 @@ pub fn ring_line(models: &ModelTable<'_, '_>, numbers: &[u64]) -> Option<u32>
 
 /// The number of the first line of the main model that instances a model of this number.
 pub fn main_line(models: &ModelTable<'_, '_>, numbers: &[u64], number: u64) -> Option<u32>
-    ensures { (f : Model → ℕ) → numbers.now ≡ map f models.now → result ≡ first_numbered models.now f number (main_of models.now) }
+    ensures { (f : Model → ℕ) → numbers.now ≡ map f models.now → result ≡ option_and_then (first_numbered models.now f number) (slice_get models.now 0) }
 {
     match models.main() {
         Some(model) => first_numbered(models, numbers, number, model.items),

@@ -1,18 +1,19 @@
 // The formals of models, and the formals that lines bind.
-ghost use Rattle.std.specs.Prelude.{◌≡◌, IfOk, OnOk, fold, map};
+ghost use Rattle.std.specs.Prelude.{◌≡◌, ◌||◌, IfOk, OnOk, fold, map};
 ghost use Rattle.fm_base.specs.Index.{with_name};
-ghost use Rattle.blif_model.specs.Grouped.{all_said};
+ghost use Rattle.fm_base.specs.Names.{is_one_of};
+ghost use Rattle.blif_model.specs.Grouped.{models_seen};
 ghost use Rattle.blif_model.specs.Models.{formal_names, port_names};
 ghost use Rattle.blif_model.specs.Meant.{bindings_of, meant};
+ghost use Rattle.blif_model.specs.Statement.{binding_of};
 ghost use Rattle.blif_model.specs.Tokens.{texts_of};
-ghost use Rattle.blif_hierarchy.specs.Ports.{bound_in, ports_among, with_bound};
+ghost use Rattle.blif_hierarchy.specs.Ports.{bound_in, ports_among, ports_of};
 
 use crate::names::NameSet;
 use blif_model::bindings::pair_of;
 use blif_model::models::ModelLines;
+use blif_model::read_line::ReadLine;
 use blif_model::says::Says;
-use blif_model::statement::line_says;
-use blif_text::lines::TextLine;
 use blif_text::token::Token;
 use std::alloc::{AllocError, Global};
 
@@ -54,25 +55,26 @@ fn add_line<'a>(ports: &mut Ports<'a>, says: Says<'_, 'a>) -> Result<(), AllocEr
 }
 
 /// The formals of a model's lines.
-fn ports_of<'a>(alloc: Global, lines: &[TextLine<'a>]) -> Result<Ports<'a>, AllocError>
-    ensures { IfOk result (λ p. p ≡ ports_among (all_said lines.now)) }
+fn ports_of<'a>(alloc: Global, lines: &[ReadLine<'a>]) -> Result<Ports<'a>, AllocError>
+    ensures { IfOk result (λ p. p ≡ ports_among lines.now) }
 {
     let mut ports = Ports {
         formals: NameSet::new(alloc),
         inputs: NameSet::new(alloc),
     };
     for line in lines {
-        add_line(&mut ports, line_says(line))?;
+        add_line(&mut ports, line.says())?;
     }
     Ok(ports)
 }
 
 /// The formals of each model.
+#[tactic(auto, using(crate::proofs::Bindings::port_steps))]
 pub fn all_ports<'a>(
     alloc: Global,
     models: &[ModelLines<'_, 'a>],
 ) -> Result<Vec<Ports<'a>>, AllocError>
-    ensures { IfOk result (λ v. v.items ≡ map (λ m. ports_among (all_said m.items.now)) models.now) }
+    ensures { IfOk result (λ v. v.items ≡ map ports_of (models_seen models.now)) }
 {
     let mut all = Vec::new(alloc);
     for model in models {
@@ -89,11 +91,19 @@ pub struct BoundNames<'a> {
 }
 
 fn add_bound<'a>(bound: &mut BoundNames<'a>, formal: &'a [u8]) -> Result<(), AllocError>
-    ensures { OnOk result (bound.new ≡ with_bound bound.old formal.now) }
+    ensures formals { OnOk result (bound.new.formals ≡ with_name bound.old.formals formal.now) }
+    ensures twice { OnOk result (bound.new.is_twice ≡ (bound.old.is_twice || is_one_of bound.old.formals formal.now)) }
 {
     let is_new = bound.formals.insert(formal)?;
     bound.is_twice = bound.is_twice || !is_new;
     Ok(())
+}
+
+/// The formal of a binding.
+fn formal_of<'a>(binding: &Token<'a>) -> &'a [u8]
+    ensures { result.now ≡ (binding_of binding.now.text.now).formal }
+{
+    pair_of(binding.text).formal
 }
 
 /// The formals of bindings.
@@ -105,7 +115,7 @@ pub fn bound_names<'a>(alloc: Global, bindings: &[Token<'a>]) -> Result<BoundNam
         is_twice: false,
     };
     for binding in bindings {
-        add_bound(&mut bound, pair_of(binding.text).formal)?;
+        add_bound(&mut bound, formal_of(binding))?;
     }
     Ok(bound)
 }

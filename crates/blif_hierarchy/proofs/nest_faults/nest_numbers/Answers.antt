@@ -6,6 +6,7 @@ use Rattle.blif_hierarchy.proofs.nest_faults.nest_numbers.Goals as goal
 
 pub returns : goal.returns
 returns c =
-    let own = c.as_slice.ensures.value ∙ c.in_ok-own.ensures ∙ over_lines (λ m. 0) c.lines.result.now c.args.models.now c.lines.ensures in
-    let first = c.as_slice-2.ensures.value ∙ c.in_ok-first.ensures ∙ over_lines (λ m. 1) c.lines-2.result.now c.args.models.now c.lines-2.ensures in
-    IfOk-weaker _ _ _ (λ (v : Vec ℕ Global). nests_are c.args.models.now c.args.callees.now c.requires _ _ 32 own first v.items) c.after_rounds.ensures
+    let models = c.args.models.now in
+    let own = c.as_slice.ensures.value ∙ c.in_ok-own.ensures ∙ over_lines (λ m. 0) c.lines.result.now models c.lines.ensures in
+    let first = c.as_slice-2.ensures.value ∙ c.in_ok-first.ensures ∙ over_lines (λ m. 1) c.lines-2.result.now models c.lines-2.ensures in
+    IfOk-weaker _ _ _ (λ (v : Vec ℕ Global). nests_are models c.args.callees.now c.requires _ _ 32 own first v.items) c.after_rounds.ensures

@@ -1,10 +1,8 @@
-use Rattle.std.proofs.Common.{true, false, [], List, ap, sym, ◌∙◌}
+use Rattle.std.proofs.Common.{true, false, [], ap, sym, ◌∙◌}
 use Rattle.fm_base.specs.Firsts.{first_after}
-use Rattle.fm_base.specs.Index.{with_name}
-use Rattle.fm_base.specs.Names.{Name, is_one_of}
 use Rattle.fm_base.proofs.Tests.{not_not, not_true}
 use Rattle.blif_model.specs.ModelFault.{two_models}
-use Rattle.blif_hierarchy.proofs.SecondNames.{names_more, second_fault, second_step, second_end}
+use Rattle.blif_hierarchy.proofs.SecondNames.{names_step, second_fault, second_step, second_end}
 use Rattle.blif_hierarchy.proofs.port_faults.two_models.Goals as goal
 
 pub loop-model-init : goal.loop-model-init
@@ -13,18 +11,20 @@ loop-model-init c = record { names = c.new-names.ensures; left = ap (first_after
 
 pub returns-then-not-branch : goal.returns-then-not-branch
 returns-then-not-branch c =
-    let taken = not_not (is_one_of c.loop-model.names c.model-item.result.name.now) (sym c.in_ok-insert.ensures.added ∙ c.if-not-branch.true) in
-    sym (second_step c.lines-model-items.result.now c.loop-model.model-index c.model-item.result true c.loop-model-test.true c.model-item.is
-    (sym taken ∙ ap (λ (names : List Name). is_one_of names c.model-item.result.name.now) c.loop-model.invariant.names)) ∙ c.loop-model.invariant.left
+    second_step c.lines-model-items.result.now c.loop-model.model-index c.model-item.result c.loop-model-test.true c.model-item.is
+    c.loop-model.names true c.loop-model.invariant.names (not_not _ (sym c.in_ok-insert.ensures.added ∙ c.if-not-branch.true))
+    ∙ c.loop-model.invariant.left
 
 pub loop-model-preserved : goal.loop-model-preserved
 loop-model-preserved c =
-    let new = not_true (is_one_of c.loop-model.names c.model-item.result.name.now) (sym c.in_ok-insert.ensures.added ∙ c.if-not-branch.false) in
+    let models = c.lines-model-items.result.now in
+    let i = c.loop-model.model-index in
     record {
-      names = c.in_ok-insert.ensures.names ∙ ap (λ (names : List Name). with_name names c.model-item.result.name.now) c.loop-model.invariant.names
-          ∙ names_more c.lines-model-items.result.now c.loop-model.model-index c.model-item.result c.loop-model-test.true c.model-item.is;
-      left = sym (second_step c.lines-model-items.result.now c.loop-model.model-index c.model-item.result false c.loop-model-test.true c.model-item.is
-          (sym new ∙ ap (λ (names : List Name). is_one_of names c.model-item.result.name.now) c.loop-model.invariant.names)) ∙ c.loop-model.invariant.left;
+      names = c.in_ok-insert.ensures.names
+          ∙ names_step models i c.model-item.result c.loop-model-test.true c.model-item.is c.loop-model.names c.loop-model.invariant.names;
+      left = second_step models i c.model-item.result c.loop-model-test.true c.model-item.is
+          c.loop-model.names false c.loop-model.invariant.names (not_true _ (sym c.in_ok-insert.ensures.added ∙ c.if-not-branch.false))
+          ∙ c.loop-model.invariant.left;
     }
 
 pub returns : goal.returns

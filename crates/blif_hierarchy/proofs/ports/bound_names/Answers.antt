@@ -1,11 +1,16 @@
-use Rattle.std.proofs.Common.{ap, ap₂, sym, ◌∙◌, take}
-use Rattle.blif_model.specs.Statement.{Binding}
-use Rattle.blif_hierarchy.specs.Ports.{bound_in, with_bound}
-use Rattle.blif_hierarchy.proofs.Bindings.{bound_more, formals_at, formals_more}
+use Rattle.std.proofs.Common.{◌≡◌, ◌+◌, ◌++◌, ◌∷◌, [], take, sym, ◌∙◌, arith}
+use Rattle.std.proofs.lemmas.Grind.{common_steps}
+use Rattle.blif_hierarchy.proofs.Bindings.{formals_at, twice_more}
 use Rattle.blif_hierarchy.proofs.ports.bound_names.Goals as goal
 
 pub loop-binding-preserved : goal.loop-binding-preserved
 loop-binding-preserved c =
-    c.in_ok-add_bound.ensures ∙ ap₂ with_bound c.loop-binding.invariant (ap (λ (b : Binding). b.formal) c.pair_of.ensures)
-    ∙ bound_more (formals_at (take c.loop-binding.binding-index c.args.bindings.now)) _
-    ∙ ap bound_in (sym (formals_more c.args.bindings.now c.loop-binding.binding-index c.binding-item.result c.loop-binding-test.true c.binding-item.is))
+    let tokens = c.args.bindings.now in
+    let i = c.loop-binding.binding-index in
+    let formal = c.formal_of.result.now in
+    let more : formals_at (take (i + 1) tokens) ≡ formals_at (take i tokens) ++ formal ∷ [] = grind (arith, common_steps) in
+    let so_far = c.loop-binding.invariant in
+    record {
+      formals = grind (arith, common_steps);
+      twice = rw more (c.in_ok-add_bound.ensures.twice ∙ rw (so_far.formals, so_far.twice) (sym (twice_more (formals_at (take i tokens)) formal)));
+    }

@@ -6,5 +6,7 @@ use Rattle.blif_hierarchy.proofs.graph.ModelGraph.capped_totals.Goals as goal
 
 pub returns : goal.returns
 returns c =
-    let all : AllCallees c.args.self.now c.args.self.now c.as_slice.result.now = search rules in
-    IfOk-weaker _ _ _ (λ (v : Vec ℕ Global). sums_are c.args.self.now c.as_slice.result.now all c.args.own.now c.args.cap 32 v.items) c.after_rounds.ensures
+    let models = c.args.self.now in
+    let callees = c.as_slice.result.now in
+    let all : AllCallees models models callees = search rules in
+    IfOk-weaker _ _ _ (λ (v : Vec ℕ Global). sums_are models callees all c.args.own.now c.args.cap 32 v.items) c.after_rounds.ensures
