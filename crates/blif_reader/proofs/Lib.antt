@@ -1,3 +1,4 @@
+pub mod FlatSteps
 pub mod FlatNets
 pub mod NetNumbers
 pub mod PartLines
@@ -8,8 +9,7 @@ pub mod Mentions
 pub mod Built
 pub mod Totals
 pub mod Reading
-pub mod Passing
 pub mod Finding
 pub mod Driving
-pub mod ClockNames
+pub mod ClockMarks
 pub mod Faults

@@ -1,27 +1,25 @@
--- The first name of a sort that passes a test.
-use Rattle.std.specs.Prelude.{ℕ, Bool, false, List, find, slice_index_or, Option}
-use Rattle.std.specs.Option.{option_map}
-use Rattle.fm_base.specs.Firsts.{first_where}
+-- The names of a sort, and the first of them that passes a test.
+use Rattle.std.specs.Prelude.{Bool, false, List, flat_map, slice_index_or}
 use Rattle.fm_base.specs.Lists.{same_bit}
 use Rattle.fm_base.specs.Names.{Name}
-use Rattle.blif_model.specs.Walk.{Step}
+use Rattle.blif_model.specs.Walk.{Step, Visit, names_at}
 use Rattle.blif_flatten.specs.declared.flat.NameId.{NameId}
 use Rattle.blif_flatten.specs.declared.sorts.Sort.{Sort}
 use Rattle.blif_flatten.specs.Flat.{name_at}
 use Rattle.blif_flatten.specs.Sorts.{named}
 use Rattle.blif_reader.specs.declared.found.FoundName.{FoundName}
 
+-- the names of a sort, each at its line
+abbrev pub visits_by : Sort → List Step → List Visit
+visits_by sort steps = flat_map (λ s. names_at s.line (named sort s.act)) steps
+
 -- the answer to the test is the wanted one
-abbrev pub passes : Bool → (Name → Bool) → Name → Bool
-passes wanted test name = same_bit wanted (test name)
+abbrev pub passes : Bool → (Name → Bool) → Visit → Bool
+passes wanted test visit = same_bit wanted (test visit.name)
 
 -- the mark of a number is the wanted one
 abbrev pub is_wanted : List Bool → Bool → NameId → Bool
 is_wanted marks wanted id = same_bit wanted (slice_index_or marks id.0 false)
 
--- the first name of a sort that passes, behind its line
-abbrev pub first_named : Sort → (Name → Bool) → List Step → Option (ℕ × Name)
-first_named sort test steps = first_where (λ s. option_map (λ name. (s.line, name)) (find test (named sort s.act))) steps
-
-abbrev pub found_name : List Name → FoundName → ℕ × Name
-found_name names found = (found.line, name_at names found.name)
+abbrev pub visit_of : List Name → FoundName → Visit
+visit_of names found = record { name = name_at names found.name; line = found.line }

@@ -1,12 +1,12 @@
 // TwoDrivers: a net that is driven a second time, or a clock name that is driven.
-ghost use Rattle.std.specs.Prelude.{◌≡◌, ◌∷◌, [], false, None, filter, length, not, slice_index_or};
+ghost use Rattle.std.specs.Prelude.{◌≡◌, ◌∷◌, [], false, None, length};
 ghost use Rattle.blif_model.specs.WalkFault.{two_drivers};
-ghost use Rattle.blif_flatten.specs.declared.sorts.Sort.TheVariants.{Clock};
 ghost use Rattle.blif_flatten.specs.Flat.{AreBelow, ids_in};
 ghost use Rattle.blif_flatten.specs.Flattened.{flat_steps};
-ghost use Rattle.blif_flatten.specs.Marks.{AreMarksOf, marked};
-ghost use Rattle.blif_reader.specs.Passes.{AreSettledMarks, driven_ids, drives_twice};
+ghost use Rattle.blif_flatten.specs.Marks.{marked};
+ghost use Rattle.blif_reader.specs.Passes.{AreClockMarks, AreSettledMarks, driven_ids, drives_twice, unmarked};
 
+use crate::steps::step_at;
 use blif_text::{NetlistFault, NetlistKind};
 use blif_flatten::flat::{FlatModel, NameId, NumberedAct};
 
@@ -28,8 +28,8 @@ fn drive(driven: &mut Vec<bool>, id: NameId) -> bool
 fn drive_inputs(clocks: &[bool], driven: &mut Vec<bool>, ids: &[NameId]) -> bool
     requires clocks { AreBelow (length clocks.now) ids.now }
     requires driven { AreBelow (length driven.old.items) ids.now }
-    ensures twice { result ≡ drives_twice driven.old.items (filter (λ id. not (slice_index_or clocks.now id.0 false)) ids.now) }
-    ensures grown { result ≡ false → driven.new.items ≡ marked driven.old.items (filter (λ id. not (slice_index_or clocks.now id.0 false)) ids.now) }
+    ensures twice { result ≡ drives_twice driven.old.items (unmarked clocks.now ids.now) }
+    ensures grown { result ≡ false → driven.new.items ≡ marked driven.old.items (unmarked clocks.now ids.now) }
     ensures size { length driven.new.items ≡ length driven.old.items }
 {
     for id in ids {
@@ -65,12 +65,13 @@ pub fn two_drivers(
     clocks: &[bool],
     driven: &mut Vec<bool>,
 ) -> Option<NetlistFault>
-    requires clocks { AreMarksOf flat.now Clock clocks.now }
+    requires clocks { AreClockMarks flat.now clocks.now }
     requires driven { driven.old.items ≡ clocks.now }
     ensures fault { result ≡ two_drivers (flat_steps flat.now) }
     ensures driven { result ≡ None → AreSettledMarks flat.now driven.new.items }
 {
-    for step in flat.steps.as_slice() {
+    for place in 0..flat.steps.len() {
+        let step = step_at(flat, place);
         if drive_act(clocks, driven, &step.act) {
             return Some(NetlistFault {
                 line: step.line,

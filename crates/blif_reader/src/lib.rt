@@ -14,6 +14,7 @@ mod parts;
 mod read;
 mod rows;
 mod sizes;
+mod steps;
 pub mod walk_faults;
 
 pub use read::read_blif;

@@ -1,10 +1,15 @@
 // The fault of the flattened model.
-ghost use Rattle.std.specs.Prelude.{◌≡◌, IfOk};
+ghost use Rattle.std.specs.Prelude.{◌≡◌, Bool, IfOk, map};
+ghost use Rattle.std.specs.List.{list_any};
+ghost use Rattle.fm_base.specs.Firsts.{first_where, given};
+ghost use Rattle.fm_base.specs.Lists.{same_bit};
+ghost use Rattle.fm_base.specs.Names.{Name};
+ghost use Rattle.blif_model.specs.LineFault.{at_line};
+ghost use Rattle.blif_flatten.specs.Flat.{all_names};
+ghost use Rattle.blif_flatten.specs.Sorts.{named};
 ghost use Rattle.blif_model.specs.WalkFault.{bad_clock, clock_read, undriven, walk_fault};
-ghost use Rattle.blif_flatten.specs.declared.sorts.Sort.TheVariants.{Clock};
 ghost use Rattle.blif_flatten.specs.Flattened.{flat_steps};
-ghost use Rattle.blif_flatten.specs.Marks.{AreMarksOf};
-ghost use Rattle.blif_reader.specs.Passes.{AreSettledMarks};
+ghost use Rattle.blif_reader.specs.Passes.{AreClockMarks, AreSettledMarks};
 
 use crate::clocks::two_clocks;
 use crate::drivers::two_drivers;
@@ -16,32 +21,45 @@ use blif_flatten::sorts::Sort;
 use net_names::copies::own_name;
 use std::alloc::{AllocError, Global};
 
+/// The first line with a name of this sort whose mark is the wanted one, as a fault of this kind.
+fn line_fault(
+    flat: &FlatModel<'_, '_>,
+    sort: Sort,
+    marks: &[bool],
+    wanted: bool,
+    kind: NetlistKind,
+) -> Option<NetlistFault>
+    ensures { (test : Name → Bool) → marks.now ≡ map test (all_names (flat_steps flat.now)) → result ≡ first_where (λ s. given (list_any (λ name. same_bit wanted (test name)) (named sort s.act)) (at_line s.line kind)) (flat_steps flat.now) }
+{
+    match first_found(flat, sort, marks, wanted) {
+        Some(found) => Some(NetlistFault {
+            line: found.line,
+            kind,
+        }),
+        None => None,
+    }
+}
+
 /// BadClock: the first latch whose control isn't among the main model's inputs.
 fn bad_clock(alloc: Global, flat: &FlatModel<'_, '_>) -> Result<Option<NetlistFault>, AllocError>
     ensures { IfOk result (λ o. o ≡ bad_clock (flat_steps flat.now)) }
 {
     let inputs = marks_of(alloc, flat, Sort::Input)?;
-    match first_found(flat, Sort::Control, inputs.as_slice(), false) {
-        Some(found) => Ok(Some(NetlistFault {
-            line: found.line,
-            kind: NetlistKind::BadClock,
-        })),
-        None => Ok(None),
-    }
+    Ok(line_fault(
+        flat,
+        Sort::Control,
+        inputs.as_slice(),
+        false,
+        NetlistKind::BadClock,
+    ))
 }
 
 /// ClockRead: the first line that reads a clock name.
 fn clock_read(flat: &FlatModel<'_, '_>, clocks: &[bool]) -> Option<NetlistFault>
-    requires { AreMarksOf flat.now Clock clocks.now }
+    requires { AreClockMarks flat.now clocks.now }
     ensures { result ≡ clock_read (flat_steps flat.now) }
 {
-    match first_found(flat, Sort::Read, clocks, true) {
-        Some(found) => Some(NetlistFault {
-            line: found.line,
-            kind: NetlistKind::ClockRead,
-        }),
-        None => None,
-    }
+    line_fault(flat, Sort::Read, clocks, true, NetlistKind::ClockRead)
 }
 
 /// Undriven: the first visit to a net that nothing drives.
@@ -67,30 +85,31 @@ fn undriven(
 
 /// The fault that is found in the flattened model, if there is one: the kinds from TwoClocks to Undriven, in this order. `clocks`
 /// has the marks of the clock names.
+#[tactic(auto, unfolding(blif_model::specs::WalkFault::walk_fault))]
 pub fn walk_fault(
     alloc: Global,
     flat: &FlatModel<'_, '_>,
     clocks: &[bool],
 ) -> Result<Option<NetlistFault>, AllocError>
-    requires { AreMarksOf flat.now Clock clocks.now }
+    requires { AreClockMarks flat.now clocks.now }
     ensures { IfOk result (λ o. o ≡ walk_fault (flat_steps flat.now)) }
 {
-    let second = two_clocks(flat, clocks);
-    if second.is_some() {
-        return Ok(second);
+    match two_clocks(flat) {
+        Some(fault) => return Ok(Some(fault)),
+        None => {}
     }
-    let control = bad_clock(alloc, flat)?;
-    if control.is_some() {
-        return Ok(control);
+    match bad_clock(alloc, flat)? {
+        Some(fault) => return Ok(Some(fault)),
+        None => {}
     }
-    let read = clock_read(flat, clocks);
-    if read.is_some() {
-        return Ok(read);
+    match clock_read(flat, clocks) {
+        Some(fault) => return Ok(Some(fault)),
+        None => {}
     }
     let mut driven = Vec::from_slice(alloc, clocks)?;
-    let driver = two_drivers(flat, clocks, &mut driven);
-    if driver.is_some() {
-        return Ok(driver);
+    match two_drivers(flat, clocks, &mut driven) {
+        Some(fault) => return Ok(Some(fault)),
+        None => {}
     }
     undriven(alloc, flat, driven.as_slice())
 }

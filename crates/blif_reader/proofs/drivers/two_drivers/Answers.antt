@@ -1,60 +1,51 @@
-use Rattle.std.proofs.Common.{◌≡◌, ◌∙◌, ap, false, map, subst, sym, take, List}
+use Rattle.std.proofs.Common.{◌∙◌, ap, arith, List, map, refl, sym}
+use Rattle.std.proofs.lemmas.Grind.{common_steps}
 use Rattle.std.proofs.lemmas.List.{append-nil}
-use Rattle.fm_base.specs.Names.{Name, has_repeat, is_one_of}
-use Rattle.blif_model.specs.Walk.{clock_names}
-use Rattle.blif_flatten.specs.Flat.{steps_by}
+use Rattle.fm_base.specs.Firsts.{first_after}
+use Rattle.fm_base.specs.Names.{Name, is_one_of}
+use Rattle.blif_model.specs.Walk.{clock_names, drives_of, is_clock}
+use Rattle.blif_model.specs.WalkFault.{two_drivers}
 use Rattle.blif_flatten.specs.Flattened.{flat_steps}
-use Rattle.blif_flatten.specs.Sorts.{names_by}
-use Rattle.blif_flatten.proofs.Marking.{names_apart, step_within}
-use Rattle.blif_reader.proofs.Driving.{driver_end, driver_here, driver_later, marks_next, settled_so_far}
-use Rattle.blif_reader.proofs.Passing.{driver-fault, driver_fault}
+use Rattle.blif_reader.specs.Passes.{settled}
+use Rattle.blif_reader.proofs.Driving.{driver_answer, drives_at, step_drives}
+use Rattle.blif_reader.proofs.FlatSteps.{all_done, given_so_far, none_left, pass_step}
 use Rattle.blif_reader.proofs.drivers.two_drivers.Goals as goal
 
-pub loop-step-init : goal.loop-step-init
-unfolding names_by clock_names
-loop-step-init c =
+pub loop-place-init : goal.loop-place-init
+unfolding two_drivers drives_of
+loop-place-init c =
     let flat = c.args.flat.now in
-    let all = flat_steps flat in
-    let none = append-nil (clock_names all) in
     record {
       marks =
-          c.requires.driven ∙ c.requires.clocks
-          ∙ ap (λ (names : List Name). map (is_one_of (clock_names all)) names) (sym flat.is_flat.first)
-          ∙ ap (λ (texts : List Name). map (is_one_of texts) flat.names) (sym none);
-      left = ap (λ (texts : List Name). driver_fault (clock_names all) texts all) none ∙ driver-fault all;
+          c.requires.driven ∙ c.requires.clocks ∙ ap (map (is_clock (flat_steps flat))) (sym flat.is_flat.first)
+          ∙ ap (λ (texts : List Name). map (is_one_of texts) flat.names) (sym (append-nil (clock_names (flat_steps flat))));
+      left = refl;
     }
 
 pub returns-then-drive_act-clause-fault : goal.returns-then-drive_act-clause-fault
-unfolding names_by clock_names
 returns-then-drive_act-clause-fault c =
-    let flat = c.args.flat.now in
-    let lt = rw c.as_slice-step-items.ensures.value at c.loop-step-test.true in
-    let is = rw c.as_slice-step-items.ensures.value at c.step-item.is in
-    let s = c.step-item.result in
-    let within = step_within flat.names flat.steps.items c.loop-step.step-index s flat.is_flat lt is in
-    let all = flat_steps flat in
-    let apart = subst (λ (names : List Name). has_repeat names ≡ false) (sym flat.is_flat.first) (names_apart all) in
-    let clock = c.requires.clocks ∙ ap (λ (names : List Name). map (is_one_of (clock_names all)) names) (sym flat.is_flat.first) in
-    driver_here all flat.names apart flat.steps.items c.loop-step.step-index s lt is within c.args.clocks.now c.loop-step.driven.items clock c.loop-step.invariant.marks _ (sym c.drive_act.ensures.twice ∙ c.if-drive_act.true) c.loop-step.invariant.left
+    let steps = flat_steps c.args.flat.now in
+    let here = c.step_at-step.ensures in
+    let told = step_drives c.args.flat.now _ c.args.clocks.now _ here c.requires.clocks c.loop-place.invariant.marks in
+    rw (told.0, ← c.drive_act.ensures.twice, c.if-drive_act.true) at (pass_step (driver_answer steps) (drives_at steps) here c.loop-place.invariant.left)
 
-pub loop-step-preserved : goal.loop-step-preserved
-unfolding names_by clock_names
-loop-step-preserved c =
-    let flat = c.args.flat.now in
-    let lt = rw c.as_slice-step-items.ensures.value at c.loop-step-test.true in
-    let is = rw c.as_slice-step-items.ensures.value at c.step-item.is in
-    let s = c.step-item.result in
-    let within = step_within flat.names flat.steps.items c.loop-step.step-index s flat.is_flat lt is in
-    let all = flat_steps flat in
-    let apart = subst (λ (names : List Name). has_repeat names ≡ false) (sym flat.is_flat.first) (names_apart all) in
-    let clock = c.requires.clocks ∙ ap (λ (names : List Name). map (is_one_of (clock_names all)) names) (sym flat.is_flat.first) in
+pub loop-place-preserved : goal.loop-place-preserved
+loop-place-preserved c =
+    let steps = flat_steps c.args.flat.now in
+    let here = c.step_at-step.ensures in
+    let told = step_drives c.args.flat.now _ c.args.clocks.now _ here c.requires.clocks c.loop-place.invariant.marks in
     record {
-      marks = marks_next all flat.names apart flat.steps.items c.loop-step.step-index s lt is within c.args.clocks.now c.loop-step.driven.items clock c.loop-step.invariant.marks c.drive_act.new.driven.items (c.drive_act.ensures.grown c.if-drive_act.false);
-      left = driver_later all flat.names apart flat.steps.items c.loop-step.step-index s lt is within c.args.clocks.now c.loop-step.driven.items clock c.loop-step.invariant.marks _ (sym c.drive_act.ensures.twice ∙ c.if-drive_act.false) c.loop-step.invariant.left;
+      marks = rw (given_so_far (drives_at steps) here) (c.drive_act.ensures.grown c.if-drive_act.false ∙ told.1);
+      left = rw (told.0, ← c.drive_act.ensures.twice, c.if-drive_act.false) at (pass_step (driver_answer steps) (drives_at steps) here c.loop-place.invariant.left);
     }
 
 pub returns-clause-fault : goal.returns-clause-fault
-returns-clause-fault c =
+unfolding first_after
+returns-clause-fault c = rw (none_left c.args.flat.now c.loop-place.place (grind (arith, common_steps))) at c.loop-place.invariant.left
+
+pub returns-clause-driven : goal.returns-clause-driven
+unfolding drives_of
+returns-clause-driven c = λ none.
     let flat = c.args.flat.now in
-    let past = rw c.as_slice-step-items.ensures.value at c.loop-step-test.false in
-    driver_end (flat_steps flat) flat.names (settled_so_far (flat_steps flat) (steps_by flat.names (take c.loop-step.step-index flat.steps.items))) flat.steps.items c.loop-step.step-index _ past c.loop-step.invariant.left
+    let marks = rw (all_done flat c.loop-place.place (grind (arith, common_steps))) at c.loop-place.invariant.marks in
+    marks ∙ ap (map (is_one_of (settled (flat_steps flat) (drives_of (flat_steps flat))))) flat.is_flat.first

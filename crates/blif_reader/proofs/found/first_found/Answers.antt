@@ -1,42 +1,34 @@
-use Rattle.std.proofs.Common.{◌∙◌, length, sym}
+use Rattle.std.proofs.Common.{◌∙◌, ap, arith, length, List, sym}
+use Rattle.std.specs.Prelude.{find, None, Some}
+use Rattle.std.proofs.lemmas.Grind.{common_steps}
+use Rattle.blif_model.specs.Walk.{Step}
 use Rattle.blif_flatten.specs.Flat.{name_at}
-use Rattle.blif_flatten.specs.Sorts.{ids_of}
-use Rattle.blif_flatten.proofs.Marking.{step_within}
-use Rattle.blif_reader.specs.Found.{is_wanted, passes}
-use Rattle.blif_reader.proofs.Finding.{found_here, found_later, found_end, found_within}
+use Rattle.blif_reader.specs.Found.{is_wanted, passes, visits_by}
+use Rattle.blif_reader.proofs.Finding.{found_step, found_within}
+use Rattle.blif_reader.proofs.FlatSteps.{none_left}
 use Rattle.blif_reader.proofs.found.first_found.Goals as goal
 
-pub returns-in-Some-clause-name : goal.returns-in-Some-clause-name
-returns-in-Some-clause-name c = λ test are.
-    let flat = c.args.flat.now in
-    let lt = rw c.as_slice-step-items.ensures.value at c.loop-step-test.true in
-    let is = rw c.as_slice-step-items.ensures.value at c.step-item.is in
-    let s = c.step-item.result in
-    let within = step_within flat.names flat.steps.items c.loop-step.step-index s flat.is_flat lt is in
-    found_here flat.names c.args.marks.now c.args.wanted test are c.args.sort flat.steps.items c.loop-step.step-index s (ids_of c.mentions_in.result) lt is (c.mentions_in.ensures.names (name_at flat.names))
-    (c.mentions_in.ensures.within (length flat.names) within) c.in-Some.name _ (sym c.first_in.ensures ∙ c.in-Some.is) (c.loop-step.invariant test are)
+pub returns-in-Some-clause-visit : goal.returns-in-Some-clause-visit
+returns-in-Some-clause-visit c = λ test are.
+    let names = c.args.flat.now.names in
+    let here = c.step_at-step.ensures in
+    sym (found_step _ _ _ test are _ _ _ _ (Some c.in-Some.name) here (c.mentions_in.ensures.names (name_at names))
+    (c.mentions_in.ensures.within (length names) here.within) (sym c.in-Some.is ∙ c.first_in.ensures)) ∙ c.loop-place.invariant test are
 
 pub returns-in-Some-clause-within : goal.returns-in-Some-clause-within
 returns-in-Some-clause-within c =
-    let flat = c.args.flat.now in
-    let lt = rw c.as_slice-step-items.ensures.value at c.loop-step-test.true in
-    let is = rw c.as_slice-step-items.ensures.value at c.step-item.is in
-    let s = c.step-item.result in
-    let within = step_within flat.names flat.steps.items c.loop-step.step-index s flat.is_flat lt is in
-    found_within (length flat.names) (is_wanted c.args.marks.now c.args.wanted) (ids_of c.mentions_in.result) c.in-Some.name (c.mentions_in.ensures.within (length flat.names) within) (sym c.first_in.ensures ∙ c.in-Some.is)
+    let count = length c.args.flat.now.names in
+    found_within count (is_wanted c.args.marks.now c.args.wanted) _ c.in-Some.name
+    (c.mentions_in.ensures.within count c.step_at-step.ensures.within) (sym c.first_in.ensures ∙ c.in-Some.is)
 
-pub loop-step-preserved : goal.loop-step-preserved
-loop-step-preserved c = λ test are.
-    let flat = c.args.flat.now in
-    let lt = rw c.as_slice-step-items.ensures.value at c.loop-step-test.true in
-    let is = rw c.as_slice-step-items.ensures.value at c.step-item.is in
-    let s = c.step-item.result in
-    let within = step_within flat.names flat.steps.items c.loop-step.step-index s flat.is_flat lt is in
-    found_later flat.names c.args.marks.now c.args.wanted test are c.args.sort flat.steps.items c.loop-step.step-index s (ids_of c.mentions_in.result) lt is (c.mentions_in.ensures.names (name_at flat.names))
-    (c.mentions_in.ensures.within (length flat.names) within) _ (sym c.first_in.ensures ∙ c.in-None.is) (c.loop-step.invariant test are)
+pub loop-place-preserved : goal.loop-place-preserved
+loop-place-preserved c = λ test are.
+    let names = c.args.flat.now.names in
+    let here = c.step_at-step.ensures in
+    sym (found_step _ _ _ test are _ _ _ _ None here (c.mentions_in.ensures.names (name_at names))
+    (c.mentions_in.ensures.within (length names) here.within) (sym c.in-None.is ∙ c.first_in.ensures)) ∙ c.loop-place.invariant test are
 
-pub returns-clause-name : goal.returns-clause-name
-returns-clause-name c = λ test are.
-    let flat = c.args.flat.now in
-    let past = rw c.as_slice-step-items.ensures.value at c.loop-step-test.false in
-    found_end flat.names c.args.sort (passes c.args.wanted test) flat.steps.items c.loop-step.step-index _ past (c.loop-step.invariant test are)
+pub returns-clause-visit : goal.returns-clause-visit
+returns-clause-visit c = λ test are.
+    let none = none_left c.args.flat.now c.loop-place.place (grind (arith, common_steps)) in
+    sym (ap (λ (ss : List Step). find (passes c.args.wanted test) (visits_by c.args.sort ss)) none) ∙ c.loop-place.invariant test are

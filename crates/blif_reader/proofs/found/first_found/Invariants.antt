@@ -1,10 +1,11 @@
 use Rattle.std.proofs.Common.{◌≡◌, Bool, drop, map}
+use Rattle.std.specs.Prelude.{find}
 use Rattle.fm_base.specs.Names.{Name}
-use Rattle.blif_flatten.specs.Flat.{steps_by}
+use Rattle.blif_flatten.specs.Flat.{all_names}
 use Rattle.blif_flatten.specs.Flattened.{flat_steps}
-use Rattle.blif_reader.specs.Found.{first_named, passes}
+use Rattle.blif_reader.specs.Found.{passes, visits_by}
 use Rattle.blif_reader.proofs.found.first_found.Given as goal
 
-abbrev pub invariant-loop-step : goal.invariant-loop-step
-invariant-loop-step l = (test : Name → Bool) → l.marks ≡ map test l.flat.names
-    → first_named l.sort (passes l.wanted test) (steps_by l.flat.names (drop l.step-index l.flat.steps.items)) ≡ first_named l.sort (passes l.wanted test) (flat_steps l.flat)
+abbrev pub invariant-loop-place : goal.invariant-loop-place
+invariant-loop-place l = (test : Name → Bool) → l.marks ≡ map test (all_names (flat_steps l.flat))
+    → find (passes l.wanted test) (visits_by l.sort (drop l.place (flat_steps l.flat))) ≡ find (passes l.wanted test) (visits_by l.sort (flat_steps l.flat))
