@@ -23,10 +23,10 @@ use Rattle.blif_flatten.specs.declared.flat.NumberedStep.{NumberedStep}
 use Rattle.blif_flatten.specs.Flat.{act_by, AreBelow, ids_in, name_at, step_by}
 use Rattle.blif_flatten.specs.Flattened.{flat_steps}
 use Rattle.blif_flatten.specs.Marks.{marked}
-use Rattle.blif_flatten.proofs.Marking.{mark_one, mark_names, names_apart}
+use Rattle.blif_flatten.proofs.Marking.{mark_one, mark_names}
 use Rattle.blif_reader.specs.Passes.{AreClockMarks, driven_ids, drives_twice, settled, unmarked}
 use Rattle.blif_reader.specs.Steps.{IsStep}
-use Rattle.blif_reader.proofs.FlatSteps.{given_or, unmarked_names}
+use Rattle.blif_reader.proofs.FlatSteps.{apart, given_or, unmarked_names}
 
 abbrev pub driver_answer : List Step → List Visit → Visit → Option NetlistFault
 driver_answer steps before d = given (has_visit before d.name || is_clock steps d.name) (at_line d.line TwoDrivers)
@@ -59,9 +59,6 @@ module _ (f : FlatModel) where
   driven_names clocks are (Table t) below = refl
   driven_names clocks are (Latch l) below = refl
 
-  apart : has_repeat f.names ≡ false
-  apart = subst (λ (names : List Name). has_repeat names ≡ false) (sym f.is_flat.first) (names_apart all)
-
   settled_found : (before : List Visit) (q : Name) → (has_visit before q || is_clock all q) ≡ is_one_of (settled all before) q
   settled_found before q =
       or_comm (has_visit before q) (is_clock all q) ∙ ap (λ b. is_clock all q || b) (visit-found before q)
@@ -84,7 +81,7 @@ module _ (f : FlatModel) where
         let here : slice_index_or marks id.0 false ≡ is_one_of (settled all before) d.name =
         ap (λ (ms : List Bool). slice_index_or ms id.0 false) are ∙ get_or-map (is_one_of (settled all before)) f.names id.0 [] false lt in
         let next : slice_set marks id.0 true ≡ map (is_one_of (settled all (before ++ d ∷ []))) f.names =
-        ap (λ (ms : List Bool). slice_set ms id.0 true) are ∙ mark_one (settled all before) f.names id.0 apart lt
+        ap (λ (ms : List Bool). slice_set ms id.0 true) are ∙ mark_one (settled all before) f.names id.0 (apart f) lt
         ∙ ap (λ (texts : List Name). map (is_one_of texts) f.names) (settled_more before (d ∷ [])) in
         let rest = twice_found ids (before ++ d ∷ []) (slice_set marks id.0 true) (All-tail (λ (i : NameId). i.0 < length f.names) id ids below) next in
         rw (settled_found before d.name, here, rest) (given_or (is_one_of (settled all before) d.name) (drives_twice (slice_set marks id.0 true) ids) (at_line line TwoDrivers))
@@ -92,7 +89,7 @@ module _ (f : FlatModel) where
     marks_behind : (ids : List NameId) (before : List Visit) (marks : List Bool) → AreBelow (length f.names) ids → marks ≡ map (is_one_of (settled all before)) f.names
         → marked marks ids ≡ map (is_one_of (settled all (before ++ names_at line (map (name_at f.names) ids)))) f.names
     marks_behind ids before marks below are =
-        ap (λ (ms : List Bool). marked ms ids) are ∙ mark_names (settled all before) f.names ids apart below
+        ap (λ (ms : List Bool). marked ms ids) are ∙ mark_names (settled all before) f.names ids (apart f) below
         ∙ ap (λ (names : List Name). map (is_one_of (settled all before ++ names)) f.names) (sym (names_at-names line (map (name_at f.names) ids)))
         ∙ ap (λ (texts : List Name). map (is_one_of texts) f.names) (settled_more before (names_at line (map (name_at f.names) ids)))
 

@@ -5,7 +5,7 @@ use Rattle.std.specs.Option.{option_or}
 use Rattle.std.proofs.lemmas.Grind.{flat_map-append}
 use Rattle.std.proofs.lemmas.List.Elements.{All-head, All-tail}
 use Rattle.std.proofs.lemmas.List.{append-nil, drop_all, drop_more, get_or-map, length-map, take_all, take_more}
-use Rattle.fm_base.specs.Names.{Name}
+use Rattle.fm_base.specs.Names.{Name, has_repeat}
 use Rattle.fm_base.specs.Firsts.{first_after, given}
 use Rattle.fm_base.proofs.Firsts.{first_after-append}
 use Rattle.blif_model.specs.Walk.{Step}
@@ -14,7 +14,7 @@ use Rattle.blif_flatten.specs.declared.flat.NumberedStep.{NumberedStep}
 use Rattle.blif_flatten.specs.declared.flat.NameId.{NameId}
 use Rattle.blif_flatten.specs.Flat.{all_names, AreBelow, name_at, step_by}
 use Rattle.blif_flatten.specs.Flattened.{flat_steps}
-use Rattle.blif_flatten.proofs.Marking.{step_within}
+use Rattle.blif_flatten.proofs.Marking.{names_apart, step_within}
 use Rattle.blif_reader.specs.Passes.{unmarked}
 use Rattle.blif_reader.specs.Steps.{IsStep}
 
@@ -39,6 +39,9 @@ module _ (f : FlatModel) (i : ℕ) where
     all_done = let size = length-map f.steps.items (step_by (name_at f.names)) in take_all i (flat_steps f) (omega arith)
 
 -- ---- values by numbers
+
+pub apart : (f : FlatModel) → has_repeat f.names ≡ false
+apart f = rw f.is_flat.first (names_apart (flat_steps f))
 
 -- the value of a number is that of its name
 pub value_at : {Y : Type 0} (f : FlatModel) (of : Name → Y) (ys : List Y) (d : Y) (id : NameId) → ys ≡ map of (all_names (flat_steps f)) → id.0 < length f.names → slice_index_or ys id.0 d ≡ of (name_at f.names id)

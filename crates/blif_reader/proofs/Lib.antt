@@ -1,8 +1,7 @@
 pub mod FlatSteps
 pub mod FlatNets
+pub mod NamedParts
 pub mod NetNumbers
-pub mod PartLines
-pub mod OutputLines
 pub mod Below
 pub mod Counting
 pub mod Mentions

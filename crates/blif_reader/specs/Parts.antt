@@ -1,24 +1,56 @@
--- The parts of a netlist, line by line.
-use Rattle.std.specs.Prelude.{◌≡◌, List, map, filter_map, flat_map}
-use Rattle.fm_base.specs.Names.{Name, distinct, is_one_of}
-use Rattle.blif_model.specs.Walk.{Step, latch_net, nets_of, table_net, taken}
-use Rattle.blif_model.specs.Net.{latch_of, table_of}
-use Rattle.net_names.specs.Nets.{net_id}
-use Rattle.blif_flatten.specs.Flat.{all_names}
-use Rattle.blif_reader.specs.declared.outputs.OutputNets.{OutputNets}
-use Rattle.blif_reader.specs.declared.parts.NetParts.{NetParts}
+-- The parts of a netlist, by the numbers of names.
+use Rattle.std.specs.Prelude.{Bool, true, List, [], ◌∷◌, Option, Some, None, if◌then◌else◌, map, slice_index_or, slice_set}
+use Rattle.circuit.specs.declared.parts.Latch.{Latch}
+use Rattle.circuit.specs.declared.parts.NetId.{NetId}
+use Rattle.circuit.specs.declared.parts.Table.{Table}
+use Rattle.fm_base.specs.Names.{Name}
+use Rattle.blif_model.specs.Grouped.{all_said}
+use Rattle.blif_model.specs.Models.{rows_below}
+use Rattle.blif_model.specs.Net.{lits_of, table_plane}
+use Rattle.blif_model.specs.Walk.{Act, takes, latch_net, outputs_at, table_net}
+use Rattle.blif_flatten.specs.declared.flat.NameId.{NameId}
+use Rattle.blif_flatten.specs.declared.flat.NumberedAct.{NumberedAct}
+use Rattle.blif_flatten.specs.declared.flat.NumberedAct.TheVariants as acts
+use Rattle.blif_flatten.specs.declared.flat.NumberedTable.{NumberedTable}
+use Rattle.blif_flatten.specs.declared.flat.NumberedLatch.{NumberedLatch}
+use Rattle.blif_reader.specs.declared.parts.Part.{Part}
+use Rattle.blif_reader.specs.declared.parts.Part.TheVariants.{Inputs, Outputs, TableNets, LatchNets}
+use Rattle.blif_reader.specs.Numbers.{net_at}
 
--- what the first lines of a walk give: inputs, tables beside their nets, and latches beside theirs
-abbrev pub net_parts : (steps done : List Step) → NetParts
-net_parts steps done = record {
-  inputs = map (net_id (nets_of steps)) (flat_map (λ s. taken steps s.act) done);
-  tables = filter_map (λ s. table_of (nets_of steps) s.act) done;
-  table_nets = map (net_id (nets_of steps)) (flat_map (λ s. table_net s.act) done);
-  latches = filter_map (λ s. latch_of (nets_of steps) s.act) done;
-  latch_nets = map (net_id (nets_of steps)) (flat_map (λ s. latch_net s.act) done);
+-- the names on an `.inputs` line of the main model
+abbrev pub inputs_at : Act → List Name
+inputs_at (takes names) = names
+inputs_at _ = []
+
+-- the names that a line has as such a part
+abbrev pub part_names : Part → Act → List Name
+part_names Inputs act = inputs_at act
+part_names Outputs act = outputs_at act
+part_names TableNets act = table_net act
+part_names LatchNets act = latch_net act
+
+abbrev pub net_table : List NetId → NumberedTable → Table
+net_table numbers t = record {
+  ins = map (net_at numbers) t.ins;
+  rows = map lits_of (rows_below (all_said t.below.now));
+  on = table_plane (rows_below (all_said t.below.now));
 }
 
--- the nets of these outputs, each once, and which names they are
-pub record AreOutputNets (steps : List Step) (done : List Name) (outputs : OutputNets) : Type 0 where
-  pub seen : outputs.seen.items ≡ map (is_one_of done) (all_names steps)
-  pub ids : outputs.ids ≡ map (net_id (nets_of steps)) (distinct done)
+abbrev pub net_latch : List NetId → NumberedLatch → Latch
+net_latch numbers l = record { from = net_at numbers l.from; to = net_at numbers l.to; start = l.start }
+
+-- the table of a line, if it is one
+abbrev pub table_in : List NetId → NumberedAct → Option Table
+table_in numbers (acts.Table t) = Some (net_table numbers t)
+table_in numbers _ = None
+
+-- the latch of a line, if it is one
+abbrev pub latch_in : List NetId → NumberedAct → Option Latch
+latch_in numbers (acts.Latch l) = Some (net_latch numbers l)
+latch_in numbers _ = None
+
+-- the numbers that aren't marked, each once
+abbrev pub first_ids : List Bool → List NameId → List NameId
+first_ids seen [] = []
+first_ids seen (id ∷ ids) =
+    if slice_index_or seen id.0 true then first_ids (slice_set seen id.0 true) ids else id ∷ first_ids (slice_set seen id.0 true) ids

@@ -1,15 +1,15 @@
 // The netlist of a flattened model.
-ghost use Rattle.std.specs.Prelude.{◌≡◌, ◌<◌, ◌^◌, IfOk, length, map};
+ghost use Rattle.std.specs.Prelude.{◌≡◌, ◌<◌, ◌≤◌, ◌^◌, IfOk, None, length};
+ghost use Rattle.circuit.specs.Sound.{IsNetlist};
 ghost use Rattle.blif_model.specs.Net.{circuit_of};
-ghost use Rattle.blif_model.specs.Walk.{is_clock};
-ghost use Rattle.blif_flatten.specs.Flat.{all_names};
+ghost use Rattle.blif_model.specs.Walk.{nets_of};
+ghost use Rattle.blif_model.specs.WalkFault.{walk_fault};
 ghost use Rattle.blif_flatten.specs.Flattened.{flat_steps};
-ghost use Rattle.blif_reader.specs.Ready.{IsWalkOfNetlist};
+ghost use Rattle.blif_reader.specs.Passes.{AreClockMarks};
 
-use crate::nets::net_names;
-use crate::numbers::NetNumbers;
-use crate::outputs::take_outputs;
-use crate::parts::{NetParts, take_parts};
+use crate::nets::{net_names, net_numbers};
+use crate::outputs::{input_nets, output_nets};
+use crate::parts::{Cells, Part, cells_of, part_nets};
 use blif_flatten::flat::FlatModel;
 use circuit::netlist::Netlist;
 use net_names::drivers::drivers_of;
@@ -19,31 +19,29 @@ use std::alloc::{AllocError, Global};
 pub fn flat_netlist(
     alloc: Global,
     flat: &FlatModel<'_, '_>,
-    clocks: Vec<bool>,
+    clocks: &[bool],
 ) -> Result<Netlist, AllocError>
-    requires clocks { clocks.items ≡ map (is_clock (flat_steps flat.now)) (all_names (flat_steps flat.now)) }
-    requires few { length flat.now.names < 2 ^ 32 }
-    requires ready { IsWalkOfNetlist (flat_steps flat.now) }
+    requires clocks { AreClockMarks flat.now clocks.now }
+    requires few_names { length flat.now.names < 2 ^ 32 }
+    requires few { length (nets_of (flat_steps flat.now)) ≤ 2 ^ 18 }
+    requires unfaulted { walk_fault (flat_steps flat.now) ≡ None }
+    requires sound { IsNetlist (circuit_of (flat_steps flat.now)) }
     ensures { IfOk result (λ n. n ≡ circuit_of (flat_steps flat.now)) }
 {
-    let names = net_names(alloc, &flat.names, clocks.as_slice())?;
-    let numbers = NetNumbers::new(alloc, clocks)?;
-    let parts = take_parts(alloc, flat, &numbers)?;
-    let outputs = take_outputs(alloc, flat, &numbers)?;
+    let names = net_names(alloc, flat, clocks)?;
+    let numbers = net_numbers(alloc, flat, clocks)?;
+    let inputs = input_nets(alloc, flat, clocks, numbers.as_slice())?;
+    let outputs = output_nets(alloc, flat, numbers.as_slice())?;
+    let Cells { tables, latches } = cells_of(alloc, flat, numbers.as_slice())?;
+    let table_nets = part_nets(alloc, flat, numbers.as_slice(), Part::TableNets)?;
+    let latch_nets = part_nets(alloc, flat, numbers.as_slice(), Part::LatchNets)?;
     let drivers = drivers_of(
         alloc,
-        parts.inputs.as_slice(),
-        parts.table_nets.as_slice(),
-        parts.latch_nets.as_slice(),
+        inputs.as_slice(),
+        table_nets.as_slice(),
+        latch_nets.as_slice(),
         names.len(),
     )?;
-    let NetParts {
-        inputs,
-        tables,
-        table_nets: _,
-        latches,
-        latch_nets: _,
-    } = parts;
     Ok(Netlist {
         names,
         drivers,

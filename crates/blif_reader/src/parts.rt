@@ -1,62 +1,135 @@
 // The parts of a netlist, taken from the flattened model.
-ghost use Rattle.std.specs.Prelude.{◌≡◌, ◌∷◌, ◌++◌, [], ◌<◌, ℕ, List, IfOk, OnOk, Some, length, map};
-ghost use Rattle.blif_model.specs.Walk.{Step, nets_of, unclocked};
-ghost use Rattle.blif_model.specs.Net.{latch_of, table_of};
+ghost use Rattle.std.specs.Prelude.{◌≡◌, ◌++◌, ℕ, IfOk, OnOk, filter_map, flat_map, length, map};
+ghost use Rattle.std.specs.Option.{option_to_list};
+ghost use Rattle.fm_base.specs.Names.{Name};
 ghost use Rattle.net_names.specs.Nets.{net_id};
-ghost use Rattle.blif_flatten.specs.Flat.{AreBelow, act_by, ids_in, name_at, all_names, step_by};
+ghost use Rattle.blif_model.specs.Net.{latch_of, table_of};
+ghost use Rattle.blif_model.specs.Walk.{latch_net, nets_of, outputs_at, table_net};
+ghost use Rattle.blif_flatten.specs.declared.flat.NameId.{NameId};
+ghost use Rattle.blif_flatten.specs.Flat.{act_by, AreBelow, ids_in, name_at};
 ghost use Rattle.blif_flatten.specs.Flattened.{flat_steps};
-ghost use Rattle.blif_reader.specs.Numbers.{AreNetNumbers};
-ghost use Rattle.blif_reader.specs.Parts.{net_parts};
-ghost use Rattle.blif_flatten.specs.declared.flat.NumberedAct.TheVariants as acts;
+ghost use Rattle.blif_reader.specs.Numbers.{AreNetNumbers, net_at};
+ghost use Rattle.blif_reader.specs.Parts.{inputs_at, latch_in, net_latch, net_table, part_names, table_in};
 
-use crate::numbers::NetNumbers;
+use crate::nets::{net, nets};
 use crate::rows::{plane_of, rows_of};
+use crate::steps::step_at;
 use blif_flatten::flat::{FlatModel, NameId, NumberedAct, NumberedLatch, NumberedStep, NumberedTable};
-use circuit::parts::{Latch, Latches, NetIds, Table, Tables};
+use circuit::parts::{Latch, Latches, NetId, NetIds, Table, Tables};
 use fm_base::Seq;
 use std::alloc::{AllocError, Global};
+use std::slice;
 
-/// Inputs, tables beside their nets, and latches beside theirs.
-#[derive(Drop)]
-pub struct NetParts {
-    pub inputs: NetIds,
-    pub tables: Tables,
-    pub table_nets: NetIds,
-    pub latches: Latches,
-    pub latch_nets: NetIds,
+/// Which names of a line are looked at.
+#[derive(Clone, Copy)]
+pub enum Part {
+    /// Those on an `.inputs` line of the main model.
+    Inputs,
+    /// Those on an `.outputs` line of the main model.
+    Outputs,
+    /// The net that a table drives.
+    TableNets,
+    /// The net that a latch drives.
+    LatchNets,
 }
 
-/// An input, unless it is a clock name.
-fn put_input(numbers: &NetNumbers, inputs: &mut NetIds, name: NameId) -> Result<(), AllocError>
-    requires { name.0 < length numbers.now.ids.items }
-    ensures { OnOk result ((steps : List Step) → AreNetNumbers steps numbers.now → inputs.new ≡ inputs.old ++ map (net_id (nets_of steps)) (unclocked steps (name_at (all_names steps) name ∷ []))) }
+fn inputs<'s>(act: &'s NumberedAct<'_, '_>) -> &'s [NameId]
+    ensures names { (f : NameId → Name) → map f result.now ≡ inputs_at (act_by f act.now) }
+    ensures within { (n : ℕ) → AreBelow n (ids_in act.now) → AreBelow n result.now }
 {
-    if numbers.is_clock(name) {
-        return Ok(());
+    match act {
+        NumberedAct::Inputs(names) => names.as_slice(),
+        _ => &[],
     }
-    inputs.push(numbers.net(name))
 }
 
-/// Inputs that are no clock names.
-fn put_inputs(numbers: &NetNumbers, inputs: &mut NetIds, names: &[NameId]) -> Result<(), AllocError>
-    requires { AreBelow (length numbers.now.ids.items) names.now }
-    ensures { OnOk result ((steps : List Step) → AreNetNumbers steps numbers.now → inputs.new ≡ inputs.old ++ map (net_id (nets_of steps)) (unclocked steps (map (name_at (all_names steps)) names.now))) }
+fn outputs<'s>(act: &'s NumberedAct<'_, '_>) -> &'s [NameId]
+    ensures names { (f : NameId → Name) → map f result.now ≡ outputs_at (act_by f act.now) }
+    ensures within { (n : ℕ) → AreBelow n (ids_in act.now) → AreBelow n result.now }
 {
-    for name in names {
-        put_input(numbers, inputs, *name)?;
+    match act {
+        NumberedAct::Outputs(names) => names.as_slice(),
+        _ => &[],
     }
-    Ok(())
 }
 
-fn net_table(
+fn table_nets<'s>(act: &'s NumberedAct<'_, '_>) -> &'s [NameId]
+    ensures names { (f : NameId → Name) → map f result.now ≡ table_net (act_by f act.now) }
+    ensures within { (n : ℕ) → AreBelow n (ids_in act.now) → AreBelow n result.now }
+{
+    match act {
+        NumberedAct::Table(table) => slice::from_ref(&table.out),
+        _ => &[],
+    }
+}
+
+fn latch_nets<'s>(act: &'s NumberedAct<'_, '_>) -> &'s [NameId]
+    ensures names { (f : NameId → Name) → map f result.now ≡ latch_net (act_by f act.now) }
+    ensures within { (n : ℕ) → AreBelow n (ids_in act.now) → AreBelow n result.now }
+{
+    match act {
+        NumberedAct::Latch(latch) => slice::from_ref(&latch.to),
+        _ => &[],
+    }
+}
+
+fn names_in<'s>(act: &'s NumberedAct<'_, '_>, part: Part) -> &'s [NameId]
+    ensures names { (f : NameId → Name) → map f result.now ≡ part_names part (act_by f act.now) }
+    ensures within { (n : ℕ) → AreBelow n (ids_in act.now) → AreBelow n result.now }
+{
+    match part {
+        Part::Inputs => inputs(act),
+        Part::Outputs => outputs(act),
+        Part::TableNets => table_nets(act),
+        Part::LatchNets => latch_nets(act),
+    }
+}
+
+/// The numbers of the names that the lines have as such a part.
+pub fn part_ids(
     alloc: Global,
-    numbers: &NetNumbers,
+    flat: &FlatModel<'_, '_>,
+    part: Part,
+) -> Result<Vec<NameId>, AllocError>
+    ensures names { IfOk result (λ ids. map (name_at flat.now.names) ids.items ≡ flat_map (λ s. part_names part s.act) (flat_steps flat.now)) }
+    ensures within { IfOk result (λ ids. AreBelow (length flat.now.names) ids.items) }
+{
+    let mut ids = Vec::new(alloc);
+    for place in 0..flat.steps.len() {
+        ids.extend_from_slice(names_in(&step_at(flat, place).act, part))?;
+    }
+    Ok(ids)
+}
+
+/// The nets that tables or latches drive.
+pub fn part_nets(
+    alloc: Global,
+    flat: &FlatModel<'_, '_>,
+    numbers: &[NetId],
+    part: Part,
+) -> Result<NetIds, AllocError>
+    requires { AreNetNumbers flat.now numbers.now }
+    ensures { IfOk result (λ ids. ids ≡ map (net_id (nets_of (flat_steps flat.now))) (flat_map (λ s. part_names part s.act) (flat_steps flat.now))) }
+{
+    let ids = part_ids(alloc, flat, part)?;
+    nets(alloc, numbers, ids.as_slice())
+}
+
+/// The tables and the latches.
+#[derive(Drop)]
+pub struct Cells {
+    pub tables: Tables,
+    pub latches: Latches,
+}
+
+fn table(
+    alloc: Global,
+    numbers: &[NetId],
     table: &NumberedTable<'_, '_>,
 ) -> Result<Table, AllocError>
-    requires { AreBelow (length numbers.now.ids.items) table.now.ins }
-    ensures { IfOk result (λ t. (steps : List Step) → AreNetNumbers steps numbers.now → table_of (nets_of steps) (act_by (name_at (all_names steps)) (acts.Table table.now)) ≡ Some t) }
+    ensures { IfOk result (λ t. t ≡ net_table numbers.now table.now) }
 {
-    let ins = numbers.nets(alloc, table.ins.as_slice())?;
+    let ins = nets(alloc, numbers, table.ins.as_slice())?;
     let rows = rows_of(alloc, table.below)?;
     Ok(Table {
         ins,
@@ -65,82 +138,61 @@ fn net_table(
     })
 }
 
-fn net_latch(numbers: &NetNumbers, latch: &NumberedLatch<'_>) -> Latch
-    requires from { latch.now.from.0 < length numbers.now.ids.items }
-    requires to { latch.now.to.0 < length numbers.now.ids.items }
-    ensures { (steps : List Step) → AreNetNumbers steps numbers.now → latch_of (nets_of steps) (act_by (name_at (all_names steps)) (acts.Latch latch.now)) ≡ Some result }
+fn latch(numbers: &[NetId], latch: &NumberedLatch<'_>) -> Latch
+    ensures { result ≡ net_latch numbers.now latch.now }
 {
     Latch {
-        from: numbers.net(latch.from),
-        to: numbers.net(latch.to),
+        from: net(numbers, latch.from),
+        to: net(numbers, latch.to),
         start: latch.start,
     }
 }
 
-/// A table and its net.
-fn put_table(
+/// The table or the latch of a line goes to the end.
+fn put_cell(
     alloc: Global,
-    numbers: &NetNumbers,
-    parts: &mut NetParts,
-    table: &NumberedTable<'_, '_>,
+    numbers: &[NetId],
+    cells: &mut Cells,
+    act: &NumberedAct<'_, '_>,
 ) -> Result<(), AllocError>
-    requires { AreBelow (length numbers.now.ids.items) (ids_in (acts.Table table.now)) }
-    ensures { OnOk result ((steps done : List Step) (line : ℕ) → AreNetNumbers steps numbers.now → parts.old ≡ net_parts steps done → parts.new ≡ net_parts steps (done ++ record { line = line; act = act_by (name_at (all_names steps)) (acts.Table table.now) } ∷ [])) }
+    ensures tables { OnOk result (cells.new.tables ≡ cells.old.tables ++ option_to_list (table_in numbers.now act.now)) }
+    ensures latches { OnOk result (cells.new.latches ≡ cells.old.latches ++ option_to_list (latch_in numbers.now act.now)) }
 {
-    let made = net_table(alloc, numbers, table)?;
-    parts.tables.push(made)?;
-    parts.table_nets.push(numbers.net(table.out))
-}
-
-/// A latch and its net.
-fn put_latch(
-    numbers: &NetNumbers,
-    parts: &mut NetParts,
-    latch: &NumberedLatch<'_>,
-) -> Result<(), AllocError>
-    requires { AreBelow (length numbers.now.ids.items) (ids_in (acts.Latch latch.now)) }
-    ensures { OnOk result ((steps done : List Step) (line : ℕ) → AreNetNumbers steps numbers.now → parts.old ≡ net_parts steps done → parts.new ≡ net_parts steps (done ++ record { line = line; act = act_by (name_at (all_names steps)) (acts.Latch latch.now) } ∷ [])) }
-{
-    parts.latches.push(net_latch(numbers, latch))?;
-    parts.latch_nets.push(numbers.net(latch.to))
-}
-
-/// What a line adds to the parts.
-fn put_step(
-    alloc: Global,
-    numbers: &NetNumbers,
-    parts: &mut NetParts,
-    step: &NumberedStep<'_, '_>,
-) -> Result<(), AllocError>
-    requires { AreBelow (length numbers.now.ids.items) (ids_in step.now.act) }
-    ensures { OnOk result ((steps done : List Step) → AreNetNumbers steps numbers.now → parts.old ≡ net_parts steps done → parts.new ≡ net_parts steps (done ++ step_by (name_at (all_names steps)) step.now ∷ [])) }
-{
-    match &step.act {
-        NumberedAct::Inputs(names) => put_inputs(numbers, &mut parts.inputs, names.as_slice()),
-        NumberedAct::Table(table) => put_table(alloc, numbers, parts, table),
-        NumberedAct::Latch(latch) => put_latch(numbers, parts, latch),
+    match act {
+        NumberedAct::Table(of) => cells.tables.push(table(alloc, numbers, of)?),
+        NumberedAct::Latch(of) => cells.latches.push(latch(numbers, of)),
         _ => Ok(()),
     }
 }
 
-/// The parts of the netlist of the flattened model.
-pub fn take_parts(
+#[tactic(auto, using(std::proofs::lemmas::Grind::common_steps, crate::proofs::NamedParts::filtered))]
+fn take_cells(
+    alloc: Global,
+    steps: &[NumberedStep<'_, '_>],
+    numbers: &[NetId],
+) -> Result<Cells, AllocError>
+    ensures tables { IfOk result (λ c. c.tables ≡ filter_map (λ s. table_in numbers.now s.act) steps.now) }
+    ensures latches { IfOk result (λ c. c.latches ≡ filter_map (λ s. latch_in numbers.now s.act) steps.now) }
+{
+    let mut cells = Cells {
+        tables: Seq::new(alloc),
+        latches: Seq::new(alloc),
+    };
+    for step in steps {
+        put_cell(alloc, numbers, &mut cells, &step.act)?;
+    }
+    Ok(cells)
+}
+
+/// The tables and the latches of the flattened model.
+pub fn cells_of(
     alloc: Global,
     flat: &FlatModel<'_, '_>,
-    numbers: &NetNumbers,
-) -> Result<NetParts, AllocError>
-    requires { AreNetNumbers (flat_steps flat.now) numbers.now }
-    ensures { IfOk result (λ p. p ≡ net_parts (flat_steps flat.now) (flat_steps flat.now)) }
+    numbers: &[NetId],
+) -> Result<Cells, AllocError>
+    requires { AreNetNumbers flat.now numbers.now }
+    ensures tables { IfOk result (λ c. c.tables ≡ filter_map (λ s. table_of (nets_of (flat_steps flat.now)) s.act) (flat_steps flat.now)) }
+    ensures latches { IfOk result (λ c. c.latches ≡ filter_map (λ s. latch_of (nets_of (flat_steps flat.now)) s.act) (flat_steps flat.now)) }
 {
-    let mut parts = NetParts {
-        inputs: Seq::new(alloc),
-        tables: Seq::new(alloc),
-        table_nets: Seq::new(alloc),
-        latches: Seq::new(alloc),
-        latch_nets: Seq::new(alloc),
-    };
-    for step in flat.steps.as_slice() {
-        put_step(alloc, numbers, &mut parts, step)?;
-    }
-    Ok(parts)
+    take_cells(alloc, flat.steps.as_slice(), numbers)
 }

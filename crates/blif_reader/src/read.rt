@@ -1,16 +1,17 @@
 // Reads the netlist of a file.
-ghost use Rattle.std.specs.Prelude.{◌≡◌, ◌<◌, ◌≤◌, ◌^◌, IfOk, length};
+ghost use Rattle.std.specs.Prelude.{◌≡◌, ◌<◌, ◌≤◌, ◌^◌, IfOk, length, nat_lt};
 ghost use Rattle.blif_text.specs.declared.NetlistKind.TheVariants.{TooLarge};
 ghost use Rattle.blif_model.specs.LineFault.{at_line};
 ghost use Rattle.blif_model.specs.Models.{main_of};
 ghost use Rattle.blif_model.specs.Net.{netlist_of};
-ghost use Rattle.blif_model.specs.Walk.{walk};
+ghost use Rattle.blif_model.specs.Walk.{nets_of};
 ghost use Rattle.blif_flatten.specs.Flattened.{flat_steps};
 ghost use Rattle.fm_base.specs.Answers.{Gives};
-ghost use Rattle.blif_reader.specs.Stages.{GiveSound, ModelsGive, unwalked_fault, WalkGives, WalkSound};
+ghost use Rattle.blif_reader.specs.Passes.{AreClockMarks};
+ghost use Rattle.blif_reader.specs.Stages.{IsSound, models_give, unwalked_fault, walk_gives};
 
-use crate::ids::net_count;
 use crate::netlist::flat_netlist;
+use crate::nets::net_count;
 use crate::sizes::{MOST_NETS, is_large, most_names};
 use crate::walk_faults::walk_fault;
 use blif_hierarchy::nest_faults::nest_fault;
@@ -36,39 +37,39 @@ fn too_large(line: u32) -> NetlistFault
     }
 }
 
+/// Which names are clock names.
+#[tactic(auto, unfolding(blif_flatten::specs::Sorts::names_by, blif_model::specs::Walk::clock_names))]
+fn clock_marks(alloc: Global, flat: &FlatModel<'_, '_>) -> Result<Vec<bool>, AllocError>
+    ensures { IfOk result (λ marks. AreClockMarks flat.now marks.items) }
+{
+    marks_of(alloc, flat, Sort::Clock)
+}
+
+/// The flattened model has more nets than may be.
+fn has_many_nets(flat: &FlatModel<'_, '_>, clocks: &[bool]) -> bool
+    requires { AreClockMarks flat.now clocks.now }
+    ensures { result ≡ nat_lt (2 ^ 18) (length (nets_of (flat_steps flat.now))) }
+{
+    net_count(clocks) > MOST_NETS
+}
+
 /// The netlist of the flattened model, unless its nets are too many or it has a fault.
 fn read_flat(
     alloc: Global,
     flat: &FlatModel<'_, '_>,
     line: u32,
 ) -> Result<Netlist, Refusal<NetlistFault>>
-    requires sound { WalkSound (flat_steps flat.now) }
+    requires sound { IsSound (walk_gives (flat_steps flat.now) line) }
     requires few { length flat.now.names < 2 ^ 32 }
-    ensures { WalkGives (flat_steps flat.now) line result }
+    ensures { Gives (walk_gives (flat_steps flat.now) line) result }
 {
-    let clocks = marks_of(alloc, flat, Sort::Clock)?;
-    if net_count(clocks.as_slice()) > MOST_NETS {
+    let clocks = clock_marks(alloc, flat)?;
+    if has_many_nets(flat, clocks.as_slice()) {
         return Err(Refusal::Fault(too_large(line)));
     }
-    if let Some(fault) = walk_fault(alloc, flat, clocks.as_slice())? {
-        return Err(Refusal::Fault(fault));
-    }
-    Ok(flat_netlist(alloc, flat, clocks)?)
-}
-
-/// The netlist of the walk of these models, unless its nets are too many or it has a fault.
-fn read_walk(
-    alloc: Global,
-    models: &ModelTable<'_, '_>,
-    line: u32,
-) -> Result<Netlist, Refusal<NetlistFault>>
-    requires { WalkSound (walk models.now) }
-    ensures { WalkGives (walk models.now) line result }
-{
-    let most = most_names(alloc, models)?;
-    match flatten(alloc, models, most)? {
-        Some(flat) => read_flat(alloc, &flat, line),
-        None => Err(Refusal::Fault(too_large(line))),
+    match walk_fault(alloc, flat, clocks.as_slice())? {
+        Some(fault) => Err(Refusal::Fault(fault)),
+        None => Ok(flat_netlist(alloc, flat, clocks.as_slice())?),
     }
 }
 
@@ -83,6 +84,7 @@ fn main_line(models: &ModelTable<'_, '_>) -> u32
 }
 
 /// The fault of the models that is found without a walk: the kinds from TwoModels to TooLarge, in this order.
+#[tactic(auto, using(fm_base::proofs::Options::none_both))]
 fn file_fault(
     alloc: Global,
     models: &ModelTable<'_, '_>,
@@ -91,13 +93,13 @@ fn file_fault(
     requires { line ≡ (main_of models.now).line }
     ensures { IfOk result (λ o. o ≡ unwalked_fault models.now) }
 {
-    let port = port_fault(alloc, models)?;
-    if port.is_some() {
-        return Ok(port);
+    match port_fault(alloc, models)? {
+        Some(fault) => return Ok(Some(fault)),
+        None => {}
     }
-    let nest = nest_fault(alloc, models)?;
-    if nest.is_some() {
-        return Ok(nest);
+    match nest_fault(alloc, models)? {
+        Some(fault) => return Ok(Some(fault)),
+        None => {}
     }
     if is_large(alloc, models)? {
         Ok(Some(too_large(line)))
@@ -108,14 +110,18 @@ fn file_fault(
 
 /// The netlist of a file's models, where no line is faulty.
 fn read_table(alloc: Global, models: &ModelTable<'_, '_>) -> Result<Netlist, Refusal<NetlistFault>>
-    requires { GiveSound models.now }
-    ensures { ModelsGive models.now result }
+    requires { IsSound (models_give models.now) }
+    ensures { Gives (models_give models.now) result }
 {
     let line = main_line(models);
-    let fault = file_fault(alloc, models, line)?;
-    match fault {
-        Some(fault) => Err(Refusal::Fault(fault)),
-        None => read_walk(alloc, models, line),
+    match file_fault(alloc, models, line)? {
+        Some(fault) => return Err(Refusal::Fault(fault)),
+        None => {}
+    }
+    let most = most_names(alloc, models)?;
+    match flatten(alloc, models, most)? {
+        Some(flat) => read_flat(alloc, &flat, line),
+        None => Err(Refusal::Fault(too_large(line))),
     }
 }
 

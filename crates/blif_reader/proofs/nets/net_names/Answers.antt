@@ -1,21 +1,12 @@
-use Rattle.std.proofs.Common.{◌≡◌, Bool, List, ap, arith, cond, false, get_or, length, refl, sym, ◌∙◌, ◌++◌, ◌∷◌, []}
-use Rattle.std.specs.Prelude.{slice_index_or}
-use Rattle.std.proofs.lemmas.List.{length-map, take_all}
-use Rattle.fm_base.specs.Names.{Name}
+use Rattle.std.proofs.Common.{◌∙◌, ap, map, sym}
+use Rattle.std.proofs.lemmas.Result.{IfOk-weaker}
 use Rattle.blif_model.specs.Walk.{is_clock, unclocked}
-use Rattle.blif_flatten.specs.Flat.{all_names}
+use Rattle.blif_flatten.specs.Flattened.{flat_steps}
 use Rattle.blif_reader.proofs.FlatNets.{nets-named}
-use Rattle.blif_reader.proofs.NetNumbers.{net_step}
 use Rattle.blif_reader.proofs.nets.net_names.Goals as goal
 
-pub loop-number-preserved : goal.loop-number-preserved
-loop-number-preserved c = λ steps named marked.
-    net_step steps c.args.clocks.now marked c.loop-number.number c.loop-number-test.true _ c.loop-number.nets c.put_net.new.nets refl
-    (c.in_ok-put_net.ensures ∙ ap (λ (names : List Name). cond (get_or c.args.clocks.now c.loop-number.number false) c.loop-number.nets (c.loop-number.nets ++ slice_index_or names c.loop-number.number [] ∷ [])) named)
-    (c.loop-number.invariant steps named marked)
-
 pub returns : goal.returns
-returns c = λ steps named marked.
-    let size : length c.args.clocks.now ≡ length (all_names steps) = ap (λ (bs : List Bool). length bs) marked ∙ length-map (all_names steps) (is_clock steps) in
-    let h = c.loop-number-test.false in
-    c.loop-number.invariant steps named marked ∙ ap (unclocked steps) (take_all c.loop-number.number (all_names steps) (omega arith)) ∙ sym (nets-named steps)
+returns c = IfOk-weaker c.own_names.result _ _ (λ nets named.
+    let flat = c.args.flat.now in
+    let steps = flat_steps flat in
+    named (is_clock steps) (c.requires ∙ ap (map (is_clock steps)) (sym flat.is_flat.first)) ∙ ap (unclocked steps) flat.is_flat.first ∙ sym (nets-named steps)) c.own_names.ensures

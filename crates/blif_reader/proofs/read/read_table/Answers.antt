@@ -1,16 +1,16 @@
-use Rattle.std.proofs.Common.{ℕ, subst, sym, ◌∙◌}
-use Rattle.blif_model.specs.Walk.{walk}
-use Rattle.blif_reader.specs.Stages.{WalkGives}
-use Rattle.blif_reader.proofs.Reading.{models_refused, models_sound, models_walk}
+use Rattle.std.proofs.Common.{◌^◌, ap, length, refl, sym, ◌∙◌}
+use Rattle.std.proofs.lemmas.Bool.{lt-ltb}
+use Rattle.blif_model.specs.Walk.{nets_of, walk}
+use Rattle.blif_reader.proofs.Reading.{over_names}
 use Rattle.blif_reader.proofs.read.read_table.Goals as goal
 
-pub returns-in-Some : goal.returns-in-Some
-returns-in-Some c = models_refused c.args.models.now c.in-Some.fault (sym c.in-Some.is ∙ c.in_ok-fault.ensures)
+pub read_flat-requires-clause-sound : goal.read_flat-requires-clause-sound
+read_flat-requires-clause-sound c =
+    let same = rw c.in-Some-2.is at c.in_ok-flat.ensures.steps in
+    λ p e. c.requires p (rw (sym c.in_ok-fault.ensures ∙ c.in-None.is, sym same, sym c.main_line-line.ensures) e)
 
-pub read_walk-requires : goal.read_walk-requires
-read_walk-requires c = models_sound c.args.models.now (sym c.in-None.is ∙ c.in_ok-fault.ensures) c.requires
-
-pub returns-in-None : goal.returns-in-None
-returns-in-None c =
-    models_walk c.args.models.now (sym c.in-None.is ∙ c.in_ok-fault.ensures) c.read_walk.result
-    (subst (λ (line : ℕ). WalkGives (walk c.args.models.now) line c.read_walk.result) c.main_line-line.ensures c.read_walk.ensures)
+pub returns-in-None-2 : goal.returns-in-None-2
+returns-in-None-2 c =
+    let over = rw c.in-None-2.is at c.in_ok-flat.ensures.steps in
+    let many = lt-ltb (2 ^ 18) (length (nets_of (walk c.args.models.now))) (over_names c.args.models.now c.in_ok-most.most c.in_ok-most.ensures.counted over) in
+    rw (sym c.in_ok-fault.ensures ∙ c.in-None.is, many, c.too_large.ensures, c.main_line-line.ensures) refl

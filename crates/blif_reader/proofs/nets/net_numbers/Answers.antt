@@ -1,0 +1,6 @@
+use Rattle.std.proofs.lemmas.Result.{IfOk-weaker}
+use Rattle.blif_reader.proofs.NetNumbers.{nets-numbered}
+use Rattle.blif_reader.proofs.nets.net_numbers.Goals as goal
+
+pub returns : goal.returns
+returns c = IfOk-weaker c.numbers_by.result _ _ (λ numbers e. nets-numbered c.args.flat.now c.args.clocks.now c.requires.marks numbers.items e) c.numbers_by.ensures
