@@ -1,5 +1,5 @@
 -- Names that are taken once, in place of all, and the faults of bindings.
-use Rattle.std.proofs.Common.{◌≡◌, ℕ, Bool, true, false, cond, not, ◌||◌, List, [], ◌∷◌, ◌++◌, refl, ap, ap₂, sym, ◌∙◌, flat_map, fold, map, option_map, is_none, is_some, arith, arith}
+use Rattle.std.proofs.Common.{◌≡◌, ℕ, Bool, true, false, cond, not, ◌||◌, List, [], ◌∷◌, ◌++◌, refl, ap, ap₂, sym, ◌∙◌, flat_map, fold, map, option_map, is_none, is_some, arith}
 use Rattle.std.specs.Prelude.{Option, Some, None, bytes_eq}
 use Rattle.std.specs.List.{list_any}
 use Rattle.std.specs.Option.{option_or}
@@ -13,7 +13,6 @@ use Rattle.fm_base.specs.Index.{with_name}
 use Rattle.fm_base.specs.Names.{Name, is_one_of, has_repeat}
 use Rattle.fm_base.proofs.Distinct.{same_name, bytes_eq-sym}
 use Rattle.fm_base.proofs.Finding.{list_any-map}
-use Rattle.fm_base.proofs.NameFacts.{keys_insert}
 use Rattle.fm_base.proofs.Options.{none_from, or_none, or_assoc as options_assoc}
 use Rattle.blif_text.specs.declared.NetlistFault.{NetlistFault}
 use Rattle.blif_text.specs.declared.NetlistKind.{NetlistKind}
@@ -34,7 +33,7 @@ use Rattle.blif_hierarchy.specs.Links.{file_links, first_links, has_bad_formal, 
 use Rattle.blif_hierarchy.specs.Ports.{bound_in, once, ports_among, ports_of}
 
 -- for sets of names that are seen as lists of them
-pub ruleset name_steps = (list_any-map, keys_insert)
+pub ruleset name_steps = (list_any-map)
 
 -- ---- names, each once
 

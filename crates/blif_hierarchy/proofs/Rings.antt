@@ -140,11 +140,14 @@ module _ (models : List Model) (cs : List (Vec ℕ Global)) (all : AllCallees mo
       let fault : ℕ → NetlistFault = λ n. at_line n Recursive in
       let own : Model → Model → Bool = λ m y. number_of y == number_of m in
       let answer : Model → Instance → Option NetlistFault =
-      λ m j. given (at_model models j.name (reaches models (length models) m.name) false) (fault j.line) in
-      (number_of, numbers_are, first_mapped fault (own_line models number_of) (λ m. first_where (answer m) (instances m)) models
-      (λ i m here. first_mapped fault (numbered_line models number_of (number_of m)) (answer m) (instances m)
-      (λ q j at. or_given Recursive None (at_model models j.name (own m) false) j.line
-      ∙ ap (λ b. given b (fault j.line)) (same_test i m here q j at))))
+      λ m j. given (at_model models j.name (reaches models (length models) m.name) false) (fault j.line) in (
+        number_of,
+        numbers_are,
+        first_mapped fault (own_line models number_of) (λ m. first_where (answer m) (instances m)) models
+            (λ i m here. first_mapped fault (numbered_line models number_of (number_of m)) (answer m) (instances m)
+            (λ q j at. or_given Recursive None (at_model models j.name (own m) false) j.line
+            ∙ ap (λ b. given b (fault j.line)) (same_test i m here q j at))),
+      )
 
 -- ---- nests
 

@@ -3,10 +3,8 @@ use Rattle.std.proofs.Common.{◌≡◌, ℕ, ◌+◌, ◌<◌, ◌≤◌, Bool,
 use Rattle.std.specs.Prelude.{Option, None, bytes_eq}
 use Rattle.std.specs.List.{list_any}
 use Rattle.std.specs.Option.{option_or}
-use Rattle.std.proofs.lemmas.List.{append-nil, at_drop_all, at_drop_more, map-append, map_more, map_push}
-use Rattle.std.proofs.lemmas.List.Sums.{fold_push}
+use Rattle.std.proofs.lemmas.List.{append-nil, at_drop_all, at_drop_more, map-append, map_more}
 use Rattle.fm_base.specs.Firsts.{first_after, given}
-use Rattle.fm_base.specs.Index.{with_name}
 use Rattle.fm_base.specs.Names.{Name, has_repeat, is_one_of}
 use Rattle.fm_base.proofs.Distinct.{bytes_eq-sym}
 use Rattle.fm_base.proofs.Tests.{both_false}
@@ -69,12 +67,6 @@ module _ (lines : List ModelLines) (i : ℕ) (x : ModelLines) (h : i < length li
       ∙ ap (λ (y : ModelLines). first_after second_fault before (model_of y ∷ behind)) (sym is)
       ∙ ap₂ (λ (b : Bool) (ms : List Model). option_or (given b (at_line x.line TwoModels)) (first_after second_fault ms behind))
       here (sym one_more))
-
-  pub names_step : (taken : List Name) → taken ≡ names_to lines i → with_name taken x.name.now ≡ names_to lines (i + 1)
-  names_step taken e =
-      ap (λ (names : List Name). with_name names x.name.now) e
-      ∙ sym (ap (λ (ms : List Model). once (model_names ms)) one_more ∙ ap once (map_push (λ (m : Model). m.name) before (model_of x))
-      ∙ fold_push with_name [] (model_names before) x.name.now)
 
 -- models of different names
 names_differ : (before models : List Model) → first_after second_fault before models ≡ None → has_repeat (model_names before) ≡ false

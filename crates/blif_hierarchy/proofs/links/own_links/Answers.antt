@@ -1,4 +1,4 @@
-use Rattle.std.proofs.Common.{◌≡◌, Bool, true, false, not, Bor, refl, arith}
+use Rattle.std.proofs.Common.{◌≡◌, Bool, not, Bor, arith}
 use Rattle.std.specs.Prelude.{Option, Some, None, is_none, is_some, option_map}
 use Rattle.blif_model.specs.Meant.{bindings_of}
 use Rattle.blif_model.specs.Models.{model_named}

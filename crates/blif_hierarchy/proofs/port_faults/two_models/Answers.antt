@@ -1,8 +1,9 @@
-use Rattle.std.proofs.Common.{true, false, [], ap, sym, ◌∙◌}
+use Rattle.std.proofs.Common.{true, false, [], ap, sym, ◌∙◌, arith}
+use Rattle.std.proofs.lemmas.Grind.{common_steps}
 use Rattle.fm_base.specs.Firsts.{first_after}
 use Rattle.fm_base.proofs.Tests.{not_not, not_true}
 use Rattle.blif_model.specs.ModelFault.{two_models}
-use Rattle.blif_hierarchy.proofs.SecondNames.{names_step, second_fault, second_step, second_end}
+use Rattle.blif_hierarchy.proofs.SecondNames.{second_fault, second_step, second_end}
 use Rattle.blif_hierarchy.proofs.port_faults.two_models.Goals as goal
 
 pub loop-model-init : goal.loop-model-init
@@ -20,8 +21,7 @@ loop-model-preserved c =
     let models = c.lines-model-items.result.now in
     let i = c.loop-model.model-index in
     record {
-      names = c.in_ok-insert.ensures.names
-          ∙ names_step models i c.model-item.result c.loop-model-test.true c.model-item.is c.loop-model.names c.loop-model.invariant.names;
+      names = grind (arith, common_steps);
       left = second_step models i c.model-item.result c.loop-model-test.true c.model-item.is
           c.loop-model.names false c.loop-model.invariant.names (not_true _ (sym c.in_ok-insert.ensures.added ∙ c.if-not-branch.false))
           ∙ c.loop-model.invariant.left;
