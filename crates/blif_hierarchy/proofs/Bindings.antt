@@ -120,7 +120,8 @@ fold_first found step answer each z (x ∷ xs) =
     ∙ options_assoc (found z) (answer x) (first_where answer xs)
 
 first_link : (models : List Model) (kind : NetlistKind) (line : LinkLines → Option ℕ) (test : Instance → Bool)
-    → ((f : LinkLines) (i : Instance) → line (first_links f (links_at (model_named models i.name) i)) ≡ option_or (line f) (given (test i) i.line))
+    → ((f : LinkLines) (i : Instance) → line (first_links f (links_at (model_named models i.name) i))
+    ≡ option_or (line f) (given (test i) i.line))
     → line no_links ≡ None → option_map (λ n. at_line n kind) (line (file_links models)) ≡ first_instance models (λ m i. test i) kind
 first_link models kind line test each none =
     let fault : Option ℕ → Option NetlistFault = option_map (λ n. at_line n kind) in

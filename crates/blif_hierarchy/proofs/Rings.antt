@@ -156,7 +156,8 @@ one_is true = refl
 one_is false = refl
 
 pub deep_lines : (models : List Model)
-    → option_map (λ n. at_line n TooDeep) (option_and_then (first_numbered models (λ m. one_if (has_nest models 32 m)) 1) (slice_get models 0))
+    → option_map (λ n. at_line n TooDeep)
+    (option_and_then (first_numbered models (λ m. one_if (has_nest models 32 m)) 1) (slice_get models 0))
     ≡ too_deep models
 unfolding too_deep instances first_where
 deep_lines [] = refl

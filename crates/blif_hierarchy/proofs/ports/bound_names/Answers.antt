@@ -12,5 +12,6 @@ loop-binding-preserved c =
     let so_far = c.loop-binding.invariant in
     record {
       formals = grind (arith, common_steps);
-      twice = rw more (c.in_ok-add_bound.ensures.twice ∙ rw (so_far.formals, so_far.twice) (sym (twice_more (formals_at (take i tokens)) formal)));
+      twice = rw more (c.in_ok-add_bound.ensures.twice
+          ∙ rw (so_far.formals, so_far.twice) (sym (twice_more (formals_at (take i tokens)) formal)));
     }
