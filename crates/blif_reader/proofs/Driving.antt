@@ -1,13 +1,12 @@
 -- TwoDrivers is found by the marks of what is driven.
-use Rattle.std.proofs.Common.{◌≡◌, ℕ, ◌+◌, ◌<◌, Bool, true, false, ◌||◌, List, [], ◌∷◌, ◌++◌, refl, ap, sym, subst, ◌∙◌, append_assoc, length, map}
+use Rattle.std.proofs.Common.{◌≡◌, ℕ, ◌+◌, ◌<◌, Bool, true, false, ◌||◌, List, [], ◌∷◌, ◌++◌, refl, ap, sym, subst, ◌∙◌, append_assoc, length, map, arith}
 use Rattle.std.specs.Prelude.{Option, slice_index_or, slice_set}
-use Rattle.std.specs.Option.{option_to_list}
 use Rattle.std.proofs.lemmas.List.{append-nil, get_or-map, map-append}
-use Rattle.std.proofs.lemmas.List.Elements.{All-nil, All-head, All-tail, All-filter}
+use Rattle.std.proofs.lemmas.List.Elements.{All-cons, All-nil, All-head, All-tail, All-filter}
 use Rattle.std.proofs.Math.Bool.{or_comm}
 use Rattle.fm_base.specs.Names.{Name, is_one_of, has_repeat}
 use Rattle.fm_base.specs.Firsts.{first_after, given}
-use Rattle.fm_base.proofs.Lists.{all_left, all_right}
+use Rattle.fm_base.proofs.Lists.{all_right}
 use Rattle.net_names.proofs.Times.{one_of_both}
 use Rattle.blif_text.specs.declared.NetlistKind.TheVariants.{TwoDrivers}
 use Rattle.blif_text.specs.declared.NetlistFault.{NetlistFault}
@@ -18,7 +17,7 @@ use Rattle.blif_model.proofs.Drivers.{names_at-names, visit-found}
 use Rattle.blif_flatten.specs.declared.flat.FlatModel.{FlatModel}
 use Rattle.blif_flatten.specs.declared.flat.NameId.{NameId}
 use Rattle.blif_flatten.specs.declared.flat.NumberedAct.{NumberedAct}
-use Rattle.blif_flatten.specs.declared.flat.NumberedAct.TheVariants.{Inputs, Outputs, Clocks, PortNets, Table, Latch}
+use Rattle.blif_flatten.specs.declared.flat.NumberedAct.TheVariants.{Inputs, Table, Latch}
 use Rattle.blif_flatten.specs.declared.flat.NumberedStep.{NumberedStep}
 use Rattle.blif_flatten.specs.Flat.{act_by, AreBelow, ids_in, name_at, step_by}
 use Rattle.blif_flatten.specs.Flattened.{flat_steps}
@@ -37,12 +36,9 @@ drives_at steps s = names_at s.line (taken steps s.act ++ table_net s.act ++ lat
 
 driven_below : (n : ℕ) (marks : List Bool) (act : NumberedAct) → AreBelow n (ids_in act) → AreBelow n (driven_ids marks act)
 driven_below n marks (Inputs ids) below = All-filter _ (λ (id : NameId). id.0 < n) ids below
-driven_below n marks (Outputs ids) below = All-nil (λ (id : NameId). id.0 < n)
-driven_below n marks (Clocks ids) below = All-nil (λ (id : NameId). id.0 < n)
-driven_below n marks (PortNets ids) below = All-nil (λ (id : NameId). id.0 < n)
 driven_below n marks (Table t) below = all_right (λ (id : NameId). id.0 < n) t.ins (t.out ∷ []) below
-driven_below n marks (Latch l) below =
-    all_left (λ (id : NameId). id.0 < n) (l.to ∷ []) (option_to_list l.control) (All-tail (λ (id : NameId). id.0 < n) l.from (l.to ∷ option_to_list l.control) below)
+driven_below n marks (Latch l) below = All-cons (λ (id : NameId). id.0 < n) l.to [] (below 1 l.to (omega arith)) (All-nil (λ (id : NameId). id.0 < n))
+driven_below n marks act below = All-nil (λ (id : NameId). id.0 < n)
 
 module _ (f : FlatModel) where
   abbrev all : List Step
@@ -53,11 +49,7 @@ module _ (f : FlatModel) where
   driven_names clocks are (Inputs ids) below =
       let names : List Name = unclocked all (map (name_at f.names) ids) in
       unmarked_names f (is_clock all) clocks are ids below ∙ sym (append-nil (names ++ []) ∙ append-nil names)
-  driven_names clocks are (Outputs ids) below = refl
-  driven_names clocks are (Clocks ids) below = refl
-  driven_names clocks are (PortNets ids) below = refl
-  driven_names clocks are (Table t) below = refl
-  driven_names clocks are (Latch l) below = refl
+  driven_names clocks are act below = refl
 
   settled_found : (before : List Visit) (q : Name) → (has_visit before q || is_clock all q) ≡ is_one_of (settled all before) q
   settled_found before q =

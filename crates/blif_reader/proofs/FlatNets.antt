@@ -10,7 +10,7 @@ use Rattle.fm_base.specs.Names.{Name, is_one_of, distinct}
 use Rattle.fm_base.proofs.Distinct.{same_name, is_same, filter-found, no_repeat_where}
 use Rattle.net_names.proofs.Few.{no_more}
 use Rattle.net_names.proofs.Times.{one_of_both}
-use Rattle.blif_model.specs.Walk.{Act, takes, gives, clocks, visits, flat_table, flat_latch, Step, Visit, visited, visits_of, clocked, clock_names, is_clock, unclocked, names_at, nets_of}
+use Rattle.blif_model.specs.Walk.{Act, flat_latch, Step, Visit, visited, visits_of, clocked, clock_names, is_clock, unclocked, names_at, nets_of}
 use Rattle.blif_model.specs.WalkFault.{control_of}
 use Rattle.blif_model.proofs.Drivers.{names_at-names}
 use Rattle.blif_flatten.proofs.Marking.{names_apart}
@@ -57,11 +57,7 @@ visited_all (s ∷ steps) =
 -- a control is a clock name
 control_clocked : (act : Act) (q : Name) → is_one_of (control_of act) q ≡ true → is_one_of (clocked act) q ≡ true
 control_clocked (flat_latch s) q h = h
-control_clocked (takes names) q h = cc
-control_clocked (gives names) q h = cc
-control_clocked (clocks names) q h = cc
-control_clocked (visits names) q h = cc
-control_clocked (flat_table ins out rows) q h = cc
+control_clocked act q h = cc
 
 module _ (steps : List Step) where
   abbrev is_net : Name → Bool

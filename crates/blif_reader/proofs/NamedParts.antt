@@ -13,11 +13,11 @@ use Rattle.fm_base.proofs.Distinct.{distinct-snoc}
 use Rattle.fm_base.proofs.Lists.{all_left}
 use Rattle.net_names.specs.Nets.{net_id}
 use Rattle.blif_model.specs.Net.{latch_of, table_of}
-use Rattle.blif_model.specs.Walk.{Act, takes, gives, clocks, visits, flat_table, flat_latch, Step, nets_of, taken, unclocked, is_clock}
+use Rattle.blif_model.specs.Walk.{Act, takes, Step, nets_of, taken, unclocked, is_clock}
 use Rattle.blif_flatten.specs.declared.flat.FlatModel.{FlatModel}
 use Rattle.blif_flatten.specs.declared.flat.NameId.{NameId}
 use Rattle.blif_flatten.specs.declared.flat.NumberedAct.{NumberedAct}
-use Rattle.blif_flatten.specs.declared.flat.NumberedAct.TheVariants.{Inputs, Outputs, Clocks, PortNets, Table as ATable, Latch as ALatch}
+use Rattle.blif_flatten.specs.declared.flat.NumberedAct.TheVariants.{Table as ATable, Latch as ALatch}
 use Rattle.blif_flatten.specs.declared.flat.NumberedStep.{NumberedStep}
 use Rattle.blif_flatten.specs.Flat.{act_by, AreBelow, ids_in, name_at, steps_by}
 use Rattle.blif_flatten.specs.Flattened.{flat_steps}
@@ -38,11 +38,7 @@ inputs_taken all (s ∷ some) =
   where
     own : (act : Act) → unclocked all (inputs_at act) ≡ taken all act
     own (takes names) = refl
-    own (gives names) = refl
-    own (clocks names) = refl
-    own (visits names) = refl
-    own (flat_table ins out rows) = refl
-    own (flat_latch s) = refl
+    own act = refl
 
 module _ (f : FlatModel) where
   -- ---- outputs
@@ -86,13 +82,10 @@ module _ (f : FlatModel) where
 
     cells_are : (act : NumberedAct) → AreBelow (length f.names) (ids_in act)
         → (table_in numbers act ≡ table_of (nets_of (flat_steps f)) (act_by (name_at f.names) act)) × (latch_in numbers act ≡ latch_of (nets_of (flat_steps f)) (act_by (name_at f.names) act))
-    cells_are (Inputs ids) below = (refl, refl)
-    cells_are (Outputs ids) below = (refl, refl)
-    cells_are (Clocks ids) below = (refl, refl)
-    cells_are (PortNets ids) below = (refl, refl)
     cells_are (ATable t) below = (rw (nets_are t.ins (all_left (λ (i : NameId). i.0 < length f.names) t.ins (t.out ∷ []) below)) refl, refl)
     cells_are (ALatch l) below =
         (refl, rw (net_is l.from (below 0 l.from (omega arith)), net_is l.to (below 1 l.to (omega arith))) refl)
+    cells_are act below = (refl, refl)
 
     pub all_cells : (steps : List NumberedStep) → All (λ s. AreBelow (length f.names) (ids_in s.act)) steps
         → (filter_map (λ s. table_in numbers s.act) steps ≡ filter_map (λ s. table_of (nets_of (flat_steps f)) s.act) (steps_by f.names steps))
