@@ -2,11 +2,9 @@ pub mod FlatSteps
 pub mod FlatNets
 pub mod NamedParts
 pub mod NetNumbers
-pub mod Below
-pub mod Counting
+pub mod LinesBelow
 pub mod Mentions
 pub mod Built
-pub mod Totals
 pub mod Reading
 pub mod Finding
 pub mod Driving

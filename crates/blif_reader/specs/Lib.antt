@@ -2,6 +2,7 @@ pub mod Steps
 pub mod Numbers
 pub mod Parts
 pub mod Mentions
+pub mod Counts
 pub mod Stages
 pub mod Passes
 pub mod Clocks

@@ -4,7 +4,6 @@ use Rattle.circuit.specs.declared.parts.Latch.{Latch}
 use Rattle.circuit.specs.declared.parts.NetId.{NetId}
 use Rattle.circuit.specs.declared.parts.Table.{Table}
 use Rattle.fm_base.specs.Names.{Name}
-use Rattle.blif_model.specs.Grouped.{all_said}
 use Rattle.blif_model.specs.Models.{rows_below}
 use Rattle.blif_model.specs.Net.{lits_of, table_plane}
 use Rattle.blif_model.specs.Walk.{Act, takes, latch_net, outputs_at, table_net}
@@ -32,8 +31,8 @@ part_names LatchNets act = latch_net act
 abbrev pub net_table : List NetId → NumberedTable → Table
 net_table numbers t = record {
   ins = map (net_at numbers) t.ins;
-  rows = map lits_of (rows_below (all_said t.below.now));
-  on = table_plane (rows_below (all_said t.below.now));
+  rows = map lits_of (rows_below t.below.now);
+  on = table_plane (rows_below t.below.now);
 }
 
 abbrev pub net_latch : List NetId → NumberedLatch → Latch

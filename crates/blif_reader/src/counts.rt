@@ -1,51 +1,45 @@
-// Instances and cells of a model.
-ghost use Rattle.std.specs.Prelude.{◌≡◌, ◌*◌, ◌<◌, ◌^◌, bytes_eq, codes, count_by, filter_map, if◌then◌else◌, is_some, length, max, min, sum_by};
+// Instances, cells and clock names of a model, counted line by line.
+ghost use Rattle.std.specs.Prelude.{◌≡◌, ◌+◌, ◌*◌, ◌<◌, ◌≤◌, ◌^◌, bytes_eq, codes, if◌then◌else◌, length, max, min, sum_by};
 ghost use Rattle.std.specs.Option.{option_map_or};
-ghost use Rattle.blif_model.specs.Models.{cells_from, instance_from, items_of, rows_below};
-ghost use Rattle.blif_model.specs.Statement.{statement_of, texts};
-ghost use Rattle.blif_text.specs.Read.{line_of};
-ghost use Rattle.blif_model.specs.Grouped.{all_said};
+ghost use Rattle.blif_model.specs.Grouped.{model_of};
 ghost use Rattle.blif_model.specs.Meant.{meant};
+ghost use Rattle.blif_model.specs.Models.{cells_from, items_of, rows_below};
+ghost use Rattle.blif_reader.specs.Counts.{count_on, instances_on, model_count};
 ghost use Rattle.blif_reader.specs.Mentions.{mentions_on};
 
+use crate::rows::RowsBelow;
+use blif_model::models::ModelLines;
+use blif_model::read_line::ReadLine;
 use blif_model::says::{Clocked, Says};
-use blif_model::statement::line_says;
-use blif_text::lines::TextLine;
 
-/// The line instances a model.
-fn is_instance(line: &TextLine<'_>) -> bool
-    ensures { result ≡ is_some (instance_from (line_of line.now).number (statement_of (texts (line_of line.now)))) }
+/// What is counted of a line.
+#[derive(Clone, Copy)]
+pub enum Count {
+    /// It is a `.subckt` line.
+    Instances,
+    /// The cells of a table: rows times inputs, where none count as one.
+    Cells,
+    /// The names on a `.clock` line, and the control of a latch.
+    Mentions,
+}
+
+fn line_instances(says: Says<'_, '_>) -> usize
+    ensures { result ≡ instances_on (meant says.entry) }
 {
-    match line_says(line) {
-        Says::Instance { .. } => true,
-        _ => false,
+    match says {
+        Says::Instance { .. } => 1,
+        _ => 0,
     }
 }
 
-fn count_instances(lines: &[TextLine<'_>]) -> usize
-    ensures { result ≡ count_by (λ line. is_some (instance_from (line_of line).number (statement_of (texts (line_of line))))) lines.now }
-{
-    lines.iter().filter(|line| is_instance(line)).count()
-}
-
-/// The `.subckt` lines of a model, up to the cap.
-pub fn capped_instances(lines: &[TextLine<'_>], cap: u64) -> u64
-    ensures { result ≡ min cap (length (filter_map (λ item. instance_from item.line item.says) (items_of (all_said lines.now)))) }
-{
-    (count_instances(lines) as u64).min(cap)
-}
-
 /// The number of rows that stand directly below a line.
-fn row_count(below: &[TextLine<'_>]) -> usize
-    ensures { result ≡ length (rows_below (all_said below.now)) }
+fn row_count(below: &[ReadLine<'_>]) -> usize
+    ensures { result ≡ length (rows_below below.now) }
 {
     let mut count: usize = 0;
-    for line in below {
-        match line_says(line) {
-            Says::Row(_) => count += 1,
-            Says::Passed => {}
-            _ => return count,
-        }
+    let mut left = RowsBelow { lines: below };
+    'rows: while let Some(_) = left.next() {
+        count += 1;
     }
     count
 }
@@ -61,30 +55,14 @@ fn capped_product(rows: usize, inputs: usize, cap: u64) -> u64
 }
 
 /// The cells of a line, up to the cap.
-fn line_cells(says: Says<'_, '_>, below: &[TextLine<'_>], cap: u64) -> u64
+fn line_cells(says: Says<'_, '_>, below: &[ReadLine<'_>], cap: u64) -> u64
     requires { cap < 2 ^ 32 }
-    ensures { result ≡ min cap (cells_from (meant says.entry) (rows_below (all_said below.now))) }
+    ensures { result ≡ min cap (cells_from (meant says.entry) (rows_below below.now)) }
 {
     match says {
         Says::Table { ins, .. } => capped_product(row_count(below), ins.len(), cap),
         _ => 0,
     }
-}
-
-/// The cells of a model's lines, up to the cap.
-pub fn capped_cells(lines: &[TextLine<'_>], cap: u64) -> u64
-    requires { cap < 2 ^ 32 }
-    ensures { result ≡ min cap (sum_by (λ item. cells_from item.says item.rows) (items_of (all_said lines.now))) }
-{
-    let mut total: u64 = 0;
-    let mut rest = lines;
-    'lines: while let [line, below @ ..] = rest {
-        total = total
-            .saturating_add(line_cells(line_says(line), below, cap))
-            .min(cap);
-        rest = below;
-    }
-    total
 }
 
 /// The control of a latch, where it has one; `NIL` is none.
@@ -114,16 +92,42 @@ fn line_mentions(says: Says<'_, '_>) -> usize
     }
 }
 
-/// The clock names of a model's lines, up to the cap.
-pub fn capped_mentions(lines: &[TextLine<'_>], cap: u64) -> u64
+/// What is counted of a line, up to the cap.
+fn line_count(count: Count, says: Says<'_, '_>, below: &[ReadLine<'_>], cap: u64) -> u64
     requires { cap < 2 ^ 32 }
-    ensures { result ≡ min cap (sum_by (λ item. mentions_on item.says) (items_of (all_said lines.now))) }
+    ensures { result ≡ min cap (count_on count (meant says.entry) (rows_below below.now)) }
+{
+    match count {
+        Count::Instances => (line_instances(says) as u64).min(cap),
+        Count::Cells => line_cells(says, below, cap),
+        Count::Mentions => (line_mentions(says) as u64).min(cap),
+    }
+}
+
+fn capped_add(total: u64, more: u64, cap: u64) -> u64
+    requires { cap < 2 ^ 32 }
+    ensures { result ≡ min cap (total + more) }
+{
+    total.saturating_add(more).min(cap)
+}
+
+/// What is counted of lines, summed up to the cap.
+fn capped_lines(count: Count, lines: &[ReadLine<'_>], cap: u64) -> u64
+    requires { cap < 2 ^ 32 }
+    ensures { result ≡ min cap (sum_by (λ item. count_on count item.says item.rows) (items_of lines.now)) }
 {
     let mut total: u64 = 0;
-    for line in lines {
-        total = total
-            .saturating_add(line_mentions(line_says(line)) as u64)
-            .min(cap);
+    for (place, line) in lines.iter().enumerate() {
+        let own = line_count(count, line.says(), &lines[place + 1..], cap);
+        total = capped_add(total, own, cap);
     }
     total
+}
+
+/// What is counted of a model's own lines, up to the cap.
+pub fn capped_count(count: Count, model: &ModelLines<'_, '_>, cap: u64) -> u64
+    requires { cap < 2 ^ 32 }
+    ensures { result ≡ min cap (model_count count (model_of model.now)) }
+{
+    capped_lines(count, model.items, cap)
 }

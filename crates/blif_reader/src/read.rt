@@ -14,7 +14,7 @@ use crate::netlist::flat_netlist;
 use crate::nets::net_count;
 use crate::sizes::{MOST_NETS, is_large, most_names};
 use crate::walk_faults::walk_fault;
-use blif_hierarchy::nest_faults::nest_fault;
+use blif_hierarchy::graph::ModelGraph;
 use blif_hierarchy::port_faults::port_fault;
 use blif_model::model_list::read_models;
 use blif_text::{NetlistFault, NetlistKind};
@@ -88,20 +88,22 @@ fn main_line(models: &ModelTable<'_, '_>) -> u32
 fn file_fault(
     alloc: Global,
     models: &ModelTable<'_, '_>,
+    graph: &ModelGraph<'_, '_, '_>,
     line: u32,
 ) -> Result<Option<NetlistFault>, AllocError>
-    requires { line ≡ (main_of models.now).line }
+    requires graph { graph.now ≡ models.now }
+    requires line { line ≡ (main_of models.now).line }
     ensures { IfOk result (λ o. o ≡ unwalked_fault models.now) }
 {
     match port_fault(alloc, models)? {
         Some(fault) => return Ok(Some(fault)),
         None => {}
     }
-    match nest_fault(alloc, models)? {
+    match graph.nest_fault(alloc)? {
         Some(fault) => return Ok(Some(fault)),
         None => {}
     }
-    if is_large(alloc, models)? {
+    if is_large(alloc, models, graph)? {
         Ok(Some(too_large(line)))
     } else {
         Ok(None)
@@ -114,11 +116,12 @@ fn read_table(alloc: Global, models: &ModelTable<'_, '_>) -> Result<Netlist, Ref
     ensures { Gives (models_give models.now) result }
 {
     let line = main_line(models);
-    match file_fault(alloc, models, line)? {
+    let graph = ModelGraph::new(alloc, models)?;
+    match file_fault(alloc, models, &graph, line)? {
         Some(fault) => return Err(Refusal::Fault(fault)),
         None => {}
     }
-    let most = most_names(alloc, models)?;
+    let most = most_names(alloc, models, &graph)?;
     match flatten(alloc, models, most)? {
         Some(flat) => read_flat(alloc, &flat, line),
         None => Err(Refusal::Fault(too_large(line))),

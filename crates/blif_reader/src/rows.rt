@@ -1,18 +1,43 @@
 // The rows of a table.
-ghost use Rattle.std.specs.Prelude.{◌≡◌, IfOk, codes, bytes_eq, map};
+ghost use Rattle.std.specs.Prelude.{◌≡◌, ◌<◌, ◌∷◌, [], IfOk, IfSome, MatchOption, bytes_eq, codes, length, map};
 ghost use Rattle.blif_model.specs.LineFault.{row_output};
 ghost use Rattle.blif_model.specs.Models.{rows_below};
 ghost use Rattle.blif_model.specs.Net.{lit_of, lits_of, table_plane};
-ghost use Rattle.blif_model.specs.Grouped.{all_said};
 ghost use Rattle.blif_model.specs.Tokens.{texts_of};
 
+use blif_model::read_line::ReadLine;
 use blif_model::says::Says;
-use blif_model::statement::line_says;
-use blif_text::lines::TextLine;
 use blif_text::token::Token;
 use circuit::parts::{Lit, Row, Rows};
 use fm_base::Seq;
 use std::alloc::{AllocError, Global};
+
+/// The lines below a line, from which the rows that stand directly there are taken one by one.
+#[derive(Drop)]
+pub struct RowsBelow<'m, 'a> {
+    pub lines: &'m [ReadLine<'a>],
+}
+
+impl<'m, 'a> RowsBelow<'m, 'a> {
+    /// The next row.
+    pub fn next(&mut self) -> Option<&'m [Token<'a>]>
+        ensures rows { MatchOption result (rows_below self.old.lines.now ≡ []) (λ tokens. rows_below self.old.lines.now ≡ texts_of tokens.now ∷ rows_below self.new.lines.now) }
+        ensures fewer { IfSome result (λ tokens. length self.new.lines.now < length self.old.lines.now) }
+    {
+        let lines = self.lines;
+        for (place, line) in lines.iter().enumerate() {
+            match line.says() {
+                Says::Row(tokens) => {
+                    self.lines = &lines[place + 1..];
+                    return Some(tokens);
+                }
+                Says::Passed => {}
+                _ => return None,
+            }
+        }
+        None
+    }
+}
 
 /// The literal of a cell.
 fn lit(cell: u8) -> Lit
@@ -27,14 +52,10 @@ fn lit(cell: u8) -> Lit
     }
 }
 
-fn lits(alloc: Global, cells: &[u8]) -> Result<Row, AllocError>
-    ensures { IfOk result (λ row. row ≡ map lit_of cells.now) }
+fn lits(alloc: Global, cells: &[u8]) -> Result<Vec<Lit>, AllocError>
+    ensures { IfOk result (λ row. row.items ≡ map lit_of cells.now) }
 {
-    let mut row = Seq::new(alloc);
-    for cell in cells {
-        row.push(lit(*cell))?;
-    }
-    Ok(row)
+    cells.iter().map(|cell| lit(*cell)).collect(alloc)
 }
 
 /// The literals of a row's tokens.
@@ -42,22 +63,19 @@ fn row_of(alloc: Global, tokens: &[Token<'_>]) -> Result<Row, AllocError>
     ensures { IfOk result (λ row. row ≡ lits_of (texts_of tokens.now)) }
 {
     match tokens {
-        [cells, _, ..] => lits(alloc, cells.text),
+        [cells, _, ..] => Ok(Seq::from_vec(lits(alloc, cells.text)?)),
         _ => Ok(Seq::new(alloc)),
     }
 }
 
 /// The rows that stand directly below a line.
-pub fn rows_of(alloc: Global, below: &[TextLine<'_>]) -> Result<Rows, AllocError>
-    ensures { IfOk result (λ rows. rows ≡ map lits_of (rows_below (all_said below.now))) }
+pub fn rows_of(alloc: Global, below: &[ReadLine<'_>]) -> Result<Rows, AllocError>
+    ensures { IfOk result (λ rows. rows ≡ map lits_of (rows_below below.now)) }
 {
     let mut rows = Seq::new(alloc);
-    for line in below {
-        match line_says(line) {
-            Says::Row(tokens) => rows.push(row_of(alloc, tokens)?)?,
-            Says::Passed => {}
-            _ => return Ok(rows),
-        }
+    let mut left = RowsBelow { lines: below };
+    'rows: while let Some(tokens) = left.next() {
+        rows.push(row_of(alloc, tokens)?)?;
     }
     Ok(rows)
 }
@@ -74,15 +92,12 @@ fn is_on(tokens: &[Token<'_>]) -> bool
 }
 
 /// The plane of the rows that stand directly below a line.
-pub fn plane_of(below: &[TextLine<'_>]) -> bool
-    ensures { result ≡ table_plane (rows_below (all_said below.now)) }
+pub fn plane_of(below: &[ReadLine<'_>]) -> bool
+    ensures { result ≡ table_plane (rows_below below.now) }
 {
-    for line in below {
-        match line_says(line) {
-            Says::Row(tokens) => return is_on(tokens),
-            Says::Passed => {}
-            _ => return true,
-        }
+    let mut rows = RowsBelow { lines: below };
+    match rows.next() {
+        Some(tokens) => is_on(tokens),
+        None => true,
     }
-    true
 }

@@ -9,8 +9,8 @@ read_flat-requires-clause-sound c =
     let same = rw c.in-Some-2.is at c.in_ok-flat.ensures.steps in
     λ p e. c.requires p (rw (sym c.in_ok-fault.ensures ∙ c.in-None.is, sym same, sym c.main_line-line.ensures) e)
 
-pub returns-in-None-2 : goal.returns-in-None-2
-returns-in-None-2 c =
+pub returns : goal.returns
+returns c =
     let over = rw c.in-None-2.is at c.in_ok-flat.ensures.steps in
     let many = lt-ltb (2 ^ 18) (length (nets_of (walk c.args.models.now))) (over_names c.args.models.now c.in_ok-most.most c.in_ok-most.ensures.counted over) in
     rw (sym c.in_ok-fault.ensures ∙ c.in-None.is, many, c.too_large.ensures, c.main_line-line.ensures) refl
