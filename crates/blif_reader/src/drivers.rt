@@ -7,8 +7,8 @@ ghost use Rattle.blif_flatten.specs.Marks.{marked};
 ghost use Rattle.blif_reader.specs.Passes.{AreClockMarks, AreSettledMarks, driven_ids, drives_twice, unmarked};
 
 use crate::steps::step_at;
-use blif_text::{NetlistFault, NetlistKind};
 use blif_flatten::flat::{FlatModel, NameId, NumberedAct};
+use blif_text::{NetlistFault, NetlistKind};
 
 /// A name is driven. The answer is whether it was marked before.
 fn drive(driven: &mut Vec<bool>, id: NameId) -> bool

@@ -111,10 +111,7 @@ pub fn net(numbers: &[NetId], name: NameId) -> NetId
 fn net_list(alloc: Global, numbers: &[NetId], names: &[NameId]) -> Result<Vec<NetId>, AllocError>
     ensures { IfOk result (λ ids. ids.items ≡ map (net_at numbers.now) names.now) }
 {
-    names
-        .iter()
-        .map(|name| net(numbers, *name))
-        .collect(alloc)
+    names.iter().map(|name| net(numbers, *name)).collect(alloc)
 }
 
 /// The numbers of the nets of names.

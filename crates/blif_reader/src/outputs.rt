@@ -16,11 +16,7 @@ use blif_flatten::flat::{FlatModel, NameId};
 use circuit::parts::{NetId, NetIds};
 use std::alloc::{AllocError, Global};
 
-fn unmarked(
-    alloc: Global,
-    clocks: &[bool],
-    names: &[NameId],
-) -> Result<Vec<NameId>, AllocError>
+fn unmarked(alloc: Global, clocks: &[bool], names: &[NameId]) -> Result<Vec<NameId>, AllocError>
     ensures { IfOk result (λ v. v.items ≡ unmarked clocks.now names.now) }
 {
     names
@@ -58,7 +54,11 @@ fn mark(seen: &mut Vec<bool>, name: NameId) -> bool
 }
 
 /// The numbers, each once.
-fn first_ids(alloc: Global, seen: &mut Vec<bool>, names: &[NameId]) -> Result<Vec<NameId>, AllocError>
+fn first_ids(
+    alloc: Global,
+    seen: &mut Vec<bool>,
+    names: &[NameId],
+) -> Result<Vec<NameId>, AllocError>
     requires { AreBelow (length seen.old.items) names.now }
     ensures { IfOk result (λ v. v.items ≡ first_ids seen.old.items names.now) }
 {

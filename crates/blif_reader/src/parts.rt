@@ -14,7 +14,9 @@ ghost use Rattle.blif_reader.specs.Parts.{inputs_at, latch_in, net_latch, net_ta
 use crate::nets::{net, nets};
 use crate::rows::{plane_of, rows_of};
 use crate::steps::step_at;
-use blif_flatten::flat::{FlatModel, NameId, NumberedAct, NumberedLatch, NumberedStep, NumberedTable};
+use blif_flatten::flat::{
+    FlatModel, NameId, NumberedAct, NumberedLatch, NumberedStep, NumberedTable,
+};
 use circuit::parts::{Latch, Latches, NetId, NetIds, Table, Tables};
 use fm_base::Seq;
 use std::alloc::{AllocError, Global};

@@ -14,10 +14,10 @@ ghost use Rattle.blif_reader.specs.Passes.{AreClockMarks, AreSettledMarks};
 use crate::clocks::two_clocks;
 use crate::drivers::two_drivers;
 use crate::found::first_found;
-use blif_text::{NetlistFault, NetlistKind};
 use blif_flatten::flat::FlatModel;
 use blif_flatten::marks::marks_of;
 use blif_flatten::sorts::Sort;
+use blif_text::{NetlistFault, NetlistKind};
 use net_names::copies::own_name;
 use std::alloc::{AllocError, Global};
 
