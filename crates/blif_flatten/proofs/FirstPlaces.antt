@@ -5,11 +5,10 @@ use Rattle.std.specs.Option.{option_or}
 use Rattle.std.specs.List.{slice_get}
 use Rattle.std.specs.Borrow.{Bor}
 use Rattle.std.proofs.lemmas.Bool.Decides.{nat_tests}
-use Rattle.std.proofs.lemmas.List.{length-append}
-use Rattle.std.proofs.lemmas.List.Folds.{find_at, position_or_len_push}
-use Rattle.std.proofs.lemmas.List.Sums.{prefix_len-le-length}
+use Rattle.std.proofs.lemmas.List.Folds.{find_at}
 use Rattle.std.proofs.lemmas.Option.{slice_get-map, slice_get_past, slice_get_read}
 use Rattle.std.proofs.lemmas.Slice.Eq.{bytes_eq-Decides}
+use Rattle.fm_base.proofs.Finding.{position-snoc}
 use Rattle.fm_base.proofs.Options.{or_none}
 use Rattle.blif_flatten.specs.Places.{AreNamePlaces, place_in}
 
@@ -18,11 +17,6 @@ pub added_new : (f g : List ℕ → Option ℕ) (name : List ℕ) (place : ℕ) 
     → ((q : List ℕ) → g q ≡ cond (bytes_eq name q) (Some place) (f q))
     → (q : List ℕ) → g q ≡ option_or (f q) (cond (bytes_eq name q) (Some place) None)
 added_new f g name place none e q = grind (arith, nat_tests, e q, (bytes_eq-Decides name q).0, or_none (f q))
-
--- the first place that passes, when one more comes
-place_push : {X : Type 0} (p : X → Bool) (xs : List X) (x : X)
-    → position p (xs ++ x ∷ []) ≡ option_or (position p xs) (cond (p x) (Some (length xs)) None)
-place_push p xs x = grind (arith, nat_tests, position_or_len_push p xs x, length-append xs (x ∷ []), prefix_len-le-length)
 
 -- what stands at the first place that passes
 pub placed : {X : Type 0} (p : X → Bool) (xs : List X)
@@ -38,4 +32,4 @@ pub places_push : {X : Type 0} (name_of : X → List ℕ) (xs : List X) (x : X) 
     → ((q : List ℕ) → place_in new q ≡ option_or (place_in old q) (cond (bytes_eq (name_of x) q) (Some n) None))
     → AreNamePlaces name_of (xs ++ x ∷ []) new
 places_push name_of xs x n old new size h e name =
-    e name ∙ rw (h name, size) (sym (place_push (λ y. bytes_eq (name_of y) name) xs x))
+    e name ∙ rw (h name, size) (sym (position-snoc (λ y. bytes_eq (name_of y) name) xs x))

@@ -4,13 +4,12 @@ use Rattle.std.proofs.Common.{refl, ap, sym, ◌∙◌, append_assoc, arith}
 use Rattle.std.specs.Prelude.{bytes_eq, flat_map, replicate, slice_index_or, slice_set}
 use Rattle.std.proofs.lemmas.List.{append-nil, map_more}
 use Rattle.std.proofs.lemmas.List.Elements.{All-head, All-tail, All-get_or}
-use Rattle.std.proofs.lemmas.List.Folds.{list_any-append}
 use Rattle.std.proofs.lemmas.Bool.Decides.{nat_tests}
 use Rattle.std.proofs.lemmas.Grind.{flat_map-append}
 use Rattle.std.proofs.Math.Bool.{or-false, or-true}
 use Rattle.fm_base.specs.Names.{Name, is_one_of, has_repeat}
 use Rattle.fm_base.proofs.Tests.{or_false}
-use Rattle.fm_base.proofs.Distinct.{distinct-apart, is_same, bytes_eq-sym}
+use Rattle.fm_base.proofs.Distinct.{distinct-apart, is_one_of-snoc, is_same, bytes_eq-sym}
 use Rattle.blif_model.specs.Walk.{Step}
 use Rattle.blif_flatten.specs.declared.flat.NameId.{NameId}
 use Rattle.blif_flatten.specs.declared.flat.NumberedStep.{NumberedStep}
@@ -32,15 +31,11 @@ either_left a b e = (or_false a b e).0
 pub either_right : (a b : Bool) → (a || b) ≡ false → b ≡ false
 either_right a b e = (or_false a b e).1
 
--- one more name that isn't this one, and one that is
-one_more : (xs : List Name) (x name : Name) → is_one_of (xs ++ x ∷ []) name ≡ (is_one_of xs name || bytes_eq name x)
-one_more xs x name = list_any-append (bytes_eq name) xs (x ∷ []) ∙ ap (λ b. is_one_of xs name || b) (or-false (bytes_eq name x))
-
 -- one more name that these lack
 others_stay : (xs names : List Name) (x : Name) → is_one_of names x ≡ false
     → map (is_one_of xs) names ≡ map (is_one_of (xs ++ x ∷ [])) names
 others_stay xs [] x lacks = refl
-others_stay xs (name ∷ names) x lacks = grind (arith, nat_tests, others_stay xs names x, one_more xs x name, bytes_eq-sym x name, or-false)
+others_stay xs (name ∷ names) x lacks = grind (arith, nat_tests, others_stay xs names x, is_one_of-snoc xs x name, bytes_eq-sym x name, or-false)
 
 -- a name that isn't among these isn't the one at a place
 pub not_there : (names : List Name) (x : Name) (k : ℕ) → is_one_of names x ≡ false → k < length names
@@ -52,9 +47,9 @@ not_there (name ∷ names) x (suc k) lacks lt = not_there names x k (either_righ
 pub mark_one : (xs names : List Name) (k : ℕ) → has_repeat names ≡ false → k < length names
     → slice_set (map (is_one_of xs) names) k true ≡ map (is_one_of (xs ++ slice_index_or names k [] ∷ [])) names
 mark_one xs [] k apart lt = absurd (omega arith)
-mark_one xs (name ∷ names) zero apart lt = grind (arith, nat_tests, others_stay xs names name, one_more xs name name, is_same name, or-true)
+mark_one xs (name ∷ names) zero apart lt = grind (arith, nat_tests, others_stay xs names name, is_one_of-snoc xs name name, is_same name, or-true)
 mark_one xs (name ∷ names) (suc k) apart lt =
-    grind (arith, nat_tests, mark_one xs names k, one_more xs (slice_index_or names k []) name, not_there names name k, or-false)
+    grind (arith, nat_tests, mark_one xs names k, is_one_of-snoc xs (slice_index_or names k []) name, not_there names name k, or-false)
 
 -- ---- marks of numbers
 

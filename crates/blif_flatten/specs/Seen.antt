@@ -11,6 +11,6 @@ abbrev pub scope_at : Place → Scope
 scope_at Main = top
 scope_at (Inner path bound) = inside path bound
 
-abbrev pub mention : Mention → Name → Name
-mention Whole text = text
-mention Actual text = (binding_of text).actual
+abbrev pub mentioned_name : Mention → Name → Name
+mentioned_name Whole text = text
+mentioned_name Actual text = (binding_of text).actual

@@ -3,7 +3,7 @@ ghost use Rattle.std.specs.Prelude.{◌≡◌, ◌∷◌, [], map, IfOk};
 ghost use Rattle.blif_model.specs.Tokens.{texts_of};
 ghost use Rattle.blif_model.specs.Walk.{net_of};
 ghost use Rattle.blif_flatten.specs.Numbering.{HaveNumbers};
-ghost use Rattle.blif_flatten.specs.Seen.{mention, scope_at};
+ghost use Rattle.blif_flatten.specs.Seen.{mentioned_name, scope_at};
 
 use crate::flat::NameId;
 use crate::place::{Place, net_in};
@@ -21,7 +21,7 @@ pub enum Mention {
 
 /// The name that a token mentions.
 fn mentioned<'a>(how: Mention, token: &Token<'a>) -> &'a [u8]
-    ensures { result.now ≡ mention how token.now.text.now }
+    ensures { result.now ≡ mentioned_name how token.now.text.now }
 {
     match how {
         Mention::Whole => token.text,
@@ -58,7 +58,7 @@ impl NetNames {
         how: Mention,
         tokens: &[Token<'_>],
     ) -> Result<Seq<NameId>, AllocError>
-        ensures { IfOk result (λ ids. HaveNumbers self.old.index self.new.index (map (λ t. net_of (scope_at place.now) (mention how t)) (texts_of tokens.now)) ids) }
+        ensures { IfOk result (λ ids. HaveNumbers self.old.index self.new.index (map (λ t. net_of (scope_at place.now) (mentioned_name how t)) (texts_of tokens.now)) ids) }
     {
         let mut ids = Seq::new(self.alloc);
         for token in tokens {

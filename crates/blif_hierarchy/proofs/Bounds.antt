@@ -9,7 +9,8 @@ use Rattle.std.proofs.lemmas.Option.{get_or_from_slice_get, slice_get_within}
 use Rattle.fm_base.specs.Names.{Name}
 use Rattle.fm_base.proofs.Tests.{clash}
 use Rattle.blif_model.specs.Models.{Model, Instance, at_model, instances, model_named, reaches}
-use Rattle.blif_hierarchy.proofs.Called.{found_passes, some_callee}
+use Rattle.fm_base.proofs.Options.{found_passes}
+use Rattle.blif_hierarchy.proofs.Called.{some_callee}
 
 -- a model that is found passes
 pub passing : (test : Model → Bool) (o : Option Model) → found_passes test o ≡ true → (z : Model) × (o ≡ Some z) × (test z ≡ true)

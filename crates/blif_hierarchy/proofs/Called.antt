@@ -8,6 +8,7 @@ use Rattle.std.proofs.lemmas.Grind.{common_steps}
 use Rattle.std.proofs.lemmas.List.{length-map}
 use Rattle.std.proofs.lemmas.List.Sums.{sum_by-cons}
 use Rattle.std.proofs.lemmas.Option.{get_or_from_slice_get, slice_get-map, slice_get_within}
+use Rattle.fm_base.proofs.Options.{found_passes}
 use Rattle.components.specs.Graph.{AreEdges, targets}
 use Rattle.blif_model.specs.Models.{Model, at_model, instances}
 use Rattle.blif_model.specs.declared.models.ModelLines.{ModelLines}
@@ -17,10 +18,6 @@ use Rattle.blif_hierarchy.specs.Lines.{instance_answer, instance_at}
 use Rattle.blif_hierarchy.proofs.FirstLines.{model_instances}
 
 -- ---- lists of what is there
-
--- what is found passes
-abbrev pub found_passes : {Y : Type 0} → (Y → Bool) → Option Y → Bool
-found_passes test o = option_map_or test o false
 
 pub any-filter_map : {X Y : Type 0} (p : Y → Bool) (h : X → Option Y) (xs : List X)
     → list_any p (filter_map h xs) ≡ list_any (λ x. found_passes p (h x)) xs

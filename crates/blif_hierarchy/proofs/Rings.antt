@@ -23,9 +23,10 @@ use Rattle.blif_model.specs.ModelFault.{recursive, too_deep, two_models}
 use Rattle.blif_hierarchy.specs.Callees.{AllCallees}
 use Rattle.blif_hierarchy.specs.Numbered.{first_numbered, numbered_line, own_line, ring_line}
 use Rattle.blif_hierarchy.specs.Rounds.{one_if}
+use Rattle.fm_base.proofs.Options.{found_passes}
 use Rattle.blif_hierarchy.proofs.Bindings.{or_given}
 use Rattle.blif_hierarchy.proofs.Bounds.{passing, reach_few}
-use Rattle.blif_hierarchy.proofs.Called.{any_callee, callees_long, found_passes, some_callee}
+use Rattle.blif_hierarchy.proofs.Called.{any_callee, callees_long, some_callee}
 use Rattle.blif_hierarchy.proofs.FirstLines.{first_mapped}
 use Rattle.blif_hierarchy.proofs.SecondNames.{model_names, names_apart}
 

@@ -9,12 +9,12 @@ use Rattle.blif_model.specs.declared.directive.Directive.{Directive}
 use Rattle.blif_model.specs.declared.directive.Directive.TheVariants.{Model, Inputs, Outputs, Clock, Table, Latch, Instance, End, Passed, Wrong}
 
 -- the names behind `.latch`, where type and initial value are good and the latch starts so
-abbrev pub latched : Bool → List Name → Statement
-latched start (from ∷ to ∷ []) = plain_latch from to start
-latched start (from ∷ to ∷ init ∷ []) = plain_latch from to start
-latched start (from ∷ to ∷ edge ∷ control ∷ names) =
+abbrev pub latch_statement : Bool → List Name → Statement
+latch_statement start (from ∷ to ∷ []) = plain_latch from to start
+latch_statement start (from ∷ to ∷ init ∷ []) = plain_latch from to start
+latch_statement start (from ∷ to ∷ edge ∷ control ∷ names) =
     latch (record { from = from; to = to; clocking = Some (record { edge = edge; control = control }); start = start })
-latched start _ = wrong kinds.BadLatch
+latch_statement start _ = wrong kinds.BadLatch
 
 -- the names behind `.subckt`, where all bindings are good
 abbrev pub instanced : List Name → Statement
@@ -28,7 +28,7 @@ directed Inputs names = inputs names
 directed Outputs names = outputs names
 directed Clock names = clock names
 directed Table names = table_line names
-directed (Latch start) names = latched start names
+directed (Latch start) names = latch_statement start names
 directed Instance names = instanced names
 directed End names = end_line names
 directed Passed names = passed

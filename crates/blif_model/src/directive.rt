@@ -1,7 +1,7 @@
 // What a directive makes of the tokens behind it.
 ghost use Rattle.std.specs.Prelude.{◌≡◌};
 ghost use Rattle.blif_model.specs.Statement.{end_line, model_line, table_line};
-ghost use Rattle.blif_model.specs.Directed.{directed, instanced, latched};
+ghost use Rattle.blif_model.specs.Directed.{directed, instanced, latch_statement};
 ghost use Rattle.blif_model.specs.Meant.{meant};
 ghost use Rattle.blif_model.specs.Tokens.{texts_of};
 
@@ -69,7 +69,7 @@ fn instance_says<'m, 'a>(names: &'m [Token<'a>]) -> Says<'m, 'a>
 }
 
 fn latch_says<'m, 'a>(start: bool, names: &'m [Token<'a>]) -> Says<'m, 'a>
-    ensures { meant result ≡ latched start (texts_of names.now) }
+    ensures { meant result ≡ latch_statement start (texts_of names.now) }
 {
     match names {
         [from, to] | [from, to, _] => Says::Latch(LatchSays {

@@ -2,10 +2,7 @@
 use Rattle.std.proofs.Common.{◌≡◌, ℕ, ◌<◌, ◌≤◌, ◌^◌, List, refl, sym, ◌∙◌, length, arith}
 use Rattle.std.specs.Prelude.{None, map, filter_map}
 use Rattle.std.proofs.lemmas.List.{length-map}
-use Rattle.circuit.specs.declared.parts.Driver.{Driver}
-use Rattle.circuit.specs.declared.parts.Latch.{Latch}
 use Rattle.circuit.specs.declared.parts.NetId.{NetId}
-use Rattle.circuit.specs.declared.parts.Table.{Table}
 use Rattle.circuit.specs.Circuit.{Circuit}
 use Rattle.fm_base.specs.Names.{Name}
 use Rattle.net_names.specs.Driven.{IsDrivenOnce}

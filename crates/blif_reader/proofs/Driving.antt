@@ -1,17 +1,17 @@
 -- TwoDrivers is found by the marks of what is driven.
-use Rattle.std.proofs.Common.{◌≡◌, ℕ, ◌+◌, ◌<◌, Bool, true, false, ◌||◌, List, [], ◌∷◌, ◌++◌, refl, ap, sym, subst, ◌∙◌, append_assoc, length, map, arith}
+use Rattle.std.proofs.Common.{◌≡◌, ℕ, ◌+◌, ◌<◌, Bool, true, false, ◌||◌, List, [], ◌∷◌, ◌++◌, refl, ap, sym, ◌∙◌, append_assoc, length, map, arith}
 use Rattle.std.specs.Prelude.{Option, slice_index_or, slice_set}
 use Rattle.std.proofs.lemmas.List.{append-nil, get_or-map, map-append}
 use Rattle.std.proofs.lemmas.List.Elements.{All-cons, All-nil, All-head, All-tail, All-filter}
 use Rattle.std.proofs.Math.Bool.{or_comm}
-use Rattle.fm_base.specs.Names.{Name, is_one_of, has_repeat}
+use Rattle.fm_base.specs.Names.{Name, is_one_of}
 use Rattle.fm_base.specs.Firsts.{first_after, given}
 use Rattle.fm_base.proofs.Lists.{all_right}
 use Rattle.net_names.proofs.Times.{one_of_both}
 use Rattle.blif_text.specs.declared.NetlistKind.TheVariants.{TwoDrivers}
 use Rattle.blif_text.specs.declared.NetlistFault.{NetlistFault}
 use Rattle.blif_model.specs.LineFault.{at_line}
-use Rattle.blif_model.specs.Walk.{Act, Step, Visit, clock_names, is_clock, latch_net, names_at, table_net, taken, unclocked}
+use Rattle.blif_model.specs.Walk.{Step, Visit, clock_names, is_clock, latch_net, names_at, table_net, taken, unclocked}
 use Rattle.blif_model.specs.WalkFault.{has_visit}
 use Rattle.blif_model.proofs.Drivers.{names_at-names, visit-found}
 use Rattle.blif_flatten.specs.declared.flat.FlatModel.{FlatModel}
@@ -23,7 +23,7 @@ use Rattle.blif_flatten.specs.Flat.{act_by, AreBelow, ids_in, name_at, step_by}
 use Rattle.blif_flatten.specs.Flattened.{flat_steps}
 use Rattle.blif_flatten.specs.Marks.{marked}
 use Rattle.blif_flatten.proofs.Marking.{mark_one, mark_names}
-use Rattle.blif_reader.specs.Passes.{AreClockMarks, driven_ids, drives_twice, settled, unmarked}
+use Rattle.blif_reader.specs.Passes.{AreClockMarks, driven_ids, drives_twice, settled}
 use Rattle.blif_reader.specs.Steps.{IsStep}
 use Rattle.blif_reader.proofs.FlatSteps.{apart, given_or, unmarked_names}
 

@@ -1,6 +1,6 @@
 -- What is found of numbers is what is found of their names.
 use Rattle.std.proofs.Common.{◌≡◌, ℕ, ◌+◌, ◌<◌, Bool, false, List, [], ◌∷◌, ◌++◌, refl, ap, sym, subst, ◌∙◌, length, get_or, drop, map}
-use Rattle.std.specs.Prelude.{All, Option, Some, find, slice_get, slice_index_or}
+use Rattle.std.specs.Prelude.{All, Option, Some, find, slice_get}
 use Rattle.std.specs.List.{position_or_len}
 use Rattle.std.specs.Option.{option_map, option_or}
 use Rattle.std.proofs.lemmas.List.Elements.{All-head, All-tail}

@@ -1,5 +1,5 @@
 -- Lines, and the rows and the items that they are, one by one.
-use Rattle.std.proofs.Common.{◌≡◌, ℕ, ◌+◌, ◌<◌, List, [], ◌∷◌, refl, ap, sym, ◌∙◌, length, drop, get_or, arith}
+use Rattle.std.proofs.Common.{◌≡◌, ℕ, ◌+◌, ◌<◌, List, [], ◌∷◌, refl, sym, ◌∙◌, length, drop, get_or, arith}
 use Rattle.std.specs.Prelude.{filter_map, map, min, slice_get, sum_by}
 use Rattle.std.specs.List.{cons_option}
 use Rattle.std.specs.Option.{unwrap_or}

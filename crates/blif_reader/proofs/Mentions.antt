@@ -1,5 +1,5 @@
 -- The clock names of the flattened main model are no more than its mentions of them.
-use Rattle.std.proofs.Common.{◌≡◌, ℕ, zero, suc, ◌+◌, ◌≤◌, Bool, true, false, cond, List, [], ◌∷◌, ◌++◌, length, arith}
+use Rattle.std.proofs.Common.{ℕ, zero, suc, ◌+◌, ◌≤◌, cond, List, [], ◌∷◌, ◌++◌, length, arith}
 use Rattle.std.specs.Prelude.{Option, Some, None, map, filter_map, sum_by, bytes_eq, codes}
 use Rattle.std.specs.Option.{option_map_or, option_to_list}
 use Rattle.std.proofs.lemmas.Bool.Decides.{nat_tests}

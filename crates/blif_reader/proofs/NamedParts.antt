@@ -1,14 +1,11 @@
 -- The parts of a netlist by numbers are those by names.
-use Rattle.std.proofs.Common.{◌≡◌, ℕ, zero, suc, ◌+◌, ◌<◌, Bool, true, false, cond, ◌||◌, List, [], ◌∷◌, ◌++◌, refl, ap, sym, subst, ◌∙◌, append_assoc, length, map, arith}
-use Rattle.std.specs.Prelude.{All, Option, Some, None, bytes_eq, filter, filter_map, flat_map, not, slice_index_or, slice_set}
-use Rattle.std.specs.Option.{option_to_list}
+use Rattle.std.proofs.Common.{◌≡◌, ℕ, zero, suc, ◌+◌, ◌<◌, Bool, true, false, cond, List, [], ◌∷◌, ◌++◌, refl, ap, sym, ◌∙◌, append_assoc, length, map, arith}
+use Rattle.std.specs.Prelude.{All, filter_map, flat_map, not, slice_index_or, slice_set}
 use Rattle.std.proofs.lemmas.Bool.Decides.{nat_tests}
 use Rattle.std.proofs.lemmas.List.{append-nil, get_or-map}
-use Rattle.std.proofs.lemmas.List.Elements.{All-cons, All-head, All-nil, All-tail, filter-append, filter_map-append}
+use Rattle.std.proofs.lemmas.List.Elements.{All-cons, All-head, All-tail, filter-append, filter_map-append}
 use Rattle.circuit.specs.declared.parts.NetId.{NetId}
-use Rattle.circuit.specs.declared.parts.Latch.{Latch}
-use Rattle.circuit.specs.declared.parts.Table.{Table}
-use Rattle.fm_base.specs.Names.{Name, distinct, has_repeat, is_one_of}
+use Rattle.fm_base.specs.Names.{Name, distinct, is_one_of}
 use Rattle.fm_base.proofs.Distinct.{distinct-snoc}
 use Rattle.fm_base.proofs.Lists.{all_left}
 use Rattle.net_names.specs.Nets.{net_id}
@@ -22,7 +19,7 @@ use Rattle.blif_flatten.specs.declared.flat.NumberedStep.{NumberedStep}
 use Rattle.blif_flatten.specs.Flat.{act_by, AreBelow, ids_in, name_at, steps_by}
 use Rattle.blif_flatten.specs.Flattened.{flat_steps}
 use Rattle.blif_flatten.proofs.Marking.{mark_one}
-use Rattle.blif_reader.specs.Numbers.{AreNetNumbers, net_at}
+use Rattle.blif_reader.specs.Numbers.{AreNetNumbers, net_of_name}
 use Rattle.blif_reader.specs.Parts.{first_ids, inputs_at, latch_in, table_in}
 use Rattle.blif_reader.proofs.FlatSteps.{apart, value_at}
 
@@ -70,10 +67,10 @@ module _ (f : FlatModel) where
   -- ---- nets
 
   module _ (numbers : List NetId) (are : AreNetNumbers f numbers) where
-    net_is : (id : NameId) → id.0 < length f.names → net_at numbers id ≡ net_id (nets_of (flat_steps f)) (name_at f.names id)
+    net_is : (id : NameId) → id.0 < length f.names → net_of_name numbers id ≡ net_id (nets_of (flat_steps f)) (name_at f.names id)
     net_is id lt = value_at f (net_id (nets_of (flat_steps f))) numbers (record { 0 = 0 }) id are lt
 
-    pub nets_are : (ids : List NameId) → AreBelow (length f.names) ids → map (net_at numbers) ids ≡ map (net_id (nets_of (flat_steps f))) (map (name_at f.names) ids)
+    pub nets_are : (ids : List NameId) → AreBelow (length f.names) ids → map (net_of_name numbers) ids ≡ map (net_id (nets_of (flat_steps f))) (map (name_at f.names) ids)
     nets_are [] below = refl
     nets_are (id ∷ ids) below =
         rw (net_is id (All-head (λ (i : NameId). i.0 < length f.names) id ids below), nets_are ids (All-tail (λ (i : NameId). i.0 < length f.names) id ids below)) refl

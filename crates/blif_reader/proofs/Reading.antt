@@ -1,6 +1,6 @@
 -- What is answered for a file, from what is found of its models and of their walk.
-use Rattle.std.proofs.Common.{◌≡◌, ℕ, ◌+◌, ◌<◌, ◌≤◌, ◌^◌, ◌||◌, List, refl, ap, sym, ◌∙◌, length, arith}
-use Rattle.std.specs.Prelude.{Option, Some, None, Result, Err, nat_lt}
+use Rattle.std.proofs.Common.{◌≡◌, ℕ, ◌+◌, ◌<◌, ◌^◌, List, refl, ap, ◌∙◌, length, arith}
+use Rattle.std.specs.Prelude.{Option, Some, None, Err, nat_lt}
 use Rattle.std.specs.Option.{option_or}
 use Rattle.blif_text.specs.declared.NetlistFault.{NetlistFault}
 use Rattle.blif_text.specs.declared.NetlistKind.TheVariants.{TooLarge}

@@ -20,14 +20,14 @@ is_apart firsts (edge name) = is_other firsts.edge name
 is_apart firsts (control name) = is_other firsts.control name
 
 -- the first of each, with one more mark
-abbrev pub kept : Firsts → Mark → Firsts
-kept firsts (edge name) = record { edge = option_or firsts.edge (Some name); control = firsts.control }
-kept firsts (control name) = record { edge = firsts.edge; control = option_or firsts.control (Some name) }
+abbrev pub firsts_with : Firsts → Mark → Firsts
+firsts_with firsts (edge name) = record { edge = option_or firsts.edge (Some name); control = firsts.control }
+firsts_with firsts (control name) = record { edge = firsts.edge; control = option_or firsts.control (Some name) }
 
 -- one of the marks isn't the first
 abbrev pub any_apart : Firsts → List Mark → Bool
 any_apart firsts [] = false
-any_apart firsts (mark ∷ marks) = is_apart firsts mark || any_apart (kept firsts mark) marks
+any_apart firsts (mark ∷ marks) = is_apart firsts mark || any_apart (firsts_with firsts mark) marks
 
 -- the marks of a line
 abbrev pub marks_in : Act → List Mark

@@ -14,8 +14,8 @@ numbers_from next last [] = []
 numbers_from next last (is_clock ∷ marks) = record { 0 = if is_clock then last else next } ∷ numbers_from (if is_clock then next else next + 1) last marks
 
 -- the number of a name's net
-abbrev pub net_at : List NetId → NameId → NetId
-net_at numbers name = slice_index_or numbers name.0 (record { 0 = 0 })
+abbrev pub net_of_name : List NetId → NameId → NetId
+net_of_name numbers name = slice_index_or numbers name.0 (record { 0 = 0 })
 
 -- the number of each name's net
 abbrev pub AreNetNumbers : FlatModel → List NetId → Type 0

@@ -14,7 +14,7 @@ use Rattle.blif_flatten.specs.declared.flat.NumberedTable.{NumberedTable}
 use Rattle.blif_flatten.specs.declared.flat.NumberedLatch.{NumberedLatch}
 use Rattle.blif_reader.specs.declared.parts.Part.{Part}
 use Rattle.blif_reader.specs.declared.parts.Part.TheVariants.{Inputs, Outputs, TableNets, LatchNets}
-use Rattle.blif_reader.specs.Numbers.{net_at}
+use Rattle.blif_reader.specs.Numbers.{net_of_name}
 
 -- the names on an `.inputs` line of the main model
 abbrev pub inputs_at : Act → List Name
@@ -22,21 +22,21 @@ inputs_at (takes names) = names
 inputs_at _ = []
 
 -- the names that a line has as such a part
-abbrev pub part_names : Part → Act → List Name
-part_names Inputs act = inputs_at act
-part_names Outputs act = outputs_at act
-part_names TableNets act = table_net act
-part_names LatchNets act = latch_net act
+abbrev pub names_of_part : Part → Act → List Name
+names_of_part Inputs act = inputs_at act
+names_of_part Outputs act = outputs_at act
+names_of_part TableNets act = table_net act
+names_of_part LatchNets act = latch_net act
 
 abbrev pub net_table : List NetId → NumberedTable → Table
 net_table numbers t = record {
-  ins = map (net_at numbers) t.ins;
+  ins = map (net_of_name numbers) t.ins;
   rows = map lits_of (rows_below t.below.now);
   on = table_plane (rows_below t.below.now);
 }
 
 abbrev pub net_latch : List NetId → NumberedLatch → Latch
-net_latch numbers l = record { from = net_at numbers l.from; to = net_at numbers l.to; start = l.start }
+net_latch numbers l = record { from = net_of_name numbers l.from; to = net_of_name numbers l.to; start = l.start }
 
 -- the table of a line, if it is one
 abbrev pub table_in : List NetId → NumberedAct → Option Table

@@ -37,5 +37,5 @@ file_gives (Ok models) = models_give models
 file_gives (Err fault) = Err fault
 
 -- a netlist that is given is one
-abbrev pub IsSound : Result Circuit NetlistFault → Type 0
-IsSound given = (c : Circuit) → given ≡ Ok c → IsNetlist c
+abbrev pub IsNetlistIfGiven : Result Circuit NetlistFault → Type 0
+IsNetlistIfGiven given = (c : Circuit) → given ≡ Ok c → IsNetlist c

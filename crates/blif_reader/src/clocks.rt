@@ -4,7 +4,7 @@ ghost use Rattle.std.specs.Option.{option_map, option_to_list};
 ghost use Rattle.blif_model.specs.WalkFault.{control, edge, two_clocks};
 ghost use Rattle.blif_flatten.specs.Flat.{act_by, AreBelow, ids_in, name_at};
 ghost use Rattle.blif_flatten.specs.Flattened.{flat_steps};
-ghost use Rattle.blif_reader.specs.Clocks.{any_apart, is_apart, kept, marks_in};
+ghost use Rattle.blif_reader.specs.Clocks.{any_apart, firsts_with, is_apart, marks_in};
 
 use crate::steps::step_at;
 use blif_flatten::flat::{FlatModel, NameId, NumberedAct};
@@ -32,7 +32,7 @@ impl<'f> FirstMarks<'f> {
     /// The type isn't the first one.
     fn is_second_edge(&mut self, name: &'f [u8]) -> bool
         ensures second { result ≡ is_apart self.old (edge name.now) }
-        ensures kept { self.new ≡ kept self.old (edge name.now) }
+        ensures kept { self.new ≡ firsts_with self.old (edge name.now) }
     {
         match self.edge {
             Some(first) => first != name,
@@ -46,7 +46,7 @@ impl<'f> FirstMarks<'f> {
     /// The clock name isn't the first one.
     fn is_second_clock(&mut self, name: &'f [u8]) -> bool
         ensures second { result ≡ is_apart self.old (control name.now) }
-        ensures kept { self.new ≡ kept self.old (control name.now) }
+        ensures kept { self.new ≡ firsts_with self.old (control name.now) }
     {
         match self.clock {
             Some(first) => first != name,
@@ -61,7 +61,7 @@ impl<'f> FirstMarks<'f> {
     fn has_second_clock(&mut self, names: &'f NameIndex, ids: &[NameId]) -> bool
         requires { AreBelow (length names.now) ids.now }
         ensures second { result ≡ any_apart self.old (map control (map (name_at names.now) ids.now)) }
-        ensures kept { result ≡ false → self.new ≡ fold kept self.old (map control (map (name_at names.now) ids.now)) }
+        ensures kept { result ≡ false → self.new ≡ fold firsts_with self.old (map control (map (name_at names.now) ids.now)) }
     {
         for id in ids {
             if self.is_second_clock(names.name(id.0 as usize)) {
@@ -74,7 +74,7 @@ impl<'f> FirstMarks<'f> {
     /// The type of a latch, where it has one, isn't the first one.
     fn has_second_edge(&mut self, name: Option<&'f [u8]>) -> bool
         ensures second { result ≡ any_apart self.old (map edge (option_to_list (option_map (λ n. n.now) name.entry))) }
-        ensures kept { self.new ≡ fold kept self.old (map edge (option_to_list (option_map (λ n. n.now) name.entry))) }
+        ensures kept { self.new ≡ fold firsts_with self.old (map edge (option_to_list (option_map (λ n. n.now) name.entry))) }
     {
         match name {
             Some(name) => self.is_second_edge(name),
@@ -86,7 +86,7 @@ impl<'f> FirstMarks<'f> {
     fn has_second(&mut self, names: &'f NameIndex, act: &NumberedAct<'_, 'f>) -> bool
         requires { AreBelow (length names.now) (ids_in act.now) }
         ensures second { result ≡ any_apart self.old (marks_in (act_by (name_at names.now) act.now)) }
-        ensures kept { result ≡ false → self.new ≡ fold kept self.old (marks_in (act_by (name_at names.now) act.now)) }
+        ensures kept { result ≡ false → self.new ≡ fold firsts_with self.old (marks_in (act_by (name_at names.now) act.now)) }
     {
         match act {
             NumberedAct::Clocks(ids) => self.has_second_clock(names, ids.as_slice()),

@@ -3,7 +3,7 @@ ghost use Rattle.std.specs.Prelude.{◌≡◌, ◌∷◌, ◌++◌, [], ◌+◌,
 ghost use Rattle.fm_base.specs.Names.{Name};
 ghost use Rattle.blif_model.specs.Walk.{nets_of};
 ghost use Rattle.blif_flatten.specs.Flattened.{flat_steps};
-ghost use Rattle.blif_reader.specs.Numbers.{AreNetNumbers, net_at, numbers_from};
+ghost use Rattle.blif_reader.specs.Numbers.{AreNetNumbers, net_of_name, numbers_from};
 ghost use Rattle.blif_reader.specs.Passes.{AreClockMarks};
 
 use blif_flatten::flat::{FlatModel, NameId};
@@ -103,20 +103,20 @@ pub fn net_numbers(
 
 /// The number of a name's net.
 pub fn net(numbers: &[NetId], name: NameId) -> NetId
-    ensures { result ≡ net_at numbers.now name }
+    ensures { result ≡ net_of_name numbers.now name }
 {
     numbers.get(name.0 as usize).copied().unwrap_or(NetId(0))
 }
 
 fn net_list(alloc: Global, numbers: &[NetId], names: &[NameId]) -> Result<Vec<NetId>, AllocError>
-    ensures { IfOk result (λ ids. ids.items ≡ map (net_at numbers.now) names.now) }
+    ensures { IfOk result (λ ids. ids.items ≡ map (net_of_name numbers.now) names.now) }
 {
     names.iter().map(|name| net(numbers, *name)).collect(alloc)
 }
 
 /// The numbers of the nets of names.
 pub fn nets(alloc: Global, numbers: &[NetId], names: &[NameId]) -> Result<NetIds, AllocError>
-    ensures { IfOk result (λ ids. ids ≡ map (net_at numbers.now) names.now) }
+    ensures { IfOk result (λ ids. ids ≡ map (net_of_name numbers.now) names.now) }
 {
     Ok(Seq::from_vec(net_list(alloc, numbers, names)?))
 }

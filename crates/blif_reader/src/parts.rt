@@ -8,8 +8,8 @@ ghost use Rattle.blif_model.specs.Walk.{latch_net, nets_of, outputs_at, table_ne
 ghost use Rattle.blif_flatten.specs.declared.flat.NameId.{NameId};
 ghost use Rattle.blif_flatten.specs.Flat.{act_by, AreBelow, ids_in, name_at};
 ghost use Rattle.blif_flatten.specs.Flattened.{flat_steps};
-ghost use Rattle.blif_reader.specs.Numbers.{AreNetNumbers, net_at};
-ghost use Rattle.blif_reader.specs.Parts.{inputs_at, latch_in, net_latch, net_table, part_names, table_in};
+ghost use Rattle.blif_reader.specs.Numbers.{AreNetNumbers, net_of_name};
+ghost use Rattle.blif_reader.specs.Parts.{inputs_at, latch_in, names_of_part, net_latch, net_table, table_in};
 
 use crate::nets::{net, nets};
 use crate::rows::{plane_of, rows_of};
@@ -76,7 +76,7 @@ fn latch_nets<'s>(act: &'s NumberedAct<'_, '_>) -> &'s [NameId]
 }
 
 fn names_in<'s>(act: &'s NumberedAct<'_, '_>, part: Part) -> &'s [NameId]
-    ensures names { (f : NameId → Name) → map f result.now ≡ part_names part (act_by f act.now) }
+    ensures names { (f : NameId → Name) → map f result.now ≡ names_of_part part (act_by f act.now) }
     ensures within { (n : ℕ) → AreBelow n (ids_in act.now) → AreBelow n result.now }
 {
     match part {
@@ -93,7 +93,7 @@ pub fn part_ids(
     flat: &FlatModel<'_, '_>,
     part: Part,
 ) -> Result<Vec<NameId>, AllocError>
-    ensures names { IfOk result (λ ids. map (name_at flat.now.names) ids.items ≡ flat_map (λ s. part_names part s.act) (flat_steps flat.now)) }
+    ensures names { IfOk result (λ ids. map (name_at flat.now.names) ids.items ≡ flat_map (λ s. names_of_part part s.act) (flat_steps flat.now)) }
     ensures within { IfOk result (λ ids. AreBelow (length flat.now.names) ids.items) }
 {
     let mut ids = Vec::new(alloc);
@@ -111,7 +111,7 @@ pub fn part_nets(
     part: Part,
 ) -> Result<NetIds, AllocError>
     requires { AreNetNumbers flat.now numbers.now }
-    ensures { IfOk result (λ ids. ids ≡ map (net_id (nets_of (flat_steps flat.now))) (flat_map (λ s. part_names part s.act) (flat_steps flat.now))) }
+    ensures { IfOk result (λ ids. ids ≡ map (net_id (nets_of (flat_steps flat.now))) (flat_map (λ s. names_of_part part s.act) (flat_steps flat.now))) }
 {
     let ids = part_ids(alloc, flat, part)?;
     nets(alloc, numbers, ids.as_slice())

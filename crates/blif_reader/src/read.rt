@@ -8,7 +8,7 @@ ghost use Rattle.blif_model.specs.Walk.{nets_of};
 ghost use Rattle.blif_flatten.specs.Flattened.{flat_steps};
 ghost use Rattle.fm_base.specs.Answers.{Gives};
 ghost use Rattle.blif_reader.specs.Passes.{AreClockMarks};
-ghost use Rattle.blif_reader.specs.Stages.{IsSound, models_give, unwalked_fault, walk_gives};
+ghost use Rattle.blif_reader.specs.Stages.{IsNetlistIfGiven, models_give, unwalked_fault, walk_gives};
 
 use crate::netlist::flat_netlist;
 use crate::nets::net_count;
@@ -59,7 +59,7 @@ fn read_flat(
     flat: &FlatModel<'_, '_>,
     line: u32,
 ) -> Result<Netlist, Refusal<NetlistFault>>
-    requires sound { IsSound (walk_gives (flat_steps flat.now) line) }
+    requires sound { IsNetlistIfGiven (walk_gives (flat_steps flat.now) line) }
     requires few { length flat.now.names < 2 ^ 32 }
     ensures { Gives (walk_gives (flat_steps flat.now) line) result }
 {
@@ -112,7 +112,7 @@ fn file_fault(
 
 /// The netlist of a file's models, where no line is faulty.
 fn read_table(alloc: Global, models: &ModelTable<'_, '_>) -> Result<Netlist, Refusal<NetlistFault>>
-    requires { IsSound (models_give models.now) }
+    requires { IsNetlistIfGiven (models_give models.now) }
     ensures { Gives (models_give models.now) result }
 {
     let line = main_line(models);

@@ -5,7 +5,7 @@ use Rattle.components.specs.declared.scan.Frame.{Frame}
 use Rattle.components.specs.declared.scan.Mark.{Mark}
 use Rattle.components.specs.declared.scan.Mark.TheVariants.{Open}
 use Rattle.components.specs.Graph.{Reaches, target, targets}
-use Rattle.components.specs.Kept.{AreParts, IsPart, IsSeen, MarksGoOn, node_mark}
+use Rattle.components.specs.Kept.{AreParts, IsSeen, IsStackPart, MarksGoOn, node_mark}
 use Rattle.components.proofs.Ways.{edge, join}
 
 -- parts below the places that change stay
@@ -19,7 +19,7 @@ module _ (edges : List (Vec ℕ Global)) (marks now : List Mark) (from number : 
   still_seen : (low y : ℕ) → IsSeen low (node_mark marks y) → IsSeen low (node_mark now y)
   still_seen low y seen = let g = go y in grind arith
 
-  part_stays : (frame : Frame) (limit : ℕ) → limit ≤ from → IsPart edges marks frame limit → IsPart edges now frame limit
+  part_stays : (frame : Frame) (limit : ℕ) → limit ≤ from → IsStackPart edges marks frame limit → IsStackPart edges now frame limit
   part_stays frame limit le s =
       let inside = s.inside in
       let lowest = s.lowest in
@@ -41,13 +41,13 @@ module _ (edges : List (Vec ℕ Global)) (marks now : List Mark) (from number : 
       (part_stays frame limit le s.0, parts_stay frames frame.place (let inside = s.0.inside in omega arith) s.1)
 
 -- the frame after one more edge
-module _ {edges : List (Vec ℕ Global)} {marks : List Mark} {frame : Frame} {limit : ℕ} (s : IsPart edges marks frame limit) (y low : ℕ)
+module _ {edges : List (Vec ℕ Global)} {marks : List Mark} {frame : Frame} {limit : ℕ} (s : IsStackPart edges marks frame limit) (y low : ℕ)
     (more : frame.next < length (targets edges frame.node)) (is : y ≡ target edges frame.node frame.next) (least : low ≤ frame.low)
     (seen : IsSeen low (node_mark marks y)) (from : (low ≡ frame.low) ⊎ (node_mark marks y ≡ Open low)) where
   lower : (m : Mark) → IsSeen frame.low m → IsSeen low m
   lower m s = grind arith
 
-  pub past : IsPart edges marks (record frame { low = low; next = frame.next + 1 }) limit
+  pub past : IsStackPart edges marks (record frame { low = low; next = frame.next + 1 }) limit
   past = record {
     inside = s.inside;
     here = s.here;
@@ -67,8 +67,8 @@ module _ {edges : List (Vec ℕ Global)} {marks : List Mark} {frame : Frame} {li
   }
 
 -- a part that reaches below its place, and the part there, are one
-module _ {edges : List (Vec ℕ Global)} {marks : List Mark} {frame below : Frame} {limit : ℕ} (s : IsPart edges marks frame limit)
-    (under : IsPart edges marks below frame.place) (finished : length (targets edges frame.node) ≤ frame.next)
+module _ {edges : List (Vec ℕ Global)} {marks : List Mark} {frame below : Frame} {limit : ℕ} (s : IsStackPart edges marks frame limit)
+    (under : IsStackPart edges marks below frame.place) (finished : length (targets edges frame.node) ≤ frame.next)
     (deep : frame.low < frame.place) where
   abbrev low : ℕ
   low = min below.low frame.low
@@ -80,7 +80,7 @@ module _ {edges : List (Vec ℕ Global)} {marks : List Mark} {frame below : Fram
   far : (x p : ℕ) → node_mark marks x ≡ Open p → p < limit → Reaches edges x s.back.0
   far x p o lp = join edges x frame.node s.back.0 (s.reach x frame.node p frame.place o s.here lp (omega arith) s.inside) s.back.2
 
-  pub joined : IsPart edges marks (record below { low = min below.low frame.low }) limit
+  pub joined : IsStackPart edges marks (record below { low = min below.low frame.low }) limit
   joined =
       let inside = s.inside in
       let lower = under.inside in

@@ -8,7 +8,7 @@ use Rattle.components.specs.declared.scan.Frame.{Frame}
 use Rattle.components.specs.declared.scan.Mark.{Mark}
 use Rattle.components.specs.declared.scan.Mark.TheVariants.{New, Open, Done}
 use Rattle.components.specs.Graph.{Reaches, target, targets}
-use Rattle.components.specs.Kept.{GoesOn, IsComponentSearch, IsDone, IsPart, IsSeen, IsStack, MarksGoOn, node_mark}
+use Rattle.components.specs.Kept.{GoesOn, IsComponentSearch, IsDoneUpTo, IsSeen, IsStack, IsStackPart, MarksGoOn, node_mark}
 use Rattle.components.proofs.Parts.{joined, parts_stay, past}
 use Rattle.components.proofs.Stack.{opened}
 use Rattle.components.proofs.Ways.{along, edge, join}
@@ -18,7 +18,7 @@ pub reversed : (path : List Frame) (frame : Frame) → reverse (path ++ frame �
 reversed path frame = reverse-append path (frame ∷ [])
 
 still_done : (from number : ℕ) (before now : List Mark) → MarksGoOn from number before now
-    → (most x : ℕ) → IsDone most (node_mark before x) → IsDone most (node_mark now x)
+    → (most x : ℕ) → IsDoneUpTo most (node_mark before x) → IsDoneUpTo most (node_mark now x)
 still_done from number before now go most x done = let g = go x in grind arith
 
 -- the topmost frame goes on behind an edge
@@ -69,7 +69,7 @@ module _ {edges : List (Vec ℕ Global)} {marks : List Mark} {nodes : List ℕ} 
   was_done : (x c : ℕ) → node_mark now x ≡ Done c → node_mark marks x ≡ Done c
   was_done x c d = grind (arith, common_steps)
 
-  part : IsPart edges now (record { node = y; place = n; low = n; next = 0 }) (n + 1)
+  part : IsStackPart edges now (record { node = y; place = n; low = n; next = 0 }) (n + 1)
   part = record {
     inside = omega arith;
     here = here;
@@ -107,7 +107,7 @@ module _ {edges : List (Vec ℕ Global)} {marks now : List Mark} {nodes left : L
     (go : MarksGoOn frame.place count marks now) (sized : length now ≡ length marks) where
   -- what the part leads to is done
   leads_to_done : (x : ℕ) (m : Mark) → node_mark marks x ≡ m → IsSeen frame.low m → GoesOn frame.place count m (node_mark now x)
-      → IsDone count (node_mark now x)
+      → IsDoneUpTo count (node_mark now x)
   leads_to_done x New n seen g = absurd seen
   leads_to_done x (Open p) o seen (inl u) = let h = (stack.placed x p u).0 in absurd (omega arith)
   leads_to_done x (Open p) o seen (inr d) = rw d.1 (omega arith)

@@ -7,7 +7,7 @@ use Rattle.components.specs.declared.scan.Frame.{Frame}
 use Rattle.components.specs.declared.scan.Mark.{Mark}
 use Rattle.components.specs.declared.scan.Mark.TheVariants.{New, Open, Done}
 use Rattle.components.specs.Graph.{AreComponents, target}
-use Rattle.components.specs.Kept.{IsComponentSearch, IsDone, node_mark}
+use Rattle.components.specs.Kept.{IsComponentSearch, IsDoneUpTo, node_mark}
 use Rattle.components.specs.Numbers.{node_number}
 
 module _ {edges : List (Vec ℕ Global)} {marks : List Mark} {nodes : List ℕ} {frames : List Frame} {count : ℕ}
@@ -24,7 +24,7 @@ module _ {edges : List (Vec ℕ Global)} {marks : List Mark} {nodes : List ℕ} 
   is_done x (Open p) lt e = let h = (s.stack.placed x p e).0 in absurd (omega arith)
   is_done x (Done c) lt e = e ∙ ap Done (sym (number_is x ∙ ap node_number e))
 
-  at_most : (most y : ℕ) → IsDone most (node_mark marks y) → number y ≤ most
+  at_most : (most y : ℕ) → IsDoneUpTo most (node_mark marks y) → number y ≤ most
   at_most most y done = let e = number_is y in grind arith
 
   pub are_components : AreComponents edges (map node_number marks)

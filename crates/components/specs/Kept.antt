@@ -31,10 +31,10 @@ IsSeen low (Open place) = low ≤ place
 IsSeen low (Done number) = Unit {0}
 
 -- the mark of a node that is done, with this number or a smaller one
-abbrev pub IsDone : ℕ → Mark → Type 0
-IsDone most New = ⊥
-IsDone most (Open place) = ⊥
-IsDone most (Done number) = number ≤ most
+abbrev pub IsDoneUpTo : ℕ → Mark → Type 0
+IsDoneUpTo most New = ⊥
+IsDoneUpTo most (Open place) = ⊥
+IsDoneUpTo most (Done number) = number ≤ most
 
 -- what becomes of a mark where only places from this one on change: a node is opened there, or an open one is done
 abbrev pub GoesOn : ℕ → ℕ → Mark → Mark → Type 0
@@ -52,7 +52,7 @@ pub record IsStack (marks : List Mark) (nodes : List ℕ) : Type 0 where
 
 -- the part of the stack from the frame's place up to this limit: `low` is a place that its nodes reach, and no edge of theirs that
 -- was looked at leads below it
-pub record IsPart (edges : List (Vec ℕ Global)) (marks : List Mark) (frame : Frame) (limit : ℕ) : Type 0 where
+pub record IsStackPart (edges : List (Vec ℕ Global)) (marks : List Mark) (frame : Frame) (limit : ℕ) : Type 0 where
   pub inside : frame.place < limit
   pub here : node_mark marks frame.node ≡ Open frame.place
   pub lowest : frame.low ≤ frame.place
@@ -65,13 +65,13 @@ pub record IsPart (edges : List (Vec ℕ Global)) (marks : List Mark) (frame : F
 -- the parts of a stack of so many nodes, the topmost first
 abbrev pub AreParts : List (Vec ℕ Global) → List Mark → List Frame → ℕ → Type 0
 AreParts edges marks [] limit = limit ≡ 0
-AreParts edges marks (frame ∷ frames) limit = IsPart edges marks frame limit × AreParts edges marks frames frame.place
+AreParts edges marks (frame ∷ frames) limit = IsStackPart edges marks frame limit × AreParts edges marks frames frame.place
 
 -- the components so far
-pub record AreDone (edges : List (Vec ℕ Global)) (marks : List Mark) (count : ℕ) : Type 0 where
+pub record AreFoundComponents (edges : List (Vec ℕ Global)) (marks : List Mark) (count : ℕ) : Type 0 where
   pub below : (x c : ℕ) → node_mark marks x ≡ Done c → c < count
   pub down : (x c k : ℕ) → node_mark marks x ≡ Done c → k < length (targets edges x)
-      → IsDone c (node_mark marks (target edges x k))
+      → IsDoneUpTo c (node_mark marks (target edges x k))
   pub ring : (x y c : ℕ) → node_mark marks x ≡ Done c → node_mark marks y ≡ Done c → Reaches edges x y
 
 pub record IsComponentSearch (edges : List (Vec ℕ Global)) (marks : List Mark) (nodes : List ℕ) (frames : List Frame) (count : ℕ)
@@ -79,7 +79,7 @@ pub record IsComponentSearch (edges : List (Vec ℕ Global)) (marks : List Mark)
   pub sized : length marks ≡ length edges
   pub stack : IsStack marks nodes
   pub parts : AreParts edges marks frames (length nodes)
-  pub done : AreDone edges marks count
+  pub done : AreFoundComponents edges marks count
 
 -- the same of the search as the program has it, with these frames
 abbrev pub SearchesAt : List (Vec ℕ Global) → Search → List Frame → Type 0
@@ -89,8 +89,8 @@ abbrev pub ComponentSearches : List (Vec ℕ Global) → Search → Type 0
 ComponentSearches edges s = SearchesAt edges s (reverse s.path.items)
 
 -- where all open nodes reach this one, it is opened
-abbrev pub Opens : Search → ℕ → Search → Type 0
-Opens before node now = (edges : List (Vec ℕ Global)) → ComponentSearches edges before
+abbrev pub OpensNode : Search → ℕ → Search → Type 0
+OpensNode before node now = (edges : List (Vec ℕ Global)) → ComponentSearches edges before
     → ((x p : ℕ) → node_mark before.marks.items x ≡ Open p → Reaches edges x node) → ComponentSearches edges now
 
 -- where this frame is topmost and its edges are all done, its part ends

@@ -1,7 +1,7 @@
 // Tarjan's search in depth for components, on a stack of its own.
 ghost use Rattle.std.specs.Prelude.{◌≡◌, ◌≢◌, ◌∷◌, ◌<◌, ◌≤◌, [], IfOk, OnOk, length, replicate, reverse, sum_by};
 ghost use Rattle.components.specs.Graph.{AreEdges, target, targets};
-ghost use Rattle.components.specs.Kept.{ComponentSearches, EndsPart, IsStack, MarksGoOn, node_mark, NoneNew, node_steps_left, Opens, SearchesAt, search_work_left};
+ghost use Rattle.components.specs.Kept.{ComponentSearches, EndsPart, IsStack, MarksGoOn, node_mark, NoneNew, node_steps_left, OpensNode, SearchesAt, search_work_left};
 ghost use Rattle.components.specs.declared.scan.Mark.TheVariants.{New};
 
 use crate::scan::{Frame, Mark, mark_of, targets_of};
@@ -53,7 +53,7 @@ impl Search {
     fn open(&mut self, node: usize) -> Result<(), AllocError>
         requires new { node_mark self.old.marks.items node ≡ New }
         requires fits { node < length self.old.marks.items }
-        ensures search { OnOk result (Opens self.old node self.new) }
+        ensures search { OnOk result (OpensNode self.old node self.new) }
         ensures less { OnOk result (search_work_left self.new < search_work_left self.old) }
         ensures none_new { OnOk result (NoneNew self.old self.new) }
         ensures seen { OnOk result (node_mark self.new.marks.items node ≢ New) }

@@ -1,9 +1,12 @@
 -- The first element, the first place and any element of a list of images that pass a test, and lists that lack one.
-use Rattle.std.proofs.Common.{◌≡◌, ℕ, ◌+◌, Bool, true, false, cond, not, ◌||◌, List, [], ◌∷◌, map, refl, ap}
+use Rattle.std.proofs.Common.{◌≡◌, ℕ, ◌+◌, Bool, true, false, cond, not, ◌||◌, List, [], ◌∷◌, ◌++◌, length, map, refl, ap, arith}
 use Rattle.std.specs.Prelude.{find, Option, Some, None, filter}
 use Rattle.std.specs.List.{list_any, position, position_or_len, prefix_len}
-use Rattle.std.specs.Option.{option_map}
-use Rattle.std.proofs.lemmas.List.{length-map}
+use Rattle.std.specs.Option.{option_map, option_or}
+use Rattle.std.proofs.lemmas.Bool.Decides.{nat_tests}
+use Rattle.std.proofs.lemmas.List.{length-append, length-map}
+use Rattle.std.proofs.lemmas.List.Folds.{position_or_len_push}
+use Rattle.std.proofs.lemmas.List.Sums.{prefix_len-le-length}
 use Rattle.fm_base.proofs.Tests.{clash}
 
 pub list_any-map : {X Y : Type 0} (p : Y → Bool) (f : X → Y) (xs : List X) → list_any p (map f xs) ≡ list_any (λ x. p (f x)) xs
@@ -17,6 +20,11 @@ prefix_len-map p f (x ∷ xs) = rw (prefix_len-map p f xs) refl
 -- the first place that passes
 pub position-map : {X Y : Type 0} (p : Y → Bool) (f : X → Y) (xs : List X) → position p (map f xs) ≡ position (λ x. p (f x)) xs
 position-map p f xs = rw (prefix_len-map (λ y. not (p y)) f xs, length-map) refl
+
+-- the first place that passes, where one more stands behind
+pub position-snoc : {X : Type 0} (p : X → Bool) (xs : List X) (x : X)
+    → position p (xs ++ x ∷ []) ≡ option_or (position p xs) (cond (p x) (Some (length xs)) None)
+position-snoc p xs x = grind (arith, nat_tests, position_or_len_push p xs x, length-append xs (x ∷ []), prefix_len-le-length)
 
 -- the first of the images is the image of the first
 pub find-map : {X Y : Type 0} (p : Y → Bool) (f : X → Y) (xs : List X) → find p (map f xs) ≡ option_map f (find (λ x. p (f x)) xs)

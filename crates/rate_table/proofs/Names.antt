@@ -1,18 +1,18 @@
 -- The names of parts behind a set of owned texts, and the star at the end of a pattern.
-use Rattle.std.proofs.Common.{◌≡◌, ℕ, ◌-◌, Bool, true, false, List, [], ◌∷◌, ◌++◌, length, map, refl, ap, sym, ◌∙◌, arith, Vec}
+use Rattle.std.proofs.Common.{◌≡◌, ℕ, ◌-◌, Bool, true, false, List, [], ◌∷◌, ◌++◌, length, refl, ap, sym, ◌∙◌, arith, Vec}
 use Rattle.std.specs.Prelude.{Option, Some, None, position, slice_get, ◌==◌, if◌then◌else◌}
 use Rattle.std.specs.declared.alloc.Global.{Global}
 use Rattle.std.specs.List.{list_any, last_or}
 use Rattle.std.specs.Option.{option_map_or}
 use Rattle.std.specs.Str.{bytes_eq}
-use Rattle.std.proofs.lemmas.List.{map-append, length-map}
+use Rattle.std.proofs.lemmas.List.{map-append}
 use Rattle.indexmap.specs.IndexSet.{insert_key}
 use Rattle.fm_base.specs.Names.{Bytes}
 use Rattle.rate_table.specs.declared.Part.{Part}
 use Rattle.rate_table.specs.Table.{part_names}
 use Rattle.rate_table.specs.RatesFile.{has_star}
 use Rattle.rate_table.specs.Reading.{name_texts, is_named_part}
-use Rattle.fm_base.proofs.Finding.{list_any-map, position-map, position_or_len-map}
+use Rattle.fm_base.proofs.Finding.{list_any-map, position-map}
 use Rattle.fm_base.proofs.Distinct.{bytes_eq-sym}
 
 texts_if : (b : Bool) (xs ys : List (Vec ℕ Global)) → name_texts (if b then xs else ys) ≡ (if b then name_texts xs else name_texts ys)

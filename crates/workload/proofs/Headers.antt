@@ -9,9 +9,8 @@ use Rattle.std.proofs.lemmas.List.Folds.{list_all-append}
 use Rattle.circuit.specs.Circuit.{Circuit}
 use Rattle.csv_rows.specs.Rows.{Fields, has_word}
 use Rattle.fm_base.specs.Firsts.{first_answer, given}
-use Rattle.fm_base.specs.Lists.{firsts}
 use Rattle.fm_base.specs.Names.{Name, distinct, has_repeat, is_one_of}
-use Rattle.fm_base.proofs.Distinct.{distinct-found, distinct-snoc, is_same}
+use Rattle.fm_base.proofs.Distinct.{distinct-found, distinct-snoc, is_one_of-snoc, is_same}
 use Rattle.fm_base.proofs.Distinct as dis
 use Rattle.fm_base.proofs.Tests.{both_false, or_false, or_second}
 use Rattle.fm_base.specs.Index.{with_name}
@@ -36,18 +35,6 @@ with_taken f xs i d names lt e =
     rw (e, take_more xs i d lt, map-append f (take i xs) (get_or xs i d ∷ []), distinct-snoc (map f (take i xs)) (f (get_or xs i d)), distinct-found (map f (take i xs)) (f (get_or xs i d))) refl
 
 -- ---- columns
-
-is_one_of-snoc : (names : List Name) (x name : Name) → is_one_of (names ++ x ∷ []) name ≡ (is_one_of names name || bytes_eq name x)
-is_one_of-snoc [] x name = or_none (bytes_eq name x)
-  where
-    or_none : (b : Bool) → (b || false) ≡ b
-    or_none true = refl
-    or_none false = refl
-is_one_of-snoc (y ∷ ys) x name = regroup (bytes_eq name y) (is_one_of (ys ++ x ∷ []) name) (is_one_of ys name) (bytes_eq name x) (is_one_of-snoc ys x name)
-  where
-    regroup : (a more b c : Bool) → more ≡ (b || c) → (a || more) ≡ ((a || b) || c)
-    regroup true more b c e = refl
-    regroup false more b c e = e
 
 swapped : (a b : Name) → bytes_eq a b ≡ false → bytes_eq b a ≡ false
 swapped a b h = turned (bytes_eq b a) refl

@@ -1,4 +1,4 @@
-use Rattle.std.proofs.Common.{arith, List, refl, sym, ◌∙◌}
+use Rattle.std.proofs.Common.{arith, refl, sym, ◌∙◌}
 use Rattle.std.proofs.lemmas.Grind.{common_steps}
 use Rattle.fm_base.specs.Firsts.{first_after}
 use Rattle.blif_model.specs.WalkFault.{marks_at, marks_of, two_clocks}

@@ -1,5 +1,4 @@
-use Rattle.std.proofs.Common.{◌∙◌, ap, length, List, subst, sym}
-use Rattle.circuit.specs.Sound.{IsNetlist}
+use Rattle.std.proofs.Common.{◌∙◌, ap, length, List}
 use Rattle.fm_base.specs.Names.{Name}
 use Rattle.blif_model.specs.Net.{latch_names_of, table_names_of}
 use Rattle.blif_flatten.specs.Flattened.{flat_steps}

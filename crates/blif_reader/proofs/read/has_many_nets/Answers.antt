@@ -1,4 +1,4 @@
-use Rattle.std.proofs.Common.{◌∙◌, ap, arith}
+use Rattle.std.proofs.Common.{◌∙◌, arith}
 use Rattle.std.proofs.lemmas.Grind.{common_steps}
 use Rattle.blif_reader.proofs.NetNumbers.{nets-counted}
 use Rattle.blif_reader.proofs.read.has_many_nets.Goals as goal

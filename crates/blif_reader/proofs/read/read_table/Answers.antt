@@ -1,4 +1,4 @@
-use Rattle.std.proofs.Common.{◌^◌, ap, length, refl, sym, ◌∙◌}
+use Rattle.std.proofs.Common.{◌^◌, length, refl, sym, ◌∙◌}
 use Rattle.std.proofs.lemmas.Bool.{lt-ltb}
 use Rattle.blif_model.specs.Walk.{nets_of, walk}
 use Rattle.blif_reader.proofs.Reading.{over_names}
