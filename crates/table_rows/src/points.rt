@@ -1,75 +1,17 @@
 // Small points files, for a netlist with the nets `a`, `b`, `y` and `al`; the last two are outputs.
 use crate::netlist::small_netlist;
+use alarm_points::Points;
 use alarm_points::file::read_points;
 use alarm_points::outputs::all_outputs;
 use alarm_points::window::Window;
-use alarm_points::{Points, PointsFault, PointsKind};
-use circuit::netlist::Netlist;
 use circuit::parts::NetId;
-use fm_base::Refusal;
-use std::alloc::{AllocError, Global};
+use std::alloc::AllocError;
 
 const A: NetId = NetId(0);
 
 const Y: NetId = NetId(2);
 
 const AL: NetId = NetId(3);
-
-fn fault_of(alloc: Global, text: &str, net: &Netlist) -> Option<PointsFault> {
-    match read_points(alloc, text.as_bytes(), net) {
-        Err(Refusal::Fault(fault)) => Some(fault),
-        _ => None,
-    }
-}
-
-#[test]
-fn each_kind_comes_with_its_row(rt: HostRuntime) -> Result<(), AllocError> {
-    let net = small_netlist(rt.alloc())?;
-    for (text, row, kind) in [
-        ("", 1, PointsKind::BadCsv),
-        ("net,kind\ny,observe\n", 1, PointsKind::BadCsv),
-        ("kind,net,\nother\n", 1, PointsKind::BadCsv),
-        ("kind,net\nother\n", 2, PointsKind::BadCsv),
-        ("kind,net\nobserve,y\nObserve,nn\n", 3, PointsKind::BadKind),
-        ("kind,net\nobserve,nn\n", 2, PointsKind::UnknownNet),
-        ("kind,net\nobserve,y\nobserve,y\n", 3, PointsKind::Twice),
-        ("kind,net\nalarm,y\nalarm,y\n", 3, PointsKind::Twice),
-        ("kind,net\nalarm,al\n", 1, PointsKind::NoObserve),
-        ("kind,net\nalarm,al\nalarm,nn\n", 3, PointsKind::UnknownNet),
-    ] {
-        assert_eq!(rt;
-            fault_of(rt.alloc(), text, &net),
-            Some(PointsFault { row, kind })
-        );
-    }
-    Ok(())
-}
-
-#[test]
-fn goals_and_intervals_are_refused_at_their_rows(rt: HostRuntime) -> Result<(), AllocError> {
-    let net = small_netlist(rt.alloc())?;
-    for (text, row, kind) in [
-        ("observe,y\n", 2, PointsKind::BadCsv),
-        ("g,5000,observe,y\n", 2, PointsKind::BadInterval),
-        ("g,01,observe,y\n", 2, PointsKind::BadInterval),
-        ("-,1,alarm,al\n", 2, PointsKind::BadInterval),
-        ("g,1,observe,y\ng,2,observe,a\n", 3, PointsKind::BadInterval),
-        ("g,1,observe,y\ng,2,observe,y\n", 3, PointsKind::Twice),
-        ("g,-,alarm,al\n", 2, PointsKind::BadGoal),
-        ("g h,5000,observe,y\n", 2, PointsKind::BadGoal),
-        (
-            "g,1,observe,y\nh,1,observe,y\ni,1,observe,y\nj,1,observe,y\nj,1,observe,a\nk,-1,observe,y\n",
-            7,
-            PointsKind::BadGoal,
-        ),
-        ("-,-,alarm,y\n", 1, PointsKind::NoObserve),
-    ] {
-        let text = format!(in rt.alloc(); "goal,ftti,kind,net\n{text}")?;
-        let found = fault_of(rt.alloc(), text.as_str(), &net);
-        assert_eq!(rt; found, Some(PointsFault { row, kind }));
-    }
-    Ok(())
-}
 
 // Whether goal k has this name, this interval and these points.
 fn is_goal(points: &Points, k: usize, name: &str, ftti: Option<u32>, observe: &[NetId]) -> bool {
