@@ -41,6 +41,7 @@ test:
 # The cases of the command line, of the tools and of the pages, on the built program.
 cases: build/fmeda
 	tests/cli/run build/fmeda
+	tests/cli/command_lines build/fmeda
 	tests/cli/refusals build/fmeda
 	tests/cli/prefixes build/fmeda
 	tests/cli/kept build/fmeda

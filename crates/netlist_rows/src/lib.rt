@@ -2,11 +2,7 @@
 #![tactic(auto)]
 
 #[cfg(test)]
-mod kinds;
-#[cfg(test)]
 mod lines;
-#[cfg(test)]
-mod models;
 #[cfg(test)]
 mod nets;
 #[cfg(test)]

@@ -1,5 +1,4 @@
 // Logical lines of small files.
-use crate::kinds::fault_name;
 use crate::texts::stretched;
 use blif_text::span::LogicalLine;
 use blif_text::spans::lines;
@@ -19,15 +18,15 @@ fn flat(alloc: Global, lines: &[LogicalLine]) -> Result<Vec<u32>, AllocError> {
     Ok(numbers)
 }
 
-/// What is told of a text, or the line and the kind of its fault.
-fn told(alloc: Global, text: &[u8]) -> Result<Vec<u32>, (u32, &'static str)> {
+/// What is told of a text, or the line of its fault; line 0 where it is long or memory ran out.
+fn told(alloc: Global, text: &[u8]) -> Result<Vec<u32>, u32> {
     if text.len() > 10000 {
-        return Err((0, "long"));
+        return Err(0);
     }
     match lines(alloc, text) {
-        Ok(lines) => flat(alloc, lines.as_slice()).map_err(|_| (0, "memory")),
-        Err(Refusal::Fault(fault)) => Err(fault_name(&fault)),
-        Err(Refusal::Memory) => Err((0, "memory")),
+        Ok(lines) => flat(alloc, lines.as_slice()).map_err(|_| 0),
+        Err(Refusal::Fault(fault)) => Err(fault.line),
+        Err(Refusal::Memory) => Err(0),
     }
 }
 
@@ -41,7 +40,7 @@ fn places_of_tokens(rt: HostRuntime) {
                 [1, 0, 6, 7, 8, 3, 14, 20, 21, 22, 27, 28].as_slice()
             )
         }
-        Err((line, kind)) => assert_eq!(rt; (line, kind), (0, "read")),
+        Err(line) => panic!(&rt; "refused at line {line}"),
     }
 }
 
@@ -58,7 +57,7 @@ fn first_wide_line(rt: HostRuntime) -> Result<(), AllocError> {
     let wide = with_wide_tokens(rt.alloc(), 256)?;
     match told(rt.alloc(), wide.as_slice()) {
         Ok(_) => assert!(rt; false, "taken"),
-        Err(told) => assert_eq!(rt; told, (2, "TooWide")),
+        Err(line) => assert_eq!(rt; line, 2),
     }
     Ok(())
 }
