@@ -43,7 +43,9 @@ cases: build/fmeda
 	tests/cli/run build/fmeda
 	tests/cli/command_lines build/fmeda
 	tests/cli/refusals build/fmeda
+	tests/cli/outcomes build/fmeda
 	tests/cli/prefixes build/fmeda
+	tests/cli/resumed build/fmeda
 	tests/cli/kept build/fmeda
 	tests/cli/shards build/fmeda
 	tests/cli/hostile build/fmeda
