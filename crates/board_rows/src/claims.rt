@@ -1,5 +1,6 @@
 // The shared table, with a plain list of numbers behind its turn.
-ghost use Rattle.std.specs.Prelude.{◌≡◌, ◌<◌, ◌≤◌, [], false, IfOk, OnOk};
+ghost use Rattle.std.specs.Prelude.{◌≡◌, ◌<◌, ◌≤◌, ◌^◌, [], false, IfOk};
+ghost use Rattle.claim_counter.specs.Views.{starting_view, giving};
 ghost use Rattle.claim_counter.specs.Seats.{IsOf};
 
 use claim_counter::{Claims, Kept, Seat};
@@ -28,109 +29,131 @@ impl Kept for Plain {
     }
 }
 
-fn make_plain(alloc: Global) -> Plain
-    ensures { (result.numbers.items ≡ []) × (result.failed ≡ false) }
+// A table whose turn is free, with an empty list behind it
+fn table(alloc: Global, todo: u64) -> Result<(Claims<Plain>, Seat<Plain>), AllocError>
+    requires { todo ≤ 2 ^ 20 }
+    ensures { IfOk result (λ r. IsOf r.0 r.1 × (r.0.todo ≡ todo) × (r.1.view ≡ giving (starting_view todo) false)) }
 {
-    Plain {
+    let (claims, mut seat) = Claims::<Plain>::new(alloc, todo)?;
+    let value = Plain {
         numbers: Vec::new(alloc),
         failed: false,
-    }
+    };
+    claims.give(&mut seat, value);
+    Ok((claims, seat))
+}
+
+// Which numbers below 128 a thread drew, how often it drew one, and whether they rose
+#[derive(Clone, Copy, PartialEq, Eq)]
+struct Drawn {
+    numbers: u128,
+    count: u64,
+    rising: bool,
 }
 
 // Draws until there is none left
-fn draw_all<R: Wait>(
-    rt: &R,
-    alloc: Global,
-    claims: &Claims<Plain>,
-    mut seat: Seat<Plain>,
-) -> Result<(Vec<u64>, Seat<Plain>), AllocError>
-    requires { IsOf claims.now seat × (seat.view.nones ≡ 0) × (seat.view.holds ≡ false) }
-    ensures { IfOk result (λ r. IsOf claims.now r.1 × (r.1.view.holds ≡ false)) }
+fn draw_all<R: Wait>(rt: &R, claims: &Claims<Plain>, mut seat: Seat<Plain>) -> Drawn
+    requires { IsOf claims.now seat × (seat.view.nones ≡ 0) × (claims.now.todo ≤ 128) }
 {
-    let mut drawn = Vec::new(alloc);
+    let mut drawn = Drawn {
+        numbers: 0,
+        count: 0,
+        rising: true,
+    };
     for _ in rt.forever() {
         let Some(number) = claims.draw(&mut seat) else {
-            return Ok((drawn, seat));
+            return drawn;
         };
-        drawn.push(number)?;
+        let bit = 1u128 << number;
+        drawn.rising &= bit > drawn.numbers;
+        drawn.numbers |= bit;
+        drawn.count = drawn.count.saturating_add(1);
     }
     unreachable!()
 }
 
-// Draws a number and posts it
+// Draws a number and posts it, where there is memory for it
 #[tactic(auto, using(claim_counter::proofs::Views::claimed_self))]
-fn post_one<R: Wait>(
-    rt: &R,
-    claims: &Claims<Plain>,
-    seat: &mut Seat<Plain>,
-) -> Result<(), AllocError>
+fn post_one<R: Wait>(rt: &R, claims: &Claims<Plain>, seat: &mut Seat<Plain>)
     requires { IsOf claims.now seat.old × (seat.old.view.nones ≡ 0) × (seat.old.view.holds ≡ false) × (seat.old.view.posts ≡ []) }
-    ensures { OnOk result (IsOf claims.now seat.new × (seat.new.view.holds ≡ false) × (seat.new.view.share ≡ seat.old.view.share)) }
+    ensures { IsOf claims.now seat.new × (seat.new.view.holds ≡ false) × (seat.new.view.share ≡ seat.old.view.share) }
 {
     let Some(number) = claims.draw(seat) else {
-        return Ok(());
+        return;
     };
     let mut value = claims.take(rt, seat);
-    if !value.failed {
-        value.numbers.push(number)?;
+    if !value.failed && value.numbers.push(number).is_ok() {
         claims.note(seat, number);
     }
     claims.give(seat, value);
-    Ok(())
 }
 
-#[test]
-fn two_threads_draw_each_number_once(rt: HostRuntime) -> Result<(), Fail> {
-    let alloc: Global = rt.alloc();
-    let (claims, mut first) = Claims::<Plain>::new(alloc, 100)?;
-    claims.give(&mut first, make_plain(alloc));
-    let second = claims.split(&mut first);
-    let (a, b) = join(
-        &rt,
-        || draw_all(&rt, alloc, &claims, first),
-        || draw_all(&rt, alloc, &claims, second),
-    );
-    let (mut all, _first) = a?;
-    let (more, _second) = b?;
-    for number in more {
-        all.push(number)?;
-    }
-    all.sort_unstable();
-    assert_eq!(rt; all.len(), 100);
-    for k in 0..100 {
-        assert!(rt; all.get(k).copied() == Some(k as u64));
-    }
-    Ok(())
+fn drawn_alone<R: Wait>(rt: &R, alloc: Global, todo: u64) -> Result<Drawn, AllocError>
+    requires { todo ≤ 128 }
+{
+    let (claims, seat) = table(alloc, todo)?;
+    Ok(draw_all(rt, &claims, seat))
 }
 
 #[test]
 fn numbers_come_in_order_and_then_none(rt: HostRuntime) -> Result<(), Fail> {
-    let alloc: Global = rt.alloc();
-    let (claims, mut seat) = Claims::<Plain>::new(alloc, 2)?;
-    claims.give(&mut seat, make_plain(alloc));
-    let (drawn, _seat) = draw_all(&rt, alloc, &claims, seat)?;
-    assert!(rt; drawn.as_slice() == [0, 1].as_slice());
+    for (todo, numbers) in [(0, 0), (2, 0b11), (100, (1u128 << 100) - 1)] {
+        let wanted = Drawn {
+            numbers,
+            count: todo,
+            rising: true,
+        };
+        assert!(rt;
+            drawn_alone(&rt, rt.alloc(), todo)? == wanted,
+            "{todo} numbers"
+        );
+    }
     Ok(())
 }
 
+// What two threads draw of 100 numbers
+fn drawn_by_two<R: Threads + Wait + Sync>(
+    rt: &R,
+    alloc: Global,
+) -> Result<(Drawn, Drawn), AllocError> {
+    let (claims, mut first) = table(alloc, 100)?;
+    let second = claims.split(&mut first);
+    Ok(join(
+        rt,
+        || draw_all(rt, &claims, first),
+        || draw_all(rt, &claims, second),
+    ))
+}
+
+// Whether two threads drew all numbers below 100, each once, and each thread in order
+fn are_all(a: Drawn, b: Drawn) -> bool {
+    (a.numbers | b.numbers, a.count.saturating_add(b.count)) == ((1u128 << 100) - 1, 100)
+        && a.rising
+        && b.rising
+}
+
 #[test]
-fn none_where_there_is_nothing_to_do(rt: HostRuntime) -> Result<(), Fail> {
-    let alloc: Global = rt.alloc();
-    let (claims, mut seat) = Claims::<Plain>::new(alloc, 0)?;
-    assert!(rt; claims.draw(&mut seat).is_none());
+fn two_threads_draw_each_number_once(rt: HostRuntime) -> Result<(), Fail> {
+    let (a, b) = drawn_by_two(&rt, rt.alloc())?;
+    assert!(rt; are_all(a, b));
     Ok(())
+}
+
+// What is behind the turn at the end where two seats posted, the second first
+fn posted_by_two<R: Wait>(rt: &R, alloc: Global) -> Result<Plain, AllocError> {
+    let (claims, mut first) = table(alloc, 3)?;
+    let mut second = claims.split(&mut first);
+    post_one(rt, &claims, &mut second);
+    post_one(rt, &claims, &mut first);
+    claims.join(&mut first, second);
+    Ok(claims.close(first))
 }
 
 #[test]
 fn what_was_posted_comes_back(rt: HostRuntime) -> Result<(), Fail> {
-    let alloc: Global = rt.alloc();
-    let (claims, mut seat) = Claims::<Plain>::new(alloc, 3)?;
-    claims.give(&mut seat, make_plain(alloc));
-    let mut other = claims.split(&mut seat);
-    post_one(&rt, &claims, &mut other)?;
-    post_one(&rt, &claims, &mut seat)?;
-    claims.join(&mut seat, other);
-    let value = claims.close(seat);
-    assert!(rt; value.numbers.as_slice() == [0, 1].as_slice());
+    let value = posted_by_two(&rt, rt.alloc())?;
+    let whole = value.numbers.as_slice() == [0, 1].as_slice();
+    drop(value);
+    assert!(rt; whole);
     Ok(())
 }

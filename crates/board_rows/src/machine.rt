@@ -3,6 +3,50 @@ use campaign_core::{Core, Event, StepRefusal, step};
 use std::alloc::Global;
 use std::test::*;
 
+// Events on a fresh machine for two numbers, each with whether it is lawful, and what the machine is after them.
+#[derive(Clone, Copy)]
+struct Row {
+    events: &'static [(Event, bool)],
+    history: &'static [u64],
+    next: u64,
+    failed: bool,
+}
+
+// A post needs a claim of its worker; posts come in any order; nothing is posted after a failure.
+const ROWS: [Row; 3] = [
+    Row {
+        events: &[(Event::Post(0, 0), false), (Event::Draw(0), true)],
+        history: &[],
+        next: 1,
+        failed: false,
+    },
+    Row {
+        events: &[
+            (Event::Draw(0), true),
+            (Event::Draw(1), true),
+            (Event::Draw(1), true),
+            (Event::Post(1, 0), false),
+            (Event::Post(1, 1), true),
+            (Event::Post(0, 0), true),
+            (Event::Post(0, 0), false),
+            (Event::Look(0), true),
+        ],
+        history: &[1, 0],
+        next: 2,
+        failed: false,
+    },
+    Row {
+        events: &[
+            (Event::Draw(0), true),
+            (Event::Fail(0), true),
+            (Event::Post(0, 0), false),
+        ],
+        history: &[],
+        next: 1,
+        failed: true,
+    },
+];
+
 // The core after the event, whether it was accepted or not, and whether it was
 fn tried(core: Core, event: Event) -> (Core, bool) {
     match step(core, event) {
@@ -11,50 +55,24 @@ fn tried(core: Core, event: Event) -> (Core, bool) {
     }
 }
 
-#[test]
-fn a_post_needs_a_claim_of_its_worker(rt: HostRuntime) -> Result<(), Fail> {
-    let alloc: Global = rt.alloc();
-    let (core, posted) = tried(Core::new(alloc, 2), Event::Post(0, 0));
-    assert!(rt; !posted);
-    let (core, drawn) = tried(core, Event::Draw(0));
-    assert!(rt; drawn);
-    assert_eq!(rt; core.next(), 1);
-    assert!(rt; core.history().is_empty());
-    Ok(())
+fn is_after(core: &Core, row: &Row) -> bool {
+    core.history() == row.history && core.next() == row.next && core.failed() == row.failed
 }
 
-#[test]
-fn posts_come_in_any_order_until_a_failure(rt: HostRuntime) -> Result<(), Fail> {
-    let alloc: Global = rt.alloc();
-    let events = [
-        (Event::Draw(0), true),
-        (Event::Draw(1), true),
-        (Event::Draw(1), true),
-        (Event::Post(1, 0), false),
-        (Event::Post(1, 1), true),
-        (Event::Post(0, 0), true),
-        (Event::Post(0, 0), false),
-        (Event::Look(0), true),
-    ];
+fn is_right(alloc: Global, row: &Row) -> bool {
     let mut core = Core::new(alloc, 2);
-    for (event, lawful) in events {
+    let mut right = true;
+    for (event, lawful) in row.events {
         let accepted;
-        (core, accepted) = tried(core, event);
-        assert_eq!(rt; accepted, lawful);
+        (core, accepted) = tried(core, *event);
+        right &= accepted == *lawful;
     }
-    assert!(rt; core.history() == [1, 0].as_slice());
-    assert_eq!(rt; core.next(), 2);
-    assert!(rt; !core.failed());
-    Ok(())
+    right && is_after(&core, row)
 }
 
 #[test]
-fn nothing_is_posted_after_a_failure(rt: HostRuntime) -> Result<(), Fail> {
-    let alloc: Global = rt.alloc();
-    let (core, _) = tried(Core::new(alloc, 2), Event::Draw(0));
-    let (core, _) = tried(core, Event::Fail(0));
-    let (core, posted) = tried(core, Event::Post(0, 0));
-    assert!(rt; !posted);
-    assert!(rt; core.failed());
-    Ok(())
+fn events_are_lawful_or_not(rt: HostRuntime) {
+    for (i, row) in ROWS.iter().enumerate() {
+        assert!(rt; is_right(rt.alloc(), row), "row {i}");
+    }
 }

@@ -1,18 +1,15 @@
-// Small circuits, on which the layers from an order of the tables to the simulators agree. There is nothing here but tests.
+// A small circuit with a latch, by hand and in each layer. There is nothing here but tests.
 #![tactic(auto)]
 
 #[cfg(test)]
-mod agree;
-#[cfg(test)]
 mod hand;
 #[cfg(test)]
-mod loops;
-#[cfg(test)]
-mod made;
-#[cfg(test)]
 mod plain;
-pub mod sample;
 #[cfg(test)]
 mod single;
+#[cfg(test)]
+mod tests;
+#[cfg(test)]
+mod toggle;
 #[cfg(test)]
 mod words;

@@ -1,32 +1,10 @@
 // The values of all nets by the definition alone, cycle after cycle.
-use crate::made::vector;
+use crate::hand::{INPUTS, Y};
 use circuit::evaluate::value_within;
 use circuit::meaning::{bit, is_flipped, turned};
 use circuit::netlist::Netlist;
 use circuit::parts::{Fault, NetId};
 use std::alloc::{AllocError, Global};
-
-// What the latches have in a cycle; `before` has the values of the nets in the cycle before.
-fn state_in(
-    alloc: Global,
-    net: &Netlist,
-    faults: &[Fault],
-    cycle: u32,
-    before: &[bool],
-) -> Result<Vec<bool>, AllocError> {
-    let latches = net.latches();
-    let mut state = Vec::new(alloc);
-    for k in 0..latches.len() as u32 {
-        let latch = latches[k as usize];
-        let raw = if cycle == 0 {
-            latch.start
-        } else {
-            bit(before, latch.from.0)
-        };
-        state.push(turned(is_flipped(faults, k, cycle), raw))?;
-    }
-    Ok(state)
-}
 
 fn values_in(
     alloc: Global,
@@ -44,29 +22,25 @@ fn values_in(
     Ok(values)
 }
 
-/// The values of all nets in all cycles, one cycle after the other, where the inputs have the bits of these numbers.
-pub fn plain_values(
-    alloc: Global,
-    net: &Netlist,
-    faults: &[Fault],
-    numbers: &[u32],
-) -> Result<Vec<bool>, AllocError> {
-    let mut all = Vec::new(alloc);
-    let mut values = Vec::new(alloc);
-    let mut cycle = 0u32;
-    for number in numbers {
-        let inputs = vector(alloc, net.inputs().len(), *number)?;
-        let state = state_in(alloc, net, faults, cycle, values.as_slice())?;
-        values = values_in(
-            alloc,
-            net,
-            faults,
-            cycle,
-            state.as_slice(),
-            inputs.as_slice(),
-        )?;
-        all.extend_from_slice(values.as_slice())?;
-        cycle = cycle.saturating_add(1);
+// Bits behind those of a number.
+fn with_bits(number: u32, bits: &[bool]) -> u32 {
+    let mut longer = number;
+    for bit in bits {
+        longer = longer << 1 | *bit as u32;
     }
-    Ok(all)
+    longer
+}
+
+/// The bits of the nets in all cycles.
+pub fn plain_bits(alloc: Global, net: &Netlist, faults: &[Fault]) -> Result<u32, AllocError> {
+    let mut bits = 0;
+    let mut values = Vec::new(alloc);
+    for cycle in 0..4 {
+        // The latch has what y was; before the first cycle there is no value, and it starts with 0.
+        let raw = bit(values.as_slice(), Y.0);
+        let state = [turned(is_flipped(faults, 0, cycle), raw)];
+        values = values_in(alloc, net, faults, cycle, &state, &[INPUTS[cycle as usize]])?;
+        bits = with_bits(bits, values.as_slice());
+    }
+    Ok(bits)
 }

@@ -1,50 +1,37 @@
 // The values of all nets by a simulation of one faulty circuit.
-ghost use Rattle.std.specs.Prelude.{◌≤◌, length};
 ghost use Rattle.circuit.specs.Order.{IsOrder};
 
-use crate::made::{Made, vector};
+use crate::hand::INPUTS;
 use circuit::netlist::Netlist;
 use circuit::parts::{Fault, NetId};
 use cycle_sim::sim::Sim;
 use netlist_levels::Order;
 use std::alloc::{AllocError, Global};
 
-fn push_nets(all: &mut Vec<bool>, net: &Netlist, sim: &Sim) -> Result<(), AllocError> {
+// The bits of the nets in this cycle, behind those of a number.
+fn with_nets(number: u32, net: &Netlist, sim: &Sim) -> u32 {
+    let mut longer = number;
     for n in 0..net.nets() as u32 {
-        all.push(sim.net(NetId(n)))?;
+        longer = longer << 1 | sim.net(NetId(n)) as u32;
     }
-    Ok(())
+    longer
 }
 
-fn run(
+/// The bits of the nets in all cycles.
+pub fn single_bits(
     alloc: Global,
     net: &Netlist,
     order: &Order,
     faults: &[Fault],
-    numbers: &[u32],
-) -> Result<Vec<bool>, AllocError>
-    requires order { IsOrder net.now order.now }
-    requires few { length numbers.now ≤ 65536 }
+) -> Result<u32, AllocError>
+    requires { IsOrder net.now order.now }
 {
-    let mut all = Vec::new(alloc);
+    let mut bits = 0;
     let mut sim = Sim::new(alloc, net, order)?;
     sim.start();
-    for t in 0..numbers.len() {
-        let inputs = vector(alloc, net.inputs().len(), numbers[t])?;
-        sim.cycle(net, order, inputs.as_slice(), faults);
-        push_nets(&mut all, net, &sim)?;
+    for t in 0..4 {
+        sim.cycle(net, order, &[INPUTS[t]], faults);
+        bits = with_nets(bits, net, &sim);
     }
-    Ok(all)
-}
-
-/// The values of all nets in all cycles, one cycle after the other, where the inputs have the bits of these numbers.
-pub fn single_values(
-    alloc: Global,
-    made: &Made,
-    faults: &[Fault],
-    numbers: &[u32],
-) -> Result<Vec<bool>, AllocError>
-    requires { length numbers.now ≤ 65536 }
-{
-    run(alloc, made.net(), made.order(), faults, numbers)
+    Ok(bits)
 }

@@ -1,138 +1,103 @@
 // The values of all nets by 64 lanes in a word, and by four words.
-ghost use Rattle.std.specs.Prelude.{◌≡◌, ◌<◌, ◌≤◌, length};
+ghost use Rattle.std.specs.Prelude.{◌<◌};
 ghost use Rattle.circuit.specs.Order.{IsOrder};
 
-use crate::made::{Made, vector};
+use crate::hand::{INPUTS, ROWS, Row};
 use circuit::netlist::Netlist;
 use circuit::parts::{Fault, NetId};
 use fm_base::Steps;
 use lane_kernel::{Lanes, Lanes4};
 use netlist_levels::Order;
 use std::alloc::{AllocError, Global};
-use std::marker::Brand;
-use std::sync::ledger::{Blank, Ledger};
+use std::sync::ledger::Ledger;
 
 /// The faults of the lanes of a word.
-pub type Loads = [[Option<Fault>; 2]; 64];
+type Loads = [[Option<Fault>; 2]; 64];
 
-fn push_words(all: &mut Vec<u64>, net: &Netlist, lanes: &Lanes) -> Result<(), AllocError> {
-    for n in 0..net.nets() as u32 {
-        all.push(lanes.net(NetId(n)))?;
-    }
-    Ok(())
+/// The row of a lane.
+pub fn row_of(rows: &[Row; ROWS], word: u32, lane: u32) -> Row
+    requires word { word < 4 }
+    requires lane { lane < 64 }
+{
+    rows[(word * 64 + lane) as usize % ROWS]
 }
 
-fn push_word_of_four(
-    all: &mut Vec<u64>,
-    net: &Netlist,
-    lanes: &Lanes4,
-    word: u32,
-) -> Result<(), AllocError>
+fn loads_of(rows: &[Row; ROWS], word: u32) -> Loads
+    requires { word < 4 }
+{
+    let mut loads = [[None, None]; 64];
+    for lane in 0..64 {
+        let row = row_of(rows, word, lane);
+        let faults = row.faults;
+        loads[lane as usize] = faults;
+    }
+    loads
+}
+
+// The bits of a net, behind those of the number of each lane.
+fn put_word(word: u64, bits: &mut [u32; 64]) {
+    for lane in 0..64 {
+        bits[lane] = bits[lane] << 1 | (word >> lane as u32 & 1) as u32;
+    }
+}
+
+fn put_nets(net: &Netlist, lanes: &Lanes, bits: &mut [u32; 64]) {
+    for n in 0..net.nets() as u32 {
+        put_word(lanes.net(NetId(n)), bits);
+    }
+}
+
+fn put_nets_of(net: &Netlist, lanes: &Lanes4, word: u32, bits: &mut [u32; 64])
     requires { word < 4 }
 {
     for n in 0..net.nets() as u32 {
-        all.push(lanes.net(NetId(n), word))?;
+        put_word(lanes.net(NetId(n), word), bits);
     }
-    Ok(())
 }
 
-fn run<L: Ledger>(
+/// The bits of the nets in all cycles, for each lane of a word.
+pub fn word_bits<L: Ledger>(
     alloc: Global,
     net: &Netlist,
     order: &Order,
-    loads: &Loads,
-    numbers: &[u32],
+    rows: &[Row; ROWS],
     steps: &mut Steps<L>,
-) -> Result<Vec<u64>, AllocError>
-    requires order { IsOrder net.now order.now }
-    requires few { length numbers.now ≤ 65536 }
+) -> Result<[u32; 64], AllocError>
+    requires { IsOrder net.now order.now }
 {
-    let mut all = Vec::new(alloc);
+    let mut bits = [0; 64];
     let mut lanes = Lanes::new(alloc, net, order)?;
-    lanes.load(loads);
+    lanes.load(&loads_of(rows, 0));
     lanes.start();
-    for t in 0..numbers.len() {
-        let inputs = vector(alloc, net.inputs().len(), numbers[t])?;
-        lanes.cycle(net, order, inputs.as_slice(), steps);
-        push_words(&mut all, net, &lanes)?;
+    for t in 0..4 {
+        lanes.cycle(net, order, &[INPUTS[t]], steps);
+        put_nets(net, &lanes, &mut bits);
     }
-    Ok(all)
+    Ok(bits)
 }
 
-// One of the four words.
-fn run_four<L: Ledger>(
+/// The same for each lane of four words.
+pub fn four_words_bits<L: Ledger>(
     alloc: Global,
     net: &Netlist,
     order: &Order,
-    loads: &[Loads; 4],
-    word: u32,
-    numbers: &[u32],
+    rows: &[Row; ROWS],
     steps: &mut Steps<L>,
-) -> Result<Vec<u64>, AllocError>
-    requires order { IsOrder net.now order.now }
-    requires word { word < 4 }
-    requires few { length numbers.now ≤ 65536 }
+) -> Result<[[u32; 64]; 4], AllocError>
+    requires { IsOrder net.now order.now }
 {
-    let mut all = Vec::new(alloc);
+    let mut bits = [[0; 64]; 4];
     let mut lanes = Lanes4::new(alloc, net, order)?;
-    lanes.load(0, &loads[0]);
-    lanes.load(1, &loads[1]);
-    lanes.load(2, &loads[2]);
-    lanes.load(3, &loads[3]);
-    lanes.start();
-    for t in 0..numbers.len() {
-        let inputs = vector(alloc, net.inputs().len(), numbers[t])?;
-        lanes.cycle(net, order, inputs.as_slice(), steps);
-        push_word_of_four(&mut all, net, &lanes, word)?;
+    for word in 0..4 {
+        lanes.load(word, &loads_of(rows, word));
     }
-    Ok(all)
-}
-
-/// What a word of four gave, and what a single word with the same faults gave.
-#[derive(Drop)]
-pub struct Words {
-    pub of_four: Vec<u64>,
-    pub alone: Vec<u64>,
-}
-
-fn run_both<L: Ledger>(
-    alloc: Global,
-    made: &Made,
-    loads: &[Loads; 4],
-    word: u32,
-    numbers: &[u32],
-    blank: Blank,
-) -> Result<Words, AllocError>
-    requires word { word < 4 }
-    requires few { length numbers.now ≤ 65536 }
-    requires name { blank.name ≡ L.name }
-    requires parts { blank.parts ≡ L.parts }
-    requires some { 0 < blank.parts }
-{
-    let (net, order) = (made.net(), made.order());
-    let mut steps: Steps<L> = Steps::fresh(blank);
-    let of_four = run_four(alloc, net, order, loads, word, numbers, &mut steps)?;
-    let alone = run(
-        alloc,
-        net,
-        order,
-        &loads[word as usize],
-        numbers,
-        &mut steps,
-    )?;
-    Ok(Words { of_four, alone })
-}
-
-/// The values of all nets in all cycles, one cycle after the other, where the inputs have the bits of these numbers.
-pub fn word_values(
-    alloc: Global,
-    made: &Made,
-    loads: &[Loads; 4],
-    word: u32,
-    numbers: &[u32],
-) -> Result<Words, AllocError>
-    requires word { word < 4 }
-    requires few { length numbers.now ≤ 65536 }
-{
-    run_both::<Brand>(alloc, made, loads, word, numbers, Blank::new(1))
+    lanes.start();
+    for t in 0..4 {
+        lanes.cycle(net, order, &[INPUTS[t]], steps);
+        put_nets_of(net, &lanes, 0, &mut bits[0]);
+        put_nets_of(net, &lanes, 1, &mut bits[1]);
+        put_nets_of(net, &lanes, 2, &mut bits[2]);
+        put_nets_of(net, &lanes, 3, &mut bits[3]);
+    }
+    Ok(bits)
 }

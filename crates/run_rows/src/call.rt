@@ -1,9 +1,9 @@
-// One call of the program, and what it leaves.
-use crate::inputs::Inputs;
+// One call of the program over the chain's files, and what it leaves.
+use crate::inputs::{POINTS, RATES, WORKLOAD};
 use fm_base::Seq;
 use fm_shelf::files::{Calls, File, Files};
 use fm_shelf::memory::{MemoryShelf, MemorySink};
-use fm_shelf::shelf::{Shelf, Sink};
+use fm_shelf::shelf::Shelf;
 use fm_shelf::whole::read_all;
 use fmeda_top::ended::Ended;
 use fmeda_top::top::fmeda;
@@ -31,25 +31,46 @@ pub const NOTHING: Failing<'static> = Failing {
     out: &[],
 };
 
-/// What a call has answered, written and left.
-#[derive(Drop)]
+/// The texts of one call: its words, the first of which stands for the program's own name, the netlist, what the result file holds
+/// before, and what is to be written and to be held at the end.
+#[derive(Clone, Copy)]
+pub struct Texts<'a> {
+    pub line: &'a str,
+    pub netlist: &'a str,
+    pub before: &'a [u8],
+    pub text: &'a [u8],
+    pub after: &'a [u8],
+}
+
+/// What was written of a text.
+#[derive(Clone, Copy, PartialEq, Eq)]
+pub enum Written {
+    Whole,
+    Part,
+    Other,
+}
+
+/// What a call has answered, and whether it wrote and left what it was to.
+#[derive(Clone, Copy)]
 pub struct Seen {
     pub code: u8,
-    pub out: MemorySink,
-    pub held: Seq<u8>,
+    pub written: Written,
+    pub held: bool,
+    /// The calls of the shelf, and how many of them have failed.
     pub calls: u64,
     pub failures: u64,
+    /// The writes of the output, and how many of them have failed.
+    pub writes: u64,
+    pub lost: u64,
 }
 
 impl Seen {
-    /// Whether the call ended with this exit status, this output and this result file.
-    pub fn is(&self, code: u8, out: &[u8], held: &[u8]) -> bool {
-        self.code == code && self.out.bytes() == out && self.held.as_slice() == held
-    }
-
-    /// Whether so many calls of the shelf and of the output have failed.
-    pub fn has_failed(&self, shelf: u64, out: u64) -> bool {
-        self.failures == shelf && self.out.failures() == out
+    /// Whether the call ended with this exit status, left what it was to, and had so many failures of the shelf and the output.
+    pub fn is(&self, code: u8, written: Written, failures: u64, lost: u64) -> bool {
+        self.held
+            && self.code == code
+            && self.written == written
+            && (self.failures, self.lost) == (failures, lost)
     }
 }
 
@@ -61,24 +82,25 @@ fn words_of(alloc: Global, line: &str) -> Result<Vec<String>, AllocError> {
     Ok(words)
 }
 
-fn push_file(alloc: Global, files: &mut Files, name: &str, bytes: &[u8]) -> Result<(), AllocError> {
-    let name = String::from_str(alloc, name)?;
+fn file_of(alloc: Global, name: &str, bytes: &[u8]) -> Result<File, AllocError> {
     let bytes = Seq::from_vec(Vec::from_slice(alloc, bytes)?);
-    files.push(File { name, bytes })
+    let name = String::from_str(alloc, name)?;
+    Ok(File { name, bytes })
 }
 
 /// The input files, and the result file as it is before.
-pub fn files_of(alloc: Global, inputs: &Inputs, held: &[u8]) -> Result<Files, AllocError> {
+pub fn files_of<'a>(alloc: Global, netlist: &'a str, held: &'a [u8]) -> Result<Files, AllocError> {
     let mut files = Seq::new(alloc);
-    for (name, text) in [
-        ("net", &inputs.netlist),
-        ("work", &inputs.workload),
-        ("rates", &inputs.rates),
-        ("points", &inputs.points),
+    for (name, bytes) in [
+        ("net", netlist.as_bytes()),
+        ("work", WORKLOAD.as_bytes()),
+        ("rates", RATES.as_bytes()),
+        ("points", POINTS.as_bytes()),
+        ("RES", held),
     ] {
-        push_file(alloc, &mut files, name, text.as_bytes())?;
+        let file = file_of(alloc, name, bytes)?;
+        files.push(file)?;
     }
-    push_file(alloc, &mut files, "RES", held)?;
     Ok(files)
 }
 
@@ -86,48 +108,82 @@ fn numbers(alloc: Global, numbers: &[u64]) -> Result<Calls, AllocError> {
     Ok(Seq::from_vec(Vec::from_slice(alloc, numbers)?))
 }
 
-/// Calls the program with the words of a line, the first of which stands for its own name.
-pub fn call<R: Threads + Wait + Sync, F: Shelf + Send + Drop, O: Sink, G: Gate + Sync>(
+/// A shelf with these files.
+pub fn shelf_of(
+    alloc: Global,
+    netlist: &str,
+    held: &[u8],
+    failing: Failing<'_>,
+) -> Result<MemoryShelf, AllocError> {
+    let numbered = numbers(alloc, failing.shelf)?;
+    let files = files_of(alloc, netlist, held)?;
+    MemoryShelf::tearing(alloc, files, ROOM, numbered, failing.taken)
+}
+
+/// A sink for what is written.
+pub fn sink_of(alloc: Global, failing: Failing<'_>) -> Result<MemorySink, AllocError> {
+    MemorySink::new(alloc, ROOM, numbers(alloc, failing.out)?)
+}
+
+/// Calls the program with the words of a line.
+pub fn call<R: Threads + Wait + Sync, F: Shelf + Send + Drop, G: Gate + Sync>(
     rt: &R,
     alloc: Global,
     line: &str,
     shelf: F,
-    out: &mut O,
+    out: &mut MemorySink,
     gate: &G,
 ) -> Result<Ended<F>, AllocError> {
     let words = words_of(alloc, line)?;
     Ok(fmeda(rt, alloc, words.as_slice(), shelf, out, gate))
 }
 
-/// Calls it over files in memory.
+/// Whether the result file holds these bytes.
+pub fn holds<F: Shelf>(alloc: Global, shelf: &mut F, due: &[u8]) -> bool {
+    match read_all(alloc, shelf, "RES") {
+        Ok(bytes) => bytes.as_slice() == due,
+        Err(_) => false,
+    }
+}
+
+fn written_of(written: &[u8], text: &[u8]) -> Written {
+    if written == text {
+        Written::Whole
+    } else if text.starts_with(written) {
+        Written::Part
+    } else {
+        Written::Other
+    }
+}
+
+fn seen_of(
+    alloc: Global,
+    ended: &mut Ended<MemoryShelf>,
+    out: &MemorySink,
+    texts: &Texts<'_>,
+) -> Seen {
+    let (calls, failures) = (ended.shelf.calls(), ended.shelf.failures());
+    Seen {
+        code: ended.status.code(),
+        written: written_of(out.bytes(), texts.text),
+        held: holds(alloc, &mut ended.shelf, texts.after),
+        calls,
+        failures,
+        writes: out.calls(),
+        lost: out.failures(),
+    }
+}
+
+/// Calls the program over files in memory.
 pub fn see<R: Threads + Wait + Sync, G: Gate + Sync>(
     rt: &R,
     alloc: Global,
-    line: &str,
-    inputs: &Inputs,
-    held: &[u8],
+    texts: &Texts<'_>,
     failing: Failing<'_>,
     gate: &G,
 ) -> Result<Seen, AllocError> {
-    let files = files_of(alloc, inputs, held)?;
-    let numbered = numbers(alloc, failing.shelf)?;
-    let shelf = MemoryShelf::tearing(alloc, files, ROOM, numbered, failing.taken)?;
-    let mut out = MemorySink::new(alloc, ROOM, numbers(alloc, failing.out)?)?;
-    let mut ended = call(rt, alloc, line, shelf, &mut out, gate)?;
-    let (calls, failures) = (ended.shelf.calls(), ended.shelf.failures());
-    Ok(Seen {
-        code: ended.status.code(),
-        out,
-        held: held_now(alloc, &mut ended.shelf),
-        calls,
-        failures,
-    })
-}
-
-// What the result file holds; nothing where it can't be read.
-fn held_now<F: Shelf>(alloc: Global, shelf: &mut F) -> Seq<u8> {
-    match read_all(alloc, shelf, "RES") {
-        Ok(bytes) => bytes,
-        Err(_) => Seq::new(alloc),
-    }
+    let mut out = sink_of(alloc, failing)?;
+    let shelf = shelf_of(alloc, texts.netlist, texts.before, failing)?;
+    let mut ended = call(rt, alloc, texts.line, shelf, &mut out, gate)?;
+    Ok(seen_of(alloc, &mut ended, &out, texts))
 }

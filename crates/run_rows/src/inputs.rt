@@ -1,89 +1,31 @@
-// The four input files of small campaigns, and what is worked out of them by hand.
+// The four input files of a small campaign, and what is worked out of them by hand.
 use std::alloc::{AllocError, Global};
 use std::fmt::Write;
 
-/// The texts of the four input files. Their names are `net`, `work`, `rates` and `points`.
-#[derive(Drop)]
-pub struct Inputs {
-    pub netlist: String,
-    pub workload: String,
-    pub rates: String,
-    pub points: String,
-}
-
-/// A duplicated AND with a comparator: the nets a, b, y, al, z.
-pub const DUP: &str =
-    ".model dup\n.inputs a b\n.outputs y al\n.names a b y\n11 1\n.names a b z\n11 1\n.names y z al\n10 1\n01 1\n.end\n";
-
-const DUP_VECTORS: &str =
-    "workload,kind,a,b\nw,mission,0,0\nw,mission,0,1\nw,mission,1,0\nw,mission,1,1\n";
-
-/// The header of a rates file.
-const RATES: &str = "pattern,part,role,covered,permanent,transient\n";
-
-fn inputs_of(
-    alloc: Global,
-    netlist: String,
-    workload: &str,
-    rates: String,
-    points: String,
-) -> Result<Inputs, AllocError> {
-    Ok(Inputs {
-        netlist,
-        workload: String::from_str(alloc, workload)?,
-        rates,
-        points,
-    })
-}
-
-/// The duplicated AND in its four vectors, with y observed and the comparator as its alarm, and the lines of a rates file.
-pub fn dup(alloc: Global, netlist: &str, rates: &str) -> Result<Inputs, AllocError> {
-    let netlist = String::from_str(alloc, netlist)?;
-    let rates = format!(in alloc; "{RATES}{rates}")?;
-    let points = String::from_str(alloc, "kind,net\nobserve,y\nalarm,al\n")?;
-    inputs_of(alloc, netlist, DUP_VECTORS, rates, points)
-}
-
 /// 33 nets n0 to n32 in a row, with n32 observed, no alarm, and a rate of 1 FIT for each fault.
-pub fn chain(alloc: Global) -> Result<Inputs, AllocError> {
+pub fn chain(alloc: Global) -> Result<String, AllocError> {
     let mut netlist = String::from_str(alloc, ".model chain\n.inputs n0\n.outputs n32\n")?;
     for i in 0..32 {
         write!(netlist, ".names n{i} n{}\n1 1\n", i + 1)?;
     }
     netlist.push_str(".end\n")?;
-    let workload = "workload,kind,n0\nw,mission,0\nw,mission,1\n";
-    let rates = format!(in alloc; "{RATES}*,all,mission,no,66,0\n")?;
-    let points = String::from_str(alloc, "kind,net\nobserve,n32\n")?;
-    inputs_of(alloc, netlist, workload, rates, points)
+    Ok(netlist)
 }
 
-// The two faults of a net of the chain, each in a line.
-fn push_pair(text: &mut String, before: &str, n: u32, after: &str) -> Result<(), AllocError> {
-    write!(text, "{before}n{n}/0{after}\n{before}n{n}/1{after}\n")
-}
+pub const WORKLOAD: &str = "workload,kind,n0\nw,mission,0\nw,mission,1\n";
 
-// The faults of the chain in order: n32 is the second net, since outputs stand before tables.
-fn push_faults(text: &mut String, before: &str, after: &str) -> Result<(), AllocError> {
-    push_pair(text, before, 0, after)?;
-    push_pair(text, before, 32, after)?;
-    for n in 1..32 {
-        push_pair(text, before, n, after)?;
-    }
-    Ok(())
-}
+pub const RATES: &str = "pattern,part,role,covered,permanent,transient\n*,all,mission,no,66,0\n";
 
-/// The classes of the chain: each fault is dangerous and goes unnoticed.
-pub fn chain_classes(alloc: Global) -> Result<String, AllocError> {
-    let mut text = String::new(alloc);
-    push_faults(&mut text, "", " single-point")?;
-    text.push_str("end 66\n")?;
-    Ok(text)
-}
+pub const POINTS: &str = "kind,net\nobserve,n32\n";
 
-/// The report of the chain.
+/// The report of the chain. Its faults stand in the order of the nets: n32 is the second one, since outputs stand before tables.
 pub fn chain_report(alloc: Global) -> Result<String, AllocError> {
     let mut text = String::from_str(alloc, CHAIN_HEAD)?;
-    push_faults(&mut text, "single-point ", " 1000000")?;
+    for net in 1..32 {
+        for value in 0..2 {
+            write!(text, "single-point n{net}/{value} 1000000\n")?;
+        }
+    }
     text.push_str("end\n")?;
     Ok(text)
 }
@@ -101,6 +43,10 @@ target spfm permanent missed
 target spfm transient -
 target lfm -
 target term missed
+single-point n0/0 1000000
+single-point n0/1 1000000
+single-point n32/0 1000000
+single-point n32/1 1000000
 ";
 
 /// The chain's result file, its digest computed by another program.

@@ -1,7 +1,7 @@
 // The calls of a command on its shelf, and what a failing one leaves.
 
 /// A call on the shelf.
-#[derive(Clone, Copy, Debug, PartialEq, Eq)]
+#[derive(Clone, Copy)]
 pub enum Step {
     /// A read of an input.
     Read(&'static str),
@@ -20,6 +20,23 @@ pub struct Course<'a> {
     pub steps: &'a [Step],
     pub after: &'a [u8],
     pub text: &'a [u8],
+}
+
+/// Such a course.
+pub fn course_of<'a>(
+    line: &'a str,
+    before: &'a [u8],
+    steps: &'a [Step],
+    after: &'a [u8],
+    text: &'a [u8],
+) -> Course<'a> {
+    Course {
+        line,
+        before,
+        steps,
+        after,
+        text,
+    }
 }
 
 fn prefix(bytes: &[u8], len: usize) -> &[u8] {

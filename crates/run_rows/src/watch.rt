@@ -17,11 +17,6 @@ impl<'a, F: Shelf + Drop> Watched<'a, F> {
     pub fn new(shelf: F, appends: &'a AtomicU64) -> Self {
         Watched { shelf, appends }
     }
-
-    /// The shelf itself.
-    pub fn into_shelf(self) -> F {
-        self.shelf
-    }
 }
 
 impl<'a, F: Shelf + Drop> Shelf for Watched<'a, F> {

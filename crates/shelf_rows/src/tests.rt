@@ -3,7 +3,7 @@ use fm_base::Seq;
 use fm_shelf::files::{Calls, File, Files};
 use fm_shelf::memory::{MemoryShelf, MemorySink};
 use fm_shelf::real::{FileShelf, OutSink};
-use fm_shelf::shelf::{Failed, Shelf, Sink};
+use fm_shelf::shelf::{Shelf, Sink};
 use fm_shelf::sure::{SureShelf, SureSink};
 use fm_shelf::whole::{append_all, read_all, write_all};
 use std::alloc::{AllocError, Global};
@@ -18,59 +18,74 @@ enum Call<'a> {
     Cut(&'a str, u64),
 }
 
+use Call::{Append, Cut, Read};
+
 // A call, and whether it is to be done.
+type Wanted<'a> = (Call<'a>, bool);
+
+// A shelf with the file `a` of the bytes `abc`, calls on it, and how many of them fail.
 #[derive(Clone, Copy)]
-struct Wanted<'a> {
-    call: Call<'a>,
-    done: bool,
+struct Row<'a> {
+    capacity: u64,
+    failing: &'a [u64],
+    taken: u64,
+    calls: &'a [Wanted<'a>],
+    failures: u64,
 }
 
-fn reads<'a>(name: &'a str, at: u64, due: &'a [u8]) -> Wanted<'a> {
-    Wanted {
-        call: Call::Read(name, at, due),
-        done: true,
-    }
-}
+// Calls that are listed fail, and no others.
+const LISTED: Row<'static> = Row {
+    capacity: 100,
+    failing: &[2, 4, 6],
+    taken: 0,
+    calls: &[
+        (Read("a", 1, b"bc"), true),
+        (Read("a", 1, b"bc"), false),
+        (Append("a", b"de"), true),
+        (Cut("a", 1), false),
+        (Cut("a", 4), true),
+        (Append("a", b"f"), false),
+        (Read("none", 0, b""), false),
+        (Read("a", 0, b"abcd"), true),
+        (Read("a", 4, b""), true),
+    ],
+    failures: 4,
+};
 
-fn appends<'a>(name: &'a str, piece: &'a [u8]) -> Wanted<'a> {
-    Wanted {
-        call: Call::Append(name, piece),
-        done: true,
-    }
-}
-
-fn cuts<'a>(name: &'a str, len: u64) -> Wanted<'a> {
-    Wanted {
-        call: Call::Cut(name, len),
-        done: true,
-    }
-}
-
-fn fails<'a>(wanted: Wanted<'a>) -> Wanted<'a> {
-    Wanted {
-        call: wanted.call,
-        done: false,
-    }
-}
+// A file has room up to the capacity.
+const FULL: Row<'static> = Row {
+    capacity: 5,
+    failing: &[],
+    taken: 0,
+    calls: &[
+        (Append("a", b"def"), false),
+        (Append("a", b"de"), true),
+        (Append("a", b"f"), false),
+        (Append("b", b"123456"), false),
+        (Read("b", 0, b""), false),
+        (Read("a", 0, b"abcde"), true),
+    ],
+    failures: 4,
+};
 
 fn is_done<F: Shelf>(shelf: &mut F, call: Call) -> bool {
     match call {
-        Call::Read(name, at, due) => {
+        Read(name, at, due) => {
             let mut piece = [0u8; 8];
             match shelf.read(name, at, &mut piece) {
                 Ok(n) => &piece[..n] == due,
                 Err(_) => false,
             }
         }
-        Call::Append(name, piece) => shelf.append(name, piece).is_ok(),
-        Call::Cut(name, len) => shelf.cut(name, len).is_ok(),
+        Append(name, piece) => shelf.append(name, piece).is_ok(),
+        Cut(name, len) => shelf.cut(name, len).is_ok(),
     }
 }
 
 // The number of the first call that is done and isn't to be, or isn't and is to be.
 fn first_odd<F: Shelf>(shelf: &mut F, calls: &[Wanted]) -> Option<usize> {
-    for (i, wanted) in calls.iter().enumerate() {
-        if is_done(shelf, wanted.call) != wanted.done {
+    for (i, (call, done)) in calls.iter().enumerate() {
+        if is_done(shelf, *call) != *done {
             return Some(i);
         }
     }
@@ -79,171 +94,171 @@ fn first_odd<F: Shelf>(shelf: &mut F, calls: &[Wanted]) -> Option<usize> {
 
 // The file `a` with the bytes `abc`.
 fn one_file(alloc: Global) -> Result<Files, AllocError> {
+    let bytes = Seq::from_vec(Vec::from_slice(alloc, b"abc")?);
+    let name = String::from_str(alloc, "a")?;
     let mut files: Files = Seq::new(alloc);
-    files.push(File {
-        name: String::from_str(alloc, "a")?,
-        bytes: Seq::from_vec(Vec::from_slice(alloc, b"abc")?),
-    })?;
+    files.push(File { name, bytes })?;
     Ok(files)
 }
 
-fn shelf_with(
+// Whether all calls end as they are to, and are counted.
+fn ends_as_wanted(shelf: &mut MemoryShelf, row: &Row) -> bool {
+    first_odd(shelf, row.calls).is_none()
+        && (shelf.calls(), shelf.failures()) == (row.calls.len() as u64, row.failures)
+}
+
+fn is_right(alloc: Global, row: &Row) -> Result<bool, AllocError> {
+    let files = one_file(alloc)?;
+    let failing: Calls = Seq::from_vec(Vec::from_slice(alloc, row.failing)?);
+    let mut shelf = MemoryShelf::tearing(alloc, files, row.capacity, failing, row.taken)?;
+    Ok(ends_as_wanted(&mut shelf, row))
+}
+
+// What a torn call may take of `def`, how `a` is then read, and how after a cut to nothing that fails as well.
+const TORN: [(u64, &[u8], &[u8]); 4] = [
+    (0, b"abc", b"abc"),
+    (1, b"abcd", b""),
+    (2, b"abcde", b""),
+    (88, b"abcdef", b""),
+];
+
+fn takes<'a>(
     alloc: Global,
-    capacity: u64,
-    failing: &[u64],
     taken: u64,
-) -> Result<MemoryShelf, AllocError> {
-    let failing: Calls = Seq::from_vec(Vec::from_slice(alloc, failing)?);
-    MemoryShelf::tearing(alloc, one_file(alloc)?, capacity, failing, taken)
+    appended: &'a [u8],
+    cut: &'a [u8],
+) -> Result<bool, AllocError> {
+    let row = Row {
+        capacity: 8,
+        failing: &[1, 3, 5],
+        taken,
+        calls: &[
+            (Append("a", b"def"), false),
+            (Read("a", 0, appended), true),
+            (Append("a", b"past the capacity"), false),
+            (Read("a", 0, appended), true),
+            (Cut("a", 0), false),
+            (Read("a", 0, cut), true),
+        ],
+        failures: 3,
+    };
+    is_right(alloc, &row)
 }
 
 #[test]
-fn the_listed_calls_fail_and_no_others(rt: HostRuntime) -> Result<(), Fail> {
-    let calls = [
-        reads("a", 1, b"bc"),
-        fails(reads("a", 1, b"bc")),
-        appends("a", b"de"),
-        fails(cuts("a", 1)),
-        cuts("a", 4),
-        fails(appends("a", b"f")),
-        fails(reads("none", 0, b"")),
-        reads("a", 0, b"abcd"),
-        reads("a", 4, b""),
-    ];
-    let mut shelf = shelf_with(rt.alloc(), 100, &[2, 4, 6], 0)?;
-    assert_eq!(rt; first_odd(&mut shelf, &calls), None);
-    assert_eq!(rt; (shelf.calls(), shelf.failures()), (9, 4));
+fn calls_fail_where_they_are_listed_or_past_the_capacity(rt: HostRuntime) -> Result<(), Fail> {
+    assert!(rt; is_right(rt.alloc(), &LISTED)?);
+    assert!(rt; is_right(rt.alloc(), &FULL)?);
+    for (taken, appended, cut) in TORN {
+        assert!(rt; takes(rt.alloc(), taken, appended, cut)?, "{taken} taken");
+    }
     Ok(())
 }
 
-#[test]
-fn a_file_has_room_up_to_the_capacity(rt: HostRuntime) -> Result<(), Fail> {
-    let calls = [
-        fails(appends("a", b"def")),
-        appends("a", b"de"),
-        fails(appends("a", b"f")),
-        fails(appends("b", b"123456")),
-        fails(reads("b", 0, b"")),
-        reads("a", 0, b"abcde"),
-    ];
-    let mut shelf = shelf_with(rt.alloc(), 5, &[], 0)?;
-    assert_eq!(rt; first_odd(&mut shelf, &calls), None);
-    assert_eq!(rt; shelf.failures(), 4);
-    Ok(())
-}
-
-// Makes four files, the first of them with the longest name that may be, and no more; the first call that ends otherwise.
-fn odd_of_four_files<'a>(
-    alloc: Global,
-    longest: &'a str,
-    longer: &'a str,
-) -> Result<Option<usize>, AllocError> {
-    let calls = [
-        fails(cuts(longer, 0)),
-        fails(appends(longer, b"x")),
-        appends(longest, b"x"),
-        cuts("b", 7),
-        appends("c", b"x"),
-        appends("d", b""),
-        fails(cuts("e", 0)),
-        fails(appends("f", b"x")),
-        appends("b", b"xy"),
-        reads("b", 0, b"xy"),
-    ];
-    let mut shelf = shelf_with(alloc, 5, &[], 0)?;
-    Ok(first_odd(&mut shelf, &calls))
+// Whether calls make four files, the first of them with the longest name that may be, and no more.
+fn makes_four<'a>(alloc: Global, longest: &'a str, longer: &'a str) -> Result<bool, AllocError> {
+    let row = Row {
+        capacity: 5,
+        failing: &[],
+        taken: 0,
+        calls: &[
+            (Cut(longer, 0), false),
+            (Append(longer, b"x"), false),
+            (Append(longest, b"x"), true),
+            (Cut("b", 7), true),
+            (Append("c", b"x"), true),
+            (Append("d", b""), true),
+            (Cut("e", 0), false),
+            (Append("f", b"x"), false),
+            (Append("b", b"xy"), true),
+            (Read("b", 0, b"xy"), true),
+        ],
+        failures: 4,
+    };
+    is_right(alloc, &row)
 }
 
 #[test]
 fn calls_make_four_files_of_short_names(rt: HostRuntime) -> Result<(), Fail> {
-    let longest = String::from_utf8(Vec::from_elem(rt.alloc(), b'n', 255)?)?;
-    let longer = String::from_utf8(Vec::from_elem(rt.alloc(), b'n', 256)?)?;
-    let odd = odd_of_four_files(rt.alloc(), longest.as_str(), longer.as_str())?;
-    assert_eq!(rt; odd, None);
+    let name = String::from_utf8(Vec::from_elem(rt.alloc(), b'n', 256)?)?;
+    let longest = name.get(..255).unwrap_or("");
+    assert!(rt; makes_four(rt.alloc(), longest, name.as_str())?);
     Ok(())
 }
 
-#[test]
-fn a_torn_call_takes_what_it_may(rt: HostRuntime) -> Result<(), Fail> {
-    let table: [(u64, &[u8], &[u8]); 4] = [
-        (0, b"abc", b"abc"),
-        (1, b"abcd", b""),
-        (2, b"abcde", b""),
-        (88, b"abcdef", b""),
-    ];
-    for (taken, appended, cut) in table {
-        let calls = [
-            fails(appends("a", b"def")),
-            reads("a", 0, appended),
-            fails(appends("a", b"past the capacity")),
-            reads("a", 0, appended),
-            fails(cuts("a", 0)),
-            reads("a", 0, cut),
-        ];
-        let mut shelf = shelf_with(rt.alloc(), 8, &[1, 3, 5], taken)?;
-        assert_eq!(rt; first_odd(&mut shelf, &calls), None, "{taken} taken");
-    }
-    Ok(())
+// Whether a sink of four bytes, whose first call fails, has what the others wrote and no more.
+fn writes_as_wanted(sink: &mut MemorySink) -> bool {
+    write_all(sink, b"ab").is_err()
+        && sink.bytes().is_empty()
+        && write_all(sink, b"abc").is_ok()
+        && sink.write(b"de").is_err()
+        && sink.bytes() == b"abc".as_slice()
+        && (sink.calls(), sink.failures()) == (3, 2)
 }
 
 #[test]
 fn a_sink_whose_first_call_fails_has_nothing_written(rt: HostRuntime) -> Result<(), Fail> {
     let failing: Calls = Seq::from_vec(Vec::from_slice(rt.alloc(), &[1])?);
     let mut sink = MemorySink::new(rt.alloc(), 4, failing)?;
-    assert_eq!(rt; write_all(&mut sink, b"ab"), Err(Failed));
-    assert_eq!(rt; sink.bytes().len(), 0);
-    assert_eq!(rt; write_all(&mut sink, b"abc"), Ok(()));
-    assert_eq!(rt; sink.write(b"de"), Err(Failed), "past the capacity");
-    assert_eq!(rt; sink.bytes(), b"abc".as_slice());
-    assert_eq!(rt; (sink.calls(), sink.failures()), (3, 2));
+    let right = writes_as_wanted(&mut sink);
+    drop(sink);
+    assert!(rt; right);
     Ok(())
 }
 
 #[test]
 fn nothing_fails_on_a_sure_shelf_and_sink(rt: HostRuntime) -> Result<(), Fail> {
     let calls = [
-        reads("a", 0, b"abc"),
-        appends("a", b"d"),
-        reads("a", 0, b""),
-        cuts("none", 2),
+        (Read("a", 0, b"abc"), true),
+        (Append("a", b"d"), true),
+        (Read("a", 0, b""), true),
+        (Cut("none", 2), true),
     ];
     let mut shelf = SureShelf::new(rt.alloc(), one_file(rt.alloc())?)?;
-    assert_eq!(rt; first_odd(&mut shelf, &calls), None);
+    let odd = first_odd(&mut shelf, &calls);
+    drop(shelf);
+    assert_eq!(rt; odd, None);
     assert_eq!(rt; write_all(&mut SureSink::new(), b"abc"), Ok(()));
     Ok(())
+}
+
+// The length of a file, and whether it begins with these bytes.
+fn length_of<F: Shelf>(alloc: Global, shelf: &mut F, name: &str, begin: &[u8]) -> Option<usize> {
+    let bytes = read_all(alloc, shelf, name).ok()?;
+    bytes.as_slice().starts_with(begin).then_some(bytes.len())
+}
+
+// Whether a file that wasn't there is made, grown, cut and read.
+fn is_kept<F: Shelf>(alloc: Global, shelf: &mut F, name: &str) -> bool {
+    let calls = [
+        (Cut(name, 3), true),
+        (Append(name, b"abcdef"), true),
+        (Cut(name, 9), true),
+        (Read(name, 4, b"ef"), true),
+        (Cut(name, 4), true),
+        (Read(name, 2, b"cd"), true),
+        (Append("/no-such-folder/file", b"x"), false),
+    ];
+    first_odd(shelf, &calls).is_none()
+        && append_all(shelf, name, b"xy").is_ok()
+        && length_of(alloc, shelf, name, b"abcdxy") == Some(6)
+        && append_all(shelf, name, &[b'z'; 5000]).is_ok()
+        && length_of(alloc, shelf, name, b"abcdxyzz") == Some(5006)
 }
 
 #[test]
 fn files_of_the_system_are_made_grown_cut_and_read(rt: HostRuntime) -> Result<(), Fail> {
     let name = format!(in rt.alloc(); "fmeda-shelf-{}", process::id(rt.process()))?;
-    let name = name.as_str();
-    let calls = [
-        cuts(name, 3),
-        appends(name, b"abcdef"),
-        cuts(name, 9),
-        reads(name, 4, b"ef"),
-        cuts(name, 4),
-        reads(name, 2, b"cd"),
-        fails(appends("/no-such-folder/file", b"x")),
-    ];
     let mut shelf = FileShelf::new(&rt);
-    assert_eq!(rt; first_odd(&mut shelf, &calls), None);
-    assert_eq!(rt; append_all(&mut shelf, name, b"xy"), Ok(()));
-    assert_eq!(rt;
-        read_all(rt.alloc(), &mut shelf, name)?.as_slice(),
-        b"abcdxy".as_slice()
-    );
-    assert_eq!(rt; append_all(&mut shelf, name, &[b'z'; 5000]), Ok(()));
-    assert_eq!(rt; read_all(rt.alloc(), &mut shelf, name)?.len(), 5006);
-    fs::remove_file(&rt, name)?;
-    assert!(rt; !is_done(&mut shelf, Call::Read(name, 0, b"")));
+    let kept = is_kept(rt.alloc(), &mut shelf, name.as_str());
+    fs::remove_file(&rt, name.as_str())?;
+    let left = is_done(&mut shelf, Read(name.as_str(), 0, b""));
+    assert_eq!(rt; (kept, left), (true, false));
     Ok(())
 }
 
 #[test]
 fn the_output_of_the_system_takes_all_bytes(rt: HostRuntime) {
-    assert_eq!(rt;
-        write_all(&mut OutSink::new(&rt), b"written by a test\n"),
-        Ok(())
-    );
+    let written = write_all(&mut OutSink::new(&rt), b"written by a test\n");
+    assert!(rt; written.is_ok());
 }

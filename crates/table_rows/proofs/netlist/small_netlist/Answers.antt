@@ -1,7 +1,0 @@
-use Rattle.table_rows.proofs.SmallSound.{small_sound}
-use Rattle.table_rows.proofs.netlist.small_netlist.Goals as goal
-
-pub invariant_of-result : goal.invariant_of-result
-invariant_of-result c =
-    rw (c.in_ok-names.ensures, c.in_ok-drivers.ensures, c.in_ok-tables.ensures, c.in_ok-latches.ensures, c.in_ok-inputs.ensures, c.in_ok-outputs.ensures)
-    small_sound
