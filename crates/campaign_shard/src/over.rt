@@ -67,14 +67,19 @@ fn make_workplace<'a, F: Shelf + Drop, N: Origin>(
 {
     let (net, work, points) = (plan.net(), plan.work(), plan.points());
     let ftti = plan.settings().ftti;
-    let simulator = Simulator::new(alloc, net, order, plan.faults(), work, points, ftti)?;
     let todo = batches_to_do(alloc, plan, board)?;
-    let (shared, seat) = Shared::table(alloc, board, todo)?;
-    Ok(Workplace {
-        simulator,
-        shared,
-        seat,
-    })
+    let simulator = Simulator::new(alloc, net, order, plan.faults(), work, points, ftti)?;
+    match Shared::table(alloc, board, todo) {
+        Ok((shared, seat)) => Ok(Workplace {
+            simulator,
+            shared,
+            seat,
+        }),
+        Err(error) => {
+            drop(simulator);
+            Err(error)
+        }
+    }
 }
 
 // Takes all the memory of a part, and changes no file.
@@ -120,17 +125,19 @@ fn worked<R: Wait, F: Shelf + Drop, N: Origin>(
     ensures { HasPartWorked N.start shard.part shard.parts (F.seen prepared.entry.board.shelf) (F.seen result.shelf) result }
 {
     let Prepared { mut board, place } = prepared;
+    if board.append_header(0, own).is_err() {
+        drop(place);
+        return board;
+    }
     let Workplace {
         mut simulator,
         shared,
         mut seat,
     } = place;
-    if board.append_header(0, own).is_err() {
-        return board;
-    }
     shared.put(&mut seat, board);
     let Shard { part, parts } = shard;
     work_part(rt, plan, &mut simulator, &shared, &mut seat, part, parts);
+    drop(simulator);
     shared.close(seat)
 }
 

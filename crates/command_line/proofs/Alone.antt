@@ -1,5 +1,5 @@
 -- Words are one command at most.
-use Rattle.std.proofs.Common.{◌≡◌, ◌∙◌, ℕ, List, sym, refl, ap, subst, Some, Option, codes}
+use Rattle.std.proofs.Common.{◌≡◌, ◌∙◌, ℕ, List, sym, refl, ap, subst, Option, codes}
 use Rattle.std.specs.Prelude.{bytes_eq, false}
 use Rattle.fm_base.proofs.Distinct.{is_same}
 use Rattle.fm_base.proofs.Tests.{clash}

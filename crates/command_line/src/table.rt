@@ -2,6 +2,7 @@
 ghost use Rattle.std.specs.Prelude.{◌≡◌, ◌∷◌, [], IfOk, codes, false};
 ghost use Rattle.clap.specs.Words.{app_of, new_app, rule_of};
 ghost use Rattle.clap.specs.declared.builder.command.Command.TheViews.{out-Command};
+ghost use Rattle.command_line.specs.OneMore.{HasCommandToo};
 ghost use Rattle.command_line.specs.Table.{asil_rule, bounded, campaign_rows, check_app, classes_app, fmeda_app, ftti_rule, faults_app, gen_app, input_rules, list_rules, merge_app, named_argument, option, pairs_app, parts_app, progress_app, program_with, report_app, required_option, result_rules, shard_app, shared_rows, with_campaign, with_plan, with_rules, workers_rule};
 
 use clap::{Arg, Command, value_parser};
@@ -202,17 +203,34 @@ fn progress_command<'a>(alloc: Global) -> Result<Command<'a>, AllocError>
     command.arg(asil_arg(alloc))
 }
 
+// The program with one command more, where that was made.
+fn with_command<'a>(
+    program: Command<'a>,
+    command: Result<Command<'a>, AllocError>,
+) -> Result<Command<'a>, AllocError>
+    requires { IfOk command (λ c. (out-Command c).has_globals ≡ false) }
+    ensures { IfOk result (HasCommandToo program.entry command.entry) }
+{
+    match command {
+        Ok(command) => program.subcommand(command),
+        Err(error) => {
+            drop(program);
+            Err(error)
+        }
+    }
+}
+
 // The program with the commands of a whole campaign on one machine.
 fn campaign_program<'a>(alloc: Global) -> Result<Command<'a>, AllocError>
     ensures { IfOk result (λ c. app_of c ≡ program_with campaign_rows) }
 {
     let program = Command::new(alloc, "fmeda").subcommand_required(true);
-    let program = program.subcommand(classes_command(alloc)?)?;
-    let program = program.subcommand(check_command(alloc)?)?;
-    let program = program.subcommand(campaign_command(alloc, "run")?)?;
-    let program = program.subcommand(campaign_command(alloc, "resume")?)?;
-    let program = program.subcommand(plan_command(alloc, "audit")?)?;
-    program.subcommand(gen_command(alloc)?)
+    let program = with_command(program, classes_command(alloc))?;
+    let program = with_command(program, check_command(alloc))?;
+    let program = with_command(program, campaign_command(alloc, "run"))?;
+    let program = with_command(program, campaign_command(alloc, "resume"))?;
+    let program = with_command(program, plan_command(alloc, "audit"))?;
+    with_command(program, gen_command(alloc))
 }
 
 // The same with those of a campaign in parts, of pairs, and of the report alone.
@@ -220,10 +238,10 @@ fn shared_program<'a>(alloc: Global) -> Result<Command<'a>, AllocError>
     ensures { IfOk result (λ c. app_of c ≡ program_with shared_rows) }
 {
     let program = campaign_program(alloc)?;
-    let program = program.subcommand(report_command(alloc)?)?;
-    let program = program.subcommand(shard_command(alloc)?)?;
-    let program = program.subcommand(merge_command(alloc)?)?;
-    program.subcommand(pairs_command(alloc)?)
+    let program = with_command(program, report_command(alloc))?;
+    let program = with_command(program, shard_command(alloc))?;
+    let program = with_command(program, merge_command(alloc))?;
+    with_command(program, pairs_command(alloc))
 }
 
 /// The program with all its commands.
@@ -231,7 +249,7 @@ pub(crate) fn fmeda_command<'a>(alloc: Global) -> Result<Command<'a>, AllocError
     ensures { IfOk result (λ c. app_of c ≡ fmeda_app) }
 {
     let program = shared_program(alloc)?;
-    let program = program.subcommand(parts_command(alloc)?)?;
-    let program = program.subcommand(plan_command(alloc, "faults")?)?;
-    program.subcommand(progress_command(alloc)?)
+    let program = with_command(program, parts_command(alloc))?;
+    let program = with_command(program, plan_command(alloc, "faults"))?;
+    with_command(program, progress_command(alloc))
 }

@@ -94,6 +94,11 @@ pub fn read_merged<F: Shelf>(
 {
     let planned = read_plan(alloc, shelf, inputs, set)?;
     let own = own_line(&planned);
-    let rows = read_both(alloc, shelf, first, second, &planned.plan, &own)?;
-    Ok(Merged { planned, own, rows })
+    match read_both(alloc, shelf, first, second, &planned.plan, &own) {
+        Ok(rows) => Ok(Merged { planned, own, rows }),
+        Err(status) => {
+            drop(planned);
+            Err(Refused::By(status))
+        }
+    }
 }

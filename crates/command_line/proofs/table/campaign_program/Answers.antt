@@ -14,9 +14,9 @@ returns c =
     let three = with_subcommand two run_app.top in
     let four = with_subcommand three resume_app.top in
     let five = with_subcommand four audit_app.top in
-    let classes = added classes_app named _ _ _ c.in_ok-program.ensures c.in_ok-classes_command.ensures.app c.in_ok-classes_command.ensures.local program in
-    let check = added check_app one _ _ _ c.in_ok-program-2.ensures c.in_ok-check_command.ensures.app c.in_ok-check_command.ensures.local classes in
-    let run = added run_app two _ _ _ c.in_ok-program-3.ensures c.in_ok-campaign_command.ensures.app c.in_ok-campaign_command.ensures.local check in
-    let resume = added resume_app three _ _ _ c.in_ok-program-4.ensures c.in_ok-campaign_command-2.ensures.app c.in_ok-campaign_command-2.ensures.local run in
-    let audit = added audit_app four _ _ _ c.in_ok-program-5.ensures c.in_ok-plan_command.ensures.app c.in_ok-plan_command.ensures.local resume in
-    last_added gen_app five _ _ c.subcommand-6.result c.subcommand-6.ensures c.in_ok-gen_command.ensures.app c.in_ok-gen_command.ensures.local audit
+    let classes = added classes_app named _ _ _ c.in_ok-program.ensures c.classes_command.ensures.app program in
+    let check = added check_app one _ _ _ c.in_ok-program-2.ensures c.check_command.ensures.app classes in
+    let run = added run_app two _ _ _ c.in_ok-program-3.ensures c.campaign_command.ensures.app check in
+    let resume = added resume_app three _ _ _ c.in_ok-program-4.ensures c.campaign_command-2.ensures.app run in
+    let audit = added audit_app four _ _ _ c.in_ok-program-5.ensures c.plan_command.ensures.app resume in
+    last_added gen_app five _ _ c.with_command-6.result c.with_command-6.ensures c.gen_command.ensures.app audit

@@ -8,6 +8,6 @@ returns c =
     let ten = program_with shared_rows in
     let eleven = with_subcommand ten parts_app.top in
     let twelve = with_subcommand eleven faults_app.top in
-    let parts = added parts_app ten _ _ _ c.in_ok-program-2.ensures c.in_ok-parts_command.ensures.app c.in_ok-parts_command.ensures.local c.in_ok-program.ensures in
-    let faults = added faults_app eleven _ _ _ c.in_ok-program-3.ensures c.in_ok-plan_command.ensures.app c.in_ok-plan_command.ensures.local parts in
-    last_added progress_app twelve _ _ c.subcommand-3.result c.subcommand-3.ensures c.in_ok-progress_command.ensures.app c.in_ok-progress_command.ensures.local faults
+    let parts = added parts_app ten _ _ _ c.in_ok-program-2.ensures c.parts_command.ensures.app c.in_ok-program.ensures in
+    let faults = added faults_app eleven _ _ _ c.in_ok-program-3.ensures c.plan_command.ensures.app parts in
+    last_added progress_app twelve _ _ c.with_command-3.result c.with_command-3.ensures c.progress_command.ensures.app faults
