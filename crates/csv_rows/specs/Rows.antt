@@ -1,5 +1,5 @@
 -- The rows of a CSV file: byte records with commas and double quotes, without trimming; the header is a row like the others.
-use Rattle.std.specs.Prelude.{◌≡◌, ℕ, ◌+◌, Bool, ◌&&◌, List, [], ◌∷◌, length, Option, Some, None, option_map, slice_index_or, ◌==◌}
+use Rattle.std.specs.Prelude.{◌≡◌, ℕ, ◌+◌, Bool, ◌&&◌, List, [], ◌∷◌, length, drop, Option, Some, None, Result, Ok, Err, option_map, slice_index_or, ◌==◌}
 use Rattle.std.specs.List.{list_all, zip}
 use Rattle.std.specs.Str.{bytes_eq}
 use Rattle.csv.specs.Reading.{default_config, records, strip_bom}
@@ -13,6 +13,15 @@ Fields = List Bytes
 -- the rows of the file's bytes; a byte order mark before them is no part of them, and an empty line is no row
 abbrev pub rows_of : Bytes → List Fields
 rows_of bytes = records default_config (strip_bom bytes)
+
+-- the first row of a file's bytes, which is the header, and the rows below it; without rows the header is one without fields
+abbrev pub header_and_rows : Bytes → Fields × List Fields
+header_and_rows bytes = (slice_index_or (rows_of bytes) 0 [], drop 1 (rows_of bytes))
+
+-- what a file means, or, where it has a fault, its refusal
+abbrev pub unless_faulty : {T E F : Type 0} → (E → F) → Option E → T → Result T F
+unless_faulty refusal None meaning = Ok meaning
+unless_faulty refusal (Some fault) meaning = Err (refusal fault)
 
 -- the field at a place, from 0
 abbrev pub field : Fields → ℕ → Bytes
