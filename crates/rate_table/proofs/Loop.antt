@@ -1,17 +1,19 @@
 -- The loop over the rows of a rates file.
 use Rattle.std.proofs.Common.{◌≡◌, ℕ, ◌+◌, ◌≤◌, ◌<◌, ◌^◌, Bool, true, false, List, [], ◌∷◌, ◌++◌, length, map, refl, ap, sym, subst, ◌∙◌, arith, append_assoc, length-append}
-use Rattle.std.specs.Prelude.{Option, Some, None, Ok, Err, option_map}
+use Rattle.std.specs.Prelude.{Option, Some, None, Result, Ok, Err, option_map}
 use Rattle.std.proofs.lemmas.List.{append-nil}
-use Rattle.fm_base.specs.Firsts.{first_after, numbered_fault}
+use Rattle.fm_base.specs.Firsts.{first_after, first_answer, numbered_fault}
 use Rattle.fm_base.proofs.OnePass.{first_fault-later, first_fault-here}
-use Rattle.csv_rows.specs.Rows.{Fields, rows_of, is_row}
+use Rattle.csv_rows.specs.Rows.{Fields, rows_of, is_row, unless_faulty}
 use Rattle.rate_table.specs.declared.reading.Reading.{Reading}
 use Rattle.rate_table.specs.declared.RatesKind.{RatesKind}
+use Rattle.rate_table.specs.declared.RatesFault.{RatesFault}
 use Rattle.fm_base.specs.declared.refusal.Refusal.{Refusal}
 use Rattle.fm_base.specs.declared.refusal.Refusal.TheVariants.{Fault, Memory}
 use Rattle.fm_base.specs.Answers.{Gives}
-use Rattle.rate_table.specs.Table.{IsRateTable}
-use Rattle.rate_table.specs.RatesFile.{row_fault, rate_parts, pattern_of, rates_unless, rates_under, rates_of_rows, rates_of, header}
+use Rattle.rate_table.specs.Table.{IsRateTable, RateTable}
+use Rattle.rate_table.specs.RatesFile.{row_fault, rate_parts, pattern_of, rates_of, header}
+use Rattle.rate_table.specs.RatesSteps.{rates_under}
 use Rattle.rate_table.specs.Reading.{HoldsReadRows, IsReading, RowIsRead, at_row}
 
 -- the rows that are done, and those that are left
@@ -46,6 +48,12 @@ number_small all left table number s = omega (arith, s.counted, s.holds.few)
 pub reading_is : (all left : List Fields) (table : Reading) (number : ℕ) → Stands all left table number → IsReading table
 reading_is all left table number s = record { names = s.holds.names; small = s.holds.small; few = omega (arith, s.holds.fewer, s.holds.few) }
 
+-- the answer, with the first faulty row as it is counted below the header
+abbrev answer : List Fields → Option (ℕ × RatesKind) → Result RateTable RatesFault
+answer rows o =
+    unless_faulty {E = ℕ × RatesKind} (λ fault. record { row = fault.0; kind = fault.1 }) (first_answer (option_map (λ found. (found.0 + 1, found.1)) o ∷ []))
+    (record { patterns = map (pattern_of (rate_parts rows)) rows; parts = rate_parts rows })
+
 -- a row's fault is the file's
 pub stands_fault : (all left more : List Fields) (row : Fields) (old new : Reading) (number : ℕ) (refusal : Refusal RatesKind) → Stands all left old number
     → left ≡ row ∷ more → ((before : List Fields) → HoldsReadRows before old → RowIsRead before row new (Err refusal))
@@ -55,7 +63,7 @@ stands_fault all left more row old new number (Fault kind) s e reads =
     let here : first_after (numbered_fault row_fault) [] all ≡ Some (length s.before + 1, kind) =
     sym s.decides ∙ ap (first_after (numbered_fault row_fault) s.before) e ∙ first_fault-here row_fault s.before row more kind (reads s.before s.holds) in
     let place : length s.before + 1 + 1 ≡ number = omega (arith, s.counted) in
-    ap (λ (o : Option (ℕ × RatesKind)). rates_unless (option_map (λ found. (found.0 + 1, found.1)) o) all) here
+    ap (answer all) here
     ∙ ap (λ n. Err (record { row = n; kind = kind })) place
 
 -- no row is left
@@ -68,7 +76,7 @@ stands_end all left table number s e =
     let parts : table.parts ≡ rate_parts all = s.holds.parts_are ∙ ap rate_parts whole in
     let patterns : table.patterns ≡ map (pattern_of (rate_parts all)) all =
     s.holds.patterns_are [] ∙ (λ i. map (pattern_of ((append-nil table.parts ∙ parts) i)) (whole i)) in
-    ap (λ (o : Option (ℕ × RatesKind)). rates_unless (option_map (λ found. (found.0 + 1, found.1)) o) all) none
+    ap (answer all) none
     ∙ (λ i. Ok (record { patterns = sym patterns i; parts = sym parts i }))
 
 pub table_is : (all left : List Fields) (table : Reading) (number : ℕ) → Stands all left table number
@@ -83,9 +91,11 @@ table_is all left table number s = record {
 -- the file under its first row, and a file without rows
 pub file_is : (bytes : List ℕ) (rows more : List Fields) (first : Fields) (heads : Bool) → rows ≡ rows_of bytes → rows ≡ first ∷ more
     → is_row header first ≡ heads → rates_of bytes ≡ rates_under heads more
-unfolding rates_of_rows
-file_is bytes rows more first heads e f h = ap rates_of_rows (sym e ∙ f) ∙ ap (λ b. rates_under b more) h
+unfolding rates_of
+file_is bytes rows more first heads e f h =
+    let is : rows_of bytes ≡ first ∷ more = sym e ∙ f in
+    rw (is, h) refl
 
 pub file_empty : (bytes : List ℕ) (rows : List Fields) → rows ≡ rows_of bytes → rows ≡ [] → rates_of bytes ≡ rates_under false []
-unfolding rates_of_rows
-file_empty bytes rows e f = ap rates_of_rows (sym e ∙ f)
+unfolding rates_of
+file_empty bytes rows e f = let is : rows_of bytes ≡ [] = sym e ∙ f in rw is refl

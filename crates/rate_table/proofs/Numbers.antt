@@ -4,7 +4,8 @@ use Rattle.std.specs.List.{list_any, position_or_len}
 use Rattle.std.specs.Prelude.{Some, None, position, nat_lt, if◌then◌else◌}
 use Rattle.std.proofs.Math.Nat.{mul-le-mul}
 use Rattle.fm_base.specs.Text.{is_digits, number_of}
-use Rattle.rate_table.specs.Rate.{is_point, pointed_units, units_of}
+use Rattle.rate_table.specs.Rate.{is_point, units_of}
+use Rattle.rate_table.specs.RatesSteps.{pointed_units}
 
 -- the units stay far below 2^64
 pub units_small : (whole decimals scale : ℕ) → whole < 10 ^ 12 → decimals < 10 ^ 6 → scale ≤ 10 ^ 6

@@ -25,7 +25,8 @@ use Rattle.rate_table.specs.declared.RatesKind.{RatesKind}
 use Rattle.rate_table.specs.declared.RatesKind.TheVariants.{BadCsv, BadPart, BadRole, BadCovered, BadRate, TwoMeanings, TooLarge}
 use Rattle.rate_table.specs.Rate.{units_of}
 use Rattle.rate_table.specs.Table.{all_rates, part_names}
-use Rattle.rate_table.specs.RatesFile.{role_of, covered_of, row_part, same_part, same_meaning, first_row, rate_parts, is_past, row_fault, has_star, without_star, pattern_of}
+use Rattle.rate_table.specs.RatesFile.{role_of, covered_of, row_part, same_part, rate_parts, row_fault, pattern_of}
+use Rattle.rate_table.specs.RatesSteps.{same_meaning, first_row, is_past, has_star, without_star}
 use Rattle.rate_table.specs.Reading.{is_named_part, is_role, is_same, own_row_fault, Says, IsTold, HasRead, TakesPart, row_pattern}
 use Rattle.rate_table.proofs.Numbers.{position_some, position_none, any_or_none}
 use Rattle.std.proofs.Math.Bool.{or-false}

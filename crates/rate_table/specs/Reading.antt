@@ -19,7 +19,8 @@ use Rattle.rate_table.specs.declared.reading.Reading.{Reading}
 use Rattle.rate_table.specs.declared.reading.Terms.{Terms}
 use Rattle.rate_table.specs.Rate.{units_of}
 use Rattle.rate_table.specs.Table.{all_rates, part_names}
-use Rattle.rate_table.specs.RatesFile.{role_of, covered_of, rate_parts, row_fault, has_star, without_star, pattern_of}
+use Rattle.rate_table.specs.RatesFile.{role_of, covered_of, rate_parts, row_fault, pattern_of}
+use Rattle.rate_table.specs.RatesSteps.{has_star, without_star}
 
 -- a part has this name
 abbrev pub is_named_part : Bytes → Part → Bool

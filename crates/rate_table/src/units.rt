@@ -3,7 +3,8 @@ ghost use Rattle.std.specs.Prelude.{◌≡◌, ◌≤◌, ◌<◌, ◌+◌, ◌-
 ghost use Rattle.std.specs.List.{list_all};
 ghost use Rattle.std.specs.Char.{is_ascii_digit};
 ghost use Rattle.fm_base.specs.Text.{is_digits, number_of};
-ghost use Rattle.rate_table.specs.Rate.{is_point, units_of, pointed_units};
+ghost use Rattle.rate_table.specs.Rate.{is_point, units_of};
+ghost use Rattle.rate_table.specs.RatesSteps.{pointed_units};
 
 use fm_base::field::{is_digits, number_of};
 

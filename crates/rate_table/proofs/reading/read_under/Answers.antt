@@ -2,7 +2,7 @@ use Rattle.std.proofs.Common.{true, ap, sym, subst, ◌∙◌}
 use Rattle.std.specs.Prelude.{Ok, Err}
 use Rattle.fm_base.specs.Answers.{Gives}
 use Rattle.csv_rows.specs.Rows.{Yields}
-use Rattle.rate_table.specs.RatesFile.{rates_under}
+use Rattle.rate_table.specs.RatesSteps.{rates_under}
 use Rattle.rate_table.proofs.Loop.{stands_more, stands_fault, stands_end}
 use Rattle.rate_table.proofs.reading.read_under.Goals as goal
 
