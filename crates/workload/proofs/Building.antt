@@ -16,7 +16,8 @@ use Rattle.workload.specs.declared.builder.Builder.{Builder}
 use Rattle.workload.specs.declared.builder.Last.{Last}
 use Rattle.workload.specs.declared.header.Layout.{Layout}
 use Rattle.workload.specs.declared.run.Run.{Run}
-use Rattle.workload.specs.WorkloadFile.{header_columns, input_names, run_kind, has_kind, run_of, same_name, vector_of, workloads}
+use Rattle.workload.specs.WorkloadFile.{input_names, run_of, same_name, workloads}
+use Rattle.workload.specs.WorkloadSteps.{header_columns, run_kind, has_kind, vector_of}
 use Rattle.workload.proofs.Groups.{extend_last, extend_last-snoc, workloads-joins, workloads-parts, workloads-one}
 use Rattle.workload.proofs.RowFaults.{fault_by-is, first_of-none, kinds_step, last_or-snoc, row_fault-is}
 

@@ -1,5 +1,5 @@
 -- Each vector of a workload has a bit for each input of the netlist that it was read for.
-use Rattle.std.proofs.Common.{◌≡◌, ◌∙◌, ℕ, Bool, List, [], ◌∷◌, length, map, subst, Option, Some, None}
+use Rattle.std.proofs.Common.{◌≡◌, ◌∙◌, ℕ, Bool, List, [], ◌∷◌, length, map, refl, sym, subst, Option, Some, None}
 use Rattle.std.specs.Prelude.{All, IfOk, Result, Ok, Err}
 use Rattle.std.proofs.lemmas.List.{length-map}
 use Rattle.std.proofs.lemmas.List.Elements.{All-cons, All-nil}
@@ -14,7 +14,9 @@ use Rattle.workload.specs.RunsKept.{AreRunsFor}
 use Rattle.workload.specs.declared.file.WorkloadFault.{WorkloadFault}
 use Rattle.workload.specs.declared.file.WorkloadKind.{WorkloadKind}
 use Rattle.workload.specs.declared.run.Run.{Run}
-use Rattle.workload.specs.WorkloadFile.{bit_of, header_fault, input_names, row_fault, run_of, runs_of_rows, runs_unless, vector_of, workload_of, workloads}
+use Rattle.workload.specs.WorkloadFile.{input_names, row_fault, run_of, workload_of, workloads}
+use Rattle.workload.specs.WorkloadSteps.{bit_of, header_fault, runs_of_rows, runs_unless, vector_of}
+use Rattle.workload.proofs.FileRows.{said_by_rows}
 
 -- a vector for these inputs, and a run of such vectors
 abbrev IsVector : Circuit → List Bool → Type 0
@@ -50,7 +52,7 @@ rows_fit c (header ∷ rows) runs e = unless_fit (header_fault c header) (first_
 
 -- the runs that a file gives for a netlist are made for it
 pub runs_fit : (c : Circuit) (bytes : Bytes) (runs : List Run) → workload_of c bytes ≡ Ok runs → AreRunsFor c runs
-runs_fit c bytes runs e = rows_fit c (rows_of bytes) runs e
+runs_fit c bytes runs e = rows_fit c (rows_of bytes) runs (sym (said_by_rows c bytes (rows_of bytes) refl) ∙ e)
 
 -- what is read of a file for a netlist is made for it
 pub answer_fits : (c : Circuit) (bytes : Bytes) (answer : Result (List Run) (Refusal WorkloadFault)) → Gives (workload_of c bytes) answer → IfOk answer (AreRunsFor c)

@@ -15,7 +15,8 @@ use Rattle.fm_base.proofs.Distinct as dis
 use Rattle.fm_base.proofs.Tests.{both_false, or_false, or_second}
 use Rattle.fm_base.specs.Index.{with_name}
 use Rattle.workload.specs.Built.{are_bad}
-use Rattle.workload.specs.WorkloadFile.{header_columns, header_fault, input_names}
+use Rattle.workload.specs.WorkloadFile.{input_names}
+use Rattle.workload.specs.WorkloadSteps.{header_columns, header_fault}
 use Rattle.workload.specs.declared.file.WorkloadKind.TheVariants.{BadCsv, BadColumn, MissingInput}
 
 -- a test of what is left of a list

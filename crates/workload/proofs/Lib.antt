@@ -4,3 +4,4 @@ pub mod Building
 pub mod Whole
 pub mod Headers
 pub mod Fits
+mod FileRows

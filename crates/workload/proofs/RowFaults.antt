@@ -14,7 +14,8 @@ use Rattle.fm_base.proofs.Tests.{and_both}
 use Rattle.workload.specs.Built.{IsBuilt, KeepsKind, fault_by, first_of, is_kind, joins, keeps_kind, last_says, workload_name, row_says, kind_of_word}
 use Rattle.workload.specs.declared.builder.Builder.{Builder}
 use Rattle.workload.specs.declared.builder.Last.{Last}
-use Rattle.workload.specs.WorkloadFile.{has_kind, is_split, row_fault, same_name}
+use Rattle.workload.specs.WorkloadFile.{row_fault, same_name}
+use Rattle.workload.specs.WorkloadSteps.{has_kind, is_split}
 use Rattle.fm_base.proofs.Finding.{list_any-map, find-none}
 
 -- ---- the row before the next

@@ -20,8 +20,10 @@ use Rattle.workload.specs.declared.file.WorkloadFault.{WorkloadFault}
 use Rattle.workload.specs.declared.file.WorkloadKind.{WorkloadKind}
 use Rattle.workload.specs.declared.file.WorkloadKind.TheVariants.{BadCsv}
 use Rattle.workload.specs.declared.run.Run.{Run}
-use Rattle.workload.specs.WorkloadFile.{header_fault, row_fault, run_of, runs_of_rows, runs_unless, vector_of, workload_of, workloads}
+use Rattle.workload.specs.WorkloadFile.{row_fault, run_of, workload_of, workloads}
+use Rattle.workload.specs.WorkloadSteps.{header_fault, runs_of_rows, runs_unless, vector_of}
 use Rattle.workload.proofs.Building.{built_step}
+use Rattle.workload.proofs.FileRows.{said_by_rows}
 use Rattle.workload.proofs.Groups.{workloads-counted, workloads-each, workloads-nil}
 use Rattle.workload.proofs.RowFaults.{fault_by-is}
 use Rattle.fm_base.proofs.Distinct.{distinct-nil}
@@ -71,13 +73,13 @@ rows_opened c header rows e = rw e refl
 
 pub no_header : (c : Circuit) (bytes : Bytes) → rows_of bytes ≡ [] → workload_of c bytes ≡ Err (record { row = 1; kind = BadCsv })
 unfolding runs_of_rows
-no_header c bytes e = ap (runs_of_rows c) e
+no_header c bytes e = said_by_rows c bytes [] e
 
 pub header_refused : (c : Circuit) (bytes : Bytes) (header : Fields) (left : List Fields) (kind : WorkloadKind) → rows_of bytes ≡ header ∷ left → header_fault c header ≡ Some kind
     → workload_of c bytes ≡ Err (record { row = 1; kind = kind })
 unfolding runs_of_rows
 header_refused c bytes header left kind e fault =
-    ap (runs_of_rows c) e ∙ ap (λ f. runs_unless f (first_faulty_row (row_fault header) left) c header left) fault
+    said_by_rows c bytes (header ∷ left) e ∙ ap (λ f. runs_unless f (first_faulty_row (row_fault header) left) c header left) fault
 
 pub header_gives : (c : Circuit) (bytes : Bytes) (header : Fields) (left : List Fields) (refusal : Refusal WorkloadFault) → rows_of bytes ≡ header ∷ left
     → LaysOut c header (Err refusal) → Gives (workload_of c bytes) (Err refusal)
@@ -93,7 +95,7 @@ row_refused c bytes b row old left kind h e fault =
     let first : first_fault (row_fault h.header) (h.before ++ old) ≡ Some (length h.before + 1, kind) =
     h.faultless ∙ ap (first_after (numbered_fault (row_fault h.header)) h.before) e ∙ first_fault-here (row_fault h.header) h.before row left kind bad in
     let number : length h.before + 1 + 1 ≡ b.rows + 2 = omega (arith, h.built.rows) in
-    ap (runs_of_rows c) h.whole ∙ rows_opened c h.header (h.before ++ old) h.sound
+    said_by_rows c bytes (h.header ∷ (h.before ++ old)) h.whole ∙ rows_opened c h.header (h.before ++ old) h.sound
     ∙ ap (λ f. runs_unless None (option_map (λ found. (found.0 + 1, found.1)) f) c h.header (h.before ++ old)) first
     ∙ ap (λ n. Err (record { row = n; kind = kind })) number
 
@@ -119,7 +121,7 @@ gives_runs c bytes b left h e =
     let rows : h.before ++ left ≡ h.before = ap (λ more. h.before ++ more) e ∙ append-nil h.before in
     let none : first_fault (row_fault h.header) h.before ≡ None =
     ap (first_fault (row_fault h.header)) (sym rows) ∙ h.faultless ∙ ap (first_after (numbered_fault (row_fault h.header)) h.before) e ∙ none_after (row_fault h.header) h.before in
-    ap (runs_of_rows c) (h.whole ∙ ap (λ more. h.header ∷ more) rows) ∙ rows_opened c h.header h.before h.sound
+    said_by_rows c bytes (h.header ∷ h.before) (h.whole ∙ ap (λ more. h.header ∷ more) rows) ∙ rows_opened c h.header h.before h.sound
     ∙ ap (λ f. runs_unless None (option_map (λ found. (found.0 + 1, found.1)) f) c h.header h.before) none
     ∙ sym (ends c h.header h.before b b.last h.built.grouped refl)
 

@@ -14,7 +14,8 @@ use Rattle.workload.specs.declared.file.WorkloadFault.{WorkloadFault}
 use Rattle.workload.specs.declared.run.Run.{Run}
 use Rattle.workload.specs.declared.run.Kind.{Kind}
 use Rattle.workload.specs.declared.run.Kind.TheVariants.{Mission, Test}
-use Rattle.workload.specs.WorkloadFile.{header_columns, header_fault, input_names, run_kind, workload_refusal, row_fault, run_of, same_name, workloads}
+use Rattle.workload.specs.WorkloadFile.{input_names, row_fault, run_of, same_name, workloads}
+use Rattle.workload.specs.WorkloadSteps.{header_columns, header_fault, run_kind, workload_refusal}
 use Rattle.csv_rows.specs.Rows.{Fields, field, has_word, rows_of}
 use Rattle.fm_base.specs.Firsts.{first_after, first_answer, first_fault, given, numbered_fault}
 use Rattle.fm_base.specs.Names.{Name, Bytes, distinct, has_repeat, is_one_of}

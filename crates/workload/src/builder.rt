@@ -5,7 +5,7 @@ ghost use Rattle.fm_base.specs.Answers.{Gives};
 ghost use Rattle.fm_base.specs.Text.{is_bit as is_bit_text};
 ghost use Rattle.workload.specs.Built.{begun as begun_by, bits_at, done_with, fault_by, finished, with_vector as grown_by, joins as joins_last, keeps_kind as keeps_kind_of, last_after, runs_in, kind_of_word, IsAdded};
 ghost use Rattle.workload.specs.RunsKept.{AreRuns};
-ghost use Rattle.workload.specs.WorkloadFile.{run_kind as kind_in};
+ghost use Rattle.workload.specs.WorkloadSteps.{run_kind as kind_in};
 
 use crate::file::{WorkloadFault, WorkloadKind, refusal};
 use crate::header::Layout;
