@@ -35,34 +35,37 @@ use Rattle.alarm_points.specs.declared.PointsKind.{PointsKind}
 use Rattle.alarm_points.specs.declared.header.Header.{Header}
 use Rattle.alarm_points.specs.declared.header.Header.TheVariants.{OneGoal, NamedGoals}
 use Rattle.alarm_points.specs.Listed.{goals_with}
-use Rattle.alarm_points.specs.PointsFile.{goal_from, goal_in, goals_named, header_of, interval_in, interval_read, is_alarm, is_bad_goal, is_dash_field, is_observe, kind_in, net_in, observed, observing, point_of, points_from, points_of, points_of_rows, points_under, points_unless, row_fault, same_goal, same_point}
+use Rattle.alarm_points.specs.PointsFile.{interval_read, observed, points_of}
+use Rattle.alarm_points.specs.PointsSteps.{goal_from, goal_in, goals_named, header_of, interval_in, is_alarm, is_bad_goal, is_dash_field, is_observe, kind_in, net_in, observing_under, point_of, points_listed, points_of_rows, points_under, points_unless, row_fault_under, same_goal_under, same_point}
 use Rattle.alarm_points.specs.PointsKept.{ArePointsFor, IsGoalFor}
 use Rattle.alarm_points.proofs.Listing.{goals_step}
+use Rattle.alarm_points.proofs.FileRows.{file_is}
+use Rattle.alarm_points.proofs.Mapped.{firsts-map}
 use Rattle.alarm_points.proofs.Whole.{Passes, few_step, row_passes}
 
 -- ---- rows without a fault
 
 -- each row passes after those before it
-pass_after : (c : Circuit) (h : Header) (before rows : List Fields) → first_after (numbered_fault (row_fault c h)) before rows ≡ None
-    → (i : ℕ) (d : Fields) → i < length rows → row_fault c h (before ++ take i rows) (get_or rows i d) ≡ None
+pass_after : (c : Circuit) (h : Header) (before rows : List Fields) → first_after (numbered_fault (row_fault_under c h)) before rows ≡ None
+    → (i : ℕ) (d : Fields) → i < length rows → row_fault_under c h (before ++ take i rows) (get_or rows i d) ≡ None
 unfolding first_after
 pass_after c h before [] e i d lt = absurd (omega arith)
-pass_after c h before (row ∷ rows) e i d lt = by_cases (row_fault c h before row) refl (λ f. pass_after c h (before ++ row ∷ []) rows f) i lt
+pass_after c h before (row ∷ rows) e i d lt = by_cases (row_fault_under c h before row) refl (λ f. pass_after c h (before ++ row ∷ []) rows f) i lt
   where
-    by_cases : (o : Option PointsKind) → row_fault c h before row ≡ o
-        → (first_after (numbered_fault (row_fault c h)) (before ++ row ∷ []) rows ≡ None
-        → (i : ℕ) (d : Fields) → i < length rows → row_fault c h ((before ++ row ∷ []) ++ take i rows) (get_or rows i d) ≡ None)
-        → (i : ℕ) → i < length (row ∷ rows) → row_fault c h (before ++ take i (row ∷ rows)) (get_or (row ∷ rows) i d) ≡ None
+    by_cases : (o : Option PointsKind) → row_fault_under c h before row ≡ o
+        → (first_after (numbered_fault (row_fault_under c h)) (before ++ row ∷ []) rows ≡ None
+        → (i : ℕ) (d : Fields) → i < length rows → row_fault_under c h ((before ++ row ∷ []) ++ take i rows) (get_or rows i d) ≡ None)
+        → (i : ℕ) → i < length (row ∷ rows) → row_fault_under c h (before ++ take i (row ∷ rows)) (get_or (row ∷ rows) i d) ≡ None
     by_cases (Some kind) f more i lt = absurd (cc (rw f at e))
-    by_cases None f more zero lt = ap (λ (rs : List Fields). row_fault c h rs row) (append-nil before) ∙ f
+    by_cases None f more zero lt = ap (λ (rs : List Fields). row_fault_under c h rs row) (append-nil before) ∙ f
     by_cases None f more (suc i) lt =
-        ap (λ (rs : List Fields). row_fault c h rs (get_or rows i d)) (sym (append_assoc before (row ∷ []) (take i rows)))
+        ap (λ (rs : List Fields). row_fault_under c h rs (get_or rows i d)) (sym (append_assoc before (row ∷ []) (take i rows)))
         ∙ more (rw f at e) i d (omega arith)
 
 abbrev AllPass : Circuit → Header → List Fields → Type 0
 AllPass c h rows = (i : ℕ) (d : Fields) → i < length rows → Passes c h (take i rows) (get_or rows i d)
 
-all_pass : (c : Circuit) (h : Header) (rows : List Fields) → first_fault (row_fault c h) rows ≡ None → AllPass c h rows
+all_pass : (c : Circuit) (h : Header) (rows : List Fields) → first_fault (row_fault_under c h) rows ≡ None → AllPass c h rows
 all_pass c h rows e i d lt = row_passes c h (take i rows) (get_or rows i d) (pass_after c h [] rows e i d lt)
 
 -- the row's net is there
@@ -115,8 +118,8 @@ module _ (c : Circuit) (h : Header) (kind goal : Bytes) where
   one_point : (a b : Fields) → IsOf a → IsOf b → point_of c h a ≡ point_of c h b → same_point h b a ≡ true
   one_point a b p q e =
       let net : net_in h b ≡ net_in h a = (named c h b q.known).1 ∙ ap (λ (n : NetId). get_or c.names n.0 []) (sym e) ∙ sym (named c h a p.known).1 in
-      both_true (same_goal h b a && bytes_eq (kind_in h b) (kind_in h a)) (bytes_eq (net_in h b) (net_in h a))
-      (both_true (same_goal h b a) (bytes_eq (kind_in h b) (kind_in h a)) (equal (goal_in h b) (goal_in h a) (q.goal_is ∙ sym p.goal_is))
+      both_true (same_goal_under h b a && bytes_eq (kind_in h b) (kind_in h a)) (bytes_eq (net_in h b) (net_in h a))
+      (both_true (same_goal_under h b a) (bytes_eq (kind_in h b) (kind_in h a)) (equal (goal_in h b) (goal_in h a) (q.goal_is ∙ sym p.goal_is))
       (equal (kind_in h b) (kind_in h a) (q.kind_is ∙ sym p.kind_is)))
       (equal (net_in h b) (net_in h a) net)
 
@@ -144,25 +147,8 @@ module _ (c : Circuit) (h : Header) (kind goal : Bytes) where
 
 -- ---- goals
 
--- keys of items, each at its first place
-filter-map : {X : Type 0} (key : X → Name) (test : Name → Bool) (xs : List X) → map key (filter (λ x. test (key x)) xs) ≡ filter test (map key xs)
-filter-map key test [] = refl
-filter-map key test (x ∷ xs) = by_cases (test (key x)) (filter-map key test xs)
-  where
-    by_cases : (b : Bool) → map key (filter (λ x. test (key x)) xs) ≡ filter test (map key xs)
-        → map key (cond b (x ∷ filter (λ x. test (key x)) xs) (filter (λ x. test (key x)) xs)) ≡ cond b (key x ∷ filter test (map key xs)) (filter test (map key xs))
-    by_cases true e = ap (λ more. key x ∷ more) e
-    by_cases false e = e
-
-firsts-map : {X : Type 0} (key : X → Name) (xs : List X) → map key (firsts (λ a b. bytes_eq (key a) (key b)) xs) ≡ distinct (map key xs)
-unfolding firsts
-firsts-map key [] = refl
-firsts-map key (x ∷ xs) =
-    ap (λ more. key x ∷ more) (filter-map key (λ name. not (bytes_eq name (key x))) (firsts (λ a b. bytes_eq (key a) (key b)) xs)
-    ∙ ap (filter (λ name. not (bytes_eq name (key x)))) (firsts-map key xs))
-
-goal_names : (c : Circuit) (h : Header) (rows : List Fields) → map (λ (goal : Goal). goal.name) (points_from c h rows).goals ≡ goals_named h rows
-goal_names c h rows = map-map (λ (goal : Goal). goal.name) (goal_from c h rows) (firsts (same_goal h) (observing h rows)) ∙ firsts-map (goal_in h) (observing h rows)
+goal_names : (c : Circuit) (h : Header) (rows : List Fields) → map (λ (goal : Goal). goal.name) (points_listed c h rows).goals ≡ goals_named h rows
+goal_names c h rows = map-map (λ (goal : Goal). goal.name) (goal_from c h rows) (firsts (same_goal_under h) (observing_under h rows)) ∙ firsts-map (goal_in h) bytes_eq (observing_under h rows)
 
 interval_fits : (text : Bytes) → IfSome (unwrap_or (interval_read text) None) (λ cycles. cycles ≤ 4096)
 interval_fits text = by_cases (is_dash_field text) (plain_number 4096 text) refl
@@ -175,13 +161,13 @@ interval_fits text = by_cases (is_dash_field text) (plain_number 4096 text) refl
 
 goal_fits : (c : Circuit) (h : Header) (rows : List Fields) (first : Fields) → IsNetlist c → All (IsKnown c h) rows → AreNew h rows → IsGoalFor c (goal_from c h rows first)
 goal_fits c h rows first sound all fresh =
-    let own : List Fields = filter (same_goal h first) (observing h rows) in
-    let all_own : All (IsKnown c h) own = All-filter (same_goal h first) (IsKnown c h) (observing h rows) (All-filter (is_observe h) (IsKnown c h) rows all) in
+    let own : List Fields = filter (same_goal_under h first) (observing_under h rows) in
+    let all_own : All (IsKnown c h) own = All-filter (same_goal_under h first) (IsKnown c h) (observing_under h rows) (All-filter (is_observe h) (IsKnown c h) rows all) in
     let observe : All (λ row. is_observe h row ≡ true) own =
-    All-filter (same_goal h first) (λ row. is_observe h row ≡ true) (observing h rows) (filter_passes (is_observe h) rows) in
-    let goal : All (λ row. same_goal h first row ≡ true) own = filter_passes (same_goal h first) (observing h rows) in
+    All-filter (same_goal_under h first) (λ row. is_observe h row ≡ true) (observing_under h rows) (filter_passes (is_observe h) rows) in
+    let goal : All (λ row. same_goal_under h first row ≡ true) own = filter_passes (same_goal_under h first) (observing_under h rows) in
     let fresh_own : AreNew h own =
-    AllPairs-filter (λ (a b : Fields). same_point h b a ≡ false) (same_goal h first) (observing h rows) (AllPairs-filter (λ (a b : Fields). same_point h b a ≡ false) (is_observe h) rows fresh) in
+    AllPairs-filter (λ (a b : Fields). same_point h b a ≡ false) (same_goal_under h first) (observing_under h rows) (AllPairs-filter (λ (a b : Fields). same_point h b a ≡ false) (is_observe h) rows fresh) in
     record {
       nets = are_nets c h own sound all_own;
       once = points_apart c h (codes "observe") (goal_in h first) own
@@ -233,7 +219,7 @@ named_few c rows pass (suc i) le =
     omega (arith, ap length step, more)
 
 few_goals : (c : Circuit) (h : Header) (rows : List Fields) → AllPass c h rows → length (goals_named h rows) ≤ 4
-few_goals c OneGoal rows pass = elim (none_or_one (observing OneGoal rows)) [ inl e ↦ omega (arith, ap length e) | inr e ↦ omega (arith, ap length e) ]
+few_goals c OneGoal rows pass = elim (none_or_one (observing_under OneGoal rows)) [ inl e ↦ omega (arith, ap length e) | inr e ↦ omega (arith, ap length e) ]
 few_goals c NamedGoals rows pass =
     let all : take (length rows) rows ≡ rows = take-length rows in
     omega (arith, named_few c rows pass (length rows) (omega arith), ap (λ (rs : List Fields). length (goals_named NamedGoals rs)) all)
@@ -252,12 +238,12 @@ few_rows c h (row ∷ rows) pass =
 one_kind : (h : Header) (row : Fields) → is_observe h row ≡ true → is_alarm h row ≡ false
 one_kind h row e = ap (λ kind. bytes_eq kind (codes "alarm")) (same_name (kind_in h row) (codes "observe") e)
 
-kinds_counted : (h : Header) (rows : List Fields) → length (observing h rows) + length (filter (is_alarm h) rows) ≤ length rows
+kinds_counted : (h : Header) (rows : List Fields) → length (observing_under h rows) + length (filter (is_alarm h) rows) ≤ length rows
 kinds_counted h [] = omega arith
 kinds_counted h (row ∷ rows) = by_cases (is_observe h row) (is_alarm h row) refl refl (kinds_counted h rows)
   where
-    by_cases : (o a : Bool) → is_observe h row ≡ o → is_alarm h row ≡ a → length (observing h rows) + length (filter (is_alarm h) rows) ≤ length rows
-        → length (cond o (row ∷ observing h rows) (observing h rows)) + length (cond a (row ∷ filter (is_alarm h) rows) (filter (is_alarm h) rows)) ≤ length (row ∷ rows)
+    by_cases : (o a : Bool) → is_observe h row ≡ o → is_alarm h row ≡ a → length (observing_under h rows) + length (filter (is_alarm h) rows) ≤ length rows
+        → length (cond o (row ∷ observing_under h rows) (observing_under h rows)) + length (cond a (row ∷ filter (is_alarm h) rows) (filter (is_alarm h) rows)) ≤ length (row ∷ rows)
     by_cases true true eo ea more = absurd (clash (is_alarm h row) ea (one_kind h row eo))
     by_cases true false eo ea more = omega (arith, more)
     by_cases false true eo ea more = omega (arith, more)
@@ -266,73 +252,73 @@ kinds_counted h (row ∷ rows) = by_cases (is_observe h row) (is_alarm h row) re
 module _ (h : Header) where
   -- the rows of a goal, over all goals
   abbrev counted : List Fields → List Fields → ℕ
-  counted begins rows = sum_by (λ first. length (filter (same_goal h first) rows)) begins
+  counted begins rows = sum_by (λ first. length (filter (same_goal_under h first) rows)) begins
 
   not_of : (begins : List Fields) (first row : Fields) → goal_in h first ≡ goal_in h row → is_one_of (map (goal_in h) begins) (goal_in h first) ≡ false
-      → length (filter (λ other. same_goal h other row) begins) ≡ 0
+      → length (filter (λ other. same_goal_under h other row) begins) ≡ 0
   not_of [] first row e f = refl
   not_of (other ∷ begins) first row e f =
       let parts = or_false (bytes_eq (goal_in h first) (goal_in h other)) (is_one_of (map (goal_in h) begins) (goal_in h first)) f in
-      let differs : same_goal h other row ≡ false = false_of (same_goal h other row) (λ s.
+      let differs : same_goal_under h other row ≡ false = false_of (same_goal_under h other row) (λ s.
       clash (bytes_eq (goal_in h first) (goal_in h other)) (ap (λ g. bytes_eq g (goal_in h other)) (e ∙ sym (same_name (goal_in h other) (goal_in h row) s)) ∙ is_same (goal_in h other)) parts.0) in
-      ap (λ (b : Bool). length (cond b (other ∷ filter (λ x. same_goal h x row) begins) (filter (λ x. same_goal h x row) begins))) differs ∙ not_of begins first row e parts.1
+      ap (λ (b : Bool). length (cond b (other ∷ filter (λ x. same_goal_under h x row) begins) (filter (λ x. same_goal_under h x row) begins))) differs ∙ not_of begins first row e parts.1
 
   -- a row is of one goal
-  one_goal : (begins : List Fields) (row : Fields) → has_repeat (map (goal_in h) begins) ≡ false → length (filter (λ first. same_goal h first row) begins) ≤ 1
+  one_goal : (begins : List Fields) (row : Fields) → has_repeat (map (goal_in h) begins) ≡ false → length (filter (λ first. same_goal_under h first row) begins) ≤ 1
   one_goal [] row e = omega arith
   one_goal (first ∷ begins) row e =
       let parts = or_false (is_one_of (map (goal_in h) begins) (goal_in h first)) (has_repeat (map (goal_in h) begins)) e in
-      by_cases (same_goal h first row) refl parts.0 (one_goal begins row parts.1)
+      by_cases (same_goal_under h first row) refl parts.0 (one_goal begins row parts.1)
     where
-      by_cases : (b : Bool) → same_goal h first row ≡ b → is_one_of (map (goal_in h) begins) (goal_in h first) ≡ false
-          → length (filter (λ x. same_goal h x row) begins) ≤ 1 → length (cond b (first ∷ filter (λ x. same_goal h x row) begins) (filter (λ x. same_goal h x row) begins)) ≤ 1
+      by_cases : (b : Bool) → same_goal_under h first row ≡ b → is_one_of (map (goal_in h) begins) (goal_in h first) ≡ false
+          → length (filter (λ x. same_goal_under h x row) begins) ≤ 1 → length (cond b (first ∷ filter (λ x. same_goal_under h x row) begins) (filter (λ x. same_goal_under h x row) begins)) ≤ 1
       by_cases true s none more = omega (arith, not_of begins first row (same_name (goal_in h first) (goal_in h row) s) none)
       by_cases false s none more = more
 
   counted_none : (begins : List Fields) → counted begins [] ≡ 0
   counted_none [] = refl
-  counted_none (first ∷ begins) = omega (arith, sum_by-cons (λ (x : Fields). length (filter (same_goal h x) [])) first begins, counted_none begins)
+  counted_none (first ∷ begins) = omega (arith, sum_by-cons (λ (x : Fields). length (filter (same_goal_under h x) [])) first begins, counted_none begins)
 
-  counted_more : (begins rows : List Fields) (row : Fields) → counted begins (row ∷ rows) ≡ length (filter (λ first. same_goal h first row) begins) + counted begins rows
+  counted_more : (begins rows : List Fields) (row : Fields) → counted begins (row ∷ rows) ≡ length (filter (λ first. same_goal_under h first row) begins) + counted begins rows
   counted_more [] rows row = refl
-  counted_more (first ∷ begins) rows row = by_cases (same_goal h first row) refl (counted_more begins rows row)
+  counted_more (first ∷ begins) rows row = by_cases (same_goal_under h first row) refl (counted_more begins rows row)
     where
-      by_cases : (b : Bool) → same_goal h first row ≡ b → counted begins (row ∷ rows) ≡ length (filter (λ x. same_goal h x row) begins) + counted begins rows
-          → counted (first ∷ begins) (row ∷ rows) ≡ length (cond b (first ∷ filter (λ x. same_goal h x row) begins) (filter (λ x. same_goal h x row) begins)) + counted (first ∷ begins) rows
+      by_cases : (b : Bool) → same_goal_under h first row ≡ b → counted begins (row ∷ rows) ≡ length (filter (λ x. same_goal_under h x row) begins) + counted begins rows
+          → counted (first ∷ begins) (row ∷ rows) ≡ length (cond b (first ∷ filter (λ x. same_goal_under h x row) begins) (filter (λ x. same_goal_under h x row) begins)) + counted (first ∷ begins) rows
       by_cases true s more =
-          let own : length (filter (same_goal h first) (row ∷ rows)) ≡ suc (length (filter (same_goal h first) rows)) =
-          ap (λ (b : Bool). length (cond b (row ∷ filter (same_goal h first) rows) (filter (same_goal h first) rows))) s in
-          omega (arith, own, more, sum_by-cons (λ (x : Fields). length (filter (same_goal h x) (row ∷ rows))) first begins, sum_by-cons (λ (x : Fields). length (filter (same_goal h x) rows)) first begins)
+          let own : length (filter (same_goal_under h first) (row ∷ rows)) ≡ suc (length (filter (same_goal_under h first) rows)) =
+          ap (λ (b : Bool). length (cond b (row ∷ filter (same_goal_under h first) rows) (filter (same_goal_under h first) rows))) s in
+          omega (arith, own, more, sum_by-cons (λ (x : Fields). length (filter (same_goal_under h x) (row ∷ rows))) first begins, sum_by-cons (λ (x : Fields). length (filter (same_goal_under h x) rows)) first begins)
       by_cases false s more =
-          let own : length (filter (same_goal h first) (row ∷ rows)) ≡ length (filter (same_goal h first) rows) =
-          ap (λ (b : Bool). length (cond b (row ∷ filter (same_goal h first) rows) (filter (same_goal h first) rows))) s in
-          omega (arith, own, more, sum_by-cons (λ (x : Fields). length (filter (same_goal h x) (row ∷ rows))) first begins, sum_by-cons (λ (x : Fields). length (filter (same_goal h x) rows)) first begins)
+          let own : length (filter (same_goal_under h first) (row ∷ rows)) ≡ length (filter (same_goal_under h first) rows) =
+          ap (λ (b : Bool). length (cond b (row ∷ filter (same_goal_under h first) rows) (filter (same_goal_under h first) rows))) s in
+          omega (arith, own, more, sum_by-cons (λ (x : Fields). length (filter (same_goal_under h x) (row ∷ rows))) first begins, sum_by-cons (λ (x : Fields). length (filter (same_goal_under h x) rows)) first begins)
 
   counted_once : (begins rows : List Fields) → has_repeat (map (goal_in h) begins) ≡ false → counted begins rows ≤ length rows
   counted_once begins [] e = omega (arith, counted_none begins)
   counted_once begins (row ∷ rows) e = omega (arith, counted_more begins rows row, one_goal begins row e, counted_once begins rows e)
 
-  all_observed : (c : Circuit) (rows begins : List Fields) → sum_by (λ (goal : Goal). length goal.observe) (map (goal_from c h rows) begins) ≡ counted begins (observing h rows)
+  all_observed : (c : Circuit) (rows begins : List Fields) → sum_by (λ (goal : Goal). length goal.observe) (map (goal_from c h rows) begins) ≡ counted begins (observing_under h rows)
   all_observed c rows [] = refl
   all_observed c rows (first ∷ begins) =
       omega (
         arith,
         all_observed c rows begins,
-        length-map (filter (same_goal h first) (observing h rows)) (point_of c h),
+        length-map (filter (same_goal_under h first) (observing_under h rows)) (point_of c h),
         sum_by-cons (λ (goal : Goal). length goal.observe) (goal_from c h rows first) (map (goal_from c h rows) begins),
-        sum_by-cons (λ (x : Fields). length (filter (same_goal h x) (observing h rows))) first begins,
+        sum_by-cons (λ (x : Fields). length (filter (same_goal_under h x) (observing_under h rows))) first begins,
       )
 
 few_points : (c : Circuit) (h : Header) (rows : List Fields) → AllPass c h rows
-    → length (observed (points_from c h rows)) + length (points_from c h rows).alarm ≤ 1024
+    → length (observed (points_listed c h rows)) + length (points_listed c h rows).alarm ≤ 1024
 few_points c h rows pass =
-    let begins : List Fields = firsts (same_goal h) (observing h rows) in
-    let once : has_repeat (map (goal_in h) begins) ≡ false = ap has_repeat (firsts-map (goal_in h) (observing h rows)) ∙ distinct-apart (map (goal_in h) (observing h rows)) in
+    let begins : List Fields = firsts (same_goal_under h) (observing_under h rows) in
+    let once : has_repeat (map (goal_in h) begins) ≡ false = ap has_repeat (firsts-map (goal_in h) bytes_eq (observing_under h rows)) ∙ distinct-apart (map (goal_in h) (observing_under h rows)) in
     omega (
       arith,
-      length-flat_map (λ (goal : Goal). goal.observe) (points_from c h rows).goals,
+      length-flat_map (λ (goal : Goal). goal.observe) (points_listed c h rows).goals,
       all_observed h c rows begins,
-      counted_once h begins (observing h rows) once,
+      counted_once h begins (observing_under h rows) once,
       length-map (filter (is_alarm h) rows) (point_of c h),
       kinds_counted h rows,
       few_rows c h rows pass,
@@ -362,12 +348,12 @@ alarm_once c h rows pass =
     (λ i d lt. record { known = nets i d lt; kind_is = same_name _ _ (alarms i d lt); goal_is = goals i d lt (alarms i d lt) })
     (AllPairs-filter (λ (a b : Fields). same_point h b a ≡ false) (is_alarm h) rows (new c h rows pass))
 
-points_fit : (c : Circuit) (h : Header) (rows : List Fields) → IsNetlist c → AllPass c h rows → ArePointsFor c (points_from c h rows)
+points_fit : (c : Circuit) (h : Header) (rows : List Fields) → IsNetlist c → AllPass c h rows → ArePointsFor c (points_listed c h rows)
 points_fit c h rows sound pass = record {
-  goals = All-map (IsGoalFor c) (goal_from c h rows) (firsts (same_goal h) (observing h rows))
-      (λ i d lt. goal_fits c h rows (get_or (firsts (same_goal h) (observing h rows)) i d) sound (known c h rows pass) (new c h rows pass));
-  names = ap has_repeat (goal_names c h rows) ∙ distinct-apart (map (goal_in h) (observing h rows));
-  few_goals = omega (arith, length-map (points_from c h rows).goals (λ (goal : Goal). goal.name), ap length (goal_names c h rows), few_goals c h rows pass);
+  goals = All-map (IsGoalFor c) (goal_from c h rows) (firsts (same_goal_under h) (observing_under h rows))
+      (λ i d lt. goal_fits c h rows (get_or (firsts (same_goal_under h) (observing_under h rows)) i d) sound (known c h rows pass) (new c h rows pass));
+  names = ap has_repeat (goal_names c h rows) ∙ distinct-apart (map (goal_in h) (observing_under h rows));
+  few_goals = omega (arith, length-map (points_listed c h rows).goals (λ (goal : Goal). goal.name), ap length (goal_names c h rows), few_goals c h rows pass);
   alarm = are_nets c h (filter (is_alarm h) rows) sound (All-filter (is_alarm h) (IsKnown c h) rows (known c h rows pass));
   alarm_once = alarm_once c h rows pass;
   few = few_points c h rows pass;
@@ -376,16 +362,16 @@ points_fit c h rows sound pass = record {
 -- ---- the answer
 
 unless_fit : (c : Circuit) (h : Header) (rows : List Fields) (found : Option (ℕ × PointsKind)) (observes : Bool) (points : Points) → IsNetlist c
-    → first_fault (row_fault c h) rows ≡ found
-    → points_unless (option_map (λ f. (f.0 + 1, f.1)) found) observes (points_from c h rows) ≡ Ok points → ArePointsFor c points
+    → first_fault (row_fault_under c h) rows ≡ found
+    → points_unless (option_map (λ f. (f.0 + 1, f.1)) found) observes (points_listed c h rows) ≡ Ok points → ArePointsFor c points
 unless_fit c h rows (Some found) observes points sound e f = absurd (cc)
 unless_fit c h rows None false points sound e f = absurd (cc)
 unless_fit c h rows None true points sound e f =
-    let is : points_from c h rows ≡ points = cc in subst (ArePointsFor c) is (points_fit c h rows sound (all_pass c h rows e))
+    let is : points_listed c h rows ≡ points = cc in subst (ArePointsFor c) is (points_fit c h rows sound (all_pass c h rows e))
 
 under_fit : (c : Circuit) (o : Option Header) (rows : List Fields) (points : Points) → IsNetlist c → points_under o c rows ≡ Ok points → ArePointsFor c points
 under_fit c None rows points sound e = absurd (cc)
-under_fit c (Some h) rows points sound e = unless_fit c h rows (first_fault (row_fault c h) rows) (list_any (is_observe h) rows) points sound refl e
+under_fit c (Some h) rows points sound e = unless_fit c h rows (first_fault (row_fault_under c h) rows) (list_any (is_observe h) rows) points sound refl e
 
 rows_fit : (c : Circuit) (rows : List Fields) (points : Points) → IsNetlist c → points_of_rows c rows ≡ Ok points → ArePointsFor c points
 unfolding points_of_rows
@@ -394,5 +380,5 @@ rows_fit c (first ∷ rows) points sound e = under_fit c (header_of first) rows 
 
 pub answer_fits : (c : Circuit) (bytes : Bytes) (result : Result Points (Refusal PointsFault)) → IsNetlist c → Gives (points_of c bytes) result
     → IfOk result (ArePointsFor c)
-answer_fits c bytes (Ok points) sound e = rows_fit c (rows_of bytes) points sound e
+answer_fits c bytes (Ok points) sound e = rows_fit c (rows_of bytes) points sound (sym (file_is c bytes) ∙ e)
 answer_fits c bytes (Err refusal) sound e = tt

@@ -6,3 +6,5 @@ pub mod LentWords
 pub mod Listing
 pub mod Whole
 pub mod Fits
+mod Mapped
+mod FileRows

@@ -16,7 +16,7 @@ use Rattle.fm_base.specs.Index.{with_name}
 use Rattle.fm_base.proofs.NameFacts.{with_new}
 use Rattle.alarm_points.specs.declared.header.Header.{Header}
 use Rattle.alarm_points.specs.Listed.{begins_goal, goals_with}
-use Rattle.alarm_points.specs.PointsFile.{goal_in, goals_named, is_observe, observing, same_goal}
+use Rattle.alarm_points.specs.PointsSteps.{goal_in, goals_named, is_observe, observing_under, same_goal_under}
 use Rattle.fm_base.proofs.Finding.{list_any-map}
 
 -- ---- the names of the nets
@@ -39,13 +39,13 @@ names_step names i apart lt = with_new (take i names) (get_or names i []) (is_ne
 -- ---- goals
 
 observing_more : (h : Header) (rows : List Fields) (row : Fields) (b : Bool) → is_observe h row ≡ b
-    → observing h (rows ++ row ∷ []) ≡ observing h rows ++ (if b then row ∷ [] else [])
-observing_more h rows row b e = filter-append (is_observe h) rows (row ∷ []) ∙ ap (λ (v : Bool). observing h rows ++ (if v then row ∷ [] else [])) e
+    → observing_under h (rows ++ row ∷ []) ≡ observing_under h rows ++ (if b then row ∷ [] else [])
+observing_more h rows row b e = filter-append (is_observe h) rows (row ∷ []) ∙ ap (λ (v : Bool). observing_under h rows ++ (if v then row ∷ [] else [])) e
 
 -- a row is of a goal before where its goal is named before
-named_before : (h : Header) (rows : List Fields) (row : Fields) → list_any (same_goal h row) (observing h rows) ≡ is_one_of (goals_named h rows) (goal_in h row)
+named_before : (h : Header) (rows : List Fields) (row : Fields) → list_any (same_goal_under h row) (observing_under h rows) ≡ is_one_of (goals_named h rows) (goal_in h row)
 named_before h rows row =
-    sym (list_any-map (bytes_eq (goal_in h row)) (goal_in h) (observing h rows)) ∙ sym (distinct-found (map (goal_in h) (observing h rows)) (goal_in h row))
+    sym (list_any-map (bytes_eq (goal_in h row)) (goal_in h) (observing_under h rows)) ∙ sym (distinct-found (map (goal_in h) (observing_under h rows)) (goal_in h row))
 
 -- the goals with one row more
 pub goals_step : (h : Header) (rows : List Fields) (row : Fields) → goals_with h (goals_named h rows) row ≡ goals_named h (rows ++ row ∷ [])
@@ -53,33 +53,33 @@ goals_step h rows row = by_cases (is_observe h row) refl
   where
     by_cases : (b : Bool) → is_observe h row ≡ b
         → (if b then with_name (goals_named h rows) (goal_in h row) else goals_named h rows) ≡ goals_named h (rows ++ row ∷ [])
-    by_cases false e = sym (ap (λ (xs : List Fields). distinct (map (goal_in h) xs)) (observing_more h rows row false e ∙ append-nil (observing h rows)))
+    by_cases false e = sym (ap (λ (xs : List Fields). distinct (map (goal_in h) xs)) (observing_more h rows row false e ∙ append-nil (observing_under h rows)))
     by_cases true e =
         rw (
           observing_more h rows row true e,
-          map-append (goal_in h) (observing h rows) (row ∷ []),
-          distinct-snoc (map (goal_in h) (observing h rows)) (goal_in h row),
-          distinct-found (map (goal_in h) (observing h rows)) (goal_in h row),
+          map-append (goal_in h) (observing_under h rows) (row ∷ []),
+          distinct-snoc (map (goal_in h) (observing_under h rows)) (goal_in h row),
+          distinct-found (map (goal_in h) (observing_under h rows)) (goal_in h row),
         ) refl
 
 -- the first rows of the goals with one row more
 pub firsts_step : (h : Header) (rows : List Fields) (row : Fields) (b : Bool) → begins_goal h (goals_named h rows) row ≡ b
-    → firsts (same_goal h) (observing h (rows ++ row ∷ [])) ≡ (if b then firsts (same_goal h) (observing h rows) ++ row ∷ [] else firsts (same_goal h) (observing h rows))
+    → firsts (same_goal_under h) (observing_under h (rows ++ row ∷ [])) ≡ (if b then firsts (same_goal_under h) (observing_under h rows) ++ row ∷ [] else firsts (same_goal_under h) (observing_under h rows))
 firsts_step h rows row b begins = by_cases (is_observe h row) (is_one_of (goals_named h rows) (goal_in h row)) refl refl begins
   where
     by_cases : (o known : Bool) → is_observe h row ≡ o → is_one_of (goals_named h rows) (goal_in h row) ≡ known → (o && not known) ≡ b
-        → firsts (same_goal h) (observing h (rows ++ row ∷ [])) ≡ (if b then firsts (same_goal h) (observing h rows) ++ row ∷ [] else firsts (same_goal h) (observing h rows))
+        → firsts (same_goal_under h) (observing_under h (rows ++ row ∷ [])) ≡ (if b then firsts (same_goal_under h) (observing_under h rows) ++ row ∷ [] else firsts (same_goal_under h) (observing_under h rows))
     by_cases false known eo ek eb =
-        rw (sym eb) (ap (firsts (same_goal h)) (observing_more h rows row false eo ∙ append-nil (observing h rows)))
+        rw (sym eb) (ap (firsts (same_goal_under h)) (observing_more h rows row false eo ∙ append-nil (observing_under h rows)))
     by_cases true known eo ek eb =
-        rw (sym eb) (ap (firsts (same_goal h)) (observing_more h rows row true eo) ∙ firsts-snoc (same_goal h) (observing h rows) row
-        ∙ ap (λ (k : Bool). cond k (firsts (same_goal h) (observing h rows)) (firsts (same_goal h) (observing h rows) ++ row ∷ [])) (named_before h rows row ∙ ek)
-        ∙ turned known (firsts (same_goal h) (observing h rows)) (firsts (same_goal h) (observing h rows) ++ row ∷ []))
+        rw (sym eb) (ap (firsts (same_goal_under h)) (observing_more h rows row true eo) ∙ firsts-snoc (same_goal_under h) (observing_under h rows) row
+        ∙ ap (λ (k : Bool). cond k (firsts (same_goal_under h) (observing_under h rows)) (firsts (same_goal_under h) (observing_under h rows) ++ row ∷ [])) (named_before h rows row ∙ ek)
+        ∙ turned known (firsts (same_goal_under h) (observing_under h rows)) (firsts (same_goal_under h) (observing_under h rows) ++ row ∷ []))
       where
         turned : (k : Bool) (xs ys : List Fields) → cond k xs ys ≡ (if not k then ys else xs)
         turned true xs ys = refl
         turned false xs ys = refl
 
-pub firsts_none : (h : Header) → firsts (same_goal h) [] ≡ []
+pub firsts_none : (h : Header) → firsts (same_goal_under h) [] ≡ []
 unfolding firsts
 firsts_none h = refl

@@ -17,19 +17,19 @@ use Rattle.alarm_points.specs.declared.PointsKind.TheVariants.{BadCsv}
 use Rattle.alarm_points.specs.declared.header.Header.{Header}
 use Rattle.alarm_points.specs.declared.listed.Listed.{Listed}
 use Rattle.alarm_points.specs.Listed.{IsAdded, IsHalfway, IsHeaderRead, Lists, fault_by, first_of, goals_with}
-use Rattle.alarm_points.specs.PointsFile.{goals_named, header_of, is_alarm, is_bad_goal, is_bad_interval, is_observe, net_in, points_from, points_of, points_of_rows, points_under, points_unless, row_fault, same_point, width_of}
+use Rattle.alarm_points.specs.PointsSteps.{goals_named, header_of, is_alarm, is_bad_goal, is_bad_interval, is_observe, net_in, points_listed, points_of_rows, points_under, points_unless, row_fault_under, same_point, width_of}
 use Rattle.alarm_points.proofs.Listing.{goals_step}
 
 -- ---- one row
 
-row_fault-is : (c : Circuit) (h : Header) (before : List Fields) (row : Fields) → row_fault c h before row
+row_fault-is : (c : Circuit) (h : Header) (before : List Fields) (row : Fields) → row_fault_under c h before row
     ≡ first_of (not (length row == width_of h)) (not (is_observe h row || is_alarm h row)) (is_none (position (bytes_eq (net_in h row)) c.names))
     (list_any (same_point h row) before) (nat_le 1024 (length before)) (is_bad_goal h (goals_named h before) row) (is_bad_interval h before row)
-unfolding row_fault
+unfolding row_fault_under
 row_fault-is c h before row = refl
 
 -- the fault by what was kept is that of the rows before
-pub fault_by-is : (c : Circuit) (h : Header) (before : List Fields) (l : Listed) (row : Fields) → Lists c h before l → fault_by l row ≡ row_fault c h before row
+pub fault_by-is : (c : Circuit) (h : Header) (before : List Fields) (l : Listed) (row : Fields) → Lists c h before l → fault_by l row ≡ row_fault_under c h before row
 fault_by-is c h before l row w =
     (λ t. first_of (not (length row == width_of (w.header t))) (not (is_observe (w.header t) row || is_alarm (w.header t) row))
     (is_none (position (bytes_eq (net_in (w.header t) row)) (w.nets t))) (list_any (same_point (w.header t) row) (w.rows_are t))
@@ -54,7 +54,7 @@ first_of-none false true false false true goal interval e = absurd (cc)
 first_of-none false true false false false true interval e = absurd (cc)
 first_of-none false true false false false false interval e = (refl, refl, refl, refl, refl)
 
-pub row_passes : (c : Circuit) (h : Header) (before : List Fields) (row : Fields) → row_fault c h before row ≡ None → Passes c h before row
+pub row_passes : (c : Circuit) (h : Header) (before : List Fields) (row : Fields) → row_fault_under c h before row ≡ None → Passes c h before row
 row_passes c h before row e =
     let p = first_of-none _ _ _ _ _ _ _ (sym (row_fault-is c h before row) ∙ e) in
     record { kind = p.0; net = p.1; new = p.2; few = p.3; goal = p.4 }
@@ -79,7 +79,7 @@ pub halfway_step : (c : Circuit) (bytes : Bytes) (l l2 : Listed) (row : Fields) 
     → fault_by l row ≡ None → IsAdded l l2 row → IsHalfway c bytes l2 left
 halfway_step c bytes l l2 row old left w e none added =
     let again : (w.before ++ row ∷ []) ++ left ≡ w.before ++ old = append_assoc w.before (row ∷ []) left ∙ ap (λ more. w.before ++ more) (sym e) in
-    let good : row_fault c w.h w.before row ≡ None = sym (fault_by-is c w.h w.before l row w.listed) ∙ none in
+    let good : row_fault_under c w.h w.before row ≡ None = sym (fault_by-is c w.h w.before l row w.listed) ∙ none in
     let passes = row_passes c w.h w.before row good in
     let short : length w.before < 1024 = few_step (length w.before) passes.few in
     record {
@@ -90,8 +90,8 @@ halfway_step c bytes l l2 row old left w e none added =
       listed = lists_step c w.h w.before l l2 row w.listed added;
       few = omega (arith, length-append w.before (row ∷ []), short);
       whole = w.whole ∙ ap (λ rows. w.first ∷ rows) (sym again);
-      faultless = ap (first_fault (row_fault c w.h)) again ∙ w.faultless ∙ ap (first_after (numbered_fault (row_fault c w.h)) w.before) e
-          ∙ first_fault-later (row_fault c w.h) w.before row left good;
+      faultless = ap (first_fault (row_fault_under c w.h)) again ∙ w.faultless ∙ ap (first_after (numbered_fault (row_fault_under c w.h)) w.before) e
+          ∙ first_fault-later (row_fault_under c w.h) w.before row left good;
     }
 
 -- ---- the answers
@@ -101,7 +101,7 @@ unfolding points_of_rows
 no_rows c rows e = ap (points_of_rows c) e
 
 headed : (c : Circuit) (bytes : Bytes) (first : Fields) (left : List Fields) (found : Option Header) → rows_of bytes ≡ first ∷ left → header_of first ≡ found
-    → points_of c bytes ≡ points_under found c left
+    → points_of_rows c (rows_of bytes) ≡ points_under found c left
 unfolding points_of_rows
 headed c bytes first left found e f = ap (points_of_rows c) e ∙ ap (λ o. points_under o c left) f
 
@@ -125,34 +125,34 @@ begun c bytes h l rows left e w listed = record {
 }
 
 answer_is : (c : Circuit) (bytes : Bytes) (l : Listed) (left : List Fields) (w : IsHalfway c bytes l left) (found : Option (ℕ × PointsKind))
-    → first_after (numbered_fault (row_fault c w.h)) w.before left ≡ found
-    → points_of c bytes ≡ points_unless (option_map (λ f. (f.0 + 1, f.1)) found) (list_any (is_observe w.h) (w.before ++ left)) (points_from c w.h (w.before ++ left))
+    → first_after (numbered_fault (row_fault_under c w.h)) w.before left ≡ found
+    → points_of_rows c (rows_of bytes) ≡ points_unless (option_map (λ f. (f.0 + 1, f.1)) found) (list_any (is_observe w.h) (w.before ++ left)) (points_listed c w.h (w.before ++ left))
 answer_is c bytes l left w found e =
     headed c bytes w.first (w.before ++ left) (Some w.h) w.whole w.heads
-    ∙ ap (λ (o : Option (ℕ × PointsKind)). points_unless (option_map (λ f. (f.0 + 1, f.1)) o) (list_any (is_observe w.h) (w.before ++ left)) (points_from c w.h (w.before ++ left)))
+    ∙ ap (λ (o : Option (ℕ × PointsKind)). points_unless (option_map (λ f. (f.0 + 1, f.1)) o) (list_any (is_observe w.h) (w.before ++ left)) (points_listed c w.h (w.before ++ left)))
     (w.faultless ∙ e)
 
 -- a row with a fault
 pub row_refused : (c : Circuit) (bytes : Bytes) (l : Listed) (row : Fields) (old left : List Fields) (kind : PointsKind) → IsHalfway c bytes l old → old ≡ row ∷ left
-    → fault_by l row ≡ Some kind → points_of c bytes ≡ Err (record { row = length l.rows + 2; kind = kind })
+    → fault_by l row ≡ Some kind → points_of_rows c (rows_of bytes) ≡ Err (record { row = length l.rows + 2; kind = kind })
 row_refused c bytes l row old left kind w e fault =
-    let bad : row_fault c w.h w.before row ≡ Some kind = sym (fault_by-is c w.h w.before l row w.listed) ∙ fault in
+    let bad : row_fault_under c w.h w.before row ≡ Some kind = sym (fault_by-is c w.h w.before l row w.listed) ∙ fault in
     let number : length w.before + 1 + 1 ≡ length l.rows + 2 = omega (arith, ap length w.listed.rows_are) in
     answer_is c bytes l old w (Some (length w.before + 1, kind))
-    (ap (first_after (numbered_fault (row_fault c w.h)) w.before) e ∙ first_fault-here (row_fault c w.h) w.before row left kind bad)
+    (ap (first_after (numbered_fault (row_fault_under c w.h)) w.before) e ∙ first_fault-here (row_fault_under c w.h) w.before row left kind bad)
     ∙ ap (λ n. Err (record { row = n; kind = kind })) number
 
-none_after : (c : Circuit) (h : Header) (before : List Fields) → first_after (numbered_fault (row_fault c h)) before [] ≡ None
+none_after : (c : Circuit) (h : Header) (before : List Fields) → first_after (numbered_fault (row_fault_under c h)) before [] ≡ None
 unfolding first_after
 none_after c h before = refl
 
 -- no further row
 pub gives_points : (c : Circuit) (bytes : Bytes) (l : Listed) (left : List Fields) → IsHalfway c bytes l left → left ≡ []
-    → points_of c bytes ≡ points_unless None (list_any (is_observe l.header) l.rows) (points_from c l.header l.rows)
+    → points_of_rows c (rows_of bytes) ≡ points_unless None (list_any (is_observe l.header) l.rows) (points_listed c l.header l.rows)
 gives_points c bytes l left w e =
     let rows : w.before ++ left ≡ l.rows = ap (λ more. w.before ++ more) e ∙ append-nil w.before ∙ sym w.listed.rows_are in
-    answer_is c bytes l left w None (ap (first_after (numbered_fault (row_fault c w.h)) w.before) e ∙ none_after c w.h w.before)
-    ∙ (λ t. points_unless None (list_any (is_observe (sym w.listed.header t)) (rows t)) (points_from c (sym w.listed.header t) (rows t)))
+    answer_is c bytes l left w None (ap (first_after (numbered_fault (row_fault_under c w.h)) w.before) e ∙ none_after c w.h w.before)
+    ∙ (λ t. points_unless None (list_any (is_observe (sym w.listed.header t)) (rows t)) (points_listed c (sym w.listed.header t) (rows t)))
 
 -- ---- a refusal that is passed on
 
@@ -161,9 +161,9 @@ pub passed_on : (expected : Result Points PointsFault) (e : Refusal PointsFault)
 passed_on expected e result w same = subst (Gives expected) (sym same) w
 
 pub header_refused : (c : Circuit) (bytes : Bytes) (rows left : List Fields) (e : Refusal PointsFault) (result : Result Points (Refusal PointsFault))
-    → rows ≡ rows_of bytes → IsHeaderRead rows left (Err e) → result ≡ Err e → Gives (points_of c bytes) result
+    → rows ≡ rows_of bytes → IsHeaderRead rows left (Err e) → result ≡ Err e → Gives (points_of_rows c (rows_of bytes)) result
 header_refused c bytes rows left e result is w same =
-    passed_on (points_of c bytes) e result (subst (λ (r : List Fields). Gives {T = Points} (points_of_rows c r) (Err e)) is (w c)) same
+    passed_on (points_of_rows c (rows_of bytes)) e result (subst (λ (r : List Fields). Gives {T = Points} (points_of_rows c r) (Err e)) is (w c)) same
 
 -- ---- the rows that are kept
 

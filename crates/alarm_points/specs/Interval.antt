@@ -8,14 +8,11 @@ use Rattle.alarm_points.specs.declared.Goal.{Goal}
 abbrev pub interval_of : ℕ → Goal → ℕ
 interval_of ftti goal = unwrap_or goal.ftti ftti
 
--- an alarm is raised at some of these cycles, from 0 to `last`
-abbrev pub alarm_until : ℕ → ℕ → (ℕ → Bool) → Bool
-alarm_until cycles last raised = some_below cycles (λ u. nat_le u last && raised u)
-
 -- there is a cycle t that differs, and no alarm is raised at any cycle from 0 to t + ftti;
 -- a run that ends before t + ftti has no later alarm
 unfoldable pub goes_unalarmed : ℕ → ℕ → (ℕ → Bool) → (ℕ → Bool) → Bool
-goes_unalarmed ftti cycles differs raised = some_below cycles (λ t. differs t && not (alarm_until cycles (t + ftti) raised))
+goes_unalarmed ftti cycles differs raised =
+    some_below cycles (λ t. differs t && not (some_below cycles (λ u. nat_le u (t + ftti) && raised u)))
 
 -- the same as a fact, which `goes_unalarmed` tests
 pub record GoesUnalarmed (ftti cycles : ℕ) (differs raised : ℕ → Bool) : Type 0 where

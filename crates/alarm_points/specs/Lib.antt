@@ -1,4 +1,5 @@
 pub mod PointsFile
+pub mod PointsSteps
 pub mod Interval
 pub mod PointsKept
 pub mod Watch

@@ -13,7 +13,7 @@ use Rattle.alarm_points.specs.declared.PointsKind.{PointsKind}
 use Rattle.alarm_points.specs.declared.PointsKind.TheVariants.{BadCsv, BadKind, UnknownNet, Twice, TooLarge, BadGoal, BadInterval}
 use Rattle.alarm_points.specs.declared.header.Header.{Header}
 use Rattle.alarm_points.specs.declared.listed.Listed.{Listed}
-use Rattle.alarm_points.specs.PointsFile.{goal_in, goals_named, header_of, is_alarm, is_bad_goal, is_bad_interval, is_observe, net_in, points_of, points_of_rows, row_fault, same_point, width_of}
+use Rattle.alarm_points.specs.PointsSteps.{goal_in, goals_named, header_of, is_alarm, is_bad_goal, is_bad_interval, is_observe, net_in, points_of_rows, row_fault_under, same_point, width_of}
 
 -- the first of a row's checks that fails
 abbrev pub first_of : Bool → Bool → Bool → Bool → Bool → Bool → Bool → Option PointsKind
@@ -59,7 +59,7 @@ pub record IsHalfway (c : Circuit) (bytes : Bytes) (l : Listed) (left : List Fie
   pub listed : Lists c h before l
   pub few : length before ≤ 1024
   pub whole : rows_of bytes ≡ first ∷ (before ++ left)
-  pub faultless : first_fault (row_fault c h) (before ++ left) ≡ first_after (numbered_fault (row_fault c h)) before left
+  pub faultless : first_fault (row_fault_under c h) (before ++ left) ≡ first_after (numbered_fault (row_fault_under c h)) before left
 
 -- the first row is the header; or the file is refused for it
 abbrev pub IsHeaderRead : (rows left : List Fields) → Result Header (Refusal PointsFault) → Type 0
@@ -69,4 +69,4 @@ IsHeaderRead rows left (Err refusal) = (c : Circuit) → Gives (points_of_rows c
 -- all rows were read, and none has a fault; or the file is refused for one that has
 abbrev pub AreListed : Circuit → Bytes → Listed → Result (Unit {0}) (Refusal PointsFault) → Type 0
 AreListed c bytes l (Ok done) = IsHalfway c bytes l []
-AreListed c bytes l (Err refusal) = Gives (points_of c bytes) (Err refusal)
+AreListed c bytes l (Err refusal) = Gives (points_of_rows c (rows_of bytes)) (Err refusal)

@@ -1,7 +1,7 @@
 // What a row of a points file says, under each of the two headers.
 ghost use Rattle.std.specs.Prelude.{◌≡◌, ◌∷◌, [], codes};
 ghost use Rattle.csv_rows.specs.Rows.{is_row as is_row_of};
-ghost use Rattle.alarm_points.specs.PointsFile.{header_of, width_of, goal_in, interval_in, kind_in, net_in, is_observe as observes, is_alarm as alarms, same_goal as of_one_goal, same_point as of_one_point};
+ghost use Rattle.alarm_points.specs.PointsSteps.{header_of, width_of, goal_in, interval_in, kind_in, net_in, is_observe as observes, is_alarm as alarms, same_goal_under as of_one_goal, same_point as of_one_point};
 
 use csv_rows::Row;
 

@@ -1,6 +1,7 @@
 // The interval that a row of a points file gives.
 ghost use Rattle.std.specs.Prelude.{◌≡◌};
-ghost use Rattle.alarm_points.specs.PointsFile.{interval_read, is_dash_field as is_dash_text};
+ghost use Rattle.alarm_points.specs.PointsFile.{interval_read};
+ghost use Rattle.alarm_points.specs.PointsSteps.{is_dash_field as is_dash_text};
 
 use fm_base::field::plain_number;
 

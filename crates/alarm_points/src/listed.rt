@@ -6,7 +6,7 @@ ghost use Rattle.circuit.specs.Sound.{IsNetlist};
 ghost use Rattle.fm_base.specs.Answers.{Gives};
 ghost use Rattle.fm_base.specs.Lists.{firsts};
 ghost use Rattle.alarm_points.specs.Listed.{begins_goal as begins_goal_of, fault_by, goals_with, IsAdded, Lists};
-ghost use Rattle.alarm_points.specs.PointsFile.{goal_from as goal_of, is_alarm, is_bad_goal as bad_goal, is_bad_interval as bad_interval, is_observe, keeps_interval as keeps_interval_of, observing, point_of, points_unless, points_from, same_goal, same_point};
+ghost use Rattle.alarm_points.specs.PointsSteps.{goal_from as goal_of, is_alarm, is_bad_goal as bad_goal, is_bad_interval as bad_interval, is_observe, keeps_interval as keeps_interval_of, observing_under, point_of, points_unless, points_listed, same_goal_under, same_point};
 
 use crate::header::Header;
 use crate::interval::{interval_of, is_dash};
@@ -55,7 +55,7 @@ fn has_point(header: Header, rows: &[Row], row: &Row) -> bool
 
 // The first row that observes for the goal of a row.
 fn first_of_goal<'a>(header: Header, rows: &'a [Row], row: &Row) -> Option<&'a Row>
-    ensures { option_map (λ first. first.now) result ≡ find (same_goal header row.now) (observing header rows.now) }
+    ensures { option_map (λ first. first.now) result ≡ find (same_goal_under header row.now) (observing_under header rows.now) }
 {
     rows.iter()
         .filter(|other| header.is_observe(other))
@@ -162,7 +162,7 @@ fn goals_of(
 ) -> Result<GoalList, AllocError>
     requires { length nets.now ≤ 2 ^ 18 }
     ensures { (c : Circuit) → nets.now ≡ c.names
-        → IfOk result (λ goals. goals ≡ map (goal_of c header rows.now) (firsts (same_goal header) (observing header rows.now))) }
+        → IfOk result (λ goals. goals ≡ map (goal_of c header rows.now) (firsts (same_goal_under header) (observing_under header rows.now))) }
 {
     let mut names = NameIndex::new(alloc);
     let mut goals = Seq::new(alloc);
@@ -265,7 +265,7 @@ impl<'n> Listed<'n> {
     pub(crate) fn finish(self) -> Result<Points, Refusal<PointsFault>>
         requires { length self.nets ≤ 2 ^ 18 }
         ensures { (c : Circuit) → self.entry.nets ≡ c.names
-            → Gives (points_unless None (list_any (is_observe self.entry.header) self.entry.rows) (points_from c self.entry.header self.entry.rows)) result }
+            → Gives (points_unless None (list_any (is_observe self.entry.header) self.entry.rows) (points_listed c self.entry.header self.entry.rows)) result }
     {
         let Listed {
             alloc,

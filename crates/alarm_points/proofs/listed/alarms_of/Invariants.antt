@@ -1,6 +1,6 @@
 use Rattle.std.proofs.Common.{◌≡◌, map, filter, take}
 use Rattle.circuit.specs.Circuit.{Circuit}
-use Rattle.alarm_points.specs.PointsFile.{is_alarm, point_of}
+use Rattle.alarm_points.specs.PointsSteps.{is_alarm, point_of}
 use Rattle.alarm_points.proofs.listed.alarms_of.Given as goal
 
 abbrev pub invariant-loop-row : goal.invariant-loop-row

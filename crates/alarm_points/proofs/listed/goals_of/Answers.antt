@@ -5,7 +5,7 @@ use Rattle.csv_rows.specs.Rows.{Fields}
 use Rattle.fm_base.specs.Lists.{firsts}
 use Rattle.alarm_points.specs.declared.Goal.{Goal}
 use Rattle.alarm_points.specs.Listed.{begins_goal, goals_with}
-use Rattle.alarm_points.specs.PointsFile.{goal_from, goals_named, observing, same_goal}
+use Rattle.alarm_points.specs.PointsSteps.{goal_from, goals_named, observing_under, same_goal_under}
 use Rattle.alarm_points.proofs.Listing.{firsts_none, firsts_step, goals_step}
 use Rattle.alarm_points.proofs.listed.goals_of.Goals as goal
 use Rattle.alarm_points.proofs.listed.goals_of.Goals.{then-branch+in_ok-goal_from+in_ok-push, else-branch}
@@ -27,12 +27,12 @@ loop-row-preserved c =
     take_more c.args.rows.now c.loop-row.row-index row c.loop-row-test.true ∙ ap (λ (r : Fields). before ++ r ∷ []) (sym c.row-item.is) in
     let is : begins_goal h (goals_named h before) row ≡ begins =
     sym (c.in_ok-begins_goal.ensures.begins ∙ ap (λ names. begins_goal h names row) c.loop-row.invariant.names) in
-    let grown = ap (λ (rows : List Fields). firsts (same_goal h) (observing h rows)) more ∙ firsts_step h before row begins is in
+    let grown = ap (λ (rows : List Fields). firsts (same_goal_under h) (observing_under h rows)) more ∙ firsts_step h before row begins is in
     record {
       names = c.in_ok-begins_goal.ensures.goals ∙ ap (λ names. goals_with h names row) c.loop-row.invariant.names ∙ goals_step h before row ∙ sym (ap (goals_named h) more);
       goals = λ circuit same.
           let goal_by : Fields → Goal = goal_from circuit h c.args.rows.now in
-          let done : List Fields = firsts (same_goal h) (observing h before) in
+          let done : List Fields = firsts (same_goal_under h) (observing_under h before) in
           elim c.if-branch.branch [
             | then-branch+in_ok-goal_from+in_ok-push w ↦
                 w.goals-is ∙ w.in_ok-push.ensures.ok ∙ (λ t. c.loop-row.invariant.goals circuit same t ++ w.in_ok-goal_from.ensures circuit same t ∷ [])
