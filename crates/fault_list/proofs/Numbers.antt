@@ -8,10 +8,20 @@ use Rattle.circuit.specs.declared.parts.Fault.TheVariants.{Stuck, Flip, Pulse}
 use Rattle.circuit.specs.declared.parts.Latch.{Latch}
 use Rattle.circuit.specs.Circuit.{Circuit}
 use Rattle.fm_base.specs.Lists.{below}
-use Rattle.fault_list.specs.Faults.{net, stuck_pair, flips_of, pulses_of, faults_for, faults_of, fault_at, fault_number}
+use Rattle.fault_list.specs.Faults.{net, faults_for, faults_of, fault_at, fault_number}
 use Rattle.fault_list.specs.Kept.{stuck_count, flip_count, count_for}
 use Rattle.fault_list.proofs.Rows.{some_wide, rows_length, rows_number}
 use Rattle.std.proofs.Math.Nat.{mod-lt}
+
+-- a net stuck at 0, and then at 1; a latch flipped, and a pulse on a net, in each of these cycles
+abbrev stuck_pair : ℕ → List Fault
+stuck_pair n = Stuck (net n) false ∷ Stuck (net n) true ∷ []
+
+abbrev flips_of : List ℕ → ℕ → List Fault
+flips_of cycles latch = map (λ cycle. Flip latch cycle) cycles
+
+abbrev pulses_of : List ℕ → ℕ → List Fault
+pulses_of cycles n = map (λ cycle. Pulse (net n) cycle) cycles
 
 module _ (nets latches : ℕ) (flips pulses : List ℕ) where
   abbrev stuck : List Fault
