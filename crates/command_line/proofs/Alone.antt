@@ -10,7 +10,8 @@ use Rattle.metric_sums.specs.declared.Asil.{Asil}
 use Rattle.metric_sums.specs.declared.Asil.TheVariants.{B, C, D}
 use Rattle.fmeda_report.specs.Words.{asil_word}
 use Rattle.command_line.specs.Commands.{Command, Classes, Check, Run, Resume, Audit, Gen, Report, Inputs, Shard, Merge, Pairs, Parts, Faults, Progress}
-use Rattle.command_line.specs.Words.{entry, HasAsil, HasCampaign, HasInputs, HasPlan, HasSettings, HasWorkers, IsCommand, IsMet, IsNumber, SaidBy, command_word}
+use Rattle.command_line.specs.Words.{entry, HasAsil, HasCampaign, HasInputs, HasPlan, HasSettings, HasWorkers, IsCommand, SaidBy}
+use Rattle.command_line.specs.WordsSteps.{IsMet, IsNumber, command_word}
 use Rattle.command_line.specs.Table.{fmeda_app}
 use Rattle.command_line.proofs.CycleLists.{same_cycles}
 use Rattle.std.proofs.lemmas.Option.{same_Some}
@@ -39,8 +40,8 @@ same_asil a b e = absurd (apart (asil_word a) (asil_word b) refl e)
 -- a text is read as one number
 same_number : (rows : List Row) (id : Text) (a b : ℕ) → IsNumber rows id a → IsNumber rows id b → a ≡ b
 same_number rows id a b p q =
-    let text : p.text ≡ q.text = same_Some p.text q.text (sym p.said ∙ q.said) in
-    p.reads.1 ∙ ap (λ t. digits_value 10 (without_leading_plus t)) text ∙ sym q.reads.1
+    let text : p.0 ≡ q.0 = same_Some p.0 q.0 (sym p.1 ∙ q.1) in
+    p.2.1 ∙ ap (λ t. digits_value 10 (without_leading_plus t)) text ∙ sym q.2.1
 
 same_settings : (rows : List Row) (Fits : Asil → Type 0) → ((a b : Asil) → Fits a → Fits b → a ≡ b) → (a b : Settings) → HasSettings rows Fits a → HasSettings rows Fits b → a ≡ b
 same_settings rows Fits asil a b p q =

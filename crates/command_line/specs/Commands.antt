@@ -1,5 +1,5 @@
 -- The commands, and what their words say.
-use Rattle.std.specs.Prelude.{◌≡◌, ◌≢◌, ℕ, List}
+use Rattle.std.specs.Prelude.{◌≡◌, ℕ, List}
 use Rattle.metric_sums.specs.declared.Asil.TheVariants.{D}
 use Rattle.campaign_plan.specs.declared.Settings.{Settings}
 use Rattle.result_file.specs.ResultText.{cycles_text}
@@ -33,19 +33,7 @@ pub data Command : Type 0 where
 abbrev pub settings_of : (flips pulses : List ℕ) → Settings
 settings_of flips pulses = record { ftti = 0; flips = flips; pulses = pulses; asil = D }
 
--- a list of cycles is `none`, or decimal numbers joined by commas: at most 16 for flips and 4 for pulses, strictly rising, each at most 65535
+-- a list of cycles: `none`, or at most so many decimal numbers joined by commas, strictly rising, each at most 65535
 pub record IsCycleList (most : ℕ) (text : Bytes) (cycles : List ℕ) : Type 0 where
   pub spelled : text ≡ cycles_text cycles
   pub within : AreCycles most cycles
-
--- RESULT is not the text of an input's name
-pub record IsOther (result : Bytes) (inputs : Inputs) : Type 0 where
-  pub netlist : result ≢ inputs.netlist
-  pub workload : result ≢ inputs.workload
-  pub rates : result ≢ inputs.rates
-  pub points : result ≢ inputs.points
-
--- RESULT is not the text of the name of a file that is merged; these two may be one
-pub record IsNoSource (result first second : Bytes) : Type 0 where
-  pub not_first : result ≢ first
-  pub not_second : result ≢ second

@@ -1,5 +1,5 @@
 -- Which command words are. The first word is the program's name.
-use Rattle.std.specs.Prelude.{◌≡◌, ℕ, ◌<◌, ◌≤◌, List, [], Option, Some, Ok, codes, unwrap_or}
+use Rattle.std.specs.Prelude.{◌≡◌, ◌≢◌, ℕ, ◌<◌, ◌≤◌, List, [], Some, Ok, codes, unwrap_or}
 use Rattle.std.specs.Str.Parse.{ParsesUnsigned}
 use Rattle.std.specs.declared.num.ParseIntError.{ParseIntError}
 use Rattle.clap.specs.Faults.{fault_of}
@@ -8,42 +8,28 @@ use Rattle.campaign_plan.specs.declared.Settings.{Settings}
 use Rattle.metric_sums.specs.declared.Asil.{Asil}
 use Rattle.metric_sums.specs.declared.Asil.TheVariants.{D}
 use Rattle.fmeda_report.specs.Words.{asil_word}
-use Rattle.command_line.specs.Commands.{Command, Classes, Check, Run, Resume, Audit, Gen, Report, Inputs, IsCycleList, IsOther, Shard, Merge, Pairs, Parts, Faults, Progress, IsNoSource}
+use Rattle.command_line.specs.Commands.{Command, Classes, Check, Run, Resume, Audit, Gen, Report, Inputs, IsCycleList, Shard, Merge, Pairs, Parts, Faults, Progress}
 use Rattle.command_line.specs.Table.{fmeda_app}
 
--- the command's own word
-abbrev pub command_word : Command → Text
-command_word (Classes netlist workload) = codes "classes"
-command_word (Check inputs flips pulses) = codes "check"
-command_word (Run inputs name set workers) = codes "run"
-command_word (Resume inputs name set workers) = codes "resume"
-command_word (Audit inputs name set) = codes "audit"
-command_word (Gen stages name workers) = codes "gen"
-command_word (Report inputs set) = codes "report"
-command_word (Shard inputs name set part parts) = codes "shard"
-command_word (Merge inputs name first second set) = codes "merge"
-command_word (Pairs inputs name set workers) = codes "pairs"
-command_word (Parts netlist rates) = codes "parts"
-command_word (Faults inputs name set) = codes "faults"
-command_word (Progress inputs name set) = codes "progress"
-
--- ---- what stands behind it
+-- ---- what stands behind a command's word
 
 -- the text of an argument or of an option, its default included
 abbrev pub entry : List Row → Text → Text
 entry rows id = unwrap_or (first_of id rows) []
 
--- the number that an argument or an option has, its default included, as unsigned numbers of 32 bits are read
-pub record IsNumber (rows : List Row) (id : Text) (n : ℕ) : Type 0 where
-  pub text : Text
-  pub said : one_of id rows ≡ Some text
-  pub reads : ParsesUnsigned {E = ParseIntError} 32 10 text (Ok n)
-
--- the same within the bounds that `clap` was told
+-- an argument or an option, its default included, is this number, read as unsigned numbers of 32 bits are, and within these bounds
 pub record HasNumber (rows : List Row) (id : Text) (low high n : ℕ) : Type 0 where
-  pub number : IsNumber rows id n
+  pub number : (text : Text) × (one_of id rows ≡ Some text) × ParsesUnsigned {E = ParseIntError} 32 10 text (Ok n)
   pub least : low ≤ n
   pub most : n ≤ high
+
+-- the number of workers
+abbrev pub HasWorkers : List Row → ℕ → Type 0
+HasWorkers rows workers = HasNumber rows (codes "workers") 1 32 workers
+
+-- the ASIL that a campaign, or a report, is told
+abbrev pub HasAsil : List Row → Asil → Type 0
+HasAsil rows asil = entry rows (codes "asil") ≡ asil_word asil
 
 -- the names of the four input files
 pub record HasInputs (rows : List Row) (inputs : Inputs) : Type 0 where
@@ -52,41 +38,21 @@ pub record HasInputs (rows : List Row) (inputs : Inputs) : Type 0 where
   pub rates : inputs.rates ≡ entry rows (codes "rates")
   pub points : inputs.points ≡ entry rows (codes "points")
 
+-- the name of the result file, which is the text of no input's name
+pub record HasResult (rows : List Row) (inputs : Inputs) (result : Text) : Type 0 where
+  pub name : result ≡ entry rows (codes "result")
+  pub other : (result ≢ inputs.netlist) × (result ≢ inputs.workload) × (result ≢ inputs.rates) × (result ≢ inputs.points)
+
 -- the cycles of flips and of pulses
 pub record HasLists (rows : List Row) (flip_cycles pulse_cycles : List ℕ) : Type 0 where
   pub flips : IsCycleList 16 (entry rows (codes "flips")) flip_cycles
   pub pulses : IsCycleList 4 (entry rows (codes "pulses")) pulse_cycles
 
--- the interval, in cycles
-abbrev pub HasFtti : List Row → ℕ → Type 0
-HasFtti rows ftti = HasNumber rows (codes "ftti") 0 4096 ftti
-
--- the ASIL that a campaign, or a report, is told
-abbrev pub HasAsil : List Row → Asil → Type 0
-HasAsil rows asil = entry rows (codes "asil") ≡ asil_word asil
-
--- the settings of a plan, with an ASIL of which this holds
+-- the settings of a plan: its interval in cycles, its lists, and an ASIL of which this holds
 pub record HasSettings (rows : List Row) (Fits : Asil → Type 0) (set : Settings) : Type 0 where
-  pub ftti : HasFtti rows set.ftti
+  pub ftti : HasNumber rows (codes "ftti") 0 4096 set.ftti
   pub lists : HasLists rows set.flips set.pulses
   pub asil : Fits set.asil
-
--- the number of workers
-abbrev pub HasWorkers : List Row → ℕ → Type 0
-HasWorkers rows workers = HasNumber rows (codes "workers") 1 32 workers
-
--- the number of stages of the generated campaign
-abbrev pub HasStages : List Row → ℕ → Type 0
-HasStages rows stages = HasNumber rows (codes "stages") 1 1000 stages
-
--- the name of the result file, which is none of the input names
-pub record HasResult (rows : List Row) (inputs : Inputs) (result : Text) : Type 0 where
-  pub name : result ≡ entry rows (codes "result")
-  pub other : IsOther result inputs
-
--- what `run` and `resume` say alike
-abbrev pub HasCampaign : List Row → Inputs → Text → Settings → ℕ → Type 0
-HasCampaign rows inputs result set workers = HasInputs rows inputs × HasResult rows inputs result × HasSettings rows (HasAsil rows) set × HasWorkers rows workers
 
 -- a plan and its result file, with an ASIL of which this holds
 abbrev pub HasPlan : List Row → (Asil → Type 0) → Inputs → Text → Settings → Type 0
@@ -96,43 +62,52 @@ HasPlan rows Fits inputs result set = HasInputs rows inputs × HasResult rows in
 abbrev pub HasPlanWords : List Row → Inputs → Text → Settings → Type 0
 HasPlanWords rows = HasPlan rows (λ asil. asil ≡ D)
 
+-- what `run` and `resume` say alike
+abbrev pub HasCampaign : List Row → Inputs → Text → Settings → ℕ → Type 0
+HasCampaign rows inputs result set workers =
+    HasInputs rows inputs × HasResult rows inputs result × HasSettings rows (HasAsil rows) set × HasWorkers rows workers
+
 -- which part of how many
 pub record HasPartWords (rows : List Row) (part parts : ℕ) : Type 0 where
   pub number : HasNumber rows (codes "part") 0 1023 part
   pub many : HasNumber rows (codes "of") 1 1024 parts
   pub one : part < parts
 
--- the names of the files that are merged, of which neither is the result file
+-- the names of the files that are merged, of which neither is the result file; these two may be one
 pub record HasSources (rows : List Row) (result first second : Text) : Type 0 where
   pub one : first ≡ entry rows (codes "first")
   pub two : second ≡ entry rows (codes "second")
-  pub neither : IsNoSource result first second
-
--- what stands behind the command's word says this
-abbrev pub SaidBy : List Row → Command → Type 0
-SaidBy rows (Classes netlist workload) = (netlist ≡ entry rows (codes "netlist")) × (workload ≡ entry rows (codes "workload"))
-SaidBy rows (Check inputs flips pulses) = HasInputs rows inputs × HasLists rows flips pulses
-SaidBy rows (Run inputs result set workers) = HasCampaign rows inputs result set workers
-SaidBy rows (Resume inputs result set workers) = HasCampaign rows inputs result set workers
-SaidBy rows (Audit inputs result set) = HasPlanWords rows inputs result set
-SaidBy rows (Gen stages result workers) = HasStages rows stages × (result ≡ entry rows (codes "result")) × HasWorkers rows workers
-SaidBy rows (Report inputs set) = HasInputs rows inputs × HasSettings rows (HasAsil rows) set
-SaidBy rows (Shard inputs result set part parts) = HasPlanWords rows inputs result set × HasPartWords rows part parts
-SaidBy rows (Merge inputs result first second set) = HasPlanWords rows inputs result set × HasSources rows result first second
-SaidBy rows (Pairs inputs result set workers) = HasPlanWords rows inputs result set × HasWorkers rows workers
-SaidBy rows (Parts netlist rates) = (netlist ≡ entry rows (codes "netlist")) × (rates ≡ entry rows (codes "rates"))
-SaidBy rows (Faults inputs result set) = HasPlanWords rows inputs result set
-SaidBy rows (Progress inputs result set) = HasPlan rows (HasAsil rows) inputs result set
+  pub neither : (result ≢ first) × (result ≢ second)
 
 -- ---- commands
 
--- the subcommand that was met is this command
-abbrev pub IsMet : Option (Text × List Row) → Command → Type 0
-IsMet met command = (rows : List Row) × (met ≡ Some (command_word command, rows)) × SaidBy rows command
+-- the words of a command: its own word, and what the arguments behind it say
+abbrev pub words_of : Command → Text × (List Row → Type 0)
+words_of (Classes netlist workload) =
+    (codes "classes", λ rows. (netlist ≡ entry rows (codes "netlist")) × (workload ≡ entry rows (codes "workload")))
+words_of (Check inputs flips pulses) = (codes "check", λ rows. HasInputs rows inputs × HasLists rows flips pulses)
+words_of (Run inputs result set workers) = (codes "run", λ rows. HasCampaign rows inputs result set workers)
+words_of (Resume inputs result set workers) = (codes "resume", λ rows. HasCampaign rows inputs result set workers)
+words_of (Audit inputs result set) = (codes "audit", λ rows. HasPlanWords rows inputs result set)
+words_of (Gen stages result workers) =
+    (codes "gen", λ rows. HasNumber rows (codes "stages") 1 1000 stages × (result ≡ entry rows (codes "result")) × HasWorkers rows workers)
+words_of (Report inputs set) = (codes "report", λ rows. HasInputs rows inputs × HasSettings rows (HasAsil rows) set)
+words_of (Shard inputs result set part parts) = (codes "shard", λ rows. HasPlanWords rows inputs result set × HasPartWords rows part parts)
+words_of (Merge inputs result first second set) =
+    (codes "merge", λ rows. HasPlanWords rows inputs result set × HasSources rows result first second)
+words_of (Pairs inputs result set workers) = (codes "pairs", λ rows. HasPlanWords rows inputs result set × HasWorkers rows workers)
+words_of (Parts netlist rates) = (codes "parts", λ rows. (netlist ≡ entry rows (codes "netlist")) × (rates ≡ entry rows (codes "rates")))
+words_of (Faults inputs result set) = (codes "faults", λ rows. HasPlanWords rows inputs result set)
+words_of (Progress inputs result set) = (codes "progress", λ rows. HasPlan rows (HasAsil rows) inputs result set)
+
+-- what stands behind the command's word says this
+abbrev pub SaidBy : List Row → Command → Type 0
+SaidBy rows command = (words_of command).1 rows
 
 -- `clap` states no fault of the words, and the subcommand that it states is this command
 abbrev pub IsCommand : List Text → Command → Type 0
-IsCommand words command = (fault_of fmeda_app words ≡ []) × IsMet (subcommand_of fmeda_app words) command
+IsCommand words command = (fault_of fmeda_app words ≡ [])
+    × ((rows : List Row) × (subcommand_of fmeda_app words ≡ Some ((words_of command).0, rows)) × SaidBy rows command)
 
 -- the words are no other command than this one
 abbrev pub IsAlone : List Text → Command → Type 0

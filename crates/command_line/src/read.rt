@@ -2,7 +2,8 @@
 ghost use Rattle.std.specs.Prelude.{◌≡◌, ◌≢◌, IfOk, MatchResult, codes, map, string_bytes};
 ghost use Rattle.clap.specs.Words.{found_of, rows_of, subcommand_rows_of};
 ghost use Rattle.command_line.specs.Words.{HasAsil, IsAlone, IsCommand};
-ghost use Rattle.command_line.specs.Asks.{told_by, AreCampaign, ArePlanWords, AsksMet, IsWordsRefusal, IsCommandOfWord};
+ghost use Rattle.command_line.specs.Asks.{told_by, IsWordsRefusal};
+ghost use Rattle.command_line.specs.WordsSteps.{AreCampaign, ArePlanWords, AsksMet, IsCommandOfWord};
 ghost use Rattle.command_line.specs.declared.read.WordsRefusal.TheVariants.{Memory};
 
 use crate::cycles::read_cycles;

@@ -3,13 +3,14 @@ ghost use Rattle.std.specs.Prelude.{◌≡◌, ◌∷◌, [], IfOk, codes, false
 ghost use Rattle.clap.specs.Words.{app_of, new_app, rule_of};
 ghost use Rattle.clap.specs.declared.builder.command.Command.TheViews.{out-Command};
 ghost use Rattle.command_line.specs.OneMore.{HasCommandToo};
-ghost use Rattle.command_line.specs.Table.{asil_rule, bounded, campaign_rows, check_app, classes_app, fmeda_app, ftti_rule, faults_app, gen_app, input_rules, list_rules, merge_app, named_argument, option, pairs_app, parts_app, progress_app, program_with, report_app, required_option, result_rules, shard_app, shared_rows, with_campaign, with_plan, with_rules, workers_rule};
+ghost use Rattle.command_line.specs.TableSteps.{asil_rule, check_app, classes_app, ftti_rule, faults_app, gen_app, input_rules, list_rules, merge_app, pairs_app, parts_app, progress_app, program_with, report_app, result_rules, shard_app, with_campaign, with_plan, with_rules, workers_rule};
+ghost use Rattle.command_line.specs.Table.{bounded, fmeda_app, positional, option, required_option};
 
 use clap::{Arg, Command, value_parser};
 use std::alloc::{AllocError, Global};
 
 fn named_arg<'a>(alloc: Global, id: &'a str) -> Arg<'a>
-    ensures rule { rule_of result ≡ named_argument id.entry.now }
+    ensures rule { rule_of result ≡ positional id.entry.now }
     ensures local { result.global ≡ false }
 {
     Arg::new(alloc, id).required(true)
@@ -65,7 +66,7 @@ fn workers_arg<'a>(alloc: Global) -> Arg<'a>
 }
 
 fn stages_arg<'a>(alloc: Global) -> Arg<'a>
-    ensures rule { rule_of result ≡ bounded (named_argument (codes "stages")) 1 1000 }
+    ensures rule { rule_of result ≡ bounded (positional (codes "stages")) 1 1000 }
     ensures local { result.global ≡ false }
 {
     named_arg(alloc, "stages").value_parser(value_parser!(u32).range(1..=1000))
@@ -222,7 +223,7 @@ fn with_command<'a>(
 
 // The program with the commands of a whole campaign on one machine.
 fn campaign_program<'a>(alloc: Global) -> Result<Command<'a>, AllocError>
-    ensures { IfOk result (λ c. app_of c ≡ program_with campaign_rows) }
+    ensures { IfOk result (λ c. app_of c ≡ program_with 6) }
 {
     let program = Command::new(alloc, "fmeda").subcommand_required(true);
     let program = with_command(program, classes_command(alloc))?;
@@ -235,7 +236,7 @@ fn campaign_program<'a>(alloc: Global) -> Result<Command<'a>, AllocError>
 
 // The same with those of a campaign in parts, of pairs, and of the report alone.
 fn shared_program<'a>(alloc: Global) -> Result<Command<'a>, AllocError>
-    ensures { IfOk result (λ c. app_of c ≡ program_with shared_rows) }
+    ensures { IfOk result (λ c. app_of c ≡ program_with 10) }
 {
     let program = campaign_program(alloc)?;
     let program = with_command(program, report_command(alloc))?;

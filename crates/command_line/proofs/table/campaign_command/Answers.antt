@@ -1,5 +1,5 @@
 use Rattle.clap.specs.Words.{new_app, with_rule}
-use Rattle.command_line.specs.Table.{asil_rule, with_plan, workers_rule}
+use Rattle.command_line.specs.TableSteps.{asil_rule, with_plan, workers_rule}
 use Rattle.command_line.proofs.Rows.{argued, kept_local, last_argued, last_local}
 use Rattle.command_line.proofs.table.campaign_command.Goals as goal
 

@@ -1,7 +1,7 @@
 use Rattle.std.proofs.Common.{◌∙◌, ap, codes}
 use Rattle.clap.specs.Simple.{app_of_fields}
 use Rattle.clap.specs.Words.{new_app, with_subcommand}
-use Rattle.command_line.specs.Table.{audit_app, check_app, classes_app, gen_app, resume_app, run_app, with_required}
+use Rattle.command_line.specs.TableSteps.{audit_app, check_app, classes_app, gen_app, resume_app, run_app, with_required}
 use Rattle.command_line.proofs.Rows.{added, last_added}
 use Rattle.command_line.proofs.table.campaign_program.Goals as goal
 

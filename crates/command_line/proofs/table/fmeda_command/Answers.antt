@@ -1,11 +1,11 @@
 use Rattle.clap.specs.Words.{with_subcommand}
-use Rattle.command_line.specs.Table.{faults_app, parts_app, program_with, progress_app, shared_rows}
+use Rattle.command_line.specs.TableSteps.{faults_app, parts_app, program_with, progress_app}
 use Rattle.command_line.proofs.Rows.{added, last_added}
 use Rattle.command_line.proofs.table.fmeda_command.Goals as goal
 
 pub returns : goal.returns
 returns c =
-    let ten = program_with shared_rows in
+    let ten = program_with 10 in
     let eleven = with_subcommand ten parts_app.top in
     let twelve = with_subcommand eleven faults_app.top in
     let parts = added parts_app ten _ _ _ c.in_ok-program-2.ensures c.parts_command.ensures.app c.in_ok-program.ensures in

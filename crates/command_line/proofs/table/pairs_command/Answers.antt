@@ -1,6 +1,6 @@
 use Rattle.std.proofs.Common.{codes}
 use Rattle.clap.specs.Words.{new_app}
-use Rattle.command_line.specs.Table.{with_plan, workers_rule}
+use Rattle.command_line.specs.TableSteps.{with_plan, workers_rule}
 use Rattle.command_line.proofs.Rows.{last_argued, last_local}
 use Rattle.command_line.proofs.table.pairs_command.Goals as goal
 

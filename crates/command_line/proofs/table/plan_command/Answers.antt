@@ -1,6 +1,6 @@
 use Rattle.std.proofs.Common.{◌∙◌, ap}
 use Rattle.clap.specs.Words.{App, new_app}
-use Rattle.command_line.specs.Table.{input_rules, list_rules, result_rules, with_rules}
+use Rattle.command_line.specs.TableSteps.{input_rules, list_rules, result_rules, with_rules}
 use Rattle.command_line.proofs.Rows.{made_of}
 use Rattle.command_line.proofs.table.plan_command.Goals as goal
 

@@ -1,6 +1,6 @@
 use Rattle.std.proofs.Common.{codes}
 use Rattle.clap.specs.Words.{new_app}
-use Rattle.command_line.specs.Table.{asil_rule, with_plan}
+use Rattle.command_line.specs.TableSteps.{asil_rule, with_plan}
 use Rattle.command_line.proofs.Rows.{last_argued, last_local}
 use Rattle.command_line.proofs.table.progress_command.Goals as goal
 

@@ -1,6 +1,6 @@
 use Rattle.std.proofs.Common.{◌∙◌, ap, codes}
 use Rattle.clap.specs.Words.{App, new_app, with_rule}
-use Rattle.command_line.specs.Table.{asil_rule, ftti_rule, input_rules, list_rules, with_rules}
+use Rattle.command_line.specs.TableSteps.{asil_rule, ftti_rule, input_rules, list_rules, with_rules}
 use Rattle.command_line.proofs.Rows.{argued, last_argued, last_local}
 use Rattle.command_line.proofs.table.report_command.Goals as goal
 

@@ -1,11 +1,11 @@
 use Rattle.clap.specs.Words.{with_subcommand}
-use Rattle.command_line.specs.Table.{campaign_rows, merge_app, pairs_app, program_with, report_app, shard_app}
+use Rattle.command_line.specs.TableSteps.{merge_app, pairs_app, program_with, report_app, shard_app}
 use Rattle.command_line.proofs.Rows.{added, last_added}
 use Rattle.command_line.proofs.table.shared_program.Goals as goal
 
 pub returns : goal.returns
 returns c =
-    let six = program_with campaign_rows in
+    let six = program_with 6 in
     let seven = with_subcommand six report_app.top in
     let eight = with_subcommand seven shard_app.top in
     let nine = with_subcommand eight merge_app.top in
