@@ -65,11 +65,15 @@ audit_app = with_plan (new_app (codes "audit"))
 
 -- `gen N RESULT [--workers N]`; the first N is the number of stages
 abbrev pub gen_app : App
-gen_app = with_rules (new_app (codes "gen")) (bounded (positional (codes "stages")) 1 1000 ∷ positional (codes "result") ∷ workers_rule ∷ [])
+gen_app =
+    with_rules (new_app (codes "gen"))
+    (bounded (positional (codes "stages")) 1 1000 ∷ positional (codes "result") ∷ workers_rule ∷ [])
 
 -- `report NETLIST WORKLOAD RATES POINTS [--ftti F] [--flips LIST] [--pulses LIST] [--asil LEVEL]`
 abbrev pub report_app : App
-report_app = with_rules (with_rules (with_rules (with_rules (new_app (codes "report")) input_rules) (ftti_rule ∷ [])) list_rules) (asil_rule ∷ [])
+report_app =
+    with_rules (with_rules (with_rules (with_rules (new_app (codes "report")) input_rules) (ftti_rule ∷ [])) list_rules)
+    (asil_rule ∷ [])
 
 -- `shard NETLIST WORKLOAD RATES POINTS RESULT --part K --of M [--ftti F] [--flips LIST] [--pulses LIST]`
 abbrev pub shard_app : App
@@ -106,4 +110,5 @@ with_required a = record a { top = record a.top { subcommand_required = true } }
 -- the program with so many of its commands, in the order of the table
 abbrev pub program_with : ℕ → App
 program_with count =
-    fold (λ app row. with_subcommand app (with_rules (new_app row.0) row.1).top) (with_required (new_app (codes "fmeda"))) (take count commands)
+    let program = with_required (new_app (codes "fmeda")) in
+    fold (λ app row. with_subcommand app (with_rules (new_app row.0) row.1).top) program (take count commands)

@@ -1,4 +1,5 @@
 -- Which command words are. The first word is the program's name.
+-- Rows are the arguments behind the command's word, with what `clap` finds for each.
 use Rattle.std.specs.Prelude.{◌≡◌, ◌≢◌, ℕ, ◌<◌, ◌≤◌, List, [], Some, Ok, codes, unwrap_or}
 use Rattle.std.specs.Str.Parse.{ParsesUnsigned}
 use Rattle.std.specs.declared.num.ParseIntError.{ParseIntError}
@@ -43,7 +44,7 @@ pub record HasResult (rows : List Row) (inputs : Inputs) (result : Text) : Type 
   pub name : result ≡ entry rows (codes "result")
   pub other : (result ≢ inputs.netlist) × (result ≢ inputs.workload) × (result ≢ inputs.rates) × (result ≢ inputs.points)
 
--- the cycles of flips and of pulses
+-- the cycles of flips, at most 16, and of pulses, at most 4
 pub record HasLists (rows : List Row) (flip_cycles pulse_cycles : List ℕ) : Type 0 where
   pub flips : IsCycleList 16 (entry rows (codes "flips")) flip_cycles
   pub pulses : IsCycleList 4 (entry rows (codes "pulses")) pulse_cycles
