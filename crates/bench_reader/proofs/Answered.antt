@@ -24,12 +24,13 @@ use Rattle.bench_reader.specs.declared.BenchKind.TheVariants.{TooLarge}
 use Rattle.bench_reader.specs.declared.gather.Gathered.{Gathered}
 use Rattle.bench_reader.specs.declared.parts.Parts.{Parts}
 use Rattle.bench_reader.specs.Answer.{IsSmallNetlist, answer_of, circuit_from, circuit_unless, fault_in, gathered_of, gathered_unless}
-use Rattle.bench_reader.specs.Bench.{bad_bench, bench_of, bench_unless}
+use Rattle.bench_reader.specs.Bench.{bench_of}
 use Rattle.bench_reader.specs.Gather.{gathered_from, is_full, no_lines, StatementFits}
 use Rattle.bench_reader.specs.LineFault.{Said, at_line, line_fault, said_lines}
 use Rattle.bench_reader.specs.Marks.{first_loose}
-use Rattle.bench_reader.specs.Net.{circuit_of, driven_of, drivers_of, inputs_of, latch_nets_of, nets_of, table_nets_of}
-use Rattle.bench_reader.specs.NetFault.{net_fault, too_large, two_drivers, undriven}
+use Rattle.bench_reader.specs.Net.{circuit_of, driven_of, drivers_of, inputs_of, nets_of}
+use Rattle.bench_reader.specs.NetFault.{too_large, two_drivers, undriven}
+use Rattle.bench_reader.specs.Steps.{bad_bench, bench_unless, latch_nets_of, net_fault, outputs_of, table_nets_of}
 use Rattle.bench_reader.proofs.Gathering.{IsGathered, Outcome, full_large, lines_gathered, nets_gathered, outs_of, parts_of, second_at, too_large_is, visits_of}
 use Rattle.bench_reader.proofs.Loose.{loose_found, undriven_found}
 use Rattle.bench_reader.proofs.Rows.{lines_fit}
@@ -43,7 +44,6 @@ loose_undriven lines g h = loose_found (visits_of lines) (driven_of lines) (outs
 
 -- the fault of what was gathered is that of the lines
 fault_is : (lines : List Said) (g : Gathered) → Outcome lines g → fault_in g ≡ net_fault lines
-unfolding net_fault
 fault_is lines g (inr full) =
     let large : too_large lines ≡ Some (at_line 1 TooLarge) = too_large_is lines true full.1 in
     rw (full.0, large) refl
@@ -68,12 +68,12 @@ circuit_from_parts names p = made_circuit names (made_drivers p names) p
 module _ (lines : List Said) (once : two_drivers lines ≡ None) (driven : undriven lines ≡ None) where
   drivers_made : drivers_by (map (net_id (nets_of lines)) (inputs_of lines)) (map (net_id (nets_of lines)) (table_nets_of lines)) (map (net_id (nets_of lines)) (latch_nets_of lines)) (length (nets_of lines))
       ≡ map (driver_of (drivers_of lines)) (nets_of lines)
-  unfolding drivers_of
+  unfolding drivers_of table_nets_of latch_nets_of
   drivers_made =
       drivers-put (nets_of lines) (inputs_of lines) (table_nets_of lines) (latch_nets_of lines) (lines_driven lines once driven)
 
   circuit_made : circuit_from_parts (nets_of lines) (parts_of (nets_of lines) lines) ≡ circuit_of lines
-  unfolding circuit_of
+  unfolding circuit_of outputs_of
   circuit_made = ap (λ (ds : List Driver). made_circuit (nets_of lines) ds (parts_of (nets_of lines) lines)) drivers_made
 
   circuit_is : (g : Gathered) → IsGathered lines g → g.second ≡ None → circuit_from g ≡ circuit_of lines
@@ -151,8 +151,7 @@ abbrev as_circuit : Circuit → Result Circuit BenchFault
 as_circuit c = Ok c
 
 bad_is : (lines : List Said) (g : Gathered) → Outcome lines g → line_fault lines ≡ None → bad_bench lines ≡ fault_in g
-unfolding bad_bench
-bad_is lines g outcome free = ap (λ (o : Option BenchFault). option_or o (option_or (net_fault lines) None)) free ∙ or_none (net_fault lines) ∙ sym (fault_is lines g outcome)
+bad_is lines g outcome free = ap (λ (o : Option BenchFault). option_or o (net_fault lines)) free ∙ sym (fault_is lines g outcome)
 
 -- the answer of what was gathered is that of its lines, none of which has a fault of its own
 answer_is : (lines : List Said) (g : Gathered) → Outcome lines g → line_fault lines ≡ None → answer_of g ≡ bench_unless (bad_bench lines) lines
@@ -197,11 +196,11 @@ fault_only None lines fault e = cc
 fault_only (Some found) lines fault e = let same : found ≡ fault = cc in ap (λ (x : BenchFault). Some x) same
 
 refused_by : (bytes : Bytes) (why : Refusal BenchFault) → Gives (gathered_of bytes) (Err why) → Gives (bench_of bytes) (Err why)
-unfolding bench_of bad_bench
+unfolding bench_of
 refused_by bytes Memory gives = tt
 refused_by bytes (Fault fault) gives =
     let found = fault_only (line_fault (said_lines bytes)) (said_lines bytes) fault gives in
-    ap (λ (o : Option BenchFault). bench_unless (option_or o (option_or (net_fault (said_lines bytes)) None)) (said_lines bytes)) found
+    ap (λ (o : Option BenchFault). bench_unless (option_or o (net_fault (said_lines bytes))) (said_lines bytes)) found
 
 -- a fault of a line is that of the file
 pub file_refused : (bytes : Bytes) (why : Refusal BenchFault) (r : Result Circuit (Refusal BenchFault)) → Gives (gathered_of bytes) (Err why) → r ≡ Err why → Gives (bench_of bytes) r

@@ -19,17 +19,18 @@ use Rattle.fm_base.proofs.Tests.{or_cases, or_second}
 use Rattle.net_names.specs.Nets.{net_id}
 use Rattle.net_names.proofs.Few.{no_more}
 use Rattle.net_names.proofs.Times.{place}
+use Rattle.bench_reader.specs.Gates.{gate_plane}
 use Rattle.bench_reader.specs.declared.BenchFault.{BenchFault}
 use Rattle.bench_reader.specs.declared.BenchKind.TheVariants.{TooLarge, TwoDrivers}
 use Rattle.bench_reader.specs.declared.gate.Gate.{Gate}
 use Rattle.bench_reader.specs.declared.gather.Gathered.{Gathered}
 use Rattle.bench_reader.specs.declared.parts.Parts.{Parts}
-use Rattle.bench_reader.specs.Gates.{gate_plane, gate_rows}
 use Rattle.bench_reader.specs.Gather.{add_input, add_latch, add_output, add_said, add_statement, add_table, driven_at, gate_table, gathered_from, is_full, no_lines, with_nets, with_part}
 use Rattle.bench_reader.specs.LineFault.{Said, at_line}
 use Rattle.bench_reader.specs.Marks.{NetMarks, no_nets, ids_from, is_driven, is_given, mention, mention_all, with_driven, with_given}
-use Rattle.bench_reader.specs.Net.{driven_at as drives_at, driven_of, input_at, inputs_of, latch_on_line, latch_net, latch_nets_of, nets_at, nets_of, output_at, outputs_of, table_on_line, table_net, table_nets_of}
-use Rattle.bench_reader.specs.NetFault.{cells_at, too_large, two_drivers}
+use Rattle.bench_reader.specs.Net.{driven_at as drives_at, driven_of, inputs_of, nets_at, nets_of}
+use Rattle.bench_reader.specs.NetFault.{too_large, two_drivers}
+use Rattle.bench_reader.specs.Steps.{cells_at, gate_rows, input_at, latch_net, latch_nets_of, latch_on_line, output_at, outputs_of, table_net, table_nets_of, table_on_line}
 use Rattle.bench_reader.specs.Statement.{Statement, nothing, input, output, table, latch, wrong}
 use Rattle.bench_reader.proofs.Marked.{IsMarked, Visit, all_grows, all_marked, among_more, blank, drive_marked, give_marked, grows, id_stays, ids_all, is_driven_marked, is_given_marked, length_ids, mark_of, mention_marked, mentioned, names_of, visits_at}
 use Rattle.fm_base.proofs.Options.{or_none}

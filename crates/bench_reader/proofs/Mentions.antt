@@ -4,7 +4,6 @@ use Rattle.std.specs.Prelude.{bytes_eq}
 use Rattle.std.specs.List.{list_any, position_or_len}
 use Rattle.std.proofs.lemmas.List.{length-append}
 use Rattle.fm_base.specs.Names.{Name, is_one_of}
-use Rattle.fm_base.proofs.Tests.{or_false}
 use Rattle.fm_base.specs.Index.{with_name}
 use Rattle.fm_base.proofs.NameFacts.{keys_insert}
 use Rattle.indexmap.specs.IndexSet.{insert_key}
@@ -13,7 +12,6 @@ use Rattle.bench_reader.specs.declared.nets.Mark.{Mark}
 use Rattle.bench_reader.specs.Marks.{NetMarks, newly_named, mention}
 use Rattle.bench_reader.proofs.Marked.{place_new}
 use Rattle.fm_base.proofs.Finding.{list_any-map}
-use Rattle.fm_base.proofs.Distinct.{bytes_eq-sym}
 
 abbrev pub Key : Type 0
 Key = Bor (List ℕ)

@@ -14,7 +14,8 @@ use Rattle.fm_base.proofs.Below.{map-below}
 use Rattle.fm_base.proofs.Tests.{and_both}
 use Rattle.bench_reader.specs.declared.gate.Gate.{Gate}
 use Rattle.bench_reader.specs.declared.gate.Gate.TheVariants.{And, Nand, Or, Nor, Xor, Xnor, Not, Buffer}
-use Rattle.bench_reader.specs.Gates.{cells_of, is_odd_row, most_inputs, odd_rows, takes_inputs}
+use Rattle.bench_reader.specs.Gates.{cells_of, odd_rows, takes_inputs}
+use Rattle.bench_reader.specs.Steps.{is_odd_row, most_inputs}
 
 -- one more cell
 pub one_cell : (left number : ℕ) (row now : List Lit) (cell : Lit) (all : List Lit) → 0 < left

@@ -1,37 +1,37 @@
 -- The lines of a file, one after the other.
-use Rattle.std.proofs.Common.{◌≡◌, ℕ, suc, ◌+◌, ◌≤◌, ◌<◌, Bool, true, false, cond, not, ◌⊎◌, inl, inr, List, [], ◌∷◌, refl, ap, sym, subst, ◌∙◌, length, take, drop, arith}
+use Rattle.std.proofs.Common.{◌≡◌, ℕ, ◌+◌, ◌≤◌, ◌<◌, ◌⊎◌, inl, inr, List, [], ◌∷◌, refl, ap, sym, subst, ◌∙◌, length, take, drop, arith}
 use Rattle.std.specs.Prelude.{Option, Some, None, map, Result, Ok, Err}
-use Rattle.std.specs.List.{enumerate_from, onto_first, position_or_len, slice_split}
+use Rattle.std.specs.List.{enumerate_from, position_or_len, slice_split}
 use Rattle.std.specs.Option.{option_map}
 use Rattle.std.proofs.Math.Seq.{take-length}
-use Rattle.std.proofs.lemmas.List.Splits.{slice_split_first, slice_split-cons_no}
+use Rattle.std.proofs.lemmas.List.Splits.{slice_split_first}
 use Rattle.blif_text.specs.Lines.{is_feed}
 use Rattle.fm_base.specs.Firsts.{first_where}
 use Rattle.fm_base.proofs.OnePass.{first_where-here, first_where-later}
 use Rattle.bench_reader.specs.declared.BenchFault.{BenchFault}
-use Rattle.bench_reader.specs.LineFault.{Said, at_line, fault_of, kind_of, line_fault, said, said_lines}
+use Rattle.bench_reader.specs.LineFault.{Said, at_line, line_fault, said, said_lines}
 use Rattle.fm_base.specs.Answers.{Gives}
 use Rattle.fm_base.specs.declared.refusal.Refusal.{Refusal}
 use Rattle.fm_base.specs.declared.refusal.Refusal.TheVariants.{Fault, Memory}
 use Rattle.bench_reader.specs.declared.gather.Gathered.{Gathered}
 use Rattle.bench_reader.specs.Answer.{LineGives, gathered_of, gathered_unless}
 use Rattle.bench_reader.specs.Gather.{add_said, gathered_from, no_lines}
-use Rattle.bench_reader.specs.Tokens.{line_of, lines_of}
+use Rattle.bench_reader.specs.Steps.{fault_of, kind_of}
 use Rattle.blif_text.proofs.Cuts.{split_whole}
 
 -- what the lines of a text say, where the first has this number
 abbrev pub said_from : ℕ → List ℕ → List Said
-said_from number text = map said (map line_of (enumerate_from number (slice_split is_feed text)))
+said_from number text = map said (enumerate_from number (slice_split is_feed text))
 
 abbrev pub said_at : ℕ → List ℕ → Said
-said_at number text = said (line_of (number, text))
+said_at number text = said (number, text)
 
 pub said_all : (bytes : List ℕ) → said_from 1 bytes ≡ said_lines bytes
-unfolding said_lines lines_of
+unfolding said_lines
 said_all bytes = refl
 
 abbrev numbered : ℕ → List (List ℕ) → List Said
-numbered number pieces = map said (map line_of (enumerate_from number pieces))
+numbered number pieces = map said (enumerate_from number pieces)
 
 -- the first line, and those behind it
 pub said_cut : (number : ℕ) (text rest : List ℕ) (n : ℕ) → n ≡ position_or_len is_feed text → n < length text → rest ≡ drop (n + 1) text

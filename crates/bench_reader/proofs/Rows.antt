@@ -1,19 +1,21 @@
 -- Each row of a gate's table has a literal for each input.
 use Rattle.std.proofs.Common.{◌≡◌, ℕ, zero, suc, Bool, true, false, cond, ◌&&◌, List, [], ◌∷◌, length, map, replicate, refl, ap, arith}
-use Rattle.std.specs.Prelude.{◌^◌, filter, Option, Some, None, codes, nat_le}
-use Rattle.std.specs.List.{AllByRecursion}
+use Rattle.std.specs.Prelude.{◌^◌, Option, Some, None, codes, nat_le}
+use Rattle.std.specs.List.{AllByRecursion, before_first, enumerate_from, slice_split}
 use Rattle.std.proofs.lemmas.Bool.{leb-true}
+use Rattle.blif_text.specs.Lines.{is_feed, is_hash}
 use Rattle.fm_base.specs.Lists.{below}
 use Rattle.fm_base.specs.Names.{Bytes, Name}
 use Rattle.fm_base.proofs.Tests.{and_both}
 use Rattle.bench_reader.specs.declared.BenchKind.TheVariants.{BadLine, BadCount}
 use Rattle.bench_reader.specs.declared.gate.Gate.{Gate}
 use Rattle.bench_reader.specs.declared.gate.Gate.TheVariants.{And, Nand, Or, Nor, Xor, Xnor, Not, Buffer}
-use Rattle.bench_reader.specs.Gates.{cells_of, gate_named, gate_rows, is_odd_row, is_word, odd_rows, takes_inputs}
+use Rattle.bench_reader.specs.Gates.{cells_of, gate_named, is_word, odd_rows, takes_inputs}
 use Rattle.bench_reader.specs.Gather.{StatementFits}
 use Rattle.bench_reader.specs.LineFault.{said, said_lines}
-use Rattle.bench_reader.specs.Statement.{input, output, table, wrong, driver_line, latch_line, names_in, port_line, statement_of, table_line}
-use Rattle.bench_reader.specs.Tokens.{Line, Token, opening, closing, equals, name, lines_of}
+use Rattle.bench_reader.specs.Statement.{input, output, table, wrong, driver_line, names_in, statement_of}
+use Rattle.bench_reader.specs.Tokens.{Token, opening, closing, equals, name, tokens_of}
+use Rattle.bench_reader.specs.Steps.{gate_rows, is_odd_row, latch_line, port_line, table_line}
 use Rattle.blif_text.proofs.Slices.{all-filter}
 
 -- ---- rows
@@ -90,10 +92,10 @@ statement_fits (name word ∷ opening ∷ name net ∷ closing ∷ []) = port_li
 statement_fits (name out ∷ equals ∷ name word ∷ opening ∷ tokens) = driver_line_fits out word (names_in tokens)
 statement_fits _ = tt
 
-pub said_fit : (lines : List Line) → AllByRecursion (λ line. StatementFits line.says) (map said lines)
+pub said_fit : (pieces : List (ℕ × Bytes)) → AllByRecursion (λ line. StatementFits line.says) (map said pieces)
 said_fit [] = tt
-said_fit (line ∷ lines) = (statement_fits line.tokens, said_fit lines)
+said_fit (piece ∷ pieces) = (statement_fits (tokens_of (before_first is_hash piece.1)), said_fit pieces)
 
 pub lines_fit : (bytes : Bytes) → AllByRecursion (λ line. StatementFits line.says) (said_lines bytes)
 unfolding said_lines
-lines_fit bytes = said_fit (lines_of bytes)
+lines_fit bytes = said_fit (enumerate_from 1 (slice_split is_feed bytes))

@@ -2,7 +2,6 @@
 use Rattle.std.proofs.Common.{◌≡◌, ◌≤◌, ◌^◌, true, ◌||◌, List, [], ◌∷◌, refl, subst, length, arith}
 use Rattle.std.specs.Prelude.{map, flat_map, filter_map, Option, Some, None, Ok, sum_by, nat_lt}
 use Rattle.std.specs.List.{AllByRecursion, cons_option, list_all}
-use Rattle.std.specs.Option.{option_or}
 use Rattle.std.proofs.lemmas.Bool.{ltb-false}
 use Rattle.circuit.specs.declared.parts.Latch.{Latch}
 use Rattle.circuit.specs.declared.parts.Table.{Table}
@@ -18,12 +17,13 @@ use Rattle.net_names.proofs.Brought.{all-brought, as-many, in-order}
 use Rattle.net_names.proofs.Driven.{drives-of-lines}
 use Rattle.net_names.proofs.Once.{driven-once}
 use Rattle.net_names.proofs.Sound.{is-net, is-table, netlist-of-names, size-of-drivers}
+use Rattle.bench_reader.specs.Gates.{gate_plane}
 use Rattle.bench_reader.specs.declared.BenchFault.{BenchFault}
-use Rattle.bench_reader.specs.Bench.{bad_bench, bench_of, bench_unless}
-use Rattle.bench_reader.specs.Gates.{gate_plane, gate_rows}
+use Rattle.bench_reader.specs.Bench.{bench_of}
 use Rattle.bench_reader.specs.LineFault.{Said, line_fault, said_lines}
-use Rattle.bench_reader.specs.Net.{circuit_of, driven_at, driven_of, drivers_of, input_at, inputs_of, latch_on_line, latch_net, latch_nets_of, nets_at, nets_of, output_at, outputs_of, table_on_line as line_table, table_net, table_nets_of}
-use Rattle.bench_reader.specs.NetFault.{cells_at, net_fault, too_large, two_drivers, undriven}
+use Rattle.bench_reader.specs.Net.{circuit_of, driven_at, driven_of, drivers_of, inputs_of, nets_at, nets_of}
+use Rattle.bench_reader.specs.NetFault.{too_large, two_drivers, undriven}
+use Rattle.bench_reader.specs.Steps.{bad_bench, bench_unless, cells_at, gate_rows, input_at, latch_net, latch_nets_of, latch_on_line, output_at, outputs_of, table_net, table_nets_of, table_on_line as line_table}
 use Rattle.bench_reader.specs.Statement.{Statement, input, table, latch}
 use Rattle.bench_reader.proofs.Drives.{driven_net, driven_once, names_nets, net_driven, output_net}
 use Rattle.bench_reader.specs.Gather.{StatementFits}
@@ -135,11 +135,9 @@ few_nets lines e =
     ltb-false (2 ^ 18) (length (nets_of lines)) (or_false _ _ (not_given (nat_lt (2 ^ 18) (length (nets_of lines)) || nat_lt (2 ^ 24) (sum_by (λ (line : Said). cells_at line.says) lines)) _ e)).0
 
 unfaulted : (lines : List Said) → bad_bench lines ≡ None → (too_large lines ≡ None) × (two_drivers lines ≡ None) × (undriven lines ≡ None)
-unfolding bad_bench net_fault
 unfaulted lines e =
     let one = none_both (line_fault lines) _ e in
-    let two = none_both (option_or (too_large lines) (option_or (two_drivers lines) (option_or (undriven lines) None))) None one.1 in
-    let three = none_both (too_large lines) _ two.0 in
+    let three = none_both (too_large lines) _ one.1 in
     let four = none_both (two_drivers lines) _ three.1 in
     let five = none_both (undriven lines) None four.1 in
     (three.0, four.0, five.0)

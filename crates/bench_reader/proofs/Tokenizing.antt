@@ -10,7 +10,8 @@ use Rattle.std.proofs.lemmas.List.{length-drop}
 use Rattle.blif_text.specs.Lines.{is_white}
 use Rattle.fm_base.proofs.Tests.{and_both, both_false, both_true, not_true, false_of}
 use Rattle.bench_reader.specs.Meant.{begins_inked}
-use Rattle.bench_reader.specs.Tokens.{Token, opening, closing, comma, equals, name, begins_name, is_name_byte, is_wide_token, mark_of, tokens_of, with_name_byte}
+use Rattle.bench_reader.specs.Tokens.{Token, opening, closing, comma, equals, name, begins_name, is_wide_token, mark_of, tokens_of, with_name_byte}
+use Rattle.bench_reader.specs.Steps.{is_name_byte}
 
 -- white space gives no token
 pub white_first : (b : ℕ) (text : List ℕ) → is_white b ≡ true → tokens_of (b ∷ text) ≡ tokens_of text

@@ -11,9 +11,9 @@ use Rattle.bench_reader.specs.declared.BenchFault.{BenchFault}
 use Rattle.bench_reader.specs.declared.BenchKind.TheVariants.{TooLarge, TwoDrivers}
 use Rattle.bench_reader.specs.declared.gather.Gathered.{Gathered}
 use Rattle.bench_reader.specs.Gather.{add_said, gathered_from, is_full, no_lines}
-use Rattle.bench_reader.specs.LineFault.{Said, at_line, fault_of, kind_of, line_fault, said, said_lines}
+use Rattle.bench_reader.specs.LineFault.{Said, at_line, line_fault, said, said_lines}
 use Rattle.bench_reader.specs.Marks.{first_loose}
-use Rattle.bench_reader.specs.Tokens.{line_of}
+use Rattle.bench_reader.specs.Steps.{fault_of, kind_of}
 
 -- the fault of all lines together
 abbrev pub fault_in : Gathered → Option BenchFault
@@ -57,6 +57,6 @@ gathered_of bytes = gathered_unless (line_fault (said_lines bytes)) (said_lines 
 
 -- what a line brings, or its fault; want of memory is free
 abbrev pub LineGives : Gathered → Gathered → ℕ → Bytes → Result (Unit {0}) (Refusal BenchFault) → Type 0
-LineGives before now number text (Ok _) = (kind_of (said (line_of (number, text))) ≡ None) × (now ≡ add_said before (said (line_of (number, text))))
-LineGives before now number text (Err (Fault fault)) = fault_of (said (line_of (number, text))) ≡ Some fault
+LineGives before now number text (Ok _) = (kind_of (said (number, text)) ≡ None) × (now ≡ add_said before (said (number, text)))
+LineGives before now number text (Err (Fault fault)) = fault_of (said (number, text)) ≡ Some fault
 LineGives before now number text (Err Memory) = Unit {0}

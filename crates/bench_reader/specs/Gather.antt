@@ -10,7 +10,8 @@ use Rattle.net_names.specs.Nets.{net_id}
 use Rattle.bench_reader.specs.declared.gate.Gate.{Gate}
 use Rattle.bench_reader.specs.declared.gather.Gathered.{Gathered}
 use Rattle.bench_reader.specs.declared.parts.Parts.{Parts}
-use Rattle.bench_reader.specs.Gates.{gate_plane, gate_rows, takes_inputs}
+use Rattle.bench_reader.specs.Gates.{gate_plane, takes_inputs}
+use Rattle.bench_reader.specs.Steps.{gate_rows}
 use Rattle.bench_reader.specs.LineFault.{Said}
 use Rattle.bench_reader.specs.Marks.{NetMarks, ids_from, is_driven, is_given, mention, mention_all, no_nets, with_driven, with_given}
 use Rattle.bench_reader.specs.Statement.{Statement, input, output, table, latch}

@@ -5,6 +5,7 @@ pub mod LineFault
 pub mod Net
 pub mod NetFault
 pub mod Bench
+pub mod Steps
 pub mod Meant
 pub mod Marks
 pub mod Gather

@@ -1,7 +1,8 @@
 // The rows of a gate's table.
 ghost use Rattle.std.specs.Prelude.{◌≡◌, ◌==◌, ◌≤◌, ◌<◌, ◌^◌, ◌/◌, ◌%◌, ◌∷◌, [], true, IfOk, if◌then◌else◌, length, replicate};
 ghost use Rattle.circuit.specs.declared.parts.Lit.TheVariants.{Zero, One};
-ghost use Rattle.bench_reader.specs.Gates.{cells_of, gate_rows, is_odd_row, is_one_cell, odd_rows, takes_inputs};
+ghost use Rattle.bench_reader.specs.Gates.{cells_of, is_one_cell, odd_rows, takes_inputs};
+ghost use Rattle.bench_reader.specs.Steps.{gate_rows, is_odd_row};
 
 use crate::gate::Gate;
 use circuit::parts::{Lit, Row, Rows};

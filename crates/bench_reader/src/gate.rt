@@ -1,6 +1,7 @@
 // The gates of a netlist file, but for flip-flops.
 ghost use Rattle.std.specs.Prelude.{◌≡◌, codes};
-ghost use Rattle.bench_reader.specs.Gates.{gate_named, gate_plane, is_word, most_inputs, takes_inputs};
+ghost use Rattle.bench_reader.specs.Gates.{gate_named, gate_plane, is_word, takes_inputs};
+ghost use Rattle.bench_reader.specs.Steps.{most_inputs};
 
 /// What a gate does with its inputs.
 #[derive(Clone, Copy, Debug, PartialEq, Eq)]

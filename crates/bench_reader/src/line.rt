@@ -2,9 +2,9 @@
 ghost use Rattle.std.specs.Prelude.{◌≡◌, ℕ, None, Some, MatchResult};
 ghost use Rattle.std.specs.List.{before_first};
 ghost use Rattle.blif_text.specs.Lines.{is_hash};
-ghost use Rattle.bench_reader.specs.LineFault.{kind_of, said};
+ghost use Rattle.bench_reader.specs.LineFault.{said};
 ghost use Rattle.bench_reader.specs.Meant.{meant};
-ghost use Rattle.bench_reader.specs.Tokens.{line_of};
+ghost use Rattle.bench_reader.specs.Steps.{kind_of};
 
 use crate::BenchKind;
 use crate::says::Says;
@@ -21,7 +21,7 @@ fn bare(text: &[u8]) -> &[u8]
 
 /// What a line says, or its kind of fault.
 pub fn line_says<'a>(text: &'a [u8]) -> Result<Says<'a>, BenchKind>
-    ensures { MatchResult result (λ s. (number : ℕ) → (kind_of (said (line_of (number, text.now))) ≡ None) × (meant s ≡ (said (line_of (number, text.now))).says)) (λ kind. (number : ℕ) → kind_of (said (line_of (number, text.now))) ≡ Some kind) }
+    ensures { MatchResult result (λ s. (number : ℕ) → (kind_of (said (number, text.now)) ≡ None) × (meant s ≡ (said (number, text.now)).says)) (λ kind. (number : ℕ) → kind_of (said (number, text.now)) ≡ Some kind) }
 {
     let text = bare(text);
     let says = text_says(text);

@@ -3,7 +3,8 @@ ghost use Rattle.std.specs.Prelude.{◌≡◌, ◌∷◌, [], ◌<◌, ◌≤◌
 ghost use Rattle.std.specs.List.{list_any, position_or_len};
 ghost use Rattle.std.specs.Option.{option_map};
 ghost use Rattle.bench_reader.specs.Meant.{begins_inked, token_of};
-ghost use Rattle.bench_reader.specs.Tokens.{begins_name, is_name_byte, is_wide_token, mark_of, tokens_of};
+ghost use Rattle.bench_reader.specs.Tokens.{begins_name, is_wide_token, mark_of, tokens_of};
+ghost use Rattle.bench_reader.specs.Steps.{is_name_byte};
 
 use blif_text::places::is_white_byte;
 

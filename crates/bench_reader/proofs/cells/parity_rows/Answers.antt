@@ -1,5 +1,5 @@
 use Rattle.std.proofs.Common.{ap, sym, ◌∙◌, arith}
-use Rattle.bench_reader.specs.Gates.{is_odd_row}
+use Rattle.bench_reader.specs.Steps.{is_odd_row}
 use Rattle.bench_reader.proofs.Parity.{no_numbers, all_numbers, number_kept, number_passed}
 use Rattle.bench_reader.proofs.cells.parity_rows.Goals as goal
 use Rattle.bench_reader.proofs.cells.parity_rows.Goals.{then-is_odd+in_ok-push, else-is_odd}

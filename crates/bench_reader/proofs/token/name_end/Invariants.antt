@@ -1,5 +1,5 @@
 use Rattle.std.proofs.Common.{◌≡◌, ℕ, ◌<◌, get_or, not, false}
-use Rattle.bench_reader.specs.Tokens.{is_name_byte}
+use Rattle.bench_reader.specs.Steps.{is_name_byte}
 use Rattle.bench_reader.proofs.token.name_end.Given as goal
 
 abbrev pub invariant-loop-i : goal.invariant-loop-i
