@@ -100,13 +100,9 @@ row_why why.Repeated = codes "Repeated" ∷ []
 row_why why.UnusedLane = codes "UnusedLane" ∷ []
 row_why (why.Sums kept computed) = codes "Sums kept" ∷ sums_words kept ++ codes "computed" ∷ sums_words computed
 
--- a byte from space to `~` as it is, and any other as `?`
-abbrev pub shown_byte : ℕ → ℕ
-shown_byte b = if nat_le 32 b && nat_le b 126 then b else byte "?"
-
--- the first bytes of a file, up to a line feed or 88 bytes
+-- the first bytes of a file, up to a line feed or 88 bytes; each that isn't from space to `~` is shown as `?`
 abbrev pub shown_start : Bytes → Bytes
-shown_start found = map shown_byte (take 88 (before_first (λ b. b == 10) found))
+shown_start found = map (λ b. if nat_le 32 b && nat_le b 126 then b else byte "?") (take 88 (before_first (λ b. b == 10) found))
 
 -- two planes, in 16 hexadecimal digits each
 abbrev pub planes_words : Outcome → List Bytes

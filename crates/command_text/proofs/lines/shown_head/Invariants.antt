@@ -1,5 +1,5 @@
 use Rattle.std.proofs.Common.{◌≡◌, map, length, take}
-use Rattle.command_text.specs.RefusalLines.{shown_byte}
+use Rattle.command_text.specs.Steps.{shown_byte}
 use Rattle.command_text.proofs.lines.shown_head.Given as goal
 
 abbrev pub invariant-loop-byte : goal.invariant-loop-byte
