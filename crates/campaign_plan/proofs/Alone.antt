@@ -1,19 +1,17 @@
 -- What planes and batches say of a fault is so of it alone.
-use Rattle.std.proofs.Common.{◌≡◌, ℕ, zero, suc, ◌+◌, ◌*◌, ◌/◌, ◌%◌, ◌<◌, ◌≤◌, Bool, true, List, [], ◌∷◌, min, refl, ap, ap₂, sym, ◌∙◌, arith}
-use Rattle.std.specs.Prelude.{◌&&◌, map, sum_by, nat_lt}
+use Rattle.std.proofs.Common.{◌≡◌, ℕ, zero, suc, ◌+◌, ◌*◌, ◌/◌, ◌%◌, ◌<◌, ◌≤◌, Bool, true, [], ◌∷◌, min, ap, ap₂, sym, ◌∙◌, arith}
+use Rattle.std.specs.Prelude.{◌&&◌, sum_by, nat_lt}
 use Rattle.std.proofs.Math.Nat.{div-add-mod, mod-lt}
-use Rattle.std.proofs.lemmas.List.Sums.{sum_by-cons}
 use Rattle.circuit.specs.Effects.{is_permanent}
 use Rattle.fault_list.specs.Faults.{batches_for, fault_at, fault_number, is_used, used_lanes}
 use Rattle.fm_base.specs.Lists.{below}
 use Rattle.fm_base.specs.Planes.{bit, plane_of}
 use Rattle.fm_base.proofs.Bits.{bit-plane_of}
-use Rattle.metric_sums.specs.declared.Class.{Class}
 use Rattle.metric_sums.specs.declared.Sums.{Sums}
-use Rattle.metric_sums.specs.Totals.{share_of, sums_by}
+use Rattle.metric_sums.specs.Totals.{share_of}
 use Rattle.campaign_plan.specs.declared.Outcome.{Outcome}
 use Rattle.campaign_plan.specs.Analysis.{Analysis, all_faults, batch_count, fault_count, fault_numbered}
-use Rattle.campaign_plan.specs.Batches.{Entry, class_in_lane, class_of_fault, class_with, in_order, lane_sums, outcome_of, own_sums, total, true_planes}
+use Rattle.campaign_plan.specs.Batches.{Entry, class_in_lane, class_of_fault, class_with, in_order, lane_sums, outcome_of, own_sums, true_planes}
 use Rattle.campaign_plan.specs.Danger.{is_dangerous, is_noticed}
 use Rattle.campaign_plan.specs.Laws.{FaultsAreClassedAlone, SumsAreOfFaults, TrueSumsAreOfFaultsAlone, class_alone, fault_share}
 use Rattle.campaign_plan.specs.Weights.{weight}

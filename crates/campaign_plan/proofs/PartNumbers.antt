@@ -21,10 +21,11 @@ use Rattle.fm_base.proofs.Below.{below_push, map-below}
 use Rattle.rate_table.specs.declared.Pattern.{Pattern}
 use Rattle.rate_table.specs.Table.{IsRateTable, matches}
 use Rattle.rate_table.proofs.Rows.{find_holds}
-use Rattle.campaign_plan.specs.Analysis.{Analysis, all_faults, part_count, part_of_net, part_of}
+use Rattle.campaign_plan.specs.Analysis.{Analysis, all_faults, part_count, part_of}
+use Rattle.campaign_plan.specs.Steps.{part_of_net, unrated_net}
 use Rattle.campaign_plan.specs.Making.{net_part, AreNetParts}
 use Rattle.campaign_plan.proofs.Tabled.{length_table, table_at}
-use Rattle.campaign_plan.specs.PlanFaults.{unrated_net, missing_rate}
+use Rattle.campaign_plan.specs.PlanFaults.{missing_rate}
 
 -- ---- the first number that passes
 

@@ -17,7 +17,7 @@ use Rattle.rate_table.specs.Table.{IsRateTable}
 use Rattle.campaign_plan.proofs.Weighing.{weight_share}
 use Rattle.std.proofs.lemmas.List.Elements.{filter_map-append}
 use Rattle.campaign_plan.specs.declared.PlanRefusal.TheVariants.{IdleRate}
-use Rattle.campaign_plan.specs.PlanFaults.{idle_rate_of, is_idle}
+use Rattle.campaign_plan.specs.Steps.{idle_rate_of, is_idle}
 use Rattle.campaign_plan.specs.declared.shares.Share.{Share}
 use Rattle.campaign_plan.specs.Analysis.{Analysis, all_faults, fault_numbered, part_count, part_numbered, part_of}
 use Rattle.campaign_plan.specs.Shares.{ArePartCounts, AreShares, share_at, less, next_weight, full_share, share_of_rate, idle_of}

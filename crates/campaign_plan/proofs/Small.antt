@@ -1,7 +1,6 @@
 -- The five sums over distinct batches are small and consistent, whatever the planes.
 use Rattle.std.proofs.Common.{◌≡◌, ℕ, zero, suc, ◌+◌, ◌*◌, ◌<◌, ◌≤◌, ◌^◌, Bool, true, false, List, [], ◌∷◌, length, get_or, min, refl, ap, sym, subst, ◌∙◌, arith}
-use Rattle.std.specs.Prelude.{Option, Some, None, option_map, unwrap_or, find, map, sum_by, All, ◌==◌, ◌&&◌, nat_lt}
-use Rattle.std.proofs.lemmas.List.Sums.{sum_by-cons}
+use Rattle.std.specs.Prelude.{Option, Some, None, option_map, unwrap_or, find, sum_by, All, ◌==◌, ◌&&◌, nat_lt}
 use Rattle.circuit.specs.Names.{net_name}
 use Rattle.circuit.specs.Effects.{is_permanent}
 use Rattle.fault_list.specs.Faults.{fault_number, is_used, used_lanes, net_of_fault}

@@ -4,6 +4,7 @@ pub mod Weights
 pub mod PlanFaults
 pub mod Batches
 pub mod Kept
+pub mod Steps
 pub mod Making
 pub mod Shares
 pub mod Laws

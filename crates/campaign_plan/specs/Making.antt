@@ -6,7 +6,8 @@ use Rattle.campaign_plan.specs.declared.PlanRefusal.{PlanRefusal}
 use Rattle.campaign_plan.specs.declared.PlanRefusal.TheVariants.{TooManyFaults, MissingRate, IdleRate, Memory}
 use Rattle.campaign_plan.specs.declared.numbers.Inputs.{Inputs}
 use Rattle.campaign_plan.specs.declared.tables.FaultTables.{FaultTables}
-use Rattle.campaign_plan.specs.Analysis.{Analysis, all_faults, fault_count, part_count, part_of, part_of_net}
+use Rattle.campaign_plan.specs.Analysis.{Analysis, all_faults, fault_count, part_count, part_of}
+use Rattle.campaign_plan.specs.Steps.{part_of_net}
 use Rattle.campaign_plan.specs.PlanFaults.{missing_rate, plan_refusal}
 use Rattle.campaign_plan.specs.Weights.{weight}
 

@@ -2,7 +2,7 @@ use Rattle.std.proofs.Common.{◌≡◌, ◌+◌, ap, sym, subst, ◌∙◌, ari
 use Rattle.std.specs.Prelude.{option_map, Some}
 use Rattle.campaign_plan.specs.declared.PlanRefusal.TheVariants.{MissingRate}
 use Rattle.circuit.specs.Names.{net_name}
-use Rattle.campaign_plan.specs.PlanFaults.{unrated_net}
+use Rattle.campaign_plan.specs.Steps.{unrated_net}
 use Rattle.rate_table.specs.Table.{part_named}
 use Rattle.campaign_plan.specs.Making.{analysis}
 use Rattle.campaign_plan.proofs.PartNumbers.{HasParts, no_parts, parts_push, net_without}

@@ -4,7 +4,7 @@ use Rattle.campaign_plan.specs.declared.PlanRefusal.TheVariants.{IdleRate}
 use Rattle.fm_base.specs.Lists.{below}
 use Rattle.campaign_plan.specs.Making.{analysis}
 use Rattle.campaign_plan.specs.Analysis.{part_count}
-use Rattle.campaign_plan.specs.PlanFaults.{idle_rate_of}
+use Rattle.campaign_plan.specs.Steps.{idle_rate_of}
 use Rattle.campaign_plan.proofs.Sharing.{idle_more, idle_at, idle_by, part_there}
 use Rattle.campaign_plan.proofs.shares.refuse_idle.Goals as goal
 
