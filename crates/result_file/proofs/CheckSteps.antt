@@ -14,7 +14,7 @@ use Rattle.campaign_plan.specs.Batches.{total}
 use Rattle.result_file.specs.declared.Row.{Row}
 use Rattle.result_file.specs.declared.RowFault.TheVariants as why
 use Rattle.result_file.specs.KeptRows.{row_read, has_form, has_unused_lane, entry_of}
-use Rattle.result_file.specs.KeptRows.{fault_over}
+use Rattle.result_file.specs.Steps.{fault_over}
 use Rattle.result_file.proofs.Checks.{repeated, unused, other_sums, no_fault}
 
 in_range : (a b : ℕ) → b < a → nat_le a b ≡ false

@@ -13,7 +13,7 @@ use Rattle.campaign_plan.specs.Batches.{total}
 use Rattle.result_file.specs.declared.Row.{Row}
 use Rattle.result_file.specs.declared.RowFault.{RowFault}
 use Rattle.result_file.specs.KeptRows.{row_read, row_fault, entry_of, whole_pieces}
-use Rattle.result_file.specs.KeptRows.{fault_over}
+use Rattle.result_file.specs.Steps.{fault_over}
 use Rattle.campaign_plan.specs.Batches.{AreDistinct}
 
 pub length-pieces : (bytes : List ℕ) → length (whole_pieces bytes) ≡ (length bytes - 89) / 130

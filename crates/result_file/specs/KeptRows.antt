@@ -2,6 +2,7 @@
 use Rattle.std.specs.Prelude.{◌≡◌, ◌^◌, ◌<◌, All, IsFalse, ℕ, ◌+◌, ◌-◌, ◌*◌, ◌/◌, Bool, not, ◌&&◌, ◌||◌, List, [], ◌∷◌, ◌++◌, map, length, take, fold, Option, Some, None, Result, Ok, Err, if◌then◌else◌, nat_lt, nat_le, ◌==◌, slice_range, nat_eq, codes}
 use Rattle.std.specs.List.{list_any, starts_with, position_or_len}
 use Rattle.std.specs.Str.{bytes_eq}
+use Rattle.metric_sums.specs.declared.Sums.{Sums}
 use Rattle.metric_sums.specs.Totals.{same_sums, no_sums}
 use Rattle.fm_base.specs.Lists.{below}
 use Rattle.fm_base.specs.Planes.{lanes, bit}
@@ -31,28 +32,18 @@ row_len = 130
 unfoldable pub hex_value : Bytes → ℕ
 hex_value digits = fold (λ n digit. 16 * n + position_or_len (nat_eq digit) (codes "0123456789abcdef")) 0 digits
 
--- the number in so many digits from a place of a piece on
-abbrev pub digits_at : Bytes → ℕ → ℕ → ℕ
-digits_at piece from digits = hex_value (slice_range piece from (from + digits))
-
 -- the row that a piece of 130 bytes reads as
 abbrev pub row_read : Bytes → Row
-row_read piece = record {
-  batch = digits_at piece 2 8;
-  danger = digits_at piece 11 16;
-  noticed = digits_at piece 28 16;
-  sums = record {
-    permanent_all = digits_at piece 45 16;
-    permanent_danger = digits_at piece 62 16;
-    latent = digits_at piece 79 16;
-    transient_all = digits_at piece 96 16;
-    transient_danger = digits_at piece 113 16;
-  };
-}
-
--- a piece has the row's form: it is the text of the row that it reads as
-abbrev pub has_form : Bytes → Bool
-has_form piece = bytes_eq (row_text (row_read piece)) piece
+row_read piece =
+    let number : ℕ → ℕ → ℕ = λ from digits. hex_value (slice_range piece from (from + digits)) in
+    let sums : Sums = record {
+      permanent_all = number 45 16;
+      permanent_danger = number 62 16;
+      latent = number 79 16;
+      transient_all = number 96 16;
+      transient_danger = number 113 16;
+    } in
+    record { batch = number 2 8; danger = number 11 16; noticed = number 28 16; sums = sums }
 
 -- the batch and the planes of a row
 abbrev pub entry_of : Row → Entry
@@ -63,22 +54,19 @@ abbrev pub has_unused_lane : Analysis → Row → Bool
 has_unused_lane p row =
     list_any (λ k. not (is_used (fault_count p) row.batch k) && (bit row.danger k || bit row.noticed k)) (below lanes)
 
--- a row's checks, in order, behind the rows before it
-abbrev pub fault_over : Analysis → List Row → Bytes → Option RowFault
-fault_over p rows piece =
+-- the first rule that a piece breaks, behind the pieces before it
+unfoldable pub row_fault : Analysis → List Bytes → Bytes → Option RowFault
+row_fault p before piece =
+    let rows = map row_read before in
     let row = row_read piece in
     let computed = total p (map entry_of rows ++ entry_of row ∷ []) in
     first_answer (
-    given (not (has_form piece)) why.Form
+    given (not (bytes_eq (row_text row) piece)) why.Form
     ∷ given (nat_le (batch_count p) row.batch) why.Range
     ∷ given (list_any (λ earlier. earlier.batch == row.batch) rows) why.Repeated
     ∷ given (has_unused_lane p row) why.UnusedLane
     ∷ given (not (same_sums row.sums computed)) (why.Sums row.sums computed)
     ∷ [])
-
--- the rule that a piece breaks, behind the pieces before it
-unfoldable pub row_fault : Analysis → List Bytes → Bytes → Option RowFault
-row_fault p before piece = fault_over p (map row_read before) piece
 
 -- the whole rows behind the header; a last piece of fewer bytes isn't looked at
 abbrev pub whole_pieces : Bytes → List Bytes
@@ -103,6 +91,10 @@ kept own p bytes =
 -- the batches and planes of kept rows
 abbrev pub kept_entries : KeptRows → List Entry
 kept_entries k = map entry_of k.rows
+
+-- a piece has the row's form: it is the text of the row that it reads as
+abbrev pub has_form : Bytes → Bool
+has_form piece = bytes_eq (row_text (row_read piece)) piece
 
 -- the planes fit a word, and lanes that hold no fault are 0 in them
 pub record FitsLanes (p : Analysis) (entry : Entry) : Type 0 where

@@ -4,3 +4,4 @@ pub mod Numbers
 pub mod Reading
 pub mod Answers
 pub mod Feeding
+pub mod Steps

@@ -6,7 +6,8 @@ ghost use Rattle.fault_list.specs.Faults.{is_used};
 ghost use Rattle.std.specs.List.{list_any};
 ghost use Rattle.campaign_plan.specs.Batches.{total, AreDistinct};
 ghost use Rattle.metric_sums.specs.Totals.{same_sums};
-ghost use Rattle.result_file.specs.KeptRows.{row_read, row_len, entry_of, fault_over};
+ghost use Rattle.result_file.specs.KeptRows.{row_read, row_len, entry_of};
+ghost use Rattle.result_file.specs.Steps.{fault_over};
 
 use crate::read::read_row;
 use crate::{Row, RowFault};

@@ -3,7 +3,7 @@ use Rattle.std.specs.Prelude.{Some, None, slice_range}
 use Rattle.std.proofs.lemmas.Grind.{common_steps}
 use Rattle.campaign_plan.specs.Batches.{total}
 use Rattle.result_file.specs.KeptRows.{whole_pieces, entry_of}
-use Rattle.result_file.specs.KeptRows.{fault_over}
+use Rattle.result_file.specs.Steps.{fault_over}
 use Rattle.campaign_plan.specs.Batches.{AreDistinct}
 use Rattle.result_file.proofs.Pieces.{length-pieces, piece_cut, read_more, read_bad, read_all}
 use Rattle.result_file.proofs.back.read_rows.Goals as goal
