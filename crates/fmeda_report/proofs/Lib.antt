@@ -5,3 +5,4 @@ pub mod Summing
 pub mod Tallying
 pub mod Naming
 pub mod TrueReport
+pub mod Grouping

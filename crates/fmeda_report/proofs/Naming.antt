@@ -8,7 +8,8 @@ use Rattle.fault_list.specs.Faults.{fault_name}
 use Rattle.campaign_plan.specs.Analysis.{Analysis, fault_numbered}
 use Rattle.campaign_plan.specs.Batches.{class_of_fault}
 use Rattle.campaign_plan.specs.Weights.{weight}
-use Rattle.fmeda_report.specs.Report.{Planes, names_faults, fault_line}
+use Rattle.fmeda_report.specs.Report.{Planes, fault_line}
+use Rattle.fmeda_report.specs.Steps.{names_faults}
 use Rattle.fmeda_report.specs.Words.{class_word}
 
 -- the line of a fault of this class, named

@@ -1,7 +1,8 @@
 // The lines of the sums, the metrics and the targets.
 ghost use Rattle.std.specs.Prelude.{◌≡◌};
 ghost use Rattle.metric_sums.specs.Totals.{AreConsistent};
-ghost use Rattle.fmeda_report.specs.Report.{metric_lines, ratio_lines, sum_lines, target_lines};
+ghost use Rattle.fmeda_report.specs.Report.{metric_lines};
+ghost use Rattle.fmeda_report.specs.Steps.{ratio_lines, sum_lines, target_lines};
 ghost use Rattle.fm_shelf.specs.Sink.{Sends};
 
 use crate::lines::write_line;

@@ -3,7 +3,7 @@ use Rattle.std.specs.Prelude.{codes, decimal}
 use Rattle.std.proofs.lemmas.Result.{err_from_is_err_and}
 use Rattle.fm_base.specs.Text.{line}
 use Rattle.fm_base.specs.Names.{Bytes}
-use Rattle.fmeda_report.specs.Report.{ratio_lines}
+use Rattle.fmeda_report.specs.Steps.{ratio_lines}
 use Rattle.fmeda_report.specs.Words.{fraction_word}
 use Rattle.fmeda_report.proofs.Sending.{sends_as, sends_stop, sends_then}
 use Rattle.fmeda_report.proofs.metrics.write_ratios.Goals as goal

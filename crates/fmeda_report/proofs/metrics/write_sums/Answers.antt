@@ -3,7 +3,7 @@ use Rattle.std.specs.Prelude.{codes}
 use Rattle.std.proofs.lemmas.Result.{err_from_is_err_and}
 use Rattle.fm_base.specs.Text.{line}
 use Rattle.fm_base.specs.Names.{Bytes}
-use Rattle.fmeda_report.specs.Report.{sum_lines}
+use Rattle.fmeda_report.specs.Steps.{sum_lines}
 use Rattle.fmeda_report.proofs.Sending.{sends_as, sends_stop, sends_then}
 use Rattle.fmeda_report.proofs.metrics.write_sums.Goals as goal
 
