@@ -12,8 +12,9 @@ use Rattle.result_file.specs.KeptRows.{entry_of}
 use Rattle.result_file.specs.ResultText.{result_rows}
 use Rattle.result_merge.specs.declared.merge.MergeRefusal.{MergeRefusal}
 use Rattle.result_merge.specs.declared.merge.MergeRefusal.TheVariants.{Differs}
-use Rattle.result_merge.specs.Union.{found_in_either, rising}
-use Rattle.result_merge.specs.Merged.{are_other, is_other_in, first_other, listed_planes, merged_unless, merged}
+use Rattle.result_merge.specs.Union.{rising}
+use Rattle.result_merge.specs.Steps.{found_in_either, is_other_in}
+use Rattle.result_merge.specs.Merged.{are_other, first_other, listed_planes, merged_unless, merged}
 use Rattle.result_merge.specs.Tables.{Table, planes_table, at_batch, planes_at, at_either, first_other_at, difference}
 use Rattle.result_merge.proofs.Spans.{same_span}
 use Rattle.result_merge.proofs.Unions.{is_span}

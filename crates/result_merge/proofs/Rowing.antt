@@ -16,7 +16,8 @@ use Rattle.campaign_plan.proofs.Running.{total_push}
 use Rattle.result_file.specs.declared.Row.{Row}
 use Rattle.result_file.specs.ResultText.{row_of, result_rows}
 use Rattle.result_file.proofs.Appending.{rows_push}
-use Rattle.result_merge.specs.Union.{entry_if, rising}
+use Rattle.result_merge.specs.Union.{rising}
+use Rattle.result_merge.specs.Steps.{entry_if}
 use Rattle.result_merge.proofs.Spans.{IsWithin, within_span}
 use Rattle.result_merge.proofs.Unions.{is_span, rising_are}
 use Rattle.result_merge.proofs.Looking.{once_within}
