@@ -11,8 +11,9 @@ use Rattle.result_merge.specs.Union.{found}
 use Rattle.result_merge.specs.Merged.{listed_planes}
 use Rattle.result_merge.specs.Tables.{Table, at_batch, planes_table}
 use Rattle.result_merge.proofs.Tabling.{table_at}
-use Rattle.fault_table.specs.Csv.{csv_row}
-use Rattle.fault_table.specs.FaultTable.{column_names, fault_row, fault_table, kept_faults, row_if_kept}
+use Rattle.fault_table.specs.Csv.{csv_field, csv_row}
+use Rattle.fault_table.specs.FaultTable.{fault_row, fault_table}
+use Rattle.fault_table.specs.Steps.{column_names, kept_faults, row_if_kept}
 
 flat_range : (f g : ℕ → Bytes) (test : ℕ → Bool) (bound a n : ℕ) → a + n ≤ bound → ((k : ℕ) → k < bound → f k ≡ (if test k then g k else []))
     → flat_map f (range_with_len a n) ≡ flat_map g (filter test (range_with_len a n))
@@ -54,5 +55,5 @@ kept_rows p table entries e =
 
 pub table_is : (p : Analysis) (table : Table) (entries : List Entry) → table ≡ planes_table (batch_count p) entries
     → csv_row column_names ++ flat_map (row_by_table p table) (below (fault_count p)) ≡ fault_table p entries
-unfolding fault_table
+unfolding fault_table csv_field
 table_is p table entries e = ap (λ rows. csv_row column_names ++ rows) (kept_rows p table entries e)

@@ -9,8 +9,9 @@ use Rattle.fm_base.specs.Names.{Bytes}
 use Rattle.fault_list.specs.Faults.{fault_name}
 use Rattle.campaign_plan.specs.declared.Outcome.{Outcome}
 use Rattle.campaign_plan.specs.Analysis.{Analysis, fault_numbered}
-use Rattle.fault_table.specs.Csv.{between_quotes, calls_for_quotes, csv_field}
-use Rattle.fault_table.specs.FaultTable.{fault_row, further_fields}
+use Rattle.fault_table.specs.Csv.{csv_field}
+use Rattle.fault_table.specs.Steps.{between_quotes, calls_for_quotes, further_fields}
+use Rattle.fault_table.specs.FaultTable.{fault_row}
 
 -- the bytes of pieces
 abbrev pub whole : List (Bor (List ℕ)) → Bytes

@@ -4,17 +4,12 @@ use Rattle.std.specs.List.{list_any, join_with_byte}
 use Rattle.std.specs.Str.{byte}
 use Rattle.fm_base.specs.Names.{Bytes}
 
--- a byte that calls for quotes: a comma, a quote, a carriage return or a line feed
-abbrev pub calls_for_quotes : ℕ → Bool
-calls_for_quotes b = b == byte "," || b == byte "\"" || b == 13 || b == 10
-
--- a byte between quotes: a quote is doubled
-abbrev pub between_quotes : ℕ → Bytes
-between_quotes b = if b == byte "\"" then b ∷ b ∷ [] else b ∷ []
-
--- a field, which is quoted where one of its bytes calls for it
+-- a field; where a comma, a quote, a carriage return or a line feed is in it, it stands between quotes, and each quote in it is doubled
 unfoldable pub csv_field : Bytes → Bytes
-csv_field text = if list_any calls_for_quotes text then byte "\"" ∷ flat_map between_quotes text ++ byte "\"" ∷ [] else text
+csv_field text =
+    let calls_for_quotes : ℕ → Bool = λ b. b == byte "," || b == byte "\"" || b == 13 || b == 10 in
+    let doubled = flat_map (λ b. if b == byte "\"" then b ∷ b ∷ [] else b ∷ []) text in
+    if list_any calls_for_quotes text then byte "\"" ∷ doubled ++ byte "\"" ∷ [] else text
 
 -- a row: its fields with a comma between each two, and a line feed
 abbrev pub csv_row : List Bytes → Bytes

@@ -1,3 +1,4 @@
 pub mod Csv
 pub mod Words
 pub mod FaultTable
+pub mod Steps

@@ -1,5 +1,5 @@
 -- The words of the table that the report doesn't have.
-use Rattle.std.specs.Prelude.{Bool, true, false, codes}
+use Rattle.std.specs.Prelude.{Bool, if◌then◌else◌, codes}
 use Rattle.circuit.specs.declared.parts.Fault.{Fault}
 use Rattle.circuit.specs.declared.parts.Fault.TheVariants.{Stuck, Flip, Pulse}
 use Rattle.fm_base.specs.Names.{Bytes}
@@ -12,10 +12,8 @@ kind_word (Pulse n cycle) = codes "pulse"
 
 -- whether a safety mechanism covers a part, as a rates file says it
 abbrev pub covered_word : Bool → Bytes
-covered_word true = codes "yes"
-covered_word false = codes "no"
+covered_word covered = if covered then codes "yes" else codes "no"
 
 -- the bit of a lane in a plane
 abbrev pub bit_word : Bool → Bytes
-bit_word true = codes "1"
-bit_word false = codes "0"
+bit_word value = if value then codes "1" else codes "0"

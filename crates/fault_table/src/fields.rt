@@ -3,7 +3,8 @@ ghost use Rattle.std.specs.Prelude.{◌≡◌, ◌∷◌, ◌++◌, [], flat_map
 ghost use Rattle.std.specs.List.{list_any};
 ghost use Rattle.std.specs.Str.{byte};
 ghost use Rattle.fm_shelf.specs.Sink.{Sends};
-ghost use Rattle.fault_table.specs.Csv.{between_quotes, calls_for_quotes as calls, csv_field};
+ghost use Rattle.fault_table.specs.Csv.{csv_field};
+ghost use Rattle.fault_table.specs.Steps.{between_quotes, calls_for_quotes as calls};
 
 use fm_shelf::shelf::{Failed, Sink};
 use fm_shelf::whole::{write_all, write_pieces};

@@ -6,7 +6,8 @@ ghost use Rattle.campaign_plan.specs.Analysis.{fault_count, fault_numbered, part
 ghost use Rattle.fm_shelf.specs.Sink.{Sends};
 ghost use Rattle.fmeda_report.specs.Words.{class_word as word_of_class, role_word as word_of_role};
 ghost use Rattle.fault_table.specs.Csv.{csv_field};
-ghost use Rattle.fault_table.specs.FaultTable.{fault_row, further_fields};
+ghost use Rattle.fault_table.specs.FaultTable.{fault_row};
+ghost use Rattle.fault_table.specs.Steps.{further_fields};
 
 use crate::fields::{write_field, write_fields};
 use crate::words::{bit_word, covered_word, kind_word};

@@ -6,7 +6,8 @@ ghost use Rattle.campaign_plan.specs.Batches.{Entry};
 ghost use Rattle.result_merge.specs.Tables.{at_batch, planes_table};
 ghost use Rattle.fm_shelf.specs.Sink.{Sends};
 ghost use Rattle.fault_table.specs.Csv.{csv_row};
-ghost use Rattle.fault_table.specs.FaultTable.{column_names, fault_table, row_if_kept};
+ghost use Rattle.fault_table.specs.FaultTable.{fault_table};
+ghost use Rattle.fault_table.specs.Steps.{column_names, row_if_kept};
 
 use crate::row::write_row;
 use campaign_plan::Plan;

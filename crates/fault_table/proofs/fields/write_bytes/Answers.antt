@@ -1,6 +1,6 @@
 use Rattle.std.proofs.lemmas.Result.{err_from_is_err_and}
 use Rattle.fmeda_report.proofs.Sending.{sends_none, sends_more, sends_torn}
-use Rattle.fault_table.specs.Csv.{between_quotes}
+use Rattle.fault_table.specs.Steps.{between_quotes}
 use Rattle.fault_table.proofs.fields.write_bytes.Goals as goal
 
 pub loop-byte-init : goal.loop-byte-init

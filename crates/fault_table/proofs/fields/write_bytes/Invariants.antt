@@ -1,7 +1,7 @@
 use Rattle.std.proofs.Common.{take, Ok}
 use Rattle.std.specs.List.{flat_map}
 use Rattle.fm_shelf.specs.Sink.{Sends}
-use Rattle.fault_table.specs.Csv.{between_quotes}
+use Rattle.fault_table.specs.Steps.{between_quotes}
 use Rattle.fault_table.proofs.fields.write_bytes.Given as goal
 
 abbrev pub invariant-loop-byte : goal.invariant-loop-byte

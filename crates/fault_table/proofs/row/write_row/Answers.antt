@@ -4,7 +4,7 @@ use Rattle.std.proofs.lemmas.Result.{err_from_is_err_and}
 use Rattle.fault_list.specs.Faults.{fault_at, fault_name}
 use Rattle.fmeda_report.proofs.Sending.{sends_as, sends_stop, sends_then}
 use Rattle.fault_table.specs.Csv.{csv_field}
-use Rattle.fault_table.specs.FaultTable.{further_fields}
+use Rattle.fault_table.specs.Steps.{further_fields}
 use Rattle.fault_table.proofs.Quoting.{after_comma, row_is}
 use Rattle.fault_table.proofs.row.write_row.Goals as goal
 

@@ -2,7 +2,7 @@ use Rattle.std.proofs.Common.{◌≡◌, refl}
 use Rattle.std.specs.Prelude.{codes}
 use Rattle.fmeda_report.proofs.Sending.{sends_as}
 use Rattle.fault_table.specs.Csv.{csv_field, csv_row}
-use Rattle.fault_table.specs.FaultTable.{column_names}
+use Rattle.fault_table.specs.Steps.{column_names}
 use Rattle.fault_table.proofs.table.write_columns.Goals as goal
 
 -- the columns as a row
