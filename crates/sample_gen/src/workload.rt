@@ -2,7 +2,8 @@
 ghost use Rattle.std.specs.Prelude.{◌≡◌, ◌≤◌, ◌+◌, ◌++◌, OnOk, IfOk};
 ghost use Rattle.std.specs.List.{flat_map};
 ghost use Rattle.fm_base.specs.Lists.{below};
-ghost use Rattle.sample_gen.specs.Sample.{vector_line, workload_text as workload_of};
+ghost use Rattle.sample_gen.specs.Sample.{workload_text as workload_of};
+ghost use Rattle.sample_gen.specs.Steps.{vector_line};
 
 use crate::lines::put_line;
 use fm_base::{Bytes, Seq};

@@ -2,7 +2,8 @@ use Rattle.std.proofs.Common.{◌≡◌, ◌∙◌, ap, ap₂, [], ◌∷◌}
 use Rattle.std.specs.Prelude.{codes}
 use Rattle.fm_base.specs.Names.{Bytes}
 use Rattle.fm_base.specs.Text.{line}
-use Rattle.sample_gen.specs.Sample.{netlist_text, with_number}
+use Rattle.sample_gen.specs.Sample.{netlist_text}
+use Rattle.sample_gen.specs.Steps.{with_number}
 use Rattle.sample_gen.proofs.Texts.{grows, grows_as}
 use Rattle.sample_gen.proofs.netlist.netlist_text.Goals as goal
 

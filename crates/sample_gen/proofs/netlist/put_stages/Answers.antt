@@ -1,5 +1,5 @@
 use Rattle.std.proofs.Common.{◌+◌}
-use Rattle.sample_gen.specs.Sample.{both_stages}
+use Rattle.sample_gen.specs.Steps.{both_stages}
 use Rattle.sample_gen.proofs.Texts.{grown_none, grown_more, grown_all}
 use Rattle.sample_gen.proofs.netlist.put_stages.Goals as goal
 

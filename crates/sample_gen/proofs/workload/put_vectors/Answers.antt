@@ -1,4 +1,4 @@
-use Rattle.sample_gen.specs.Sample.{vector_line}
+use Rattle.sample_gen.specs.Steps.{vector_line}
 use Rattle.sample_gen.proofs.Texts.{grown_none, grown_more, grown_all}
 use Rattle.sample_gen.proofs.workload.put_vectors.Goals as goal
 

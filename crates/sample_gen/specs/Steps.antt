@@ -1,0 +1,21 @@
+-- Shapes of private steps: how a netlist and a workload are put together line by line. Nothing public cites them.
+use Rattle.std.specs.Prelude.{ℕ, ◌-◌, ◌%◌, ◌++◌, if◌then◌else◌, ◌==◌, codes, decimal}
+use Rattle.fm_base.specs.Text.{whole_line}
+use Rattle.fm_base.specs.Names.{Bytes}
+use Rattle.sample_gen.specs.Sample.{stage_lines}
+
+-- a letter and a number, as `m7`
+abbrev pub with_number : Bytes → ℕ → Bytes
+with_number letter i = letter ++ decimal i
+
+-- what stage i of a row of latches reads: `d` for the first, and else the latch before it
+abbrev pub source_of : Bytes → ℕ → Bytes
+source_of letter i = if i == 1 then codes "d" else with_number letter (i - 1)
+
+-- stage i of the mission's row, and of the shadow's
+abbrev pub both_stages : ℕ → Bytes
+both_stages i = stage_lines (codes "m") (codes "a") i ++ stage_lines (codes "n") (codes "b") i
+
+-- the row of cycle t
+abbrev pub vector_line : ℕ → Bytes
+vector_line t = if t % 3 == 0 then whole_line (codes "w,mission,1") else whole_line (codes "w,mission,0")
