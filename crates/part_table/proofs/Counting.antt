@@ -1,5 +1,5 @@
 -- Counts of rows, and the first place of each.
-use Rattle.std.proofs.Common.{◌≡◌, ◌≢◌, ◌∙◌, ap, ap₂, sym, subst, refl, ℕ, zero, suc, ◌+◌, ◌-◌, ◌<◌, ◌≤◌, ◌⊎◌, inl, inr, Bool, true, false, List, [], ◌∷◌, length, take, set, get_or, get_or-set_same, get_or-set_other, length-set, add-one, arith}
+use Rattle.std.proofs.Common.{◌≡◌, ◌≢◌, ◌∙◌, ap, ap₂, sym, subst, refl, ℕ, zero, suc, ◌+◌, ◌<◌, ◌≤◌, ◌⊎◌, inl, inr, Bool, true, false, List, [], ◌∷◌, length, take, set, get_or, get_or-set_same, get_or-set_other, length-set, add-one, arith}
 use Rattle.std.specs.Prelude.{count_by, find, Option, Some, None, not, unwrap_or, is_none, is_some, IfSome}
 use Rattle.std.specs.Option.{option_or}
 use Rattle.std.proofs.lemmas.List.{length-take}
@@ -7,7 +7,7 @@ use Rattle.std.proofs.lemmas.List.Folds.{find-append}
 use Rattle.std.proofs.lemmas.List.Sums.{count_by_more_no, count_by_more_yes, count_by-le-length}
 use Rattle.fm_base.specs.Lists.{below}
 use Rattle.fm_base.proofs.Below.{below_push}
-use Rattle.part_table.specs.PartTable.{is_at_row}
+use Rattle.part_table.specs.Steps.{is_at_row}
 use Rattle.part_table.specs.Counted.{row_in_list, AreRowCounts, AreFirsts, AreRowsBelow}
 use Rattle.fm_base.proofs.Options.{or_none}
 

@@ -16,7 +16,8 @@ use Rattle.fm_base.specs.Text.{line}
 use Rattle.fm_base.proofs.Below.{map-below}
 use Rattle.rate_table.specs.declared.Pattern.{Pattern}
 use Rattle.rate_table.specs.Table.{RateTable, matches}
-use Rattle.part_table.specs.PartTable.{is_at_row, is_unmatched, net_numbers, row_of_net, row_takes}
+use Rattle.part_table.specs.PartTable.{row_of_net}
+use Rattle.part_table.specs.Steps.{is_at_row, is_unmatched, net_numbers, row_takes}
 use Rattle.part_table.specs.Counted.{latch_rows, net_rows, row_in_list, AreRowCounts, AreFirsts, AreRowsBelow}
 use Rattle.part_table.proofs.Counting.{find_same, has_row}
 

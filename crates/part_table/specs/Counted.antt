@@ -3,7 +3,8 @@ use Rattle.std.specs.Prelude.{◌≡◌, ℕ, ◌<◌, ◌≤◌, ◌^◌, List,
 use Rattle.circuit.specs.Circuit.{Circuit}
 use Rattle.rate_table.specs.Table.{RateTable}
 use Rattle.fm_base.specs.Lists.{below}
-use Rattle.part_table.specs.PartTable.{is_at_row, net_numbers, row_of_net}
+use Rattle.part_table.specs.PartTable.{row_of_net}
+use Rattle.part_table.specs.Steps.{is_at_row, net_numbers}
 
 -- a netlist and the rates that it is looked up in
 pub record Looked : Type 0 where

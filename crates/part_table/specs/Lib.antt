@@ -1,2 +1,3 @@
 pub mod PartTable
+pub mod Steps
 pub mod Counted
