@@ -14,7 +14,8 @@ use Rattle.metric_bounds.specs.declared.End.{End}
 use Rattle.metric_bounds.specs.declared.End.TheVariants.{Best, Worst, MostLatent}
 use Rattle.metric_bounds.specs.declared.EndSums.{EndSums}
 use Rattle.metric_bounds.specs.Missing.{AgreeWith, planes_when_missing, planes_at_end}
-use Rattle.metric_bounds.specs.Bounds.{end_sums, lfm_ends, spfm_permanent_ends, spfm_transient_ends}
+use Rattle.metric_bounds.specs.Bounds.{end_sums, lfm_ends}
+use Rattle.metric_bounds.specs.Steps.{spfm_permanent_ends, spfm_transient_ends}
 use Rattle.metric_bounds.specs.Laws.{BoundsHold, IsBetween, IsReached}
 use Rattle.metric_bounds.proofs.Comparing.{Compared, subst_four, sums_compared}
 use Rattle.metric_bounds.proofs.Ratios.{fraction_is, fraction_there, lost_more, more_left, most_lost}

@@ -14,7 +14,8 @@ use Rattle.fmeda_report.specs.Report.{Planes, all_sums}
 use Rattle.result_merge.specs.Tables.{Table, at_batch, planes_table}
 use Rattle.result_merge.proofs.Tabling.{table_at}
 use Rattle.metric_bounds.specs.declared.End.{End}
-use Rattle.metric_bounds.specs.Missing.{is_on_mechanism, planes_when_missing, planes_at_end}
+use Rattle.metric_bounds.specs.Missing.{planes_when_missing, planes_at_end}
+use Rattle.metric_bounds.specs.Steps.{is_on_mechanism}
 
 -- the planes of a batch by the table, or else those at the end
 abbrev pub planes_by : Analysis → Table → End → Planes

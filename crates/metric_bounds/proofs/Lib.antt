@@ -6,3 +6,4 @@ mod Narrowing
 mod Targeting
 mod Rowing
 mod Ending
+pub mod Grouping

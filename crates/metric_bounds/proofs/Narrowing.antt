@@ -1,6 +1,6 @@
 -- The bounds narrow, and end exact.
-use Rattle.std.proofs.Common.{◌≡◌, ◌∙◌, ap, ap₂, refl, List, arith}
-use Rattle.std.specs.Prelude.{Option, Some, None, unwrap_or}
+use Rattle.std.proofs.Common.{◌≡◌, ◌∙◌, ap, ap₂, List, arith}
+use Rattle.std.specs.Prelude.{Option, unwrap_or}
 use Rattle.std.specs.Option.{option_or}
 use Rattle.metric_sums.specs.declared.Fraction.{Fraction}
 use Rattle.metric_sums.specs.declared.Sums.{Sums}

@@ -21,7 +21,8 @@ use Rattle.fmeda_report.specs.Report.{Planes}
 use Rattle.result_merge.specs.Union.{found}
 use Rattle.metric_bounds.specs.declared.End.{End}
 use Rattle.metric_bounds.specs.declared.End.TheVariants.{Best, Worst, MostLatent}
-use Rattle.metric_bounds.specs.Missing.{AgreeWith, is_on_mechanism, planes_when_missing, planes_at_end}
+use Rattle.metric_bounds.specs.Missing.{AgreeWith, planes_when_missing, planes_at_end}
+use Rattle.metric_bounds.specs.Steps.{is_on_mechanism}
 use Rattle.metric_bounds.proofs.Comparing.{Compared, subst_four}
 
 -- ---- whether a mechanism covers the part is no matter to the sums

@@ -4,7 +4,6 @@ use Rattle.std.specs.Prelude.{Option, Some, None, nat_lt}
 use Rattle.std.proofs.lemmas.Bool.{lt-ltb, ltb-false, ltb-true}
 use Rattle.std.proofs.Math.Nat.{le_of_mul-le-mul_right, mul-le-mul_left, mul-le-mul_right, mul_assoc, mul_right_comm}
 use Rattle.fm_base.proofs.Tests.{clash, false_of}
-use Rattle.metric_sums.specs.declared.Asil.{Asil}
 use Rattle.metric_sums.specs.declared.Fraction.{Fraction}
 use Rattle.metric_sums.specs.declared.Sums.{Sums}
 use Rattle.metric_sums.specs.Metrics.{fraction, lfm, meets, pmhf_target, spfm_permanent, spfm_transient, term}
@@ -14,7 +13,8 @@ use Rattle.fmeda_report.specs.Report.{Planes, all_sums}
 use Rattle.metric_bounds.specs.declared.Ends.{Ends}
 use Rattle.metric_bounds.specs.declared.Standing.TheVariants.{Met, Missed, Open}
 use Rattle.metric_bounds.specs.Missing.{AgreeWith}
-use Rattle.metric_bounds.specs.Bounds.{end_sums, greatest_term, least_term, ratio_standing, standing}
+use Rattle.metric_bounds.specs.Bounds.{end_sums, ratio_standing, standing}
+use Rattle.metric_bounds.specs.Steps.{greatest_term, least_term}
 use Rattle.metric_bounds.specs.Laws.{AreEnds, AtMost, IsBetween, LimitStands, StandsSo, TargetsStand}
 use Rattle.metric_bounds.proofs.Bounding.{bounds}
 use Rattle.metric_bounds.proofs.Ratios.{fraction_is}

@@ -3,7 +3,8 @@ use Rattle.std.specs.Prelude.{ℕ, Bool, true, false, List, Option, Some, None, 
 use Rattle.std.specs.Option.{option_or}
 use Rattle.metric_sums.specs.declared.Asil.{Asil}
 use Rattle.metric_sums.specs.declared.Fraction.{Fraction}
-use Rattle.metric_sums.specs.Metrics.{lfm, meets, pmhf_target, spfm_permanent, spfm_transient, term}
+use Rattle.metric_sums.specs.declared.Sums.{Sums}
+use Rattle.metric_sums.specs.Metrics.{lfm, meets, pmhf_target, term}
 use Rattle.campaign_plan.specs.Analysis.{Analysis}
 use Rattle.campaign_plan.specs.Batches.{Entry}
 use Rattle.fmeda_report.specs.Report.{all_sums}
@@ -22,24 +23,14 @@ end_sums p entries = record {
   most_latent = all_sums p (planes_at_end p entries MostLatent);
 }
 
--- the single-point fault metrics are least where each missing fault is dangerous, and greatest where none is
-abbrev pub spfm_permanent_ends : EndSums → Ends
-spfm_permanent_ends s = record { least = spfm_permanent s.worst; greatest = spfm_permanent s.best }
-
-abbrev pub spfm_transient_ends : EndSums → Ends
-spfm_transient_ends s = record { least = spfm_transient s.worst; greatest = spfm_transient s.best }
+-- a single-point fault metric is least where each missing fault is dangerous, and greatest where none is
+abbrev pub spfm_ends : (Sums → Option Fraction) → EndSums → Ends
+spfm_ends spfm s = record { least = spfm s.worst; greatest = spfm s.best }
 
 -- The latent fault metric is least where the missing faults are most latent. Where it has no value there, since all faults are then
 -- dangerous, no planes have a latent fault, and each value is that at best.
 abbrev pub lfm_ends : EndSums → Ends
 lfm_ends s = record { least = option_or (lfm s.most_latent) (lfm s.best); greatest = lfm s.best }
-
--- the least and the greatest single-point and residual term, in units of 10^-6 FIT
-abbrev pub least_term : EndSums → ℕ
-least_term s = term s.best
-
-abbrev pub greatest_term : EndSums → ℕ
-greatest_term s = term s.worst
 
 -- how a target stands, by whether the worst and the best value meet it
 abbrev pub standing : (worst best : Bool) → Standing
@@ -55,6 +46,6 @@ ratio_standing percent _ _ = None
 abbrev pub standing_of : ℕ → Ends → Option Standing
 standing_of percent ends = ratio_standing percent ends.least ends.greatest
 
--- how the limit of the term stands
+-- how the limit of the single-point and residual term stands, which is greatest at worst and least at best
 abbrev pub term_standing : Asil → EndSums → Standing
-term_standing asil s = standing (nat_lt (greatest_term s) (pmhf_target asil)) (nat_lt (least_term s) (pmhf_target asil))
+term_standing asil s = standing (nat_lt (term s.worst) (pmhf_target asil)) (nat_lt (term s.best) (pmhf_target asil))

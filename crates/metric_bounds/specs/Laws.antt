@@ -14,7 +14,7 @@ use Rattle.metric_bounds.specs.declared.Ends.{Ends}
 use Rattle.metric_bounds.specs.declared.Standing.{Standing}
 use Rattle.metric_bounds.specs.declared.Standing.TheVariants.{Met, Missed, Open}
 use Rattle.metric_bounds.specs.Missing.{AgreeWith}
-use Rattle.metric_bounds.specs.Bounds.{end_sums, greatest_term, least_term, lfm_ends, spfm_permanent_ends, spfm_transient_ends, standing_of, term_standing}
+use Rattle.metric_bounds.specs.Bounds.{end_sums, lfm_ends, spfm_ends, standing_of, term_standing}
 
 -- one fraction is at most another; the denominators are above 0
 abbrev pub AtMost : Fraction → Fraction → Type 0
@@ -48,10 +48,10 @@ pub record AreTermEnds (p : Analysis) (entries : List Entry) (low high : ℕ) : 
 
 -- so of each metric
 pub record AreBounds (p : Analysis) (entries : List Entry) : Type 0 where
-  pub spfm_permanent : AreEnds p entries spfm_permanent (spfm_permanent_ends (end_sums p entries))
-  pub spfm_transient : AreEnds p entries spfm_transient (spfm_transient_ends (end_sums p entries))
+  pub spfm_permanent : AreEnds p entries spfm_permanent (spfm_ends spfm_permanent (end_sums p entries))
+  pub spfm_transient : AreEnds p entries spfm_transient (spfm_ends spfm_transient (end_sums p entries))
   pub lfm : AreEnds p entries lfm (lfm_ends (end_sums p entries))
-  pub term : AreTermEnds p entries (least_term (end_sums p entries)) (greatest_term (end_sums p entries))
+  pub term : AreTermEnds p entries (term (end_sums p entries).best) (term (end_sums p entries).worst)
 
 abbrev pub BoundsHold : Type 0
 BoundsHold = (p : Analysis) (entries : List Entry) → AreBounds p entries
@@ -69,11 +69,11 @@ pub record AreWithin (first later : Ends) : Type 0 where
 
 -- so of each metric
 pub record AreNarrower (p : Analysis) (first later : List Entry) : Type 0 where
-  pub spfm_permanent : AreWithin (spfm_permanent_ends (end_sums p first)) (spfm_permanent_ends (end_sums p later))
-  pub spfm_transient : AreWithin (spfm_transient_ends (end_sums p first)) (spfm_transient_ends (end_sums p later))
+  pub spfm_permanent : AreWithin (spfm_ends spfm_permanent (end_sums p first)) (spfm_ends spfm_permanent (end_sums p later))
+  pub spfm_transient : AreWithin (spfm_ends spfm_transient (end_sums p first)) (spfm_ends spfm_transient (end_sums p later))
   pub lfm : AreWithin (lfm_ends (end_sums p first)) (lfm_ends (end_sums p later))
-  pub least_term : least_term (end_sums p first) ≤ least_term (end_sums p later)
-  pub greatest_term : greatest_term (end_sums p later) ≤ greatest_term (end_sums p first)
+  pub least_term : term (end_sums p first).best ≤ term (end_sums p later).best
+  pub greatest_term : term (end_sums p later).worst ≤ term (end_sums p first).worst
 
 -- THE BOUNDS ONLY NARROW as rows are added
 abbrev pub BoundsNarrow : Type 0
@@ -86,11 +86,11 @@ pub record AreBoth (ends : Ends) (value : Option Fraction) : Type 0 where
 
 -- each metric's ends are its value for these planes
 pub record AreExact (p : Analysis) (entries : List Entry) (planes : Planes) : Type 0 where
-  pub spfm_permanent : AreBoth (spfm_permanent_ends (end_sums p entries)) (spfm_permanent (all_sums p planes))
-  pub spfm_transient : AreBoth (spfm_transient_ends (end_sums p entries)) (spfm_transient (all_sums p planes))
+  pub spfm_permanent : AreBoth (spfm_ends spfm_permanent (end_sums p entries)) (spfm_permanent (all_sums p planes))
+  pub spfm_transient : AreBoth (spfm_ends spfm_transient (end_sums p entries)) (spfm_transient (all_sums p planes))
   pub lfm : AreBoth (lfm_ends (end_sums p entries)) (lfm (all_sums p planes))
-  pub least_term : least_term (end_sums p entries) ≡ term (all_sums p planes)
-  pub greatest_term : greatest_term (end_sums p entries) ≡ term (all_sums p planes)
+  pub least_term : term (end_sums p entries).best ≡ term (all_sums p planes)
+  pub greatest_term : term (end_sums p entries).worst ≡ term (all_sums p planes)
 
 -- WITH ALL BATCHES KEPT THE BOUNDS ARE EXACT
 abbrev pub BoundsEndExact : Type 0
@@ -119,8 +119,8 @@ pub record StandsSo (p : Analysis) (entries : List Entry) (metric : Sums → Opt
 
 -- so of each target of a percentage
 pub record TargetsStandSo (p : Analysis) (entries : List Entry) (percent : ℕ) : Type 0 where
-  pub spfm_permanent : StandsSo p entries spfm_permanent percent (standing_of percent (spfm_permanent_ends (end_sums p entries)))
-  pub spfm_transient : StandsSo p entries spfm_transient percent (standing_of percent (spfm_transient_ends (end_sums p entries)))
+  pub spfm_permanent : StandsSo p entries spfm_permanent percent (standing_of percent (spfm_ends spfm_permanent (end_sums p entries)))
+  pub spfm_transient : StandsSo p entries spfm_transient percent (standing_of percent (spfm_ends spfm_transient (end_sums p entries)))
   pub lfm : StandsSo p entries lfm percent (standing_of percent (lfm_ends (end_sums p entries)))
 
 -- A TARGET THAT IS MET OR MISSED STAYS SO, whatever the missing batches give, and one that is open may end either way

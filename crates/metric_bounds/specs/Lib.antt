@@ -1,4 +1,5 @@
 pub mod Missing
 pub mod Bounds
 pub mod Progress
+pub mod Steps
 pub mod Laws

@@ -15,17 +15,15 @@ use Rattle.metric_bounds.specs.declared.End.TheVariants.{Best, Worst, MostLatent
 abbrev pub AgreeWith : List Entry → Planes → Type 0
 AgreeWith entries planes = (batch : ℕ) (own : Outcome) → found entries batch ≡ Some own → planes batch ≡ own
 
--- the fault is on a net of a safety mechanism
-abbrev pub is_on_mechanism : Analysis → ℕ → Bool
-is_on_mechanism p i = is_mechanism (part_numbered p (part_of p (fault_numbered p i))).role
-
 -- AT BEST each fault of a missing batch is noticed, and none is dangerous. AT WORST each is dangerous. MOST LATENT they are where a
 -- fault of a mechanism is neither dangerous nor noticed, and each other one is dangerous
 abbrev pub planes_when_missing : Analysis → End → Planes
 planes_when_missing p Best batch = record { danger = 0; noticed = used_plane (fault_count p) batch }
 planes_when_missing p Worst batch = record { danger = used_plane (fault_count p) batch; noticed = 0 }
 planes_when_missing p MostLatent batch =
-    record { danger = plane_of (λ lane. is_used (fault_count p) batch lane && not (is_on_mechanism p (fault_number batch lane))); noticed = 0 }
+    let is_on_mechanism : ℕ → Bool = λ i. is_mechanism (part_numbered p (part_of p (fault_numbered p i))).role in
+    let dangerous : ℕ → Bool = λ lane. is_used (fault_count p) batch lane && not (is_on_mechanism (fault_number batch lane)) in
+    record { danger = plane_of dangerous; noticed = 0 }
 
 -- the planes of all batches at an end: those that are kept, and for a missing batch those of the end
 abbrev pub planes_at_end : Analysis → List Entry → End → Planes

@@ -1,6 +1,7 @@
 // The ends of the metrics, and how their targets stand.
 ghost use Rattle.std.specs.Prelude.{◌≡◌, ◌≤◌};
-ghost use Rattle.metric_bounds.specs.Bounds.{greatest_term as greatest_of, least_term as least_of, lfm_ends as lfm_of, spfm_permanent_ends as permanent_of, spfm_transient_ends as transient_of, standing as standing_by, standing_of, term_standing as term_stands};
+ghost use Rattle.metric_bounds.specs.Bounds.{lfm_ends as lfm_of, standing as standing_by, standing_of, term_standing as term_stands};
+ghost use Rattle.metric_bounds.specs.Steps.{greatest_term as greatest_of, least_term as least_of, spfm_permanent_ends as permanent_of, spfm_transient_ends as transient_of};
 ghost use Rattle.metric_bounds.specs.Progress.{AreAllConsistent};
 
 use crate::{EndSums, Ends, Standing};

@@ -3,7 +3,8 @@ ghost use Rattle.std.specs.Prelude.{◌≡◌, ◌<◌, ◌&&◌, not};
 ghost use Rattle.fm_base.specs.Planes.{plane_of};
 ghost use Rattle.fault_list.specs.Faults.{fault_number, is_used};
 ghost use Rattle.campaign_plan.specs.Analysis.{batch_count, fault_count};
-ghost use Rattle.metric_bounds.specs.Missing.{is_on_mechanism as is_of_mechanism, planes_when_missing};
+ghost use Rattle.metric_bounds.specs.Missing.{planes_when_missing};
+ghost use Rattle.metric_bounds.specs.Steps.{is_on_mechanism as is_of_mechanism};
 
 use crate::End;
 use campaign_plan::{Outcome, Plan};

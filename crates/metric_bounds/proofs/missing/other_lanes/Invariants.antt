@@ -3,7 +3,7 @@ use Rattle.std.specs.Prelude.{◌&&◌, not}
 use Rattle.fm_base.specs.Planes.{plane_below}
 use Rattle.fault_list.specs.Faults.{fault_number, is_used}
 use Rattle.campaign_plan.specs.Analysis.{fault_count}
-use Rattle.metric_bounds.specs.Missing.{is_on_mechanism}
+use Rattle.metric_bounds.specs.Steps.{is_on_mechanism}
 use Rattle.metric_bounds.proofs.missing.other_lanes.Given as goal
 
 abbrev pub invariant-loop-lane : goal.invariant-loop-lane

@@ -2,7 +2,7 @@ use Rattle.std.proofs.Common.{ap, ap₂}
 use Rattle.std.specs.Prelude.{codes}
 use Rattle.std.proofs.lemmas.Result.{err_from_is_err_and}
 use Rattle.fmeda_report.proofs.Sending.{sends_as, sends_stop, sends_then}
-use Rattle.metric_bounds.specs.Progress.{bound_lines, ends_line, term_line}
+use Rattle.metric_bounds.specs.Steps.{bound_lines, ends_line, term_line}
 use Rattle.metric_bounds.proofs.text.write_bounds.Goals as goal
 
 pub returns-in_err-write_ends : goal.returns-in_err-write_ends

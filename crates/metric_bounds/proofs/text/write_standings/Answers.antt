@@ -3,7 +3,7 @@ use Rattle.std.specs.Prelude.{codes, Some}
 use Rattle.std.proofs.lemmas.Result.{err_from_is_err_and}
 use Rattle.fmeda_report.proofs.Sending.{sends_as, sends_stop, sends_then}
 use Rattle.metric_bounds.specs.Bounds.{standing_of}
-use Rattle.metric_bounds.specs.Progress.{standing_line, standing_lines}
+use Rattle.metric_bounds.specs.Steps.{standing_line, standing_lines}
 use Rattle.metric_bounds.proofs.text.write_standings.Goals as goal
 
 pub returns-in_err-write_standing : goal.returns-in_err-write_standing
