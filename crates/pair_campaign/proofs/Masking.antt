@@ -12,9 +12,9 @@ use Rattle.campaign_plan.specs.Danger.{is_dangerous}
 use Rattle.campaign_plan.specs.declared.Outcome.{Outcome}
 use Rattle.classifier.proofs.PlaneBits.{plane_is}
 use Rattle.pair_list.specs.Chosen.{Chosen, pair_count, pair_numbered}
-use Rattle.pair_campaign.specs.Together.{both_faults, is_dangerous_pair}
+use Rattle.pair_campaign.specs.Together.{is_dangerous_pair}
+use Rattle.pair_campaign.specs.Work.{both_faults, ShowsPlane}
 use Rattle.pair_campaign.specs.PairPlanes.{pair_plane}
-use Rattle.pair_campaign.specs.Work.{ShowsPlane}
 use Rattle.std.proofs.Math.Bool.{and-true, and-false}
 
 -- the first lanes, so many of them

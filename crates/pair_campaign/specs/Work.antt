@@ -1,21 +1,21 @@
--- What a worker judges pairs with, and what it has judged.
-use Rattle.std.specs.Prelude.{◌≡◌, ℕ, ◌+◌, ◌*◌, ◌%◌, ◌<◌, List, [], length, slice_index, if◌then◌else◌}
+-- Shapes of private steps: what a worker judges pairs with, and what it has judged.
+use Rattle.std.specs.Prelude.{◌≡◌, ℕ, ◌+◌, ◌*◌, ◌%◌, ◌<◌, List, [], ◌∷◌, length, slice_index, if◌then◌else◌}
 use Rattle.circuit.specs.declared.parts.Fault.{Fault}
 use Rattle.circuit.specs.declared.parts.NetId.{NetId}
-use Rattle.alarm_points.specs.FourWatches.{AreFourMadeFor, FourWatches}
-use Rattle.golden_difference.specs.Lanes.{IsMadeFor, Lanes}
-use Rattle.golden_run.specs.Recording.{Recording}
 use Rattle.fault_list.specs.Faults.{batches_for, fault_number, is_used}
 use Rattle.fm_base.specs.Planes.{bit}
-use Rattle.campaign_plan.specs.Analysis.{Analysis}
+use Rattle.campaign_plan.specs.Analysis.{Analysis, fault_numbered}
 use Rattle.classifier.specs.Tools.{AreToolsFor}
 use Rattle.campaign_plan.specs.Danger.{is_dangerous}
 use Rattle.campaign_plan.specs.declared.Outcome.{Outcome}
 use Rattle.classifier.specs.Planes.{outcome_at}
 use Rattle.pair_list.specs.Chosen.{Chosen, pair_count, pair_numbered}
 use Rattle.pair_campaign.specs.declared.worker.PairWorker.{PairWorker}
-use Rattle.pair_campaign.specs.Together.{both_faults}
 use Rattle.pair_campaign.specs.PairPlanes.{pair_plane}
+
+-- the faults of a pair, the first before the second
+abbrev pub both_faults : Analysis → ℕ × ℕ → List Fault
+both_faults p pair = fault_numbered p pair.0 ∷ fault_numbered p pair.1 ∷ []
 
 -- the faults in a lane of a plane: both of the pair there, and none where the lane holds no pair
 abbrev pub faults_in_lane : Analysis → Chosen → ℕ → ℕ → List Fault
