@@ -13,9 +13,9 @@ use Rattle.fmeda_report.specs.Words.{fraction_word, target_word}
 ten_lines : (a b c d e f g h i j : Bytes) → (a ++ b) ++ (c ++ d ++ e ++ f) ++ (g ++ h ++ i ++ j) ≡ a ++ b ++ c ++ d ++ e ++ f ++ g ++ h ++ i ++ j
 ten_lines a b c d e f g h i j = simp append_assoc refl
 
-pub in_groups : (asil : Asil) (s : Sums) → sum_lines s ++ ratio_lines s ++ target_lines (targets_of asil s) ≡ metric_lines asil s
+pub metrics_in_groups : (asil : Asil) (s : Sums) → sum_lines s ++ ratio_lines s ++ target_lines (targets_of asil s) ≡ metric_lines asil s
 unfolding metric_lines sum_lines ratio_lines target_lines
-in_groups asil s =
+metrics_in_groups asil s =
     ten_lines
     (line (codes "permanent all" ∷ decimal s.permanent_all ∷ codes "danger" ∷ decimal s.permanent_danger ∷ codes "latent" ∷ decimal s.latent ∷ []))
     (line (codes "transient all" ∷ decimal s.transient_all ∷ codes "danger" ∷ decimal s.transient_danger ∷ []))

@@ -1,13 +1,15 @@
--- Shapes of private steps: the lines of a report in the groups in which they are written. Nothing public cites them.
-use Rattle.std.specs.Prelude.{Bool, ◌||◌, [], ◌∷◌, ◌++◌, Some, codes, decimal}
+-- Shapes of private steps: the faults of a part, and the lines of a report in the groups in which they are written. Nothing public cites them.
+use Rattle.std.specs.Prelude.{ℕ, Bool, ◌||◌, List, [], ◌∷◌, ◌++◌, filter, Some, ◌==◌, codes, decimal}
 use Rattle.metric_sums.specs.declared.Class.{Class}
 use Rattle.metric_sums.specs.declared.Class.TheVariants.{Latent}
 use Rattle.metric_sums.specs.declared.Sums.{Sums}
 use Rattle.metric_sums.specs.declared.Targets.{Targets}
 use Rattle.metric_sums.specs.Classes.{is_class, is_danger}
 use Rattle.metric_sums.specs.Metrics.{spfm_permanent, spfm_transient, lfm, term}
+use Rattle.fm_base.specs.Lists.{below}
 use Rattle.fm_base.specs.Names.{Bytes}
 use Rattle.fm_base.specs.Text.{line}
+use Rattle.campaign_plan.specs.Analysis.{Analysis, fault_count, fault_numbered, part_of}
 use Rattle.fmeda_report.specs.Words.{fraction_word, target_word}
 
 -- the lines of the five sums
@@ -35,3 +37,7 @@ target_lines t =
 -- a class whose faults the report names
 abbrev pub names_faults : Class → Bool
 names_faults class = is_danger class || is_class class Latent
+
+-- the numbers of the faults of a part
+abbrev pub faults_of_part : Analysis → ℕ → List ℕ
+faults_of_part p k = filter (λ i. part_of p (fault_numbered p i) == k) (below (fault_count p))
