@@ -12,11 +12,11 @@ use Rattle.metric_bounds.specs.Steps.{bound_lines, ends_line, greatest_term, jud
 eleven_lines : (a b c d e f g h i j k : Bytes) → (a ++ b ++ c) ++ (d ++ e ++ f ++ g) ++ (h ++ i ++ j ++ k) ≡ a ++ b ++ c ++ d ++ e ++ f ++ g ++ h ++ i ++ j ++ k
 eleven_lines a b c d e f g h i j k = simp append_assoc refl
 
-pub in_groups : (p : Analysis) (entries : List Entry)
+pub progress_in_groups : (p : Analysis) (entries : List Entry)
     → judged_lines (length entries) (batch_count p) (total p entries) (end_sums p entries).best ++ bound_lines (end_sums p entries)
     ++ standing_lines p.settings.asil (end_sums p entries) ≡ progress p entries
 unfolding progress judged_lines bound_lines standing_lines
-in_groups p entries =
+progress_in_groups p entries =
     let s = end_sums p entries in
     let asil = p.settings.asil in
     eleven_lines

@@ -1,5 +1,5 @@
 -- The bounds between which each metric ends, whatever the missing batches give. The metrics are those of ISO 26262-5:2018.
-use Rattle.std.specs.Prelude.{ℕ, Bool, true, false, List, Option, Some, None, nat_lt}
+use Rattle.std.specs.Prelude.{ℕ, Bool, List, Option, Some, None, if◌then◌else◌, nat_lt}
 use Rattle.std.specs.Option.{option_or}
 use Rattle.metric_sums.specs.declared.Asil.{Asil}
 use Rattle.metric_sums.specs.declared.Fraction.{Fraction}
@@ -34,9 +34,7 @@ lfm_ends s = record { least = option_or (lfm s.most_latent) (lfm s.best); greate
 
 -- how a target stands, by whether the worst and the best value meet it
 abbrev pub standing : (worst best : Bool) → Standing
-standing true best = Met
-standing false true = Open
-standing false false = Missed
+standing worst best = if worst then Met else if best then Open else Missed
 
 -- how a percentage stands: nothing where the metric has no value in any planes
 abbrev pub ratio_standing : ℕ → (least greatest : Option Fraction) → Option Standing
