@@ -1,8 +1,8 @@
 -- The planes that a campaign finds its batches to have.
-use Rattle.std.specs.Prelude.{◌≡◌, ◌==◌, ℕ, List, All, find, unwrap_or, option_map}
+use Rattle.std.specs.Prelude.{◌≡◌, ◌==◌, ◌<◌, ℕ, List, All, Contains, find, unwrap_or, option_map}
 use Rattle.campaign_plan.specs.declared.Outcome.{Outcome}
-use Rattle.campaign_plan.specs.Analysis.{Analysis}
-use Rattle.campaign_plan.specs.Batches.{Entry, AreDistinct, HasEach, true_planes}
+use Rattle.campaign_plan.specs.Analysis.{Analysis, batch_count}
+use Rattle.campaign_plan.specs.Batches.{Entry, AreDistinct, batches, true_planes}
 use Rattle.result_file.specs.declared.KeptRows.{KeptRows}
 use Rattle.result_file.specs.KeptRows.{kept_entries}
 
@@ -13,7 +13,7 @@ checkpointed_or_true p k batch = unwrap_or (option_map (λ entry. entry.1) (find
 -- each batch of the plan once, with the planes that `planes` gives
 pub record IsWhole (p : Analysis) (planes : ℕ → Outcome) (entries : List Entry) : Type 0 where
   pub distinct : AreDistinct p entries
-  pub each : HasEach p entries
+  pub each : (batch : ℕ) → batch < batch_count p → Contains (batches entries) batch
   pub have : All (λ entry. entry.1 ≡ planes entry.0) entries
 
 -- some batches of the plan, none of them twice, with the planes that `planes` gives
