@@ -33,13 +33,10 @@ row_line c table k =
     ∷ codes "covered" ∷ covered_word own.covered ∷ codes "nets" ∷ decimal (count_by takes nets)
     ∷ codes "latches" ∷ decimal (count_by (λ latch. takes latch.to.0) c.latches) ∷ codes "first" ∷ name_or_dash c (find takes nets) ∷ [])
 
--- the last line: how many nets no row takes, and the first of them
-unfoldable pub unmatched_line : Circuit → RateTable → Bytes
-unmatched_line c table =
+-- THE TEXT of `parts`: a line for each row in order; and how many nets no row takes, and the first of them
+unfoldable pub part_table : Circuit → RateTable → Bytes
+part_table c table =
     let nets = below (length c.drivers) in
     let is_unmatched : ℕ → Bool = λ net. is_none (row_of_net c table net) in
-    line (codes "unmatched" ∷ decimal (count_by is_unmatched nets) ∷ codes "first" ∷ name_or_dash c (find is_unmatched nets) ∷ [])
-
--- THE TEXT of `parts`: a line for each row in order, and the last line
-unfoldable pub part_table : Circuit → RateTable → Bytes
-part_table c table = flat_map (row_line c table) (below (length table.patterns)) ++ unmatched_line c table
+    flat_map (row_line c table) (below (length table.patterns))
+    ++ line (codes "unmatched" ∷ decimal (count_by is_unmatched nets) ∷ codes "first" ∷ name_or_dash c (find is_unmatched nets) ∷ [])

@@ -1,5 +1,5 @@
--- Shapes of private steps: how the rows that take the nets are looked up and counted. Nothing public cites them.
-use Rattle.std.specs.Prelude.{ℕ, Bool, false, List, [], length, Option, is_none, slice_index_or, if◌then◌else◌, ◌==◌, codes}
+-- Shapes of private steps: how the rows that take the nets are looked up, counted and written. Nothing public cites them.
+use Rattle.std.specs.Prelude.{ℕ, Bool, false, List, [], ◌∷◌, length, count_by, find, Option, is_none, slice_index_or, if◌then◌else◌, ◌==◌, codes, decimal}
 use Rattle.std.specs.Option.{option_map_or}
 use Rattle.circuit.specs.Circuit.{Circuit}
 use Rattle.metric_sums.specs.declared.Role.TheVariants.{Other}
@@ -8,7 +8,8 @@ use Rattle.rate_table.specs.declared.Pattern.{Pattern}
 use Rattle.rate_table.specs.Table.{RateTable}
 use Rattle.fm_base.specs.Lists.{below}
 use Rattle.fm_base.specs.Names.{Bytes}
-use Rattle.part_table.specs.PartTable.{row_of_net}
+use Rattle.fm_base.specs.Text.{line}
+use Rattle.part_table.specs.PartTable.{name_or_dash, row_of_net}
 
 -- it is row k
 abbrev pub is_at_row : ℕ → Option ℕ → Bool
@@ -37,3 +38,8 @@ part_of_pattern table pattern =
 -- a star behind a pattern that has one
 abbrev pub star_word : Bool → Bytes
 star_word star = if star then codes "*" else []
+
+-- the last line: how many nets no row takes, and the first of them
+unfoldable pub unmatched_line : Circuit → RateTable → Bytes
+unmatched_line c table =
+    line (codes "unmatched" ∷ decimal (count_by (is_unmatched c table) (net_numbers c)) ∷ codes "first" ∷ name_or_dash c (find (is_unmatched c table) (net_numbers c)) ∷ [])
