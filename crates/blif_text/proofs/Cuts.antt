@@ -6,7 +6,8 @@ use Rattle.std.proofs.lemmas.Bool.{cond-true, cond-false}
 use Rattle.std.proofs.lemmas.List.{length-take}
 use Rattle.std.proofs.Math.Seq.{take-length}
 use Rattle.std.proofs.lemmas.List.Splits.{slice_split_first, slice_split-cons_no}
-use Rattle.blif_text.specs.Lines.{Piece, Line, pieces, placed, join, joined, is_joined, tokens_of, has_tokens}
+use Rattle.blif_text.specs.Lines.{is_joined}
+use Rattle.blif_text.specs.Placed.{Piece, PlacedLine, pieces, placed, join, placed_joined, placed_tokens, has_tokens}
 use Rattle.blif_text.specs.Left.{lines_left}
 
 pub split_whole : (p : ℕ → Bool) (xs : List ℕ) → position_or_len p xs ≡ length xs → slice_split p xs ≡ xs ∷ []
@@ -33,49 +34,49 @@ pieces_first p place next xs rest n e h at is =
     let size : place + length (take n xs) + 1 ≡ next = omega (arith, length-take n xs) in
     ap (placed place) cut ∙ rw (size, is) refl
 
-join_twice : (n m : ℕ) (ts us : List Piece) (lines : List Line) → join n ts (join m us lines) ≡ join n (ts ++ us) lines
+join_twice : (n m : ℕ) (ts us : List Piece) (lines : List PlacedLine) → join n ts (join m us lines) ≡ join n (ts ++ us) lines
 join_twice n m ts us [] = refl
 join_twice n m ts us (line ∷ lines) =
     ap (λ (all : List Piece). record { number = n; tokens = all } ∷ lines) (sym (append_assoc ts us line.tokens))
 
 -- a physical line that the next one is joined to
-pub left_joined : (done : List Line) (line : Line) (number : ℕ) (p : Piece) (ps : List (ℕ × Piece)) (grown : Line) → is_joined p.text ≡ true
-    → grown ≡ record { number = line.number; tokens = line.tokens ++ tokens_of p }
+pub left_joined : (done : List PlacedLine) (line : PlacedLine) (number : ℕ) (p : Piece) (ps : List (ℕ × Piece)) (grown : PlacedLine) → is_joined p.text ≡ true
+    → grown ≡ record { number = line.number; tokens = line.tokens ++ placed_tokens p }
     → lines_left done line ((number, p) ∷ ps) ≡ lines_left done grown ps
-unfolding joined
+unfolding placed_joined
 left_joined done line number p ps grown e is =
-    ap (λ (lines : List Line). done ++ filter has_tokens (join line.number line.tokens lines)) (cond-true (is_joined p.text) _ _ e)
-    ∙ ap (λ (lines : List Line). done ++ filter has_tokens lines) (join_twice line.number number line.tokens (tokens_of p) (joined ps))
-    ∙ ap (λ (l : Line). lines_left done l ps) (sym is)
+    ap (λ (lines : List PlacedLine). done ++ filter has_tokens (join line.number line.tokens lines)) (cond-true (is_joined p.text) _ _ e)
+    ∙ ap (λ (lines : List PlacedLine). done ++ filter has_tokens lines) (join_twice line.number number line.tokens (placed_tokens p) (placed_joined ps))
+    ∙ ap (λ (l : PlacedLine). lines_left done l ps) (sym is)
 
 -- one that ends the logical line
-pub left_ended : (done : List Line) (line : Line) (number : ℕ) (p : Piece) (ps : List (ℕ × Piece)) (grown : Line) → is_joined p.text ≡ false
-    → grown ≡ record { number = line.number; tokens = line.tokens ++ tokens_of p }
-    → lines_left done line ((number, p) ∷ ps) ≡ done ++ filter has_tokens (grown ∷ joined ps)
-unfolding joined
+pub left_ended : (done : List PlacedLine) (line : PlacedLine) (number : ℕ) (p : Piece) (ps : List (ℕ × Piece)) (grown : PlacedLine) → is_joined p.text ≡ false
+    → grown ≡ record { number = line.number; tokens = line.tokens ++ placed_tokens p }
+    → lines_left done line ((number, p) ∷ ps) ≡ done ++ filter has_tokens (grown ∷ placed_joined ps)
+unfolding placed_joined
 left_ended done line number p ps grown e is =
-    ap (λ (lines : List Line). done ++ filter has_tokens (join line.number line.tokens lines)) (cond-false (is_joined p.text) _ _ e)
-    ∙ ap (λ (l : Line). done ++ filter has_tokens (l ∷ joined ps)) (sym is)
+    ap (λ (lines : List PlacedLine). done ++ filter has_tokens (join line.number line.tokens lines)) (cond-false (is_joined p.text) _ _ e)
+    ∙ ap (λ (l : PlacedLine). done ++ filter has_tokens (l ∷ placed_joined ps)) (sym is)
 
 -- a logical line begins with the next physical line
-pub left_new : (done : List Line) (line : Line) (number : ℕ) (ps : List Piece) → line ≡ record { number = number; tokens = [] }
-    → lines_left done line (enumerate_from number ps) ≡ done ++ filter has_tokens (joined (enumerate_from number ps))
-unfolding joined
+pub left_new : (done : List PlacedLine) (line : PlacedLine) (number : ℕ) (ps : List Piece) → line ≡ record { number = number; tokens = [] }
+    → lines_left done line (enumerate_from number ps) ≡ done ++ filter has_tokens (placed_joined (enumerate_from number ps))
+unfolding placed_joined
 left_new done line number ps e =
-    ap (λ (l : Line). lines_left done l (enumerate_from number ps)) e ∙ ap (λ (lines : List Line). done ++ lines) (begun ps)
+    ap (λ (l : PlacedLine). lines_left done l (enumerate_from number ps)) e ∙ ap (λ (lines : List PlacedLine). done ++ lines) (begun ps)
   where
-    by_cases : (b : Bool) (us : List Piece) (more : List Line)
+    by_cases : (b : Bool) (us : List Piece) (more : List PlacedLine)
         → join number [] (cond b (join number us more) (record { number = number; tokens = us } ∷ more))
         ≡ cond b (join number us more) (record { number = number; tokens = us } ∷ more)
     by_cases true us more = join_twice number number [] us more
     by_cases false us more = refl
 
     begun : (ps : List Piece)
-        → filter has_tokens (join number [] (joined (enumerate_from number ps))) ≡ filter has_tokens (joined (enumerate_from number ps))
+        → filter has_tokens (join number [] (placed_joined (enumerate_from number ps))) ≡ filter has_tokens (placed_joined (enumerate_from number ps))
     begun [] = refl
-    begun (p ∷ ps) = ap (filter has_tokens) (by_cases (is_joined p.text) (tokens_of p) (joined (enumerate_from (number + 1) ps)))
+    begun (p ∷ ps) = ap (filter has_tokens) (by_cases (is_joined p.text) (placed_tokens p) (placed_joined (enumerate_from (number + 1) ps)))
 
 -- the end of the text
-pub left_last : (done : List Line) (line : Line) → lines_left done line [] ≡ done ++ filter has_tokens (line ∷ [])
-unfolding joined
+pub left_last : (done : List PlacedLine) (line : PlacedLine) → lines_left done line [] ≡ done ++ filter has_tokens (line ∷ [])
+unfolding placed_joined
 left_last done line = refl

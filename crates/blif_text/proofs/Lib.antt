@@ -2,3 +2,4 @@ pub mod Slices
 pub mod Cuts
 pub mod FirstBytes
 pub mod Told
+pub mod Texts

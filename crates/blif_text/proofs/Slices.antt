@@ -1,22 +1,14 @@
--- Each token is the slice of the file that its span names.
+-- Each token stands in the file at its place.
 use Rattle.std.proofs.Common.{◌≡◌, ℕ, suc, ◌+◌, ◌-◌, append_assoc, Bool, true, false, cond, List, [], ◌∷◌, ◌++◌, ap, sym, subst, ◌∙◌, length, take, drop, arith}
-use Rattle.std.specs.Prelude.{filter, slice_range}
+use Rattle.std.specs.Prelude.{filter}
 use Rattle.std.specs.List.{slice_split, onto_first, AllByRecursion, before_first, suffix_len, position_or_len, enumerate_from}
 use Rattle.std.proofs.lemmas.List.{append-nil, drop-drop, take-append-drop}
-use Rattle.std.proofs.Math.Seq.{take-append_seam}
-use Rattle.blif_text.specs.Spans.{span_of}
-use Rattle.blif_text.specs.Lines.{Piece, Line, pieces, placed, is_feed, is_white, is_hash, bare, is_joined, inked, has_bytes, tokens_of, join, joined, has_tokens, physical_lines, lines_of}
+use Rattle.blif_text.specs.Lines.{is_feed, is_white, is_hash, bare, is_joined}
+use Rattle.blif_text.specs.Placed.{Piece, PlacedLine, pieces, placed, inked, has_bytes, placed_tokens, join, placed_joined, has_tokens, physical_lines, placed_lines}
 
 -- a text stands in the file from this place on
 abbrev pub Stands : List ℕ → Piece → Type 0
 Stands source piece = (rest : List ℕ) × (drop piece.start source ≡ piece.text ++ rest)
-
--- the place of a text names it
-pub span-names : (source : List ℕ) (piece : Piece) → Stands source piece
-    → slice_range source (span_of piece).start (span_of piece).end ≡ piece.text
-span-names source piece (rest, e) =
-    let size : piece.start + length piece.text - piece.start ≡ length piece.text = omega arith in
-    rw (size, e) (take-append_seam piece.text rest)
 
 -- all pieces of a list stand in the file
 abbrev pub AllStand : List ℕ → List Piece → Type 0
@@ -84,35 +76,35 @@ all-append P [] ys all more = more
 all-append P (x ∷ xs) ys all more = (all.0, all-append P xs ys all.1 more)
 
 -- the tokens of a physical line stand where it stands
-tokens-stand : (source : List ℕ) (line : Piece) → Stands source line → AllStand source (tokens_of line)
+tokens-stand : (source : List ℕ) (line : Piece) → Stands source line → AllStand source (placed_tokens line)
 tokens-stand source line stands =
     let ink = ink_stands source line stands in
     all-filter (Stands source) has_bytes (pieces is_white line.start (inked line.text))
     (pieces-stand is_white source (inked line.text) ink.0 line.start ink.1)
 
 -- all tokens of all lines stand in the file
-abbrev pub AllLinesStand : List ℕ → List Line → Type 0
+abbrev pub AllLinesStand : List ℕ → List PlacedLine → Type 0
 AllLinesStand source lines = AllByRecursion (λ line. AllStand source line.tokens) lines
 
-join-stand : (source : List ℕ) (number : ℕ) (tokens : List Piece) (lines : List Line) → AllStand source tokens → AllLinesStand source lines
+join-stand : (source : List ℕ) (number : ℕ) (tokens : List Piece) (lines : List PlacedLine) → AllStand source tokens → AllLinesStand source lines
     → AllLinesStand source (join number tokens lines)
 join-stand source number tokens [] all more = (all, tt)
 join-stand source number tokens (line ∷ lines) all more = (all-append (Stands source) tokens line.tokens all more.0, more.1)
 
-joined-stand : (source : List ℕ) (n : ℕ) (ps : List Piece) → AllStand source ps → AllLinesStand source (joined (enumerate_from n ps))
-unfolding joined
+joined-stand : (source : List ℕ) (n : ℕ) (ps : List Piece) → AllStand source ps → AllLinesStand source (placed_joined (enumerate_from n ps))
+unfolding placed_joined
 joined-stand source n [] all = tt
 joined-stand source n (p ∷ ps) all = by_cases (is_joined p.text) (joined-stand source (n + 1) ps all.1)
   where
-    by_cases : (b : Bool) → AllLinesStand source (joined (enumerate_from (n + 1) ps))
+    by_cases : (b : Bool) → AllLinesStand source (placed_joined (enumerate_from (n + 1) ps))
         → AllLinesStand source
-        (cond b (join n (tokens_of p) (joined (enumerate_from (n + 1) ps)))
-        (record { number = n; tokens = tokens_of p } ∷ joined (enumerate_from (n + 1) ps)))
-    by_cases true more = join-stand source n (tokens_of p) (joined (enumerate_from (n + 1) ps)) (tokens-stand source p all.0) more
+        (cond b (join n (placed_tokens p) (placed_joined (enumerate_from (n + 1) ps)))
+        (record { number = n; tokens = placed_tokens p } ∷ placed_joined (enumerate_from (n + 1) ps)))
+    by_cases true more = join-stand source n (placed_tokens p) (placed_joined (enumerate_from (n + 1) ps)) (tokens-stand source p all.0) more
     by_cases false more = (tokens-stand source p all.0, more)
 
-pub lines-stand : (bytes : List ℕ) → AllLinesStand bytes (lines_of bytes)
-unfolding lines_of
+pub lines-stand : (bytes : List ℕ) → AllLinesStand bytes (placed_lines bytes)
+unfolding placed_lines
 lines-stand bytes =
-    all-filter (λ (line : Line). AllStand bytes line.tokens) has_tokens (joined (enumerate_from 1 (physical_lines bytes)))
+    all-filter (λ (line : PlacedLine). AllStand bytes line.tokens) has_tokens (placed_joined (enumerate_from 1 (physical_lines bytes)))
     (joined-stand bytes 1 (physical_lines bytes) (pieces-stand is_feed bytes bytes [] 0 (sym (append-nil bytes))))

@@ -1,4 +1,4 @@
 pub mod Lines
+pub mod Placed
 pub mod Read
 pub mod Left
-pub mod Spans

@@ -4,8 +4,6 @@
 mod ink;
 pub mod lines;
 pub mod places;
-pub mod span;
-pub mod spans;
 pub mod token;
 mod tokens;
 

@@ -1,7 +1,7 @@
 // The logical lines of a text.
 ghost use Rattle.std.specs.Prelude.{◌≡◌, ◌++◌, ◌∷◌, [], ◌+◌, ◌<◌, ◌≤◌, ◌^◌, List, length, nat_lt, filter, IfOk, OnOk};
 ghost use Rattle.std.specs.List.{enumerate_from, list_any};
-ghost use Rattle.blif_text.specs.Lines.{has_tokens, is_wide, Line, lines_of, Piece};
+ghost use Rattle.blif_text.specs.Placed.{has_tokens, is_wide, PlacedLine, placed_lines, Piece};
 ghost use Rattle.blif_text.specs.Read.{line_of, lines_seen};
 ghost use Rattle.blif_text.specs.Left.{lines_left};
 
@@ -30,7 +30,7 @@ fn new_line<'a>(alloc: Global, number: u32) -> TextLine<'a>
 
 /// A line counts where it has a token.
 fn put_line<'a>(done: &mut Vec<TextLine<'a>>, line: TextLine<'a>) -> Result<(), AllocError>
-    ensures { OnOk result ((more : List Line) → lines_seen done.new.items ++ filter has_tokens more ≡ lines_seen done.old.items ++ filter has_tokens (line_of line.entry ∷ more)) }
+    ensures { OnOk result ((more : List PlacedLine) → lines_seen done.new.items ++ filter has_tokens more ≡ lines_seen done.old.items ++ filter has_tokens (line_of line.entry ∷ more)) }
 {
     if line.tokens.is_empty() {
         return Ok(());
@@ -66,7 +66,7 @@ fn take_line<'a>(
 #[tactic(auto, using(crate::proofs::Cuts::pieces_first))]
 pub fn all_lines<'a>(alloc: Global, bytes: &'a [u8]) -> Result<Vec<TextLine<'a>>, AllocError>
     requires { length bytes.now < 2 ^ 31 }
-    ensures { IfOk result (λ v. lines_seen v.items ≡ lines_of bytes.now) }
+    ensures { IfOk result (λ v. lines_seen v.items ≡ placed_lines bytes.now) }
 {
     let mut done = Vec::new(alloc);
     let mut rest = bytes;

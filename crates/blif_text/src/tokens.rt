@@ -1,6 +1,7 @@
 // The tokens of a physical line.
 ghost use Rattle.std.specs.Prelude.{◌≡◌, ◌++◌, ◌∷◌, ◌+◌, ◌<◌, ◌^◌, length, filter, List, OnOk};
-ghost use Rattle.blif_text.specs.Lines.{has_bytes, is_white, Piece, pieces};
+ghost use Rattle.blif_text.specs.Lines.{is_white};
+ghost use Rattle.blif_text.specs.Placed.{has_bytes, Piece, pieces};
 ghost use Rattle.blif_text.specs.Read.{pieces_of};
 
 use crate::places::{behind, white_place};

@@ -1,12 +1,13 @@
 use Rattle.std.proofs.Common.{[], sym, ◌∙◌, arith}
 use Rattle.std.proofs.lemmas.List.{append-nil}
-use Rattle.blif_text.specs.Lines.{is_feed, lines_of, pieces}
+use Rattle.blif_text.specs.Lines.{is_feed}
+use Rattle.blif_text.specs.Placed.{placed_lines, pieces}
 use Rattle.blif_text.specs.Read.{line_of, lines_seen}
 use Rattle.blif_text.proofs.Cuts.{left_last, left_new, pieces_last}
 use Rattle.blif_text.proofs.lines.all_lines.Goals as goal
 
 pub lines-init : goal.lines-init
-unfolding lines_of
+unfolding placed_lines
 lines-init c =
     let told = left_new [] (line_of c.new_line-line.result) 1 (pieces is_feed 0 c.args.bytes.now) c.new_line-line.ensures in
     record { in_file = omega arith; counted = omega arith; told = rw c.new-done.ensures.items told }

@@ -1,6 +1,6 @@
 use Rattle.std.proofs.Common.{◌+◌, sym, ◌∙◌}
 use Rattle.std.specs.List.{enumerate_from}
-use Rattle.blif_text.specs.Lines.{joined}
+use Rattle.blif_text.specs.Placed.{placed_joined}
 use Rattle.blif_text.specs.Read.{line_of, lines_seen, pieces_of}
 use Rattle.blif_text.proofs.Cuts.{left_joined, left_ended, left_new}
 use Rattle.blif_text.proofs.lines.take_line.Goals as goal
@@ -17,5 +17,5 @@ returns c = λ ps.
     (record { start = c.args.place; text = c.args.text.now }) (enumerate_from (c.args.number + 1) ps)
     (record { number = c.args.line.number; tokens = pieces_of c.put_tokens.new.tokens.items })
     (sym c.ink_of-is_joined.ensures.joined ∙ c.if-is_joined.false) (cc (c.in_ok-put_tokens.ensures, c.ink_of-is_joined.ensures.ink))
-    ∙ sym (c.in_ok-put_line.ensures (joined (enumerate_from (c.args.number + 1) ps)))
+    ∙ sym (c.in_ok-put_line.ensures (placed_joined (enumerate_from (c.args.number + 1) ps)))
     ∙ sym (left_new (lines_seen c.put_line.new.done.items) (line_of c.new_line.result) (c.args.number + 1) ps c.new_line.ensures)

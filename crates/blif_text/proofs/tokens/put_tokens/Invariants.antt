@@ -1,6 +1,7 @@
 use Rattle.std.proofs.Common.{◌≡◌, ◌++◌, ◌+◌, ◌<◌, ◌^◌, length}
 use Rattle.std.specs.Prelude.{filter}
-use Rattle.blif_text.specs.Lines.{has_bytes, is_white, pieces}
+use Rattle.blif_text.specs.Lines.{is_white}
+use Rattle.blif_text.specs.Placed.{has_bytes, pieces}
 use Rattle.blif_text.specs.Read.{pieces_of}
 use Rattle.blif_text.proofs.tokens.put_tokens.Given as goal
 
