@@ -1,6 +1,5 @@
 -- How the walk goes on, line by line.
-use Rattle.std.proofs.Common.{◌≡◌, ℕ, zero, suc, ◌<◌, ◌-◌, List, [], ◌∷◌, ◌++◌, length, map, get_or, take, drop}
-use Rattle.std.proofs.Common.{refl, ap, ◌∙◌, append_assoc, arith}
+use Rattle.std.proofs.Common.{◌≡◌, ℕ, zero, suc, ◌<◌, ◌-◌, List, [], ◌∷◌, ◌++◌, length, map, get_or, take, drop, refl, ap, ◌∙◌, append_assoc, arith}
 use Rattle.std.specs.Prelude.{Option, Some, None}
 use Rattle.std.specs.Option.{option_to_list}
 use Rattle.std.specs.List.{slice_get}
@@ -9,7 +8,8 @@ use Rattle.std.proofs.lemmas.List.{append-nil}
 use Rattle.fm_base.specs.Names.{Name}
 use Rattle.blif_model.specs.LineFault.{Said}
 use Rattle.blif_model.specs.Models.{Model, items_of, model_named, rows_below}
-use Rattle.blif_model.specs.Walk.{Act, Scope, Step, enter, next, steps_from, steps_of, top, walk}
+use Rattle.blif_model.specs.Walk.{Act, Scope, Step, enter, steps_from, top, walk}
+use Rattle.blif_model.specs.WalkSteps.{next, steps_of}
 use Rattle.blif_flatten.specs.declared.walked.Walked.{Walked}
 use Rattle.blif_flatten.specs.declared.flat.NumberedAct.{NumberedAct}
 use Rattle.blif_flatten.specs.Flat.{act_by, name_at, steps_by}

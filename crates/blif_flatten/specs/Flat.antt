@@ -4,7 +4,7 @@ use Rattle.std.specs.Option.{option_map, option_to_list}
 use Rattle.fm_base.specs.Names.{Name, distinct}
 use Rattle.blif_model.specs.Models.{rows_below}
 use Rattle.blif_model.specs.Walk.{FlatLatch, Act, takes, gives, clocks, visits, flat_table, flat_latch, Step, visited}
-use Rattle.blif_model.specs.WalkFault.{control_of}
+use Rattle.blif_model.specs.WalkSteps.{control_of}
 use Rattle.blif_flatten.specs.declared.flat.NameId.{NameId}
 use Rattle.blif_flatten.specs.declared.flat.NumberedLatch.{NumberedLatch}
 use Rattle.blif_flatten.specs.declared.flat.NumberedTable.{NumberedTable}

@@ -2,8 +2,8 @@
 use Rattle.std.specs.Prelude.{List, [], ◌∷◌, ◌++◌, flat_map}
 use Rattle.std.specs.Option.{option_to_list}
 use Rattle.fm_base.specs.Names.{Name}
-use Rattle.blif_model.specs.Walk.{Act, takes, flat_table, flat_latch, Step, visited, clocked, outputs_at}
-use Rattle.blif_model.specs.WalkFault.{control_of, input_nets, read}
+use Rattle.blif_model.specs.Walk.{Act, takes, flat_table, flat_latch, Step, visited}
+use Rattle.blif_model.specs.WalkSteps.{clocked, outputs_at, control_of, input_nets, read}
 use Rattle.blif_flatten.specs.declared.flat.NameId.{NameId}
 use Rattle.blif_flatten.specs.declared.sorts.Mentions.{Mentions}
 use Rattle.blif_flatten.specs.declared.sorts.Sort.{Sort}

@@ -25,10 +25,10 @@ pub struct BoundNets<'a> {
 
 impl<'a> Model for BoundNets<'a> {
     ghost use Rattle.std.specs.Prelude.{List};
-    ghost use Rattle.blif_model.specs.Walk.{Bound};
+    ghost use Rattle.blif_model.specs.Statement.{Binding};
     ghost use Rattle.blif_flatten.specs.Places.{AreNamePlaces, bounds_seen};
 
-    ghost Value = { List Bound };
+    ghost Value = { List Binding };
 
     ghost view = { λ s. bounds_seen s.nets.items };
 
@@ -48,7 +48,7 @@ impl<'a> BoundNets<'a> {
 
     /// Binds a formal; of two with one name the first is found.
     pub fn push(&mut self, formal: &'a [u8], net: Name) -> Result<(), AllocError>
-        ensures ok { OnOk result (self.new ≡ self.old ++ record { formal = formal.now; net = net } ∷ []) }
+        ensures ok { OnOk result (self.new ≡ self.old ++ record { formal = formal.now; actual = net } ∷ []) }
         ensures err { OnErr result (self.new ≡ self.old) }
     {
         let place = self.nets.len();
@@ -64,7 +64,7 @@ impl<'a> BoundNets<'a> {
 
     /// The net that a formal is bound to, if it is.
     pub fn find(&self, name: &[u8]) -> Option<&[u8]>
-        ensures { (other : Name) → option_map_or (λ net. net.now) result other ≡ option_map_or (λ b. b.net) (find (λ b. bytes_eq b.formal name.now) self.now) other }
+        ensures { (other : Name) → option_map_or (λ net. net.now) result other ≡ option_map_or (λ b. b.actual) (find (λ b. bytes_eq b.formal name.now) self.now) other }
     {
         match place_of(&self.places, name) {
             Some(place) => Some(self.nets[place].net.as_slice()),

@@ -72,7 +72,7 @@ fn bound_to<'a>(
     place: &Place<'_>,
     bindings: &[Token<'a>],
 ) -> Result<BoundNets<'a>, AllocError>
-    ensures { IfOk result (λ v. v ≡ map (λ b. record { formal = b.formal; net = net_of (scope_at place.now) b.actual }) (bindings_of (texts_of bindings.now))) }
+    ensures { IfOk result (λ v. v ≡ map (λ b. record { formal = b.formal; actual = net_of (scope_at place.now) b.actual }) (bindings_of (texts_of bindings.now))) }
 {
     let mut bound = BoundNets::new(alloc);
     let mut buffer = Vec::new(alloc);

@@ -2,8 +2,8 @@
 ghost use Rattle.std.specs.Prelude.{◌≡◌, ℕ, [], ◌∷◌, length, map};
 ghost use Rattle.std.specs.Option.{option_to_list};
 ghost use Rattle.fm_base.specs.Names.{Name};
-ghost use Rattle.blif_model.specs.Walk.{clocked, outputs_at, visited};
-ghost use Rattle.blif_model.specs.WalkFault.{control_of, input_nets, read};
+ghost use Rattle.blif_model.specs.Walk.{visited};
+ghost use Rattle.blif_model.specs.WalkSteps.{clocked, outputs_at, control_of, input_nets, read};
 ghost use Rattle.blif_flatten.specs.declared.flat.NameId.{NameId};
 ghost use Rattle.blif_flatten.specs.Flat.{act_by, AreBelow, ids_in};
 ghost use Rattle.blif_flatten.specs.Sorts.{drive_names, ids_of, named};

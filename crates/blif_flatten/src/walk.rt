@@ -2,7 +2,8 @@
 ghost use Rattle.std.specs.Prelude.{◌≡◌, ◌+◌, ◌<◌, ◌≤◌, ◌^◌, ◌++◌, map, IfOk, OnOk};
 ghost use Rattle.blif_model.specs.Meant.{meant};
 ghost use Rattle.blif_model.specs.Models.{items_of, rows_below};
-ghost use Rattle.blif_model.specs.Walk.{acts_of, enter, inner_steps, next, steps_from, steps_of};
+ghost use Rattle.blif_model.specs.Walk.{acts_of, enter, steps_from};
+ghost use Rattle.blif_model.specs.WalkSteps.{inner_steps, next, steps_of};
 ghost use Rattle.blif_flatten.specs.Numbering.{own_step};
 ghost use Rattle.blif_flatten.specs.Seen.{scope_at};
 ghost use Rattle.blif_flatten.specs.Walked.{IsWalkedOn};

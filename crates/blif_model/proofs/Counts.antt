@@ -5,8 +5,10 @@ use Rattle.std.specs.Option.{option_map_or}
 use Rattle.std.proofs.lemmas.List.{length-map}
 use Rattle.std.proofs.lemmas.List.Sums.{sum_by-append, sum_by-cons}
 use Rattle.blif_model.specs.Statement.{Statement, table, instance}
-use Rattle.blif_model.specs.Models.{Item, Instance, Model, model_named, main_of, instance_from, instances, sum_over_instances, cells_from, cell_count}
-use Rattle.blif_model.specs.Walk.{Scope, top, inside, Act, flat_table, Step, acts_of, inner_steps, scope_of, next, net_of, steps_from, enter, walk}
+use Rattle.blif_model.specs.Models.{Item, Instance, Model, model_named, main_of, instances, sum_over_instances, cell_count}
+use Rattle.blif_model.specs.ModelSteps.{instance_from, cells_from}
+use Rattle.blif_model.specs.Walk.{Scope, top, inside, Act, flat_table, Step, acts_of, scope_of, net_of, steps_from, enter, walk}
+use Rattle.blif_model.specs.WalkSteps.{inner_steps, next}
 use Rattle.fm_base.specs.Names.{Name}
 use Rattle.blif_model.proofs.Depth.{number_of, sum_by_numbers}
 
@@ -24,7 +26,7 @@ abbrev pub named_sum : (Name → ℕ) → List Item → ℕ
 named_sum g items = sum_by (λ (i : Instance). g i.name) (filter_map (λ (item : Item). instance_from item.line item.says) items)
 
 abbrev own_sum : List Item → ℕ
-own_sum items = sum_by (λ (item : Item). cells_from item.says item.rows) items
+own_sum items = sum_by (λ (item : Item). cells_from item.rows item.says) items
 
 -- the number of the model that a line instances
 abbrev pub named_at : (Name → ℕ) → Statement → ℕ
@@ -40,7 +42,7 @@ named_more g line says rows items = sym (zero-add (named_sum g items))
 
 -- the cells of a line's own step, and of its instance
 act_of_line : (scope : Scope) (line : ℕ) (says : Statement) (rows : List (List Name))
-    → walk_cells (map (λ act. record { line = line; act = act }) (acts_of scope says rows)) ≡ cells_from says rows
+    → walk_cells (map (λ act. record { line = line; act = act }) (acts_of scope says rows)) ≡ cells_from rows says
 act_of_line scope line (table ins out) rows = rw (length-map ins (net_of scope)) (zero-add (max 1 (length rows) * max 1 (length ins)))
 act_of_line top line says rows = refl
 act_of_line (inside path bound) line says rows = refl
@@ -58,7 +60,7 @@ items_cells f g same scope j [] = refl
 items_cells f g same scope j (item ∷ items) =
     let acts : List Step = map (λ act. record { line = item.line; act = act }) (acts_of scope item.says item.rows) in
     let inner : List Step = inner_steps f scope j item.says in
-    let own = sum_by-cons (λ (i : Item). cells_from i.says i.rows) item items in
+    let own = sum_by-cons (λ (i : Item). cells_from i.rows i.says) item items in
     let named = named_more g item.line item.says item.rows items in
     let both = sum_by-append (λ (s : Step). act_cells s.act) (acts ++ inner) (steps_from f scope (next j item.says) items) in
     let line = sum_by-append (λ (s : Step). act_cells s.act) acts inner in

@@ -1,8 +1,8 @@
 -- Without TwoDrivers and Undriven each net is driven once, and what is driven is visited.
-use Rattle.std.proofs.Common.{◌≡◌, ℕ, ◌+◌, true, false, not, ◌||◌, ◌&&◌, List, [], ◌∷◌, ◌++◌, inl, inr, refl, ap, sym, subst, ◌∙◌}
+use Rattle.std.proofs.Common.{◌≡◌, ℕ, arith, true, false, not, ◌||◌, ◌&&◌, List, [], ◌∷◌, ◌++◌, inl, inr, refl, ap, sym, subst, ◌∙◌}
 use Rattle.std.specs.Prelude.{None, bytes_eq, map, flat_map}
 use Rattle.std.specs.List.{list_any}
-use Rattle.std.proofs.lemmas.List.{append-nil, map-append}
+use Rattle.std.proofs.lemmas.List.{map-append}
 use Rattle.std.proofs.lemmas.List.Folds.{list_any-append}
 use Rattle.blif_text.specs.declared.NetlistKind.TheVariants.{TwoDrivers, Undriven}
 use Rattle.blif_model.specs.LineFault.{at_line}
@@ -13,8 +13,9 @@ use Rattle.fm_base.proofs.Distinct.{bytes_eq-sym, same_name, is_same, filter-fou
 use Rattle.net_names.specs.Driven.{drives, name_count}
 use Rattle.net_names.proofs.Answers.{none_given}
 use Rattle.net_names.proofs.Driven.{drives-of-lines}
-use Rattle.net_names.proofs.Times.{one_of_both, times-append}
-use Rattle.blif_model.specs.Walk.{Step, Visit, is_clock, unclocked, nets_of, visits_of, drives_of, Act, takes, flat_table, flat_latch, taken, table_net, latch_net, visited, names_at}
+use Rattle.net_names.proofs.Times.{one_of_both}
+use Rattle.blif_model.specs.Walk.{driven, Step, Visit, is_clock, nets_of, visits_of, drives_of, Act, takes, flat_table, flat_latch, visited, names_at}
+use Rattle.blif_model.specs.WalkSteps.{taken, table_net, latch_net}
 use Rattle.blif_model.specs.WalkFault.{has_visit, two_drivers, undriven}
 use Rattle.blif_model.proofs.Nets.{nets-found}
 
@@ -95,24 +96,21 @@ flat_names at (s ∷ some) =
     ∙ rw (names_at-names s.line (at s), flat_names at some) refl
 
 -- what a step drives it visits
-step_visits : (steps : List Step) (act : Act) (name : Name) → is_one_of (taken steps act ++ table_net act ++ latch_net act) name ≡ true
+step_visits : (steps : List Step) (act : Act) (name : Name) → is_one_of (driven steps act) name ≡ true
     → is_one_of (visited act) name ≡ true
 step_visits steps (takes names) name e =
-    (and_both (not (is_clock steps name)) (is_one_of names name)
-    (sym (filter-found (λ n. not (is_clock steps n)) names name)
-    ∙ (rw (append-nil (unclocked steps names ++ []), append-nil (unclocked steps names)) at e))).1
+    (and_both (not (is_clock steps name)) (is_one_of names name) (sym (filter-found (λ n. not (is_clock steps n)) names name) ∙ e)).1
 step_visits steps (flat_table ins out rows) name e =
     one_of_both ins (out ∷ []) name ∙ or_second (is_one_of ins name) (bytes_eq name out || false) e
 step_visits steps (flat_latch s) name e = or_second (bytes_eq name s.from) (bytes_eq name s.to || false) e
 step_visits steps _ name e = cc
 
-drives_among : (steps some : List Step) (name : Name)
-    → is_one_of (flat_map (λ s. taken steps s.act ++ table_net s.act ++ latch_net s.act) some) name ≡ true
+drives_among : (steps some : List Step) (name : Name) → is_one_of (flat_map (λ s. driven steps s.act) some) name ≡ true
     → is_one_of (flat_map (λ s. visited s.act) some) name ≡ true
 drives_among steps [] name e = e
 drives_among steps (s ∷ some) name e =
     one_of_both (visited s.act) (flat_map (λ x. visited x.act) some) name
-    ∙ elim (or_cases _ _ (sym (one_of_both (taken steps s.act ++ table_net s.act ++ latch_net s.act) _ name) ∙ e)) [
+    ∙ elim (or_cases _ _ (sym (one_of_both (driven steps s.act) _ name) ∙ e)) [
       | inl here ↦ rw (step_visits steps s.act name here) refl
       | inr behind ↦ or_second (is_one_of (visited s.act) name) _ (drives_among steps some name behind)
     ]
@@ -123,15 +121,21 @@ pub drives-visited : (steps : List Step) (name : Name) → is_one_of (names_of (
 unfolding drives_of visits_of
 drives-visited steps name e =
     rw (flat_names (λ s. visited s.act) steps)
-    (drives_among steps steps name (rw (flat_names (λ s. taken steps s.act ++ table_net s.act ++ latch_net s.act) steps) at e))
+    (drives_among steps steps name (rw (flat_names (λ s. driven steps s.act) steps) at e))
+
+-- the drives of a line are those of its inputs, its table and its latch
+act_drives : (name : Name) (steps : List Step) (act : Act)
+    → name_count name (driven steps act) ≡ drives (taken steps act) (table_net act) (latch_net act) name
+act_drives name steps (takes names) = omega arith
+act_drives name steps (flat_table ins out rows) = omega arith
+act_drives name steps (flat_latch l) = omega arith
+act_drives name steps _ = refl
 
 -- the drives of a walk are those of its inputs, tables and latches
 pub times-drives : (name : Name) (steps some : List Step)
-    → name_count name (names_of (flat_map (λ s. names_at s.line (taken steps s.act ++ table_net s.act ++ latch_net s.act)) some))
+    → name_count name (names_of (flat_map (λ s. names_at s.line (driven steps s.act)) some))
     ≡ drives (flat_map (λ s. taken steps s.act) some) (flat_map (λ s. table_net s.act) some) (flat_map (λ s. latch_net s.act) some) name
 times-drives name steps some =
-    ap (name_count name) (flat_names (λ (s : Step). taken steps s.act ++ table_net s.act ++ latch_net s.act) some)
-    ∙ drives-of-lines (λ (s : Step). taken steps s.act ++ table_net s.act ++ latch_net s.act) (λ (s : Step). taken steps s.act)
-    (λ (s : Step). table_net s.act) (λ (s : Step). latch_net s.act) name
-    (λ (s : Step). times-append name (taken steps s.act ++ table_net s.act) (latch_net s.act)
-    ∙ ap (λ n. n + name_count name (latch_net s.act)) (times-append name (taken steps s.act) (table_net s.act))) some
+    ap (name_count name) (flat_names (λ (s : Step). driven steps s.act) some)
+    ∙ drives-of-lines (λ (s : Step). driven steps s.act) (λ (s : Step). taken steps s.act) (λ (s : Step). table_net s.act)
+    (λ (s : Step). latch_net s.act) name (λ (s : Step). act_drives name steps s.act) some

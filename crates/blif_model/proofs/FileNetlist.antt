@@ -12,10 +12,12 @@ use Rattle.fm_base.proofs.Tests.{or_false}
 use Rattle.net_names.proofs.Answers.{not_given, same_answer}
 use Rattle.blif_model.specs.LineFault.{line_fault, said_lines}
 use Rattle.blif_model.specs.Models.{Model, file_models}
-use Rattle.blif_model.specs.ModelFault.{model_fault, two_models, unknown_model, bad_formal, unbound, recursive, too_deep, too_large, count_of_nets}
+use Rattle.blif_model.specs.ModelFault.{model_fault, two_models, unknown_model, bad_formal, unbound, recursive, too_deep, too_large}
+use Rattle.blif_model.specs.ModelSteps.{count_of_nets}
 use Rattle.blif_model.specs.Walk.{Step, walk, nets_of}
 use Rattle.blif_model.specs.WalkFault.{walk_fault, two_clocks, bad_clock, clock_read, two_drivers, undriven}
-use Rattle.blif_model.specs.Net.{bad_net, circuit_of, netlist_of, netlist_unless}
+use Rattle.blif_model.specs.Net.{bad_net, circuit_of, netlist_of}
+use Rattle.blif_model.specs.WalkSteps.{netlist_unless}
 use Rattle.blif_model.proofs.TableRows.{rows-fit}
 use Rattle.blif_model.proofs.Fits.{walk-fits}
 use Rattle.blif_model.proofs.Sound.{netlist-sound}
@@ -74,7 +76,7 @@ pub netlist-is : (bytes : Bytes) (c : Circuit) → netlist_of bytes ≡ Ok c →
 unfolding netlist_of
 netlist-is bytes c e = by_cases (bad_net bytes) refl e
   where
-    by_cases : (o : Option NetlistFault) → bad_net bytes ≡ o → netlist_unless o (walk (file_models bytes)) ≡ Ok c → IsNetlist c
+    by_cases : (o : Option NetlistFault) → bad_net bytes ≡ o → netlist_unless (walk (file_models bytes)) o ≡ Ok c → IsNetlist c
     by_cases None none e =
         subst IsNetlist (same_answer (circuit_of (walk (file_models bytes))) c _ refl e) (unfaulted-netlist bytes (unfaulted bytes none))
     by_cases (Some fault) some e = cc

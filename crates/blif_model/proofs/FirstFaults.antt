@@ -6,7 +6,8 @@ use Rattle.std.proofs.lemmas.List.{drop_more, take_more, drop_all}
 use Rattle.fm_base.specs.Firsts.{first_after}
 use Rattle.blif_text.specs.declared.NetlistKind.{NetlistKind}
 use Rattle.blif_text.specs.declared.NetlistFault.{NetlistFault}
-use Rattle.blif_model.specs.LineFault.{Said, at_line, kind_of, fault_of}
+use Rattle.blif_model.specs.LineFault.{Said, at_line, kind_of}
+use Rattle.blif_model.specs.LineSteps.{fault_of}
 
 -- the lines before the next one end with this one
 pub up_to_here : (lines : List Said) (i : ℕ) (line : Said) → i < length lines → line ≡ get_or lines i line

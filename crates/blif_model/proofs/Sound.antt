@@ -17,9 +17,10 @@ use Rattle.net_names.proofs.Once.{driven-once}
 use Rattle.net_names.proofs.Brought.{all-brought, as-many, in-order}
 use Rattle.net_names.proofs.Sound.{is-net, is-table, netlist-of-names, size-of-drivers}
 use Rattle.blif_model.specs.LineFault.{is_row_of}
-use Rattle.blif_model.specs.Walk.{Act, flat_table, flat_latch, Step, Visit, table_net, latch_net, nets_of, drives_of, visits_of, outputs_at, is_clock}
-use Rattle.blif_model.specs.WalkFault.{two_drivers, undriven, clock_read, read}
-use Rattle.blif_model.specs.Net.{lit_of, lits_of, table_plane, table_of, latch_of, input_names_of, table_names_of, latch_names_of, output_names_of, drivers_of, circuit_of}
+use Rattle.blif_model.specs.Walk.{Act, flat_table, flat_latch, Step, Visit, nets_of, drives_of, visits_of, is_clock}
+use Rattle.blif_model.specs.WalkSteps.{table_net, latch_net, outputs_at, read, lit_of, table_of, latch_of}
+use Rattle.blif_model.specs.WalkFault.{two_drivers, undriven, clock_read}
+use Rattle.blif_model.specs.Net.{lits_of, table_plane, input_names_of, table_names_of, latch_names_of, output_names_of, circuit_of}
 use Rattle.blif_model.proofs.Nets.{nets-apart, nets-found}
 use Rattle.blif_model.proofs.Drivers.{names_of, drives-once, nets-driven, drives-visited, times-drives, visit-found}
 use Rattle.blif_model.proofs.ReadNets.{reads-nets, outputs-nets}
@@ -127,7 +128,7 @@ module _ (steps : List Step) (once : two_drivers steps ≡ None) (driven : undri
 
   -- the netlist of a walk
   pub netlist-sound : clock_read steps ≡ None → StepsFit steps → length (nets_of steps) ≤ 2 ^ 18 → IsNetlist (circuit_of steps)
-  unfolding circuit_of drivers_of output_names_of table_names_of latch_names_of
+  unfolding circuit_of output_names_of table_names_of latch_names_of
   netlist-sound unread fit small =
       let tables : List Table = filter_map (λ s. table_of nets s.act) steps in
       let latches : List Latch = filter_map (λ s. latch_of nets s.act) steps in

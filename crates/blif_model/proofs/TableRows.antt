@@ -10,8 +10,10 @@ use Rattle.fm_base.specs.Names.{Name}
 use Rattle.fm_base.proofs.Firsts.{first_after-append}
 use Rattle.fm_base.proofs.Options.{none_both, none_mapped}
 use Rattle.blif_model.specs.Statement.{Statement, model, table, row, passed}
-use Rattle.blif_model.specs.LineFault.{Said, at_line, is_inside, inside_after, table_above, table_after, is_row_of, place_fault, kind_of, fault_of, line_fault, plane_above, plane_after}
-use Rattle.blif_model.specs.Models.{Item, Model, rows_from, rows_below, items_of, ends_model, model_from, models_of}
+use Rattle.blif_model.specs.LineFault.{Said, at_line, is_inside, table_above, is_row_of, place_fault, kind_of, line_fault, plane_above}
+use Rattle.blif_model.specs.LineSteps.{inside_after, table_after, fault_of, plane_after}
+use Rattle.blif_model.specs.Models.{Item, Model, rows_below, items_of, models_of}
+use Rattle.blif_model.specs.ModelSteps.{rows_from, ends_model, model_from}
 
 -- the rows of a table have a cell for each input
 abbrev pub RowsFit : Statement → List (List Name) → Type 0
@@ -43,17 +45,17 @@ sound_front before lines n e =
     ∙ ap (first_after fault_of before) (take-append-drop n lines) ∙ e)).0
 
 -- one more line, and where the next one stands
-pub is_inside_more : (before : List Said) (line : Said) → is_inside (before ++ line ∷ []) ≡ inside_after line.says (is_inside before)
+pub is_inside_more : (before : List Said) (line : Said) → is_inside (before ++ line ∷ []) ≡ inside_after (is_inside before) line.says
 unfolding is_inside
-is_inside_more before line = fold_push (λ inside (l : Said). inside_after l.says inside) false before line
+is_inside_more before line = fold_push (λ inside (l : Said). inside_after inside l.says) false before line
 
-pub table_above_more : (before : List Said) (line : Said) → table_above (before ++ line ∷ []) ≡ table_after line.says (table_above before)
+pub table_above_more : (before : List Said) (line : Said) → table_above (before ++ line ∷ []) ≡ table_after (table_above before) line.says
 unfolding table_above
-table_above_more before line = fold_push (λ above (l : Said). table_after l.says above) None before line
+table_above_more before line = fold_push (λ above (l : Said). table_after above l.says) None before line
 
-pub plane_above_more : (before : List Said) (line : Said) → plane_above (before ++ line ∷ []) ≡ plane_after line.says (plane_above before)
+pub plane_above_more : (before : List Said) (line : Said) → plane_above (before ++ line ∷ []) ≡ plane_after (plane_above before) line.says
 unfolding plane_above
-plane_above_more before line = fold_push (λ above (l : Said). plane_after l.says above) None before line
+plane_above_more before line = fold_push (λ above (l : Said). plane_after above l.says) None before line
 
 -- a row in its place is a row for the inputs of the table above
 row_here : (before : List Said) (tokens ins : List Name) → table_above before ≡ Some ins → place_fault before (row tokens) ≡ None
@@ -69,8 +71,8 @@ rows_fit before (line ∷ lines) ins e t =
     at line.says parts.0 (λ t. rows_fit (before ++ line ∷ []) lines ins parts.1 (table_above_more before line ∙ t))
   where
     at : (says : Statement) → place_fault before says ≡ None
-        → (table_after says (table_above before) ≡ Some ins → list_all (is_row_of (length ins)) (rows_below lines) ≡ true)
-        → list_all (is_row_of (length ins)) (rows_from says (rows_below lines)) ≡ true
+        → (table_after (table_above before) says ≡ Some ins → list_all (is_row_of (length ins)) (rows_below lines) ≡ true)
+        → list_all (is_row_of (length ins)) (rows_from (rows_below lines) says) ≡ true
     at (row tokens) f more = rw (row_here before tokens ins t f) (more t)
     at passed f more = more t
     at _ f more = refl
@@ -85,7 +87,7 @@ items_fit before (line ∷ lines) e =
     )
   where
     at : (says : Statement)
-        → ((ins : List Name) → table_after says (table_above before) ≡ Some ins
+        → ((ins : List Name) → table_after (table_above before) says ≡ Some ins
         → list_all (is_row_of (length ins)) (rows_below lines) ≡ true)
         → RowsFit says (rows_below lines)
     at (table ins out) rows = rows ins refl
@@ -101,7 +103,7 @@ models_fit before (line ∷ lines) e =
     (models_fit (before ++ line ∷ []) lines behind)
   where
     begun : (says : Statement) → AllByRecursion ItemFits (items_of (take (position_or_len (λ (l : Said). ends_model l.says) lines) lines))
-        → AllByRecursion ModelFits (models_of lines) → AllByRecursion ModelFits (model_from line.number says lines ++ models_of lines)
+        → AllByRecursion ModelFits (models_of lines) → AllByRecursion ModelFits (model_from line.number lines says ++ models_of lines)
     begun (model name) items more = (items, more)
     begun _ items more = more
 

@@ -2,7 +2,8 @@
 use Rattle.std.specs.Prelude.{Bool, List, [], ◌∷◌, Option, Some, None}
 use Rattle.fm_base.specs.Names.{Name}
 use Rattle.blif_text.specs.declared.NetlistKind.TheVariants as kinds
-use Rattle.blif_model.specs.Statement.{Statement, inputs, outputs, clock, latch, instance, row, passed, wrong, model_line, table_line, plain_latch, end_line}
+use Rattle.blif_model.specs.Statement.{Statement, inputs, outputs, clock, latch, instance, row, passed, wrong, table_line}
+use Rattle.blif_model.specs.StatementSteps.{model_line, plain_latch, end_line}
 use Rattle.blif_model.specs.Kinds.{kind_of_malformed}
 use Rattle.blif_model.specs.Meant.{bindings_of}
 use Rattle.blif_model.specs.declared.directive.Directive.{Directive}

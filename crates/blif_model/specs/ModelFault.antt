@@ -6,7 +6,7 @@ use Rattle.blif_text.specs.declared.NetlistKind.TheVariants.{TwoModels, UnknownM
 use Rattle.blif_text.specs.declared.NetlistFault.{NetlistFault}
 use Rattle.fm_base.specs.Firsts.{first_after, first_where, first_answer, given}
 use Rattle.blif_model.specs.LineFault.{at_line}
-use Rattle.blif_model.specs.Models.{Model, Instance, main_of, model_named, at_model, formals, formal_inputs, instances, reaches, has_nest, sum_over_instances, instance_count, cell_count}
+use Rattle.blif_model.specs.Models.{Model, Instance, main_of, model_named, at_model, formals, formal_inputs, instances, reaches, has_nest, sum_over_instances, cell_count}
 use Rattle.blif_model.specs.Walk.{walk, nets_of}
 use Rattle.fm_base.specs.Names.{Name, is_one_of, has_repeat}
 
@@ -14,7 +14,8 @@ use Rattle.fm_base.specs.Names.{Name, is_one_of, has_repeat}
 
 -- TwoModels: a `.model` line has the name of an earlier one
 unfoldable pub two_models : List Model → Option NetlistFault
-two_models models = first_after (λ before m. given (list_any (λ earlier. bytes_eq earlier.name m.name) before) (at_line m.line TwoModels)) [] models
+two_models models =
+    first_after (λ before m. given (list_any (λ earlier. bytes_eq earlier.name m.name) before) (at_line m.line TwoModels)) [] models
 
 -- the first `.subckt` line of the file at which a test passes; it is told the model around the line too
 abbrev pub first_instance : List Model → (Model → Instance → Bool) → NetlistKind → Option NetlistFault
@@ -50,23 +51,16 @@ recursive models = first_instance models (λ m i. at_model models i.name (reache
 
 -- TooDeep: the line's instance has 32 more, one in the other, in it
 unfoldable pub too_deep : List Model → Option NetlistFault
-too_deep models = first_where (λ i. given (at_model models i.name (has_nest models 32) false) (at_line i.line TooDeep)) (instances (main_of models))
+too_deep models =
+    first_where (λ i. given (at_model models i.name (has_nest models 32) false) (at_line i.line TooDeep)) (instances (main_of models))
 
--- the instances of the flattened main model
-abbrev pub count_of_instances : List Model → ℕ
-count_of_instances models = sum_over_instances instance_count models 32 (main_of models)
-
--- its cells: rows times inputs over all tables
-abbrev pub count_of_cells : List Model → ℕ
-count_of_cells models = sum_over_instances cell_count models 32 (main_of models)
-
--- its nets
-abbrev pub count_of_nets : List Model → ℕ
-count_of_nets models = length (nets_of (walk models))
-
--- TooLarge: one of the counts goes past its limit
+-- TooLarge: the flattened main model has too many instances, cells (rows times inputs over all tables) or nets
 unfoldable pub too_large : List Model → Option NetlistFault
-too_large models = given (nat_lt (2 ^ 18) (count_of_instances models) || nat_lt (2 ^ 24) (count_of_cells models) || nat_lt (2 ^ 18) (count_of_nets models))
+too_large models =
+    let total = λ (own : Model → ℕ). sum_over_instances own models 32 (main_of models) in
+    let instance_total = total (λ m. length (instances m)) in
+    let net_total = length (nets_of (walk models)) in
+    given (nat_lt (2 ^ 18) instance_total || nat_lt (2 ^ 24) (total cell_count) || nat_lt (2 ^ 18) net_total)
     (at_line (main_of models).line TooLarge)
 
 -- the first of these faults, in the order of the kinds

@@ -26,37 +26,22 @@ pub record Instance : Type 0 where
 
 -- ---- the models of a file
 
--- a row goes before the rows below it, a line that is read past leaves them, and any other line has none of them
-abbrev pub rows_from : Statement → List (List Name) → List (List Name)
-rows_from (row tokens) below = tokens ∷ below
-rows_from passed below = below
-rows_from _ below = []
-
--- the rows that stand directly below a line
+-- the rows that stand directly below a line; lines that are read past don't count
 unfoldable pub rows_below : List Said → List (List Name)
 rows_below [] = []
-rows_below (line ∷ lines) = rows_from line.says (rows_below lines)
+rows_below (line ∷ lines) = elim line.says [ row tokens ↦ tokens ∷ rows_below lines | passed ↦ rows_below lines | _ ↦ [] ]
 
 -- lines as items
 unfoldable pub items_of : List Said → List Item
 items_of [] = []
 items_of (line ∷ lines) = record { line = line.number; says = line.says; rows = rows_below lines } ∷ items_of lines
 
--- a model ends at its `.end` line and at the next `.model` line
-abbrev pub ends_model : Statement → Bool
-ends_model end = true
-ends_model (model name) = true
-ends_model _ = false
-
--- a `.model` line begins a model, with the lines below it up to its end
-abbrev pub model_from : ℕ → Statement → List Said → List Model
-model_from number (model name) below = record { name = name; line = number; items = items_of (before_first (λ line. ends_model line.says) below) } ∷ []
-model_from number _ below = []
-
--- the models of a file, in its order
+-- the models of a file, in its order: a `.model` line begins one, which ends at the next `.end` or `.model` line
 unfoldable pub models_of : List Said → List Model
 models_of [] = []
-models_of (line ∷ lines) = model_from line.number line.says lines ++ models_of lines
+models_of (line ∷ lines) =
+    let items = items_of (before_first (λ below. elim below.says [ end ↦ true | model name ↦ true | _ ↦ false ]) lines) in
+    elim line.says [ model name ↦ record { name = name; line = line.number; items = items } ∷ [] | _ ↦ [] ] ++ models_of lines
 
 -- the models of the bytes of a file
 unfoldable pub file_models : Bytes → List Model
@@ -76,35 +61,21 @@ at_model models name value default = option_map_or value (model_named models nam
 
 -- ---- formals
 
--- the names that each instance binds
-abbrev pub formal_names : Statement → List Name
-formal_names (inputs names) = names
-formal_names (clock names) = names
-formal_names _ = []
-
--- those that it may bind
-abbrev pub port_names : Statement → List Name
-port_names (outputs names) = names
-port_names says = formal_names says
-
--- the formal inputs of a model
+-- the formal inputs of a model, which each instance binds: the names on its `.inputs` and `.clock` lines
 unfoldable pub formal_inputs : Model → List Name
-formal_inputs m = flat_map (λ item. formal_names item.says) m.items
+formal_inputs m = flat_map (λ item. elim item.says [ inputs names ↦ names | clock names ↦ names | _ ↦ [] ]) m.items
 
--- the formals of a model
+-- the formals of a model, which an instance may bind: those on its `.outputs` lines too
 unfoldable pub formals : Model → List Name
-formals m = flat_map (λ item. port_names item.says) m.items
+formals m = flat_map (λ item. elim item.says [ inputs names ↦ names | outputs names ↦ names | clock names ↦ names | _ ↦ [] ]) m.items
 
 -- ---- instances
 
--- the instance of a line, if it is a `.subckt` line
-abbrev pub instance_from : ℕ → Statement → Option Instance
-instance_from number (instance name bindings) = Some (record { line = number; name = name; bindings = bindings })
-instance_from number _ = None
-
 -- the `.subckt` lines of a model, in order
 unfoldable pub instances : Model → List Instance
-instances m = filter_map (λ item. instance_from item.line item.says) m.items
+instances m = filter_map
+    (λ item. elim item.says [ instance name bindings ↦ Some (record { line = item.line; name = name; bindings = bindings }) | _ ↦ None ])
+    m.items
 
 -- the model has this name, or reaches the name by at most so many instances, one in the other
 unfoldable pub reaches : List Model → ℕ → Name → Model → Bool
@@ -122,17 +93,9 @@ has_nest models (suc depth) m = list_any (λ i. at_model models i.name (has_nest
 -- a number of each model, summed over the model and all instances in it down to this depth
 unfoldable pub sum_over_instances : (Model → ℕ) → List Model → ℕ → Model → ℕ
 sum_over_instances own models zero m = own m
-sum_over_instances own models (suc depth) m = own m + sum_by (λ i. at_model models i.name (sum_over_instances own models depth) 0) (instances m)
+sum_over_instances own models (suc depth) m =
+    own m + sum_by (λ i. at_model models i.name (sum_over_instances own models depth) 0) (instances m)
 
--- the instances of a model, without those in them
-abbrev pub instance_count : Model → ℕ
-instance_count m = length (instances m)
-
--- rows times inputs of a table, where no rows count as one row and no inputs as one input
-abbrev pub cells_from : Statement → List (List Name) → ℕ
-cells_from (table ins out) rows = max 1 (length rows) * max 1 (length ins)
-cells_from _ rows = 0
-
--- the cells of a model's own tables
+-- the cells of a model's own tables: rows times inputs, where no rows count as one row and no inputs as one input
 abbrev pub cell_count : Model → ℕ
-cell_count m = sum_by (λ item. cells_from item.says item.rows) m.items
+cell_count m = sum_by (λ item. elim item.says [ table ins out ↦ max 1 (length item.rows) * max 1 (length ins) | _ ↦ 0 ]) m.items

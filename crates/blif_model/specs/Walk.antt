@@ -8,21 +8,16 @@ use Rattle.fm_base.specs.Names.{Name, is_one_of, distinct}
 
 -- ---- names of nets
 
--- a formal, and the net that is bound to it
-pub record Bound : Type 0 where
-  pub formal : Name
-  pub net : Name
-
--- where a name stands: in the main model, or in an instance with this path
+-- where a name stands: in the main model, or in an instance with this path, where formals are bound to nets
 pub data Scope : Type 0 where
   top : Scope
-  inside : (path : Name) (bound : List Bound) → Scope
+  inside : (path : Name) (bound : List Binding) → Scope
 
 -- the net of a name: in the main model itself; in an instance that of its actual, or else the name behind the path
 unfoldable pub net_of : Scope → Name → Name
 net_of top name = name
 net_of (inside path bound) name =
-    option_map_or (λ b. b.net) (find (λ b. bytes_eq b.formal name) bound) (path ++ codes "." ++ name)
+    option_map_or (λ b. b.actual) (find (λ b. bytes_eq b.formal name) bound) (path ++ codes "." ++ name)
 
 -- the path of instance j
 abbrev pub path_of : Scope → ℕ → Name
@@ -31,7 +26,7 @@ path_of (inside path bound) j = path ++ codes ".u" ++ decimal j
 
 -- the scope of instance j
 abbrev pub scope_of : Scope → ℕ → List Binding → Scope
-scope_of scope j bindings = inside (path_of scope j) (map (λ b. record { formal = b.formal; net = net_of scope b.actual }) bindings)
+scope_of scope j bindings = inside (path_of scope j) (map (λ b. record { formal = b.formal; actual = net_of scope b.actual }) bindings)
 
 -- ---- the steps of the walk
 
@@ -45,17 +40,10 @@ pub record FlatLatch : Type 0 where
 
 -- what a line of the walk does with its nets
 pub data Act : Type 0 where
-  -- an `.inputs` line of the main model
-  takes : List Name → Act
-  -- an `.outputs` line of the main model
-  gives : List Name → Act
-  -- a `.clock` line of the main model
-  clocks : List Name → Act
-  -- such a line of an instance, or the actuals at a `.subckt` line
-  visits : List Name → Act
-  -- a table, of the main model or of an instance
+  -- an `.inputs`, an `.outputs` and a `.clock` line of the main model; any of them of an instance, or the actuals at a `.subckt` line
+  takes gives clocks visits : List Name → Act
+  -- a table and a latch, of the main model or of an instance
   flat_table : (ins : List Name) (out : Name) (rows : List (List Name)) → Act
-  -- a latch
   flat_latch : FlatLatch → Act
 
 -- a line of the walk
@@ -68,19 +56,17 @@ abbrev pub port : Scope → (List Name → Act) → List Name → Act
 port top own names = own names
 port (inside path bound) own names = visits (map (net_of (inside path bound)) names)
 
--- the net of a control, but none for `NIL`
-abbrev pub control_net : Scope → Clocking → Option Name
-control_net scope clocking = if bytes_eq clocking.control (codes "NIL") then None else Some (net_of scope clocking.control)
-
--- a latch line with net names
+-- a latch line with net names; the control `NIL` is none
 abbrev pub flat_latch_of : Scope → LatchLine → FlatLatch
-flat_latch_of scope line = record {
-  from = net_of scope line.from;
-  to = net_of scope line.to;
-  edge = option_map (λ c. c.edge) line.clocking;
-  control = option_map_or (control_net scope) line.clocking None;
-  start = line.start;
-}
+flat_latch_of scope line =
+    let control_net = λ (c : Clocking). if bytes_eq c.control (codes "NIL") then None else Some (net_of scope c.control) in
+    record {
+      from = net_of scope line.from;
+      to = net_of scope line.to;
+      edge = option_map (λ c. c.edge) line.clocking;
+      control = option_map_or control_net line.clocking None;
+      start = line.start;
+    }
 
 -- what a line with rows does in a scope; a `.subckt` line visits its actuals
 abbrev pub acts_of : Scope → Statement → List (List Name) → List Act
@@ -92,32 +78,21 @@ acts_of scope (latch line) rows = flat_latch (flat_latch_of scope line) ∷ []
 acts_of scope (instance name bindings) rows = visits (map (λ b. net_of scope b.actual) bindings) ∷ []
 acts_of scope _ rows = []
 
--- behind a `.subckt` line comes the walk of its instance, which is instance j
-abbrev pub inner_steps : (Scope → Name → List Step) → Scope → ℕ → Statement → List Step
-inner_steps enter scope j (instance name bindings) = enter (scope_of scope j bindings) name
-inner_steps enter scope j _ = []
-
--- the `.subckt` lines of a model are numbered from 0
-abbrev pub next : ℕ → Statement → ℕ
-next j (instance name bindings) = j + 1
-next j _ = j
-
--- the walk of one item; `enter` walks the model of a name in a scope
-abbrev pub steps_of : (Scope → Name → List Step) → Scope → ℕ → Item → List Step
-steps_of enter scope j item =
-    map (λ act. record { line = item.line; act = act }) (acts_of scope item.says item.rows) ++ inner_steps enter scope j item.says
-
--- the walk of the items from instance j on
+-- the walk of the items from instance j on; behind a `.subckt` line comes that of its instance, where `enter` walks the model of a name
 unfoldable pub steps_from : (Scope → Name → List Step) → Scope → ℕ → List Item → List Step
 steps_from enter scope j [] = []
-steps_from enter scope j (item ∷ items) = steps_of enter scope j item ++ steps_from enter scope (next j item.says) items
+steps_from enter scope j (item ∷ items) =
+    let own = map (λ act. record { line = item.line; act = act }) (acts_of scope item.says item.rows) in
+    let inner : List Step = elim item.says [ instance name bindings ↦ enter (scope_of scope j bindings) name | _ ↦ [] ] in
+    let next : ℕ = elim item.says [ instance name bindings ↦ j + 1 | _ ↦ j ] in
+    own ++ inner ++ steps_from enter scope next items
 
 -- the walk of the model of a name in a scope, and of the instances in it down to this depth
 unfoldable pub enter : List Model → ℕ → Scope → Name → List Step
 enter models zero scope name = []
 enter models (suc depth) scope name = at_model models name (λ m. steps_from (enter models depth) scope 0 m.items) []
 
--- the walk of the flattened main model
+-- the walk of the flattened main model, whose instances are numbered from 0, as those of each model are
 unfoldable pub walk : List Model → List Step
 walk models = steps_from (enter models 32) top 0 (main_of models).items
 
@@ -145,15 +120,9 @@ names_at line names = map (λ name. record { name = name; line = line }) names
 unfoldable pub visits_of : List Step → List Visit
 visits_of steps = flat_map (λ s. names_at s.line (visited s.act)) steps
 
--- the clock names that a step brings
-abbrev pub clocked : Act → List Name
-clocked (clocks names) = names
-clocked (flat_latch s) = option_to_list s.control
-clocked _ = []
-
 -- the clock names: those on the main model's `.clock` lines, and the nets of all controls
 unfoldable pub clock_names : List Step → List Name
-clock_names steps = flat_map (λ s. clocked s.act) steps
+clock_names steps = flat_map (λ s. elim s.act [ clocks names ↦ names | flat_latch l ↦ option_to_list l.control | _ ↦ [] ]) steps
 
 -- the name is a clock name
 abbrev pub is_clock : List Step → Name → Bool
@@ -167,28 +136,13 @@ unclocked steps names = filter (λ name. not (is_clock steps name)) names
 unfoldable pub nets_of : List Step → List Name
 nets_of steps = unclocked steps (distinct (map (λ v. v.name) (visits_of steps)))
 
--- ---- what a step drives
-
--- the inputs that a step brings, clock names aside
-abbrev pub taken : List Step → Act → List Name
-taken steps (takes names) = unclocked steps names
-taken steps _ = []
-
--- the net that a table drives
-abbrev pub table_net : Act → List Name
-table_net (flat_table ins out rows) = out ∷ []
-table_net _ = []
-
--- the net that a latch drives
-abbrev pub latch_net : Act → List Name
-latch_net (flat_latch s) = s.to ∷ []
-latch_net _ = []
-
--- the outputs that a step brings
-abbrev pub outputs_at : Act → List Name
-outputs_at (gives names) = names
-outputs_at _ = []
+-- the nets that a line drives: inputs that are no clock names, the output of a table, and that of a latch
+abbrev pub driven : List Step → Act → List Name
+driven steps (takes names) = unclocked steps names
+driven steps (flat_table ins out rows) = out ∷ []
+driven steps (flat_latch l) = l.to ∷ []
+driven steps _ = []
 
 -- the nets that are driven, each as often as it is, in the order of the walk
 unfoldable pub drives_of : List Step → List Visit
-drives_of steps = flat_map (λ s. names_at s.line (taken steps s.act ++ table_net s.act ++ latch_net s.act)) steps
+drives_of steps = flat_map (λ s. names_at s.line (driven steps s.act)) steps

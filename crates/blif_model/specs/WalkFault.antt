@@ -1,77 +1,35 @@
 -- The faults that are found in the walk of the flattened main model: the kinds from TwoClocks to Undriven, in their order.
-use Rattle.std.specs.Prelude.{ℕ, Bool, false, not, ◌&&◌, ◌||◌, List, [], ◌∷◌, ◌++◌, map, flat_map, Option, bytes_eq}
+use Rattle.std.specs.Prelude.{Bool, not, ◌&&◌, ◌||◌, List, [], ◌∷◌, ◌++◌, flat_map, length, nat_lt, Option, bytes_eq}
 use Rattle.std.specs.List.{list_any}
+use Rattle.std.specs.Option.{option_to_list}
 use Rattle.blif_text.specs.declared.NetlistKind.TheVariants.{TwoClocks, BadClock, ClockRead, TwoDrivers, Undriven}
 use Rattle.blif_text.specs.declared.NetlistFault.{NetlistFault}
 use Rattle.fm_base.specs.Firsts.{first_after, first_where, first_answer, given}
 use Rattle.blif_model.specs.LineFault.{at_line}
-use Rattle.blif_model.specs.Walk.{Act, takes, gives, clocks, flat_table, flat_latch, Step, Visit, visits_of, is_clock, clocked, drives_of}
-use Rattle.fm_base.specs.Names.{Name, is_one_of}
-use Rattle.std.specs.Option.{option_to_list}
+use Rattle.blif_model.specs.Walk.{Act, takes, gives, clocks, flat_table, flat_latch, Step, Visit, visits_of, clock_names, is_clock, drives_of}
+use Rattle.fm_base.specs.Names.{Name, distinct, is_one_of}
 
--- the type of a latch, or a clock name
-pub data Mark : Type 0 where
-  edge : Name → Mark
-  control : Name → Mark
-
--- two types that differ, or two clock names that do
-abbrev pub differ : Mark → Mark → Bool
-differ (edge a) (edge b) = not (bytes_eq a b)
-differ (control a) (control b) = not (bytes_eq a b)
-differ _ _ = false
-
--- a mark at a line of the walk
-pub record Marked : Type 0 where
-  pub mark : Mark
-  pub line : ℕ
-
--- the type of a latch, if it has one
-abbrev pub edge_of : Act → List Name
-edge_of (flat_latch s) = option_to_list s.edge
-edge_of _ = []
-
--- the marks of a step
-abbrev pub marks_at : Step → List Marked
-marks_at s = map (λ name. record { mark = edge name; line = s.line }) (edge_of s.act)
-    ++ map (λ name. record { mark = control name; line = s.line }) (clocked s.act)
-
--- the marks of the walk
-unfoldable pub marks_of : List Step → List Marked
-marks_of steps = flat_map marks_at steps
-
--- TwoClocks: a type differs from an earlier one, or a clock name does
+-- TwoClocks: at the first line up to which the latches have two types, or there are two clock names
 unfoldable pub two_clocks : List Step → Option NetlistFault
-two_clocks steps = first_after (λ before m. given (list_any (λ earlier. differ earlier.mark m.mark) before) (at_line m.line TwoClocks)) [] (marks_of steps)
+two_clocks steps =
+    let types_of = λ (some : List Step). flat_map (λ s. elim s.act [ flat_latch l ↦ option_to_list l.edge | _ ↦ [] ]) some in
+    let has_two = λ (names : List Name). nat_lt 1 (length (distinct names)) in
+    let fault_at = λ (before : List Step) (s : Step).
+    given (has_two (types_of (before ++ s ∷ [])) || has_two (clock_names (before ++ s ∷ []))) (at_line s.line TwoClocks) in
+    first_after fault_at [] steps
 
--- the names on an `.inputs` or `.clock` line of the main model
-abbrev pub input_nets : Act → List Name
-input_nets (takes names) = names
-input_nets (clocks names) = names
-input_nets _ = []
-
--- all of them
-unfoldable pub main_inputs : List Step → List Name
-main_inputs steps = flat_map (λ s. input_nets s.act) steps
-
--- the net of a latch's control
-abbrev pub control_of : Act → List Name
-control_of (flat_latch s) = option_to_list s.control
-control_of _ = []
-
--- BadClock: a control is no name of the main model's `.inputs` and `.clock` lines
+-- BadClock: the control of a latch is no name on an `.inputs` or `.clock` line of the main model
 unfoldable pub bad_clock : List Step → Option NetlistFault
-bad_clock steps = first_where (λ s. given (list_any (λ name. not (is_one_of (main_inputs steps) name)) (control_of s.act)) (at_line s.line BadClock)) steps
+bad_clock steps =
+    let inputs = flat_map (λ s. elim s.act [ takes names ↦ names | clocks names ↦ names | _ ↦ [] ]) steps in
+    let controls : Act → List Name = elim [ flat_latch l ↦ option_to_list l.control | _ ↦ [] ] in
+    first_where (λ s. given (list_any (λ name. not (is_one_of inputs name)) (controls s.act)) (at_line s.line BadClock)) steps
 
--- what a table or a latch reads, and what the main model has as outputs
-abbrev pub read : Act → List Name
-read (flat_table ins out rows) = ins
-read (flat_latch s) = s.from ∷ []
-read (gives names) = names
-read _ = []
-
--- ClockRead: a clock name is read
+-- ClockRead: a clock name is read by a table or a latch, or is an output of the main model
 unfoldable pub clock_read : List Step → Option NetlistFault
-clock_read steps = first_where (λ s. given (list_any (is_clock steps) (read s.act)) (at_line s.line ClockRead)) steps
+clock_read steps =
+    let read : Act → List Name = elim [ flat_table ins out rows ↦ ins | flat_latch l ↦ l.from ∷ [] | gives names ↦ names | _ ↦ [] ] in
+    first_where (λ s. given (list_any (is_clock steps) (read s.act)) (at_line s.line ClockRead)) steps
 
 -- a visit of this name is among these
 abbrev pub has_visit : List Visit → Name → Bool
@@ -79,11 +37,14 @@ has_visit others name = list_any (λ other. bytes_eq other.name name) others
 
 -- TwoDrivers: a net is driven that was driven before, or a clock name is driven
 unfoldable pub two_drivers : List Step → Option NetlistFault
-two_drivers steps = first_after (λ before d. given (has_visit before d.name || is_clock steps d.name) (at_line d.line TwoDrivers)) [] (drives_of steps)
+two_drivers steps =
+    first_after (λ before d. given (has_visit before d.name || is_clock steps d.name) (at_line d.line TwoDrivers)) [] (drives_of steps)
 
 -- Undriven: a net is visited that has no driver
 unfoldable pub undriven : List Step → Option NetlistFault
-undriven steps = first_where (λ v. given (not (is_clock steps v.name) && not (has_visit (drives_of steps) v.name)) (at_line v.line (Undriven v.name))) (visits_of steps)
+undriven steps =
+    let is_loose = λ (name : Name). not (is_clock steps name) && not (has_visit (drives_of steps) name) in
+    first_where (λ v. given (is_loose v.name) (at_line v.line (Undriven v.name))) (visits_of steps)
 
 -- the first of these faults, in the order of the kinds
 unfoldable pub walk_fault : List Step → Option NetlistFault

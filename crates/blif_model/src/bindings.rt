@@ -1,7 +1,8 @@
 // The bindings of a `.subckt` line.
-ghost use Rattle.std.specs.Prelude.{◌≡◌, ◌+◌, ◌≤◌, drop, length};
+ghost use Rattle.std.specs.Prelude.{◌≡◌, ◌+◌, ◌≤◌, drop, length, map};
 ghost use Rattle.std.specs.List.{list_all};
-ghost use Rattle.blif_model.specs.Statement.{binding_of, is_binding};
+ghost use Rattle.blif_model.specs.Statement.{binding_of};
+ghost use Rattle.blif_model.specs.StatementSteps.{is_binding, is_whole};
 ghost use Rattle.blif_model.specs.Tokens.{texts_of};
 
 use blif_text::places::{behind, byte_place};
@@ -55,7 +56,7 @@ fn all_whole(tokens: &[Token<'_>]) -> bool
 /// The texts of all tokens are bindings.
 #[tactic(auto, using(crate::proofs::Forms::bindings_seen))]
 pub fn are_bindings(tokens: &[Token<'_>]) -> bool
-    ensures { result ≡ list_all is_binding (texts_of tokens.now) }
+    ensures { result ≡ list_all is_whole (map binding_of (texts_of tokens.now)) }
 {
     all_whole(tokens)
 }

@@ -1,6 +1,7 @@
 // What a directive makes of the tokens behind it.
 ghost use Rattle.std.specs.Prelude.{◌≡◌};
-ghost use Rattle.blif_model.specs.Statement.{end_line, model_line, table_line};
+ghost use Rattle.blif_model.specs.Statement.{table_line};
+ghost use Rattle.blif_model.specs.StatementSteps.{end_line, model_line};
 ghost use Rattle.blif_model.specs.Directed.{directed, instanced, latch_statement};
 ghost use Rattle.blif_model.specs.Meant.{meant};
 ghost use Rattle.blif_model.specs.Tokens.{texts_of};

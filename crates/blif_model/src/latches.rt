@@ -1,7 +1,8 @@
 // `.latch` lines.
 ghost use Rattle.std.specs.Prelude.{◌≡◌, ◌∷◌, [], List};
 ghost use Rattle.fm_base.specs.Names.{Name};
-ghost use Rattle.blif_model.specs.Statement.{latch_line, typed_latch};
+ghost use Rattle.blif_model.specs.Statement.{latch_line};
+ghost use Rattle.blif_model.specs.StatementSteps.{typed_latch};
 ghost use Rattle.blif_model.specs.Directed.{directed};
 ghost use Rattle.blif_model.specs.Tokens.{texts_of};
 

@@ -2,7 +2,8 @@
 ghost use Rattle.std.specs.Prelude.{◌≡◌, ◌<◌, ◌≤◌, ◌∷◌, ◌++◌, length, IfOk, MatchOption, OnOk};
 ghost use Rattle.std.specs.List.{position, position_or_len};
 ghost use Rattle.std.specs.Option.{option_map, option_to_list};
-ghost use Rattle.blif_model.specs.Models.{ends_model, model_from, models_of};
+ghost use Rattle.blif_model.specs.Models.{models_of};
+ghost use Rattle.blif_model.specs.ModelSteps.{ends_model, model_from};
 ghost use Rattle.blif_model.specs.Grouped.{model_of, models_seen};
 ghost use Rattle.blif_model.specs.Meant.{meant};
 
@@ -51,7 +52,7 @@ fn model_at<'m, 'a>(
     says: Says<'m, 'a>,
     below: &'m [ReadLine<'a>],
 ) -> Option<ModelLines<'m, 'a>>
-    ensures { option_to_list (option_map model_of result) ≡ model_from number (meant says.entry) below.now }
+    ensures { option_to_list (option_map model_of result) ≡ model_from number below.now (meant says.entry) }
 {
     match says {
         Says::Model(name) => Some(ModelLines {

@@ -1,7 +1,8 @@
 // Where a line stands, and what that makes of its rows.
 ghost use Rattle.std.specs.Prelude.{◌≡◌, ◌∷◌, ◌++◌, [], List};
 ghost use Rattle.std.specs.Option.{option_map};
-ghost use Rattle.blif_model.specs.LineFault.{inside_after, plane_after, Said, table_after};
+ghost use Rattle.blif_model.specs.LineFault.{Said};
+ghost use Rattle.blif_model.specs.LineSteps.{inside_after, plane_after, table_after};
 ghost use Rattle.blif_model.specs.Meant.{meant};
 ghost use Rattle.blif_model.specs.Position.{IsBehind};
 ghost use Rattle.blif_model.specs.Tokens.{texts_of};
@@ -19,7 +20,7 @@ pub struct Position<'m, 'a> {
 }
 
 fn next_inside(says: Says<'_, '_>, inside: bool) -> bool
-    ensures { result ≡ inside_after (meant says.entry) inside }
+    ensures { result ≡ inside_after inside (meant says.entry) }
 {
     match says {
         Says::Model(_) => true,
@@ -29,7 +30,7 @@ fn next_inside(says: Says<'_, '_>, inside: bool) -> bool
 }
 
 fn next_table<'m, 'a>(says: Says<'m, 'a>, above: Option<&'m [Token<'a>]>) -> Option<&'m [Token<'a>]>
-    ensures { option_map (λ t. texts_of t.now) result ≡ table_after (meant says.entry) (option_map (λ t. texts_of t.now) above.entry) }
+    ensures { option_map (λ t. texts_of t.now) result ≡ table_after (option_map (λ t. texts_of t.now) above.entry) (meant says.entry) }
 {
     match says {
         Says::Table { ins, .. } => Some(ins),
@@ -39,7 +40,7 @@ fn next_table<'m, 'a>(says: Says<'m, 'a>, above: Option<&'m [Token<'a>]>) -> Opt
 }
 
 fn next_output<'a>(says: Says<'_, 'a>, above: Option<&'a [u8]>) -> Option<&'a [u8]>
-    ensures { option_map (λ o. o.now) result ≡ plane_after (meant says.entry) (option_map (λ o. o.now) above.entry) }
+    ensures { option_map (λ o. o.now) result ≡ plane_after (option_map (λ o. o.now) above.entry) (meant says.entry) }
 {
     match says {
         Says::Row(tokens) => match above {

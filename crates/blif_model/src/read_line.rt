@@ -1,7 +1,8 @@
 // The lines of a file, each read once.
 ghost use Rattle.std.specs.Prelude.{◌≡◌, ◌<◌, ◌^◌, length, map, IfOk};
 ghost use Rattle.blif_text.specs.Read.{line_of};
-ghost use Rattle.blif_model.specs.LineFault.{said, said_lines};
+ghost use Rattle.blif_model.specs.LineFault.{said_lines};
+ghost use Rattle.blif_model.specs.LineSteps.{said};
 ghost use Rattle.blif_model.specs.Meant.{meant};
 ghost use Rattle.blif_model.specs.Directed.{stated};
 ghost use Rattle.blif_model.specs.Tokens.{texts_of};

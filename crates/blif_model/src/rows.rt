@@ -2,7 +2,8 @@
 ghost use Rattle.std.specs.Prelude.{◌≡◌};
 ghost use Rattle.std.specs.List.{list_all};
 ghost use Rattle.fm_base.specs.Text.{is_bit};
-ghost use Rattle.blif_model.specs.LineFault.{is_cell, is_row_of, row_output};
+ghost use Rattle.blif_model.specs.LineFault.{is_row_of, row_output};
+ghost use Rattle.blif_model.specs.LineSteps.{is_cell};
 ghost use Rattle.blif_model.specs.Tokens.{texts_of};
 
 use blif_text::token::Token;

@@ -1,6 +1,6 @@
 // The words of lines.
 ghost use Rattle.std.specs.Prelude.{◌≡◌};
-ghost use Rattle.blif_model.specs.Statement.{begins_with_dot, is_edge, is_init, is_level, is_passed, starts_high};
+ghost use Rattle.blif_model.specs.StatementSteps.{begins_with_dot, is_edge, is_init, is_level, is_passed, starts_high};
 
 /// Whether the text is the initial value of a latch: `0`, `1`, `2` or `3`.
 pub fn is_init_value(name: &[u8]) -> bool

@@ -8,5 +8,5 @@ use Rattle.blif_flatten.proofs.place.bound_to.Given as goal
 abbrev pub invariant-loop-binding : goal.invariant-loop-binding
 invariant-loop-binding l =
     l.bound
-    ≡ map (λ b. record { formal = b.formal; net = net_of (scope_at l.place) b.actual })
+    ≡ map (λ b. record { formal = b.formal; actual = net_of (scope_at l.place) b.actual })
     (bindings_of (texts_of (take l.binding-index l.bindings)))

@@ -1,6 +1,6 @@
 use Rattle.std.proofs.Common.{◌≡◌, [], take, drop}
 use Rattle.fm_base.specs.Firsts.{first_after}
-use Rattle.blif_model.specs.LineFault.{fault_of}
+use Rattle.blif_model.specs.LineSteps.{fault_of}
 use Rattle.blif_model.specs.Position.{IsBehind}
 use Rattle.blif_model.proofs.faults.first_fault.Given as goal
 
