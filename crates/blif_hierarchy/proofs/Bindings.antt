@@ -22,7 +22,8 @@ use Rattle.blif_model.specs.Grouped.{model_of}
 use Rattle.blif_model.specs.LineFault.{Said, at_line}
 use Rattle.blif_model.specs.Meant.{bindings_of}
 use Rattle.blif_model.specs.ModelFault.{bad_formal, bound_formals, first_instance, has_other, unbound, unknown_model}
-use Rattle.blif_model.specs.Models.{Model, Instance, formal_inputs, formal_names, formals, instances, items_of, model_named, port_names}
+use Rattle.blif_model.specs.Models.{Model, Instance, formal_inputs, formals, instances, items_of, model_named}
+use Rattle.blif_model.specs.ModelSteps.{formal_names, port_names}
 use Rattle.blif_model.specs.Statement.{Statement}
 use Rattle.blif_model.specs.Tokens.{texts_of}
 use Rattle.blif_model.specs.declared.models.ModelLines.{ModelLines}

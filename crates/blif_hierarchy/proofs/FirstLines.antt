@@ -9,7 +9,8 @@ use Rattle.std.proofs.lemmas.List.Elements.{filter_map-append}
 use Rattle.fm_base.specs.Firsts.{first_where}
 use Rattle.fm_base.proofs.Options.{or_mapped}
 use Rattle.blif_model.specs.LineFault.{Said}
-use Rattle.blif_model.specs.Models.{Model, instance_from, instances, items_of}
+use Rattle.blif_model.specs.Models.{Model, instances, items_of}
+use Rattle.blif_model.specs.ModelSteps.{instance_from}
 use Rattle.blif_model.specs.declared.models.ModelLines.{ModelLines}
 use Rattle.blif_model.specs.Grouped.{model_of, models_seen}
 use Rattle.blif_hierarchy.specs.Lines.{instance_at}

@@ -1,7 +1,8 @@
 -- The `.subckt` lines among lines.
 use Rattle.std.specs.Prelude.{Option, option_and_then}
 use Rattle.blif_model.specs.LineFault.{Said}
-use Rattle.blif_model.specs.Models.{Instance, instance_from}
+use Rattle.blif_model.specs.Models.{Instance}
+use Rattle.blif_model.specs.ModelSteps.{instance_from}
 
 -- the instance of a line, if it is a `.subckt` line
 abbrev pub instance_at : Said → Option Instance

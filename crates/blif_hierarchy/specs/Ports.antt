@@ -3,7 +3,8 @@ use Rattle.std.specs.Prelude.{List, [], flat_map, fold}
 use Rattle.fm_base.specs.Names.{Name, has_repeat}
 use Rattle.fm_base.specs.Index.{with_name}
 use Rattle.blif_model.specs.LineFault.{Said}
-use Rattle.blif_model.specs.Models.{Model, formal_inputs, formal_names, formals, port_names}
+use Rattle.blif_model.specs.Models.{Model, formal_inputs, formals}
+use Rattle.blif_model.specs.ModelSteps.{formal_names, port_names}
 use Rattle.blif_hierarchy.specs.declared.ports.BoundNames.{BoundNames}
 use Rattle.blif_hierarchy.specs.declared.ports.Ports.{Ports}
 

@@ -3,7 +3,7 @@ ghost use Rattle.std.specs.Prelude.{◌≡◌, ◌||◌, IfOk, OnOk, fold, map};
 ghost use Rattle.fm_base.specs.Index.{with_name};
 ghost use Rattle.fm_base.specs.Names.{is_one_of};
 ghost use Rattle.blif_model.specs.Grouped.{models_seen};
-ghost use Rattle.blif_model.specs.Models.{formal_names, port_names};
+ghost use Rattle.blif_model.specs.ModelSteps.{formal_names, port_names};
 ghost use Rattle.blif_model.specs.Meant.{bindings_of, meant};
 ghost use Rattle.blif_model.specs.Statement.{binding_of};
 ghost use Rattle.blif_model.specs.Tokens.{texts_of};

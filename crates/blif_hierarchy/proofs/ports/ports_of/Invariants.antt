@@ -1,5 +1,5 @@
 use Rattle.std.proofs.Common.{◌≡◌, flat_map, take}
-use Rattle.blif_model.specs.Models.{formal_names, port_names}
+use Rattle.blif_model.specs.ModelSteps.{formal_names, port_names}
 use Rattle.blif_hierarchy.specs.Ports.{once}
 use Rattle.blif_hierarchy.proofs.ports.ports_of.Given as goal
 
