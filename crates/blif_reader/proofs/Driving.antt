@@ -1,7 +1,7 @@
 -- TwoDrivers is found by the marks of what is driven.
-use Rattle.std.proofs.Common.{◌≡◌, ℕ, ◌+◌, ◌<◌, Bool, true, false, ◌||◌, List, [], ◌∷◌, ◌++◌, refl, ap, sym, ◌∙◌, append_assoc, length, map, arith}
+use Rattle.std.proofs.Common.{◌≡◌, ℕ, ◌<◌, Bool, true, false, ◌||◌, List, [], ◌∷◌, ◌++◌, refl, ap, sym, ◌∙◌, append_assoc, length, map, arith}
 use Rattle.std.specs.Prelude.{Option, slice_index_or, slice_set}
-use Rattle.std.proofs.lemmas.List.{append-nil, get_or-map, map-append}
+use Rattle.std.proofs.lemmas.List.{get_or-map, map-append}
 use Rattle.std.proofs.lemmas.List.Elements.{All-cons, All-nil, All-head, All-tail, All-filter}
 use Rattle.std.proofs.Math.Bool.{or_comm}
 use Rattle.fm_base.specs.Names.{Name, is_one_of}
@@ -11,7 +11,7 @@ use Rattle.net_names.proofs.Times.{one_of_both}
 use Rattle.blif_text.specs.declared.NetlistKind.TheVariants.{TwoDrivers}
 use Rattle.blif_text.specs.declared.NetlistFault.{NetlistFault}
 use Rattle.blif_model.specs.LineFault.{at_line}
-use Rattle.blif_model.specs.Walk.{Step, Visit, clock_names, is_clock, latch_net, names_at, table_net, taken, unclocked}
+use Rattle.blif_model.specs.Walk.{driven, Step, Visit, clock_names, is_clock, names_at}
 use Rattle.blif_model.specs.WalkFault.{has_visit}
 use Rattle.blif_model.proofs.Drivers.{names_at-names, visit-found}
 use Rattle.blif_flatten.specs.declared.flat.FlatModel.{FlatModel}
@@ -32,7 +32,7 @@ driver_answer steps before d = given (has_visit before d.name || is_clock steps 
 
 -- what a step drives
 abbrev pub drives_at : List Step → Step → List Visit
-drives_at steps s = names_at s.line (taken steps s.act ++ table_net s.act ++ latch_net s.act)
+drives_at steps s = names_at s.line (driven steps s.act)
 
 driven_below : (n : ℕ) (marks : List Bool) (act : NumberedAct) → AreBelow n (ids_in act) → AreBelow n (driven_ids marks act)
 driven_below n marks (Inputs ids) below = All-filter _ (λ (id : NameId). id.0 < n) ids below
@@ -45,10 +45,8 @@ module _ (f : FlatModel) where
   all = flat_steps f
 
   driven_names : (clocks : List Bool) → AreClockMarks f clocks → (act : NumberedAct) → AreBelow (length f.names) (ids_in act)
-      → map (name_at f.names) (driven_ids clocks act) ≡ taken all (act_by (name_at f.names) act) ++ table_net (act_by (name_at f.names) act) ++ latch_net (act_by (name_at f.names) act)
-  driven_names clocks are (Inputs ids) below =
-      let names : List Name = unclocked all (map (name_at f.names) ids) in
-      unmarked_names f (is_clock all) clocks are ids below ∙ sym (append-nil (names ++ []) ∙ append-nil names)
+      → map (name_at f.names) (driven_ids clocks act) ≡ driven all (act_by (name_at f.names) act)
+  driven_names clocks are (Inputs ids) below = unmarked_names f (is_clock all) clocks are ids below
   driven_names clocks are act below = refl
 
   settled_found : (before : List Visit) (q : Name) → (has_visit before q || is_clock all q) ≡ is_one_of (settled all before) q

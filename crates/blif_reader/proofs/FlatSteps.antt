@@ -66,6 +66,15 @@ pub given_or : {X : Type 0} (a b : Bool) (x : X) → option_or (given a x) (give
 given_or true b x = refl
 given_or false b x = refl
 
+-- what is found at a line goes before what is found behind it
+pub pass_line : {Y : Type 0} (answer : List Step → Step → Option Y) {f : FlatModel} {i : ℕ} {s : NumberedStep} {all : Option Y} → IsStep f i s
+    → first_after answer (take i (flat_steps f)) (drop i (flat_steps f)) ≡ all
+    → option_or (answer (take i (flat_steps f)) (step_by (name_at f.names) s)) (first_after answer (take (i + 1) (flat_steps f)) (drop (i + 1) (flat_steps f))) ≡ all
+unfolding first_after
+pass_line answer {f} {i} {s} at inv =
+    ap (λ (done : List Step). option_or (answer (take i (flat_steps f)) (step_by (name_at f.names) s)) (first_after answer done (drop (i + 1) (flat_steps f)))) at.done
+    ∙ sym (ap (first_after answer (take i (flat_steps f))) at.left) ∙ inv
+
 -- what the lines up to this one give
 pub given_so_far : {X : Type 0} (g : Step → List X) {f : FlatModel} {i : ℕ} {s : NumberedStep} → IsStep f i s
     → flat_map g (take (i + 1) (flat_steps f)) ≡ flat_map g (take i (flat_steps f)) ++ g (step_by (name_at f.names) s)
@@ -73,7 +82,7 @@ given_so_far {X} g {f} {i} {s} at =
     ap (flat_map g) at.done ∙ flat_map-append g (take i (flat_steps f)) (step_by (name_at f.names) s ∷ [])
     ∙ ap (λ (xs : List X). flat_map g (take i (flat_steps f)) ++ xs) (append-nil (g (step_by (name_at f.names) s)))
 
--- what is found at a line goes before what is found behind it
+-- the same where each line gives several items
 pub pass_step : {X Y : Type 0} (answer : List X → X → Option Y) (g : Step → List X) {f : FlatModel} {i : ℕ} {s : NumberedStep} {all : Option Y} → IsStep f i s
     → first_after answer (flat_map g (take i (flat_steps f))) (flat_map g (drop i (flat_steps f))) ≡ all
     → option_or (first_after answer (flat_map g (take i (flat_steps f))) (g (step_by (name_at f.names) s)))

@@ -9,7 +9,8 @@ use Rattle.fm_base.specs.Names.{Name}
 use Rattle.blif_text.specs.declared.token.Token.{Token}
 use Rattle.std.specs.Borrow.{Bor}
 use Rattle.blif_model.specs.LineFault.{Said}
-use Rattle.blif_model.specs.Models.{Item, Model, instance_from, instances, items_of, rows_below, rows_from, sum_over_instances}
+use Rattle.blif_model.specs.Models.{Item, Model, instances, items_of, rows_below, sum_over_instances}
+use Rattle.blif_model.specs.ModelSteps.{instance_from, rows_from}
 use Rattle.blif_model.specs.Statement.{Statement, instance}
 use Rattle.blif_model.specs.declared.says.Says.{Says}
 use Rattle.blif_model.specs.declared.says.Says.TheVariants.{Row, Passed}
@@ -20,12 +21,12 @@ use Rattle.blif_reader.specs.Counts.{count_on, instances_on, main_count, model_c
 
 -- the rows from a line on, by what the line says
 pub rows_step : (lines : List Said) (i : ℕ) (x : Said) (says known : Says) → i < length lines → x ≡ get_or lines i x → meant says ≡ x.says → says ≡ known
-    → rows_below (drop i lines) ≡ rows_from (meant known) (rows_below (drop (i + 1) lines))
+    → rows_below (drop i lines) ≡ rows_from (rows_below (drop (i + 1) lines)) (meant known)
 unfolding rows_below
 rows_step lines i x says known lt is means same = at_drop_more rows_below lines i x lt ∙ rw (sym is, sym means, same) refl
 
 -- any line but a row and one that is read past ends the rows
-pub ends_rows : (says : Says) → ((tokens : Bor (List Token)) → says ≡ Row tokens → ⊥) → (says ≡ Passed → ⊥) → (more : List (List Name)) → rows_from (meant says) more ≡ []
+pub ends_rows : (says : Says) → ((tokens : Bor (List Token)) → says ≡ Row tokens → ⊥) → (says ≡ Passed → ⊥) → (more : List (List Name)) → rows_from more (meant says) ≡ []
 ends_rows (Row tokens) row passed more = absurd (row tokens refl)
 ends_rows Passed row passed more = absurd (passed refl)
 ends_rows says row passed more = refl

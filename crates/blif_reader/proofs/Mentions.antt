@@ -7,8 +7,10 @@ use Rattle.std.proofs.lemmas.List.Concat.{length-flat_map}
 use Rattle.std.proofs.lemmas.List.Sums.{sum_by-append, sum_by-cons, sum_by-le}
 use Rattle.fm_base.specs.Names.{Name}
 use Rattle.blif_model.specs.Statement.{Clocking, Statement, inputs, outputs, clock, latch, instance}
-use Rattle.blif_model.specs.Models.{Item, Instance, Model, at_model, model_named, main_of, instance_from, instances, sum_over_instances}
-use Rattle.blif_model.specs.Walk.{Scope, top, inside, Step, acts_of, clocked, clock_names, control_net, inner_steps, scope_of, next, steps_from, enter, walk}
+use Rattle.blif_model.specs.Models.{Item, Instance, Model, at_model, model_named, main_of, instances, sum_over_instances}
+use Rattle.blif_model.specs.ModelSteps.{instance_from}
+use Rattle.blif_model.specs.Walk.{Scope, top, inside, Step, acts_of, clock_names, scope_of, steps_from, enter, walk}
+use Rattle.blif_model.specs.WalkSteps.{clocked, control_net, inner_steps, next}
 use Rattle.blif_reader.specs.Mentions.{count_of_mentions, mention_count, mentions_on}
 use Rattle.blif_model.proofs.Counts.{named_sum, named_at, named_more}
 

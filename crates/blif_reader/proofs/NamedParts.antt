@@ -1,5 +1,5 @@
 -- The parts of a netlist by numbers are those by names.
-use Rattle.std.proofs.Common.{◌≡◌, ℕ, zero, suc, ◌+◌, ◌<◌, Bool, true, false, cond, List, [], ◌∷◌, ◌++◌, refl, ap, sym, ◌∙◌, append_assoc, length, map, arith}
+use Rattle.std.proofs.Common.{◌≡◌, ◌<◌, Bool, true, false, cond, List, [], ◌∷◌, ◌++◌, refl, ap, sym, ◌∙◌, append_assoc, length, map, arith}
 use Rattle.std.specs.Prelude.{All, filter_map, flat_map, not, slice_index_or, slice_set}
 use Rattle.std.proofs.lemmas.Bool.Decides.{nat_tests}
 use Rattle.std.proofs.lemmas.List.{append-nil, get_or-map}
@@ -9,8 +9,8 @@ use Rattle.fm_base.specs.Names.{Name, distinct, is_one_of}
 use Rattle.fm_base.proofs.Distinct.{distinct-snoc}
 use Rattle.fm_base.proofs.Lists.{all_left}
 use Rattle.net_names.specs.Nets.{net_id}
-use Rattle.blif_model.specs.Net.{latch_of, table_of}
-use Rattle.blif_model.specs.Walk.{Act, takes, Step, nets_of, taken, unclocked, is_clock}
+use Rattle.blif_model.specs.WalkSteps.{latch_of, table_of, taken}
+use Rattle.blif_model.specs.Walk.{Act, takes, Step, nets_of, unclocked, is_clock}
 use Rattle.blif_flatten.specs.declared.flat.FlatModel.{FlatModel}
 use Rattle.blif_flatten.specs.declared.flat.NameId.{NameId}
 use Rattle.blif_flatten.specs.declared.flat.NumberedAct.{NumberedAct}

@@ -13,10 +13,12 @@ use Rattle.fm_base.proofs.Options.{or_assoc, or_none}
 use Rattle.blif_model.specs.Answer.{models_read, models_unless}
 use Rattle.blif_model.specs.LineFault.{at_line, line_fault, said_lines}
 use Rattle.blif_model.specs.Models.{Model, file_models, main_of}
-use Rattle.blif_model.specs.ModelFault.{count_of_nets, model_fault, too_large}
+use Rattle.blif_model.specs.ModelFault.{model_fault, too_large}
+use Rattle.blif_model.specs.ModelSteps.{count_of_nets}
 use Rattle.blif_model.specs.Walk.{nets_of, walk}
 use Rattle.blif_model.specs.WalkFault.{walk_fault}
-use Rattle.blif_model.specs.Net.{bad_net, netlist_of, netlist_unless}
+use Rattle.blif_model.specs.Net.{bad_net, netlist_of}
+use Rattle.blif_model.specs.WalkSteps.{netlist_unless}
 use Rattle.blif_flatten.specs.Flat.{all_names}
 use Rattle.blif_reader.specs.Mentions.{count_of_mentions}
 use Rattle.blif_reader.specs.Stages.{file_gives, unwalked_fault}
@@ -41,7 +43,7 @@ file_is bytes = by_cases (line_fault (said_lines bytes))
     models : List Model
     models = file_models bytes
 
-    by_cases : (lines : Option NetlistFault) → netlist_unless (option_or lines (option_or (model_fault models) (option_or (walk_fault (walk models)) None))) (walk models) ≡ file_gives (models_unless lines models)
+    by_cases : (lines : Option NetlistFault) → netlist_unless (walk models) (option_or lines (option_or (model_fault models) (option_or (walk_fault (walk models)) None))) ≡ file_gives (models_unless lines models)
     by_cases (Some fault) = refl
     by_cases None = rw (nets_last models, or_none (walk_fault (walk models)), or_assoc (unwalked_fault models)) refl
 

@@ -2,8 +2,13 @@
 use Rattle.std.specs.Prelude.{Bool, false, not, ◌||◌, List, [], ◌∷◌, ◌++◌, Option, Some, None, bytes_eq, map}
 use Rattle.std.specs.Option.{option_or}
 use Rattle.fm_base.specs.Names.{Name}
-use Rattle.blif_model.specs.Walk.{Act, clocked}
-use Rattle.blif_model.specs.WalkFault.{Mark, edge, control, edge_of}
+use Rattle.blif_model.specs.Walk.{Act}
+use Rattle.blif_model.specs.WalkSteps.{clocked, edge_of}
+
+-- the type of a latch, or a clock name
+pub data Mark : Type 0 where
+  edge : Name → Mark
+  control : Name → Mark
 
 -- the first type of latch, and the first clock name
 pub record Firsts : Type 0 where

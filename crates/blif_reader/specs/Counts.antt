@@ -1,7 +1,8 @@
 -- What is counted of a line and of a model.
 use Rattle.std.specs.Prelude.{ℕ, List}
 use Rattle.fm_base.specs.Names.{Name}
-use Rattle.blif_model.specs.Models.{Model, cell_count, cells_from, instance_count, main_of, sum_over_instances}
+use Rattle.blif_model.specs.Models.{Model, cell_count, main_of, sum_over_instances}
+use Rattle.blif_model.specs.ModelSteps.{cells_from, instance_count}
 use Rattle.blif_model.specs.Statement.{Statement, instance}
 use Rattle.blif_reader.specs.declared.counts.Count.{Count}
 use Rattle.blif_reader.specs.declared.counts.Count.TheVariants.{Instances, Cells, Mentions}
@@ -15,7 +16,7 @@ instances_on _ = 0
 -- of a line with these rows below it
 abbrev pub count_on : Count → Statement → List (List Name) → ℕ
 count_on Instances says rows = instances_on says
-count_on Cells says rows = cells_from says rows
+count_on Cells says rows = cells_from rows says
 count_on Mentions says rows = mentions_on says
 
 -- of a model's own lines

@@ -6,7 +6,8 @@ use Rattle.circuit.specs.declared.parts.Table.{Table}
 use Rattle.fm_base.specs.Names.{Name}
 use Rattle.blif_model.specs.Models.{rows_below}
 use Rattle.blif_model.specs.Net.{lits_of, table_plane}
-use Rattle.blif_model.specs.Walk.{Act, takes, latch_net, outputs_at, table_net}
+use Rattle.blif_model.specs.Walk.{Act, takes}
+use Rattle.blif_model.specs.WalkSteps.{latch_net, outputs_at, table_net}
 use Rattle.blif_flatten.specs.declared.flat.NameId.{NameId}
 use Rattle.blif_flatten.specs.declared.flat.NumberedAct.{NumberedAct}
 use Rattle.blif_flatten.specs.declared.flat.NumberedAct.TheVariants as acts

@@ -7,9 +7,10 @@ use Rattle.fm_base.specs.Firsts.{first_answer, given}
 use Rattle.blif_text.specs.declared.NetlistFault.{NetlistFault}
 use Rattle.blif_text.specs.declared.NetlistKind.TheVariants.{TooLarge}
 use Rattle.blif_model.specs.LineFault.{at_line}
-use Rattle.blif_model.specs.ModelFault.{bad_formal, count_of_cells, count_of_instances, recursive, too_deep, two_models, unbound, unknown_model}
+use Rattle.blif_model.specs.ModelFault.{bad_formal, recursive, too_deep, two_models, unbound, unknown_model}
+use Rattle.blif_model.specs.ModelSteps.{count_of_cells, count_of_instances}
 use Rattle.blif_model.specs.Models.{Model, main_of}
-use Rattle.blif_model.specs.Net.{netlist_unless}
+use Rattle.blif_model.specs.WalkSteps.{netlist_unless}
 use Rattle.blif_model.specs.Walk.{Step, nets_of, walk}
 use Rattle.blif_model.specs.WalkFault.{walk_fault}
 
@@ -25,11 +26,11 @@ flat_fault steps line = option_or (given (nat_lt (2 ^ 18) (length (nets_of steps
 
 -- what a walk gives
 abbrev pub walk_gives : List Step → ℕ → Result Circuit NetlistFault
-walk_gives steps line = netlist_unless (flat_fault steps line) steps
+walk_gives steps line = netlist_unless steps (flat_fault steps line)
 
 -- what models give
 abbrev pub models_give : List Model → Result Circuit NetlistFault
-models_give models = netlist_unless (option_or (unwalked_fault models) (flat_fault (walk models) (main_of models).line)) (walk models)
+models_give models = netlist_unless (walk models) (option_or (unwalked_fault models) (flat_fault (walk models) (main_of models).line))
 
 -- what a file gives, of whose lines this is read
 abbrev pub file_gives : Result (List Model) NetlistFault → Result Circuit NetlistFault

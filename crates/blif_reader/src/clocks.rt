@@ -1,10 +1,10 @@
 // TwoClocks: another type of latch or another clock name than the first.
 ghost use Rattle.std.specs.Prelude.{◌≡◌, false, fold, length, map};
 ghost use Rattle.std.specs.Option.{option_map, option_to_list};
-ghost use Rattle.blif_model.specs.WalkFault.{control, edge, two_clocks};
+ghost use Rattle.blif_model.specs.WalkFault.{two_clocks};
 ghost use Rattle.blif_flatten.specs.Flat.{act_by, AreBelow, ids_in, name_at};
 ghost use Rattle.blif_flatten.specs.Flattened.{flat_steps};
-ghost use Rattle.blif_reader.specs.Clocks.{any_apart, firsts_with, is_apart, marks_in};
+ghost use Rattle.blif_reader.specs.Clocks.{any_apart, control, edge, firsts_with, is_apart, marks_in};
 
 use crate::steps::step_at;
 use blif_flatten::flat::{FlatModel, NameId, NumberedAct};

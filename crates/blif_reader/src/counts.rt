@@ -3,7 +3,8 @@ ghost use Rattle.std.specs.Prelude.{◌≡◌, ◌+◌, ◌*◌, ◌<◌, ◌≤
 ghost use Rattle.std.specs.Option.{option_map_or};
 ghost use Rattle.blif_model.specs.Grouped.{model_of};
 ghost use Rattle.blif_model.specs.Meant.{meant};
-ghost use Rattle.blif_model.specs.Models.{cells_from, items_of, rows_below};
+ghost use Rattle.blif_model.specs.Models.{items_of, rows_below};
+ghost use Rattle.blif_model.specs.ModelSteps.{cells_from};
 ghost use Rattle.blif_reader.specs.Counts.{count_on, instances_on, model_count};
 ghost use Rattle.blif_reader.specs.Mentions.{mentions_on};
 
@@ -57,7 +58,7 @@ fn capped_product(rows: usize, inputs: usize, cap: u64) -> u64
 /// The cells of a line, up to the cap.
 fn line_cells(says: Says<'_, '_>, below: &[ReadLine<'_>], cap: u64) -> u64
     requires { cap < 2 ^ 32 }
-    ensures { result ≡ min cap (cells_from (meant says.entry) (rows_below below.now)) }
+    ensures { result ≡ min cap (cells_from (rows_below below.now) (meant says.entry)) }
 {
     match says {
         Says::Table { ins, .. } => capped_product(row_count(below), ins.len(), cap),

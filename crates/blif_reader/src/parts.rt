@@ -3,8 +3,8 @@ ghost use Rattle.std.specs.Prelude.{◌≡◌, ◌++◌, ℕ, IfOk, OnOk, filter
 ghost use Rattle.std.specs.Option.{option_to_list};
 ghost use Rattle.fm_base.specs.Names.{Name};
 ghost use Rattle.net_names.specs.Nets.{net_id};
-ghost use Rattle.blif_model.specs.Net.{latch_of, table_of};
-ghost use Rattle.blif_model.specs.Walk.{latch_net, nets_of, outputs_at, table_net};
+ghost use Rattle.blif_model.specs.WalkSteps.{latch_of, table_of, latch_net, outputs_at, table_net};
+ghost use Rattle.blif_model.specs.Walk.{nets_of};
 ghost use Rattle.blif_flatten.specs.declared.flat.NameId.{NameId};
 ghost use Rattle.blif_flatten.specs.Flat.{act_by, AreBelow, ids_in, name_at};
 ghost use Rattle.blif_flatten.specs.Flattened.{flat_steps};

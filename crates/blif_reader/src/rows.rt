@@ -2,7 +2,8 @@
 ghost use Rattle.std.specs.Prelude.{◌≡◌, ◌<◌, ◌∷◌, [], IfOk, IfSome, MatchOption, bytes_eq, codes, length, map};
 ghost use Rattle.blif_model.specs.LineFault.{row_output};
 ghost use Rattle.blif_model.specs.Models.{rows_below};
-ghost use Rattle.blif_model.specs.Net.{lit_of, lits_of, table_plane};
+ghost use Rattle.blif_model.specs.Net.{lits_of, table_plane};
+ghost use Rattle.blif_model.specs.WalkSteps.{lit_of};
 ghost use Rattle.blif_model.specs.Tokens.{texts_of};
 
 use blif_model::read_line::ReadLine;

@@ -1,7 +1,6 @@
 use Rattle.std.proofs.Common.{◌≡◌, drop, fold, map, take}
-use Rattle.blif_model.specs.WalkFault.{control}
 use Rattle.blif_flatten.specs.Flat.{name_at}
-use Rattle.blif_reader.specs.Clocks.{any_apart, firsts_with}
+use Rattle.blif_reader.specs.Clocks.{any_apart, control, firsts_with}
 use Rattle.blif_reader.proofs.clocks.FirstMarks.has_second_clock.Given as goal
 
 abbrev pub invariant-loop-id : goal.invariant-loop-id
