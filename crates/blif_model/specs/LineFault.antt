@@ -69,7 +69,7 @@ row_fault before tokens =
 
 -- ---- the least kind
 
--- a `.model` line and a line that is read past may stand anywhere, and any other stands inside a model
+-- the kind of a line, the width of its tokens aside: a `.model` line and one that is read past may stand anywhere, any other in a model
 abbrev pub place_fault : List Said → Statement → Option NetlistKind
 place_fault before passed = None
 place_fault before (model name) = None

@@ -40,8 +40,10 @@ pub record FlatLatch : Type 0 where
 
 -- what a line of the walk does with its nets
 pub data Act : Type 0 where
-  -- an `.inputs`, an `.outputs` and a `.clock` line of the main model; any of them of an instance, or the actuals at a `.subckt` line
-  takes gives clocks visits : List Name → Act
+  -- an `.inputs`, an `.outputs` and a `.clock` line of the main model
+  takes gives clocks : List Name → Act
+  -- such a line of an instance, or the actuals at a `.subckt` line
+  visits : List Name → Act
   -- a table and a latch, of the main model or of an instance
   flat_table : (ins : List Name) (out : Name) (rows : List (List Name)) → Act
   flat_latch : FlatLatch → Act

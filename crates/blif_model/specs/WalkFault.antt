@@ -12,11 +12,10 @@ use Rattle.fm_base.specs.Names.{Name, distinct, is_one_of}
 -- TwoClocks: at the first line up to which the latches have two types, or there are two clock names
 unfoldable pub two_clocks : List Step → Option NetlistFault
 two_clocks steps =
-    let types_of = λ (some : List Step). flat_map (λ s. elim s.act [ flat_latch l ↦ option_to_list l.edge | _ ↦ [] ]) some in
+    let types = λ (lines : List Step). flat_map (λ s. elim s.act [ flat_latch l ↦ option_to_list l.edge | _ ↦ [] ]) lines in
     let has_two = λ (names : List Name). nat_lt 1 (length (distinct names)) in
-    let fault_at = λ (before : List Step) (s : Step).
-    given (has_two (types_of (before ++ s ∷ [])) || has_two (clock_names (before ++ s ∷ []))) (at_line s.line TwoClocks) in
-    first_after fault_at [] steps
+    let is_mixed = λ (lines : List Step). has_two (types lines) || has_two (clock_names lines) in
+    first_after (λ before s. given (is_mixed (before ++ s ∷ [])) (at_line s.line TwoClocks)) [] steps
 
 -- BadClock: the control of a latch is no name on an `.inputs` or `.clock` line of the main model
 unfoldable pub bad_clock : List Step → Option NetlistFault
