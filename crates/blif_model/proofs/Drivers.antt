@@ -14,7 +14,7 @@ use Rattle.net_names.specs.Driven.{drives, name_count}
 use Rattle.net_names.proofs.Answers.{none_given}
 use Rattle.net_names.proofs.Driven.{drives-of-lines}
 use Rattle.net_names.proofs.Times.{one_of_both}
-use Rattle.blif_model.specs.Walk.{driven, Step, Visit, is_clock, nets_of, visits_of, drives_of, Act, takes, flat_table, flat_latch, visited, names_at}
+use Rattle.blif_model.specs.Walk.{driven_nets, Step, Visit, is_clock, nets_of, visits_of, drives_of, Act, takes, flat_table, flat_latch, visited, names_at}
 use Rattle.blif_model.specs.WalkSteps.{taken, table_net, latch_net}
 use Rattle.blif_model.specs.WalkFault.{has_visit, two_drivers, undriven}
 use Rattle.blif_model.proofs.Nets.{nets-found}
@@ -96,7 +96,7 @@ flat_names at (s ∷ some) =
     ∙ rw (names_at-names s.line (at s), flat_names at some) refl
 
 -- what a step drives it visits
-step_visits : (steps : List Step) (act : Act) (name : Name) → is_one_of (driven steps act) name ≡ true
+step_visits : (steps : List Step) (act : Act) (name : Name) → is_one_of (driven_nets steps act) name ≡ true
     → is_one_of (visited act) name ≡ true
 step_visits steps (takes names) name e =
     (and_both (not (is_clock steps name)) (is_one_of names name) (sym (filter-found (λ n. not (is_clock steps n)) names name) ∙ e)).1
@@ -105,12 +105,12 @@ step_visits steps (flat_table ins out rows) name e =
 step_visits steps (flat_latch s) name e = or_second (bytes_eq name s.from) (bytes_eq name s.to || false) e
 step_visits steps _ name e = cc
 
-drives_among : (steps some : List Step) (name : Name) → is_one_of (flat_map (λ s. driven steps s.act) some) name ≡ true
+drives_among : (steps some : List Step) (name : Name) → is_one_of (flat_map (λ s. driven_nets steps s.act) some) name ≡ true
     → is_one_of (flat_map (λ s. visited s.act) some) name ≡ true
 drives_among steps [] name e = e
 drives_among steps (s ∷ some) name e =
     one_of_both (visited s.act) (flat_map (λ x. visited x.act) some) name
-    ∙ elim (or_cases _ _ (sym (one_of_both (driven steps s.act) _ name) ∙ e)) [
+    ∙ elim (or_cases _ _ (sym (one_of_both (driven_nets steps s.act) _ name) ∙ e)) [
       | inl here ↦ rw (step_visits steps s.act name here) refl
       | inr behind ↦ or_second (is_one_of (visited s.act) name) _ (drives_among steps some name behind)
     ]
@@ -121,11 +121,11 @@ pub drives-visited : (steps : List Step) (name : Name) → is_one_of (names_of (
 unfolding drives_of visits_of
 drives-visited steps name e =
     rw (flat_names (λ s. visited s.act) steps)
-    (drives_among steps steps name (rw (flat_names (λ s. driven steps s.act) steps) at e))
+    (drives_among steps steps name (rw (flat_names (λ s. driven_nets steps s.act) steps) at e))
 
 -- the drives of a line are those of its inputs, its table and its latch
 act_drives : (name : Name) (steps : List Step) (act : Act)
-    → name_count name (driven steps act) ≡ drives (taken steps act) (table_net act) (latch_net act) name
+    → name_count name (driven_nets steps act) ≡ drives (taken steps act) (table_net act) (latch_net act) name
 act_drives name steps (takes names) = omega arith
 act_drives name steps (flat_table ins out rows) = omega arith
 act_drives name steps (flat_latch l) = omega arith
@@ -133,9 +133,9 @@ act_drives name steps _ = refl
 
 -- the drives of a walk are those of its inputs, tables and latches
 pub times-drives : (name : Name) (steps some : List Step)
-    → name_count name (names_of (flat_map (λ s. names_at s.line (driven steps s.act)) some))
+    → name_count name (names_of (flat_map (λ s. names_at s.line (driven_nets steps s.act)) some))
     ≡ drives (flat_map (λ s. taken steps s.act) some) (flat_map (λ s. table_net s.act) some) (flat_map (λ s. latch_net s.act) some) name
 times-drives name steps some =
-    ap (name_count name) (flat_names (λ (s : Step). driven steps s.act) some)
-    ∙ drives-of-lines (λ (s : Step). driven steps s.act) (λ (s : Step). taken steps s.act) (λ (s : Step). table_net s.act)
+    ap (name_count name) (flat_names (λ (s : Step). driven_nets steps s.act) some)
+    ∙ drives-of-lines (λ (s : Step). driven_nets steps s.act) (λ (s : Step). taken steps s.act) (λ (s : Step). table_net s.act)
     (λ (s : Step). latch_net s.act) name (λ (s : Step). act_drives name steps s.act) some

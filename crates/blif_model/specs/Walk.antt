@@ -139,12 +139,12 @@ unfoldable pub nets_of : List Step → List Name
 nets_of steps = unclocked steps (distinct (map (λ v. v.name) (visits_of steps)))
 
 -- the nets that a line drives: inputs that are no clock names, the output of a table, and that of a latch
-abbrev pub driven : List Step → Act → List Name
-driven steps (takes names) = unclocked steps names
-driven steps (flat_table ins out rows) = out ∷ []
-driven steps (flat_latch l) = l.to ∷ []
-driven steps _ = []
+abbrev pub driven_nets : List Step → Act → List Name
+driven_nets steps (takes names) = unclocked steps names
+driven_nets steps (flat_table ins out rows) = out ∷ []
+driven_nets steps (flat_latch l) = l.to ∷ []
+driven_nets steps _ = []
 
 -- the nets that are driven, each as often as it is, in the order of the walk
 unfoldable pub drives_of : List Step → List Visit
-drives_of steps = flat_map (λ s. names_at s.line (driven steps s.act)) steps
+drives_of steps = flat_map (λ s. names_at s.line (driven_nets steps s.act)) steps

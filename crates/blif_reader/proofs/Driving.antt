@@ -11,7 +11,7 @@ use Rattle.net_names.proofs.Times.{one_of_both}
 use Rattle.blif_text.specs.declared.NetlistKind.TheVariants.{TwoDrivers}
 use Rattle.blif_text.specs.declared.NetlistFault.{NetlistFault}
 use Rattle.blif_model.specs.LineFault.{at_line}
-use Rattle.blif_model.specs.Walk.{driven, Step, Visit, clock_names, is_clock, names_at}
+use Rattle.blif_model.specs.Walk.{driven_nets, Step, Visit, clock_names, is_clock, names_at}
 use Rattle.blif_model.specs.WalkFault.{has_visit}
 use Rattle.blif_model.proofs.Drivers.{names_at-names, visit-found}
 use Rattle.blif_flatten.specs.declared.flat.FlatModel.{FlatModel}
@@ -32,7 +32,7 @@ driver_answer steps before d = given (has_visit before d.name || is_clock steps 
 
 -- what a step drives
 abbrev pub drives_at : List Step → Step → List Visit
-drives_at steps s = names_at s.line (driven steps s.act)
+drives_at steps s = names_at s.line (driven_nets steps s.act)
 
 driven_below : (n : ℕ) (marks : List Bool) (act : NumberedAct) → AreBelow n (ids_in act) → AreBelow n (driven_ids marks act)
 driven_below n marks (Inputs ids) below = All-filter _ (λ (id : NameId). id.0 < n) ids below
@@ -45,7 +45,7 @@ module _ (f : FlatModel) where
   all = flat_steps f
 
   driven_names : (clocks : List Bool) → AreClockMarks f clocks → (act : NumberedAct) → AreBelow (length f.names) (ids_in act)
-      → map (name_at f.names) (driven_ids clocks act) ≡ driven all (act_by (name_at f.names) act)
+      → map (name_at f.names) (driven_ids clocks act) ≡ driven_nets all (act_by (name_at f.names) act)
   driven_names clocks are (Inputs ids) below = unmarked_names f (is_clock all) clocks are ids below
   driven_names clocks are act below = refl
 
