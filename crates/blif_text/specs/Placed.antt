@@ -1,5 +1,5 @@
--- The logical lines with the place of each token in the file, as they are read: shapes of private steps. What a file means cites the lines of
--- `Lines` alone, and `proofs/Texts` shows that these are the same without the places.
+-- The logical lines with the place of each token in the file, as they are read: shapes of private steps. What a file means cites the
+-- lines of `Lines` alone, and `proofs/Texts` shows that these are the same without the places.
 use Rattle.std.specs.Prelude.{ℕ, ◌+◌, ◌-◌, Bool, nat_lt, List, [], ◌∷◌, ◌++◌, if◌then◌else◌, length, take, filter, map}
 use Rattle.std.specs.List.{list_any, suffix_len, enumerate_from, slice_split}
 use Rattle.fm_base.specs.Names.{Bytes}
