@@ -1,6 +1,6 @@
 -- The order of the checks of a campaign that was begun: those of its plan, and then those of its result file.
 use Rattle.std.proofs.Common.{◌≡◌, ◌∙◌, ap, sym, refl, List, [], length, Ok, Err, inl, inr}
-use Rattle.std.specs.Prelude.{Option, Some, None, Result, ◌⊎◌}
+use Rattle.std.specs.Prelude.{Option, Some, None, Result, ◌⊎◌, unwrap_or}
 use Rattle.fm_base.specs.Names.{Bytes}
 use Rattle.fm_shelf.specs.Shelf.{ShelfState, OnlyReadsAny}
 use Rattle.circuit.specs.declared.parts.NetId.{NetId}
@@ -17,10 +17,10 @@ use Rattle.command_text.specs.declared.status.Status.TheVariants as status
 use Rattle.command_text.specs.declared.status.Which.{Which}
 use Rattle.command_text.specs.declared.status.Which.TheVariants as which
 use Rattle.command_steps.specs.declared.planned.Planned.{Planned}
-use Rattle.command_steps.specs.Files.{Files, FilesRead, all_read, input_bytes}
+use Rattle.command_steps.specs.Files.{Files, FilesRead, all_read, bytes_read, by_file}
 use Rattle.command_text.specs.NetlistFile.{or_refuse}
-use Rattle.command_steps.specs.FirstRefusal.{plan_of, back_step, result_step, audit_step, pairs_step, kept_of, audited_of, paired_of, own_header, refusal_in, status_of_back, IsPlanOf, ◌>>=◌}
-use Rattle.command_steps.specs.Held.{name_in}
+use Rattle.command_steps.specs.FirstRefusal.{plan_of, audit_step, kept_of, audited_of, paired_of, own_header, refusal_in, status_of_back, IsPlanOf, ◌>>=◌}
+use Rattle.command_steps.specs.FileSteps.{back_step, result_step, pairs_step, name_in, reads_with}
 use Rattle.command_steps.specs.Steps.{StepAs}
 use Rattle.command_text.specs.Refusals.{IsPlain}
 use Rattle.command_steps.specs.PlanSteps.{PlanRefused, PlannedAs, input_files}
@@ -28,7 +28,7 @@ use Rattle.command_steps.specs.BegunSteps.{KeptRefused, BegunAs}
 use Rattle.command_steps.proofs.Keeping.{had_if_known}
 use Rattle.command_steps.proofs.Taken.{Begins, SaysMore, no_read_fault, step_plain, told_plain, told_given, step_value}
 use Rattle.command_steps.proofs.InOrder.{some_fit, step_since, rose_of}
-use Rattle.command_steps.proofs.PlanOrder.{plan_is}
+use Rattle.command_steps.proofs.PlanOrder.{AreSame, plan_like}
 
 -- ---- RESULT
 
@@ -68,22 +68,18 @@ header_of made set own is same = is ∙ ap (λ s. own_header s (input_files made
 
 -- ---- the steps
 
-plan_only : (file : Bytes) (walk : Option (List NetId)) (set : Settings) (reads : FilesRead) (result : Option Bytes)
-    → plan_of file walk set (record reads { result = result }) ≡ plan_of file walk set reads
-plan_only file walk set reads result = plan_is file walk set (record reads { result = result }) ∙ sym (plan_is file walk set reads)
-
 abbrev rows_of : Settings → FilesRead → Analysis → Result KeptRows Status
-rows_of set reads p = result_step (own_header set (input_bytes reads) p) p reads.result
+rows_of set reads p = result_step (own_header set (bytes_read reads) p) p (reads which.Result)
 
 kept_is : (file : Bytes) (walk : Option (List NetId)) (set : Settings) (reads : FilesRead) → kept_of file walk set reads ≡ (plan_of file walk set reads >>= rows_of set reads)
-unfolding kept_of
+unfolding kept_of back_step
 kept_is file walk set reads = refl
 
 abbrev checked_of : Settings → FilesRead → Analysis → Result KeptRows Status
 checked_of set reads p = rows_of set reads p >>= (λ k. audit_step p k)
 
 audited_is : (file : Bytes) (walk : Option (List NetId)) (set : Settings) (reads : FilesRead) → audited_of file walk set reads ≡ (plan_of file walk set reads >>= checked_of set reads)
-unfolding audited_of
+unfolding audited_of back_step
 audited_is file walk set reads = refl
 
 -- what is refused before the rows are simulated is refused by an audit too
@@ -106,20 +102,25 @@ pub why_refused : (r : Result Analysis Status) (ended : Status) → refusal_in r
 why_refused (Ok p) ended e = let bad : None ≡ Some ended = e in cc bad
 why_refused (Err other) ended e = ap (λ s. Err (some_or other s)) e
 
+-- the header over what was read of these files
+pub header_like : (set : Settings) (files : Files) (p : Analysis) (reads : FilesRead) → AreSame reads (all_read files)
+    → own_header set (bytes_read reads) p ≡ own_header set files p
+header_like set files p reads (netlist, workload, rates, points) = λ j.
+    own_header set (by_file (unwrap_or (netlist j) []) (unwrap_or (workload j) []) (unwrap_or (rates j) []) (unwrap_or (points j) []) [] [] []) p
+
 -- the rows of a plan that was made
-pub kept_made : (file : Bytes) (set : Settings) (files : Files) (p : Analysis) (own : Bytes) (got : Option Bytes) → IsPlanOf file set files p → own ≡ own_header set files p
-    → kept_of file None set (record (all_read files []) { result = got }) ≡ result_step own p got
-kept_made file set files p own got plan own_is =
-    let reads : FilesRead = record (all_read files []) { result = got } in
-    kept_is file None set reads ∙ ap (λ r. r >>= rows_of set reads) (plan_only file None set (all_read files []) got ∙ plan.plan) ∙ ap (λ o. result_step o p got) (sym own_is)
+pub kept_made : (file : Bytes) (set : Settings) (files : Files) (p : Analysis) (own : Bytes) (reads : FilesRead) → AreSame reads (all_read files) → IsPlanOf file set files p
+    → own ≡ own_header set files p → kept_of file None set reads ≡ result_step own p (reads which.Result)
+kept_made file set files p own reads same plan own_is =
+    kept_is file None set reads ∙ ap (λ r. r >>= rows_of set reads) (plan_like file None set reads (all_read files) same ∙ plan.plan)
+    ∙ ap (λ o. result_step o p (reads which.Result)) (header_like set files p reads same ∙ sym own_is)
 
 -- and these rows, simulated again
-pub audited_made : (file : Bytes) (set : Settings) (files : Files) (p : Analysis) (own : Bytes) (got : Option Bytes) (k : KeptRows) → IsPlanOf file set files p → own ≡ own_header set files p
-    → result_step own p got ≡ Ok k → audited_of file None set (record (all_read files []) { result = got }) ≡ audit_step p k
-audited_made file set files p own got k plan own_is is =
-    let reads : FilesRead = record (all_read files []) { result = got } in
-    audited_is file None set reads ∙ ap (λ r. r >>= checked_of set reads) (plan_only file None set (all_read files []) got ∙ plan.plan)
-    ∙ ap (λ o. result_step o p got >>= (λ k. audit_step p k)) (sym own_is) ∙ ap (λ r. r >>= (λ k. audit_step p k)) is
+pub audited_made : (file : Bytes) (set : Settings) (files : Files) (p : Analysis) (own : Bytes) (reads : FilesRead) (k : KeptRows) → AreSame reads (all_read files) → IsPlanOf file set files p
+    → own ≡ own_header set files p → result_step own p (reads which.Result) ≡ Ok k → audited_of file None set reads ≡ audit_step p k
+audited_made file set files p own reads k same plan own_is is =
+    audited_is file None set reads ∙ ap (λ r. r >>= checked_of set reads) (plan_like file None set reads (all_read files) same ∙ plan.plan)
+    ∙ ap (λ o. result_step o p (reads which.Result) >>= (λ k. audit_step p k)) (header_like set files p reads same ∙ sym own_is) ∙ ap (λ r. r >>= (λ k. audit_step p k)) is
 
 -- ---- the pairs
 
@@ -127,7 +128,7 @@ abbrev paired_by : Settings → FilesRead → Analysis → Result KeptRows Statu
 paired_by set reads p = rows_of set reads p >>= (λ k. pairs_step p k)
 
 paired_is : (file : Bytes) (walk : Option (List NetId)) (set : Settings) (reads : FilesRead) → paired_of file walk set reads ≡ (plan_of file walk set reads >>= paired_by set reads)
-unfolding paired_of
+unfolding paired_of back_step
 paired_is file walk set reads = refl
 
 -- what is refused before the pairs are chosen is refused where they are
@@ -143,12 +144,11 @@ paired_refused file walk set reads ended is = paired_is file walk set reads ∙ 
     by_plan (Err other) e = e
 
 -- the rows by which a plan's faults pair
-pub paired_made : (file : Bytes) (set : Settings) (files : Files) (p : Analysis) (own : Bytes) (got : Option Bytes) (k : KeptRows) → IsPlanOf file set files p → own ≡ own_header set files p
-    → result_step own p got ≡ Ok k → paired_of file None set (record (all_read files []) { result = got }) ≡ pairs_step p k
-paired_made file set files p own got k plan own_is is =
-    let reads : FilesRead = record (all_read files []) { result = got } in
-    paired_is file None set reads ∙ ap (λ r. r >>= paired_by set reads) (plan_only file None set (all_read files []) got ∙ plan.plan)
-    ∙ ap (λ o. result_step o p got >>= (λ k. pairs_step p k)) (sym own_is) ∙ ap (λ r. r >>= (λ k. pairs_step p k)) is
+pub paired_made : (file : Bytes) (set : Settings) (files : Files) (p : Analysis) (own : Bytes) (reads : FilesRead) (k : KeptRows) → AreSame reads (all_read files) → IsPlanOf file set files p
+    → own ≡ own_header set files p → result_step own p (reads which.Result) ≡ Ok k → paired_of file None set reads ≡ pairs_step p k
+paired_made file set files p own reads k same plan own_is is =
+    paired_is file None set reads ∙ ap (λ r. r >>= paired_by set reads) (plan_like file None set reads (all_read files) same ∙ plan.plan)
+    ∙ ap (λ o. result_step o p (reads which.Result) >>= (λ k. pairs_step p k)) (header_like set files p reads same ∙ sym own_is) ∙ ap (λ r. r >>= (λ k. pairs_step p k)) is
 
 module _ (inputs : Inputs) (name : Bytes) (set : Settings) (before after : ShelfState) where
   abbrev Answer : Status → Type 0
@@ -160,7 +160,7 @@ module _ (inputs : Inputs) (name : Bytes) (set : Settings) (before after : Shelf
   begun_planned ended (inr refused) =
       let checked = refused.checked in
       let rows = some_fit before after name in
-      let reads : FilesRead = record checked.reads { result = rows.0 } in
+      let reads : FilesRead = reads_with checked.reads rows.0 None None in
       inr (record {
         reads = reads;
         fit = record { netlist = checked.fit.netlist; workload = checked.fit.workload; rates = checked.fit.rates; points = checked.fit.points };
@@ -168,7 +168,7 @@ module _ (inputs : Inputs) (name : Bytes) (set : Settings) (before after : Shelf
         walk = checked.walk;
         loops = checked.loops;
         refused = kept_is inputs.netlist checked.walk set reads
-            ∙ ap (λ r. r >>= rows_of set reads) (plan_only inputs.netlist checked.walk set checked.reads rows.0 ∙ why_refused (plan_of inputs.netlist checked.walk set checked.reads) ended checked.first);
+            ∙ ap (λ r. r >>= rows_of set reads) (plan_like inputs.netlist checked.walk set reads checked.reads (refl, refl, refl, refl) ∙ why_refused (plan_of inputs.netlist checked.walk set checked.reads) ended checked.first);
         fault = refused.fault name [] [];
       })
 
@@ -184,12 +184,12 @@ module _ (inputs : Inputs) (name : Bytes) (set : Settings) (before after : Shelf
         by_step : StepAs which.Result (result_step own made.plan) name before after (Err ended) → Answer ended
         by_step (inl memory) = inl memory
         by_step (inr (got, fits, is, fault)) = inr (record {
-          reads = record (all_read files []) { result = got };
+          reads = reads_with (all_read files) got None None;
           fit = record { netlist = planned.0.netlist; workload = planned.0.workload; rates = planned.0.rates; points = planned.0.points };
           result = fits;
           walk = None;
           loops = planned.3;
-          refused = kept_made inputs.netlist set files made.plan own got planned.1 own_is ∙ is;
+          refused = kept_made inputs.netlist set files made.plan own (reads_with (all_read files) got None None) (refl, refl, refl, refl) planned.1 own_is ∙ is;
           fault = rose_of (name_in inputs name) which.Result before after ended fault;
         })
 

@@ -18,11 +18,12 @@ use Rattle.command_text.specs.declared.status.What.TheVariants as what
 use Rattle.command_text.specs.Refusals.{IsPlain}
 use Rattle.command_steps.specs.declared.input.Taken.{Taken}
 use Rattle.command_steps.specs.declared.netlist.Ordered.{Ordered}
-use Rattle.command_steps.specs.Files.{Files, FilesRead, all_read}
-use Rattle.command_steps.specs.FirstRefusal.{unless, workload_step, outputs_step, netlist_step, classes_plan_of, first_refusal, refusal_in, IsLoopAnswer, ◌>>=◌, classes_plan}
+use Rattle.command_steps.specs.Files.{Files, FilesRead, all_read, by_file}
+use Rattle.command_steps.specs.FirstRefusal.{unless, netlist_step, classes_plan_of, first_refusal, refusal_in, IsLoopAnswer, ◌>>=◌, classes_plan}
+use Rattle.command_steps.specs.FileSteps.{workload_step, outputs_step, ReadFits}
 use Rattle.campaign_plan.specs.Analysis.{Analysis}
 use Rattle.command_steps.specs.Held.{name_of}
-use Rattle.command_steps.specs.Checked.{ReadFits, NameFits, FaultsRose, Checked}
+use Rattle.command_steps.specs.Checked.{NameFits, FaultsRose, Checked}
 use Rattle.command_steps.specs.Steps.{FaultRose, StepAs, TakenAs, NetlistAs, OrderedAs, OutputsAs, RefusedInOrder, ObservedAs}
 use Rattle.command_steps.proofs.Keeping.{had_if_known}
 use Rattle.command_steps.proofs.Taken.{netlist_begin, netlist_next, outputs_plain, runs_plain}
@@ -77,7 +78,7 @@ held_is content held bytes has is = subst (λ c. HasIfKnown c bytes) is has
 
 -- what was read of its two files
 abbrev reads_of : (netlist workload : Option Bytes) → FilesRead
-reads_of netlist workload = record { netlist = netlist; workload = workload; rates = None; points = None; result = None; first = None; second = None }
+reads_of netlist workload = by_file netlist workload None None None None None
 
 abbrev after_outputs : Option Bytes → Circuit → Result Analysis Status
 after_outputs workload c = workload_step c workload >>= (λ runs. Ok (classes_plan c runs))
@@ -85,8 +86,8 @@ after_outputs workload c = workload_step c workload >>= (λ runs. Ok (classes_pl
 abbrev after_netlist : Option Bytes → Circuit → Result Analysis Status
 after_netlist workload c = outputs_step c >>= after_outputs workload
 
-classes_is : (n : Bytes) (walk : Option (List NetId)) (reads : FilesRead) → classes_plan_of n walk reads ≡ (netlist_step n walk reads.netlist >>= after_netlist reads.workload)
-unfolding classes_plan_of
+classes_is : (n : Bytes) (walk : Option (List NetId)) (reads : FilesRead) → classes_plan_of n walk reads ≡ (netlist_step n walk (reads which.Netlist) >>= after_netlist (reads which.Workload))
+unfolding classes_plan_of workload_step
 classes_is n walk reads = refl
 
 first_is : (walk : Option (List NetId)) (n w : Bytes) (reads : FilesRead) → first_refusal walk (Classes n w) reads ≡ refusal_in (classes_plan_of n walk reads)
@@ -106,7 +107,7 @@ module _ (n w : Bytes) (before after : ShelfState) where
       inr (record {
         checked = record {
           reads = reads;
-          fit = (fits, other.1);
+          fit = (fits, (other.1, tt));
           walk = walk;
           loops = loops;
           first = first_is walk n w reads ∙ ap refusal_in (classes_is n walk reads ∙ ap (λ r. r >>= after_netlist other.0) is);
@@ -119,15 +120,15 @@ module _ (n w : Bytes) (before after : ShelfState) where
     c = made.net
 
     -- the plan of this netlist and what comes of the outputs
-    after_net : (reads : FilesRead) → reads.netlist ≡ Some made.bytes → classes_plan_of n None reads ≡ after_netlist reads.workload c
-    after_net reads is = classes_is n None reads ∙ ap (λ r. r >>= after_netlist reads.workload) (ap (netlist_step n None) is ∙ net.1)
+    after_net : (reads : FilesRead) → (reads which.Netlist) ≡ Some made.bytes → classes_plan_of n None reads ≡ after_netlist (reads which.Workload) c
+    after_net reads is = classes_is n None reads ∙ ap (λ r. r >>= after_netlist (reads which.Workload)) (ap (netlist_step n None) is ∙ net.1)
 
     -- over this netlist and what was read of the workload, this is the first refusal, or there is none
     by_reads : (got : Option Bytes) (refusal : Option Status) → NameFits before after w got → refusal_in (after_netlist got c) ≡ refusal
         → Checked (Classes n w) before after refusal
     by_reads got refusal fits is = record {
       reads = reads_of (Some made.bytes) got;
-      fit = (net.0, fits);
+      fit = (net.0, (fits, tt));
       walk = None;
       loops = loops_none n made.bytes c net.1 net.2;
       first = first_is None n w (reads_of (Some made.bytes) got) ∙ ap refusal_in (after_net (reads_of (Some made.bytes) got) refl) ∙ is;
@@ -162,10 +163,10 @@ module _ (n w : Bytes) (before after : ShelfState) where
           → ObservedAs before after n w (Ok (record { ordered = made; points = points; work = work.value }))
       classes_made work (held, is) =
           let read = had_if_known w work.bytes first held in
-          let files : Files = record { netlist = made.bytes; workload = work.bytes; rates = []; points = [] } in
+          let files : Files = by_file made.bytes work.bytes [] [] [] [] [] in
           let plan : after_netlist (Some work.bytes) c ≡ Ok (classes_plan c work.value) =
           ap (λ r. r >>= after_outputs (Some work.bytes)) outputs.2 ∙ ap (λ r. r >>= (λ runs. Ok (classes_plan c runs))) is in (
-            (files, net.0, read, after_net (all_read files []) refl ∙ plan),
+            (files, (net.0, (read, tt)), after_net (all_read files) refl ∙ plan),
             net.2,
             net.3,
             outputs.0,

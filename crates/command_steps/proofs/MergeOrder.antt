@@ -19,8 +19,9 @@ use Rattle.command_text.specs.declared.status.Which.{Which}
 use Rattle.command_text.specs.declared.status.Which.TheVariants as which
 use Rattle.command_text.specs.Refusals.{IsPlain}
 use Rattle.command_steps.specs.declared.planned.Planned.{Planned}
-use Rattle.command_steps.specs.Files.{Files, FilesRead, all_read, both_read, input_bytes}
-use Rattle.command_steps.specs.FirstRefusal.{plan_of, back_step, merge_step, merged_of, own_header, status_of_merge, IsPlanOf, ◌>>=◌}
+use Rattle.command_steps.specs.Files.{Files, FilesRead, all_read, bytes_read}
+use Rattle.command_steps.specs.FirstRefusal.{plan_of, merged_of, own_header, status_of_merge, IsPlanOf, ◌>>=◌}
+use Rattle.command_steps.specs.FileSteps.{back_step, merge_step, reads_with, files_with}
 use Rattle.command_steps.specs.Held.{name_with}
 use Rattle.command_steps.specs.Checked.{FaultsRose}
 use Rattle.command_steps.specs.Steps.{FaultRose, StepAs, AnswersAs}
@@ -29,8 +30,8 @@ use Rattle.command_steps.specs.MergeSteps.{MergeRefused, AreMerged, BothRead, Bo
 use Rattle.command_steps.proofs.Keeping.{had_if_known}
 use Rattle.command_steps.proofs.Taken.{no_read_fault, told_plain}
 use Rattle.command_steps.proofs.InOrder.{some_fit, step_since, fits_since, rose_since, rose_of}
-use Rattle.command_steps.proofs.PlanOrder.{plan_is}
-use Rattle.command_steps.proofs.BegunOrder.{why_refused, rows_plain}
+use Rattle.command_steps.proofs.PlanOrder.{AreSame, plan_like}
+use Rattle.command_steps.proofs.BegunOrder.{why_refused, rows_plain, header_like}
 
 -- ---- the batches that stand in both
 
@@ -120,32 +121,23 @@ module _ (own : Bytes) (p : Analysis) (one two : Bytes) (before after : ShelfSta
 -- ---- behind the plan
 
 abbrev both_of : Settings → FilesRead → Analysis → Result (List Row) Status
-both_of set reads p = both_step (own_header set (input_bytes reads) p) p reads.first reads.second
+both_of set reads p = both_step (own_header set (bytes_read reads) p) p (reads which.First) (reads which.Second)
 
 merged_is : (file : Bytes) (walk : Option (List NetId)) (set : Settings) (reads : FilesRead) → merged_of file walk set reads ≡ (plan_of file walk set reads >>= both_of set reads)
-unfolding merged_of
+unfolding merged_of back_step
 merged_is file walk set reads = refl
 
--- the files of a plan, and two more
-abbrev reads_with : FilesRead → (first second : Option Bytes) → FilesRead
-reads_with reads first second = record reads { result = None; first = first; second = second }
-
-plan_only : (file : Bytes) (walk : Option (List NetId)) (set : Settings) (reads : FilesRead) (first second : Option Bytes)
-    → plan_of file walk set (reads_with reads first second) ≡ plan_of file walk set reads
-plan_only file walk set reads first second = plan_is file walk set (reads_with reads first second) ∙ sym (plan_is file walk set reads)
-
 -- the rows of both files of a plan that was made
-merged_made : (file : Bytes) (set : Settings) (files : Files) (p : Analysis) (own : Bytes) (first second : Option Bytes) → IsPlanOf file set files p → own ≡ own_header set files p
-    → merged_of file None set (reads_with (all_read files []) first second) ≡ both_step own p first second
-merged_made file set files p own first second plan own_is =
-    let reads : FilesRead = reads_with (all_read files []) first second in
-    merged_is file None set reads ∙ ap (λ r. r >>= both_of set reads) (plan_only file None set (all_read files []) first second ∙ plan.plan)
-    ∙ ap (λ o. both_step o p first second) (sym own_is)
+merged_made : (file : Bytes) (set : Settings) (files : Files) (p : Analysis) (own : Bytes) (reads : FilesRead) → AreSame reads (all_read files) → IsPlanOf file set files p
+    → own ≡ own_header set files p → merged_of file None set reads ≡ both_step own p (reads which.First) (reads which.Second)
+merged_made file set files p own reads same plan own_is =
+    merged_is file None set reads ∙ ap (λ r. r >>= both_of set reads) (plan_like file None set reads (all_read files) same ∙ plan.plan)
+    ∙ ap (λ o. both_step o p (reads which.First) (reads which.Second)) (header_like set files p reads same ∙ sym own_is)
 
 pub merged_both : {p : Analysis} {own first second : Bytes} {shelf : ShelfState} {rows : List Row} (file : Bytes) (set : Settings) (files : Files) → IsPlanOf file set files p
-    → own ≡ own_header set files p → (both : BothRead own p first second shelf rows) → merged_of file None set (both_read files both.first_bytes both.second_bytes) ≡ Ok rows
+    → own ≡ own_header set files p → (both : BothRead own p first second shelf rows) → merged_of file None set (all_read (files_with files [] both.first_bytes both.second_bytes)) ≡ Ok rows
 merged_both {p} {own} file set files plan own_is both =
-    merged_made file set files p own (Some both.first_bytes) (Some both.second_bytes) plan own_is
+    merged_made file set files p own (all_read (files_with files [] both.first_bytes both.second_bytes)) (refl, refl, refl, refl) plan own_is
     ∙ ap (λ r. r >>= from_second own p (Some both.second_bytes)) both.first_kept ∙ ap (λ r. r >>= (λ l. merge_step p both.first l)) both.second_kept ∙ both.merge
 
 module _ (inputs : Inputs) (first second : Bytes) (set : Settings) (before after : ShelfState) where
@@ -159,7 +151,7 @@ module _ (inputs : Inputs) (first second : Bytes) (set : Settings) (before after
       let checked = refused.checked in
       let one = some_fit before after first in
       let two = some_fit before after second in
-      let reads : FilesRead = reads_with checked.reads one.0 two.0 in
+      let reads : FilesRead = reads_with checked.reads None one.0 two.0 in
       inr (record {
         reads = reads;
         fit = record { netlist = checked.fit.netlist; workload = checked.fit.workload; rates = checked.fit.rates; points = checked.fit.points };
@@ -168,7 +160,7 @@ module _ (inputs : Inputs) (first second : Bytes) (set : Settings) (before after
         walk = checked.walk;
         loops = checked.loops;
         refused = merged_is inputs.netlist checked.walk set reads
-            ∙ ap (λ r. r >>= both_of set reads) (plan_only inputs.netlist checked.walk set checked.reads one.0 two.0 ∙ why_refused (plan_of inputs.netlist checked.walk set checked.reads) ended checked.first);
+            ∙ ap (λ r. r >>= both_of set reads) (plan_like inputs.netlist checked.walk set reads checked.reads (refl, refl, refl, refl) ∙ why_refused (plan_of inputs.netlist checked.walk set checked.reads) ended checked.first);
         fault = λ result. refused.fault result first second;
       })
 
@@ -178,13 +170,13 @@ module _ (inputs : Inputs) (first second : Bytes) (set : Settings) (before after
   merge_both made mid own planned own_is only ended (inl memory, plain) = (inl memory, plain)
   merge_both made mid own planned own_is only ended (inr both, plain) = (
     inr (record {
-      reads = reads_with (all_read (input_files made.files) []) both.first both.second;
+      reads = reads_with (all_read (input_files made.files)) None both.first both.second;
       fit = record { netlist = planned.0.netlist; workload = planned.0.workload; rates = planned.0.rates; points = planned.0.points };
       one = fits_since first after both.first only both.first_fits;
       two = fits_since second after both.second only both.second_fits;
       walk = None;
       loops = planned.3;
-      refused = merged_made inputs.netlist set (input_files made.files) made.plan own both.first both.second planned.1 own_is ∙ both.refused;
+      refused = merged_made inputs.netlist set (input_files made.files) made.plan own (reads_with (all_read (input_files made.files)) None both.first both.second) (refl, refl, refl, refl) planned.1 own_is ∙ both.refused;
       fault = λ result which e. by_file result both.fault which e;
     }),
     plain,

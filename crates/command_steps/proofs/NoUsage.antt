@@ -34,8 +34,9 @@ use Rattle.command_text.specs.declared.status.Status.TheVariants as status
 use Rattle.command_text.specs.declared.status.Which.{Which}
 use Rattle.command_text.specs.declared.status.Which.TheVariants as which
 use Rattle.command_text.specs.declared.status.What.TheVariants as what
-use Rattle.command_steps.specs.Files.{FilesRead, all_read, input_bytes}
-use Rattle.command_steps.specs.FirstRefusal.{at_most, no_name, unless, netlist_step, outputs_step, workload_step, rates_step, points_step, plan_for, plan_of, classes_plan_of, rated_of, status_of_plan, status_of_back, result_step, own_header, is_wrong, disagreement, audit_step, kept_of, audited_of, refusal_in, generated, generated_settings, first_refusal, ◌>>=◌, back_step, status_of_merge, merge_step, merged_of, status_of_pairs, paired_of}
+use Rattle.command_steps.specs.Files.{FilesRead, all_read, bytes_read, generated}
+use Rattle.command_steps.specs.FirstRefusal.{at_most, unless, read_as, rows_in, netlist_step, plan_of, classes_plan_of, rated_of, status_of_plan, status_of_back, own_header, audit_step, kept_of, audited_of, refusal_in, generated_settings, first_refusal, ◌>>=◌, status_of_merge, merged_of, status_of_pairs, paired_of}
+use Rattle.command_steps.specs.FileSteps.{is_wrong, disagreement, merge_step}
 
 -- ---- no check answers Usage
 
@@ -84,17 +85,15 @@ netlist_spares name walk got =
     then_spares (at_most which.Netlist got) (λ whole. netlist_in name whole >>= (λ c. unless (option_map status.Loop walk) c)) (read_spares which.Netlist got)
     (λ whole. then_spares (netlist_in name whole) (λ c. unless (option_map status.Loop walk) c) (form_spares name whole) (loop_spares walk))
 
-workload_spares : (c : Circuit) (got : Option Bytes) → Spares (workload_step c got)
-unfolding workload_step
-workload_spares c got = file_spares which.Workload got status.Workload (workload_of c) (λ f e. let bad : status.Workload f ≡ status.Usage = e in cc bad)
+workload_spares : (c : Circuit) (reads : FilesRead) → Spares (read_as which.Workload status.Workload (workload_of c) reads)
+workload_spares c reads =
+    file_spares which.Workload (reads which.Workload) status.Workload (workload_of c) (λ f e. let bad : status.Workload f ≡ status.Usage = e in cc bad)
 
-rates_spares : (got : Option Bytes) → Spares (rates_step got)
-unfolding rates_step
-rates_spares got = file_spares which.Rates got status.Rates rates_of (λ f e. let bad : status.Rates f ≡ status.Usage = e in cc bad)
+rates_spares : (reads : FilesRead) → Spares (read_as which.Rates status.Rates rates_of reads)
+rates_spares reads = file_spares which.Rates (reads which.Rates) status.Rates rates_of (λ f e. let bad : status.Rates f ≡ status.Usage = e in cc bad)
 
-points_spares : (c : Circuit) (got : Option Bytes) → Spares (points_step c got)
-unfolding points_step
-points_spares c got = file_spares which.Points got status.Points (points_of c) (λ f e. let bad : status.Points f ≡ status.Usage = e in cc bad)
+points_spares : (c : Circuit) (reads : FilesRead) → Spares (read_as which.Points status.Points (points_of c) reads)
+points_spares c reads = file_spares which.Points (reads which.Points) status.Points (points_of c) (λ f e. let bad : status.Points f ≡ status.Usage = e in cc bad)
 
 refused_spares : (refusal : Option PlanRefusal) (p : Analysis) → Spares (unless (option_map status_of_plan refusal) p)
 refused_spares None p = tt
@@ -103,17 +102,14 @@ refused_spares (Some (plan.MissingRate net name)) p = λ e. let bad : status.Mis
 refused_spares (Some (plan.IdleRate part permanent)) p = λ e. let bad : status.IdleRate part permanent ≡ status.Usage = e in cc bad
 refused_spares (Some plan.Memory) p = λ e. let bad : status.Memory ≡ status.Usage = e in cc bad
 
-plan_for_spares : (c : Circuit) (set : Settings) (reads : FilesRead) → Spares (plan_for c set reads)
-unfolding plan_for
-plan_for_spares c set reads =
-    then_spares (workload_step c reads.workload) _ (workload_spares c reads.workload)
-    (λ runs. then_spares (rates_step reads.rates) _ (rates_spares reads.rates)
-    (λ rates. then_spares (points_step c reads.points) _ (points_spares c reads.points)
-    (λ points. let p : Analysis = record { circuit = c; runs = runs; rates = rates; points = points; settings = set } in refused_spares (plan_refusal p) p)))
-
 plan_spares : (name : Bytes) (walk : Option (List NetId)) (set : Settings) (reads : FilesRead) → Spares (plan_of name walk set reads)
 unfolding plan_of
-plan_spares name walk set reads = then_spares (netlist_step name walk reads.netlist) (λ c. plan_for c set reads) (netlist_spares name walk reads.netlist) (λ c. plan_for_spares c set reads)
+plan_spares name walk set reads =
+    then_spares (netlist_step name walk (reads which.Netlist)) _ (netlist_spares name walk (reads which.Netlist))
+    (λ c. then_spares (read_as which.Workload status.Workload (workload_of c) reads) _ (workload_spares c reads)
+    (λ runs. then_spares (read_as which.Rates status.Rates rates_of reads) _ (rates_spares reads)
+    (λ rates. then_spares (read_as which.Points status.Points (points_of c) reads) _ (points_spares c reads)
+    (λ points. let p : Analysis = record { circuit = c; runs = runs; rates = rates; points = points; settings = set } in refused_spares (plan_refusal p) p))))
 
 few_spares : (c : Circuit) (many : Bool) → Spares (unless (if many then Some (status.TooLarge what.Outputs) else None) c)
 few_spares c true = λ e. let bad : status.TooLarge what.Outputs ≡ status.Usage = e in cc bad
@@ -122,26 +118,22 @@ few_spares c false = tt
 classes_spares : (name : Bytes) (walk : Option (List NetId)) (reads : FilesRead) → Spares (classes_plan_of name walk reads)
 unfolding classes_plan_of
 classes_spares name walk reads =
-    then_spares (netlist_step name walk reads.netlist) _ (netlist_spares name walk reads.netlist)
-    (λ c. then_spares (outputs_step c) _ (few_spares c (nat_lt 1024 (length c.outputs)))
-    (λ counted. then_spares (workload_step counted reads.workload) _ (workload_spares counted reads.workload) (λ runs. tt)))
+    then_spares (netlist_step name walk (reads which.Netlist)) _ (netlist_spares name walk (reads which.Netlist))
+    (λ c. then_spares (unless (if nat_lt 1024 (length c.outputs) then Some (status.TooLarge what.Outputs) else None) c) _ (few_spares c (nat_lt 1024 (length c.outputs)))
+    (λ counted. then_spares (read_as which.Workload status.Workload (workload_of counted) reads) _ (workload_spares counted reads) (λ runs. tt)))
 
 parts_spares : (name : Bytes) (walk : Option (List NetId)) (reads : FilesRead) → Spares (rated_of name walk reads)
 unfolding rated_of
 parts_spares name walk reads =
-    then_spares (netlist_step name walk reads.netlist) _ (netlist_spares name walk reads.netlist)
-    (λ c. then_spares (rates_step reads.rates) _ (rates_spares reads.rates) (λ table. tt))
+    then_spares (netlist_step name walk (reads which.Netlist)) _ (netlist_spares name walk (reads which.Netlist))
+    (λ c. then_spares (read_as which.Rates status.Rates rates_of reads) _ (rates_spares reads) (λ table. tt))
 
 back_other : (why : ResultRefusal) → status_of_back why ≢ status.Usage
 back_other (back.Foreign found own) e = let bad : status.Foreign found own ≡ status.Usage = e in cc bad
 back_other (back.BadRow number why) e = let bad : status.BadRow number why ≡ status.Usage = e in cc bad
 
-back_spares : (file : Which) (own : Bytes) (p : Analysis) (got : Option Bytes) → Spares (back_step file own p got)
-unfolding back_step
-back_spares file own p got = file_spares file got status_of_back (kept own p) back_other
-
-result_spares : (own : Bytes) (p : Analysis) (got : Option Bytes) → Spares (result_step own p got)
-result_spares own p got = back_spares which.Result own p got
+rows_spares : (file : Which) (set : Settings) (reads : FilesRead) (p : Analysis) → Spares (rows_in file set reads p)
+rows_spares file set reads p = file_spares file (reads file) status_of_back (kept (own_header set (bytes_read reads) p) p) back_other
 
 row_spares : (planes : ℕ → Outcome) (k : KeptRows) (wrong : Option Row) → Spares (unless (option_map (disagreement planes) wrong) k)
 row_spares planes k None = tt
@@ -154,13 +146,13 @@ audit_spares p k = row_spares (true_planes p) k (find (is_wrong (true_planes p))
 kept_spares : (name : Bytes) (walk : Option (List NetId)) (set : Settings) (reads : FilesRead) → Spares (kept_of name walk set reads)
 unfolding kept_of
 kept_spares name walk set reads =
-    then_spares (plan_of name walk set reads) _ (plan_spares name walk set reads) (λ p. result_spares (own_header set (input_bytes reads) p) p reads.result)
+    then_spares (plan_of name walk set reads) _ (plan_spares name walk set reads) (rows_spares which.Result set reads)
 
 audited_spares : (name : Bytes) (walk : Option (List NetId)) (set : Settings) (reads : FilesRead) → Spares (audited_of name walk set reads)
 unfolding audited_of
 audited_spares name walk set reads =
     then_spares (plan_of name walk set reads) _ (plan_spares name walk set reads)
-    (λ p. then_spares (result_step (own_header set (input_bytes reads) p) p reads.result) _ (result_spares (own_header set (input_bytes reads) p) p reads.result) (λ k. audit_spares p k))
+    (λ p. then_spares (rows_in which.Result set reads p) _ (rows_spares which.Result set reads p) (λ k. audit_spares p k))
 
 merge_spares : (p : Analysis) (first second : KeptRows) → Spares (merge_step p first second)
 merge_spares p first second = by_answer (merged p first.rows second.rows)
@@ -173,8 +165,8 @@ merged_spares : (netlist : Bytes) (walk : Option (List NetId)) (set : Settings) 
 unfolding merged_of
 merged_spares netlist walk set reads =
     then_spares (plan_of netlist walk set reads) _ (plan_spares netlist walk set reads)
-    (λ p. then_spares (back_step which.First (own_header set (input_bytes reads) p) p reads.first) _ (back_spares which.First (own_header set (input_bytes reads) p) p reads.first)
-    (λ first. then_spares (back_step which.Second (own_header set (input_bytes reads) p) p reads.second) _ (back_spares which.Second (own_header set (input_bytes reads) p) p reads.second)
+    (λ p. then_spares (rows_in which.First set reads p) _ (rows_spares which.First set reads p)
+    (λ first. then_spares (rows_in which.Second set reads p) _ (rows_spares which.Second set reads p)
     (λ second. merge_spares p first second)))
 
 pairs_spares : (k : KeptRows) (why : Option PairRefusal) → Spares (unless (option_map status_of_pairs why) k)
@@ -186,7 +178,7 @@ paired_spares : (netlist : Bytes) (walk : Option (List NetId)) (set : Settings) 
 unfolding paired_of
 paired_spares netlist walk set reads =
     then_spares (plan_of netlist walk set reads) _ (plan_spares netlist walk set reads)
-    (λ p. then_spares (result_step (own_header set (input_bytes reads) p) p reads.result) _ (result_spares (own_header set (input_bytes reads) p) p reads.result)
+    (λ p. then_spares (rows_in which.Result set reads p) _ (rows_spares which.Result set reads p)
     (λ k. pairs_spares k (pair_refusal p k.rows)))
 
 in_other : {A : Type 0} (r : Result A Status) → Spares r → refusal_in r ≢ Some status.Usage
@@ -201,7 +193,7 @@ no_usage walk (RunCommand inputs name set workers) reads = in_other (plan_of inp
 no_usage walk (Resume inputs name set workers) reads = in_other (kept_of inputs.netlist walk set reads) (kept_spares inputs.netlist walk set reads)
 no_usage walk (Audit inputs name set) reads = in_other (audited_of inputs.netlist walk set reads) (audited_spares inputs.netlist walk set reads)
 no_usage walk (Gen n name workers) reads =
-    in_other (plan_of no_name walk generated_settings (all_read (generated n) [])) (plan_spares no_name walk generated_settings (all_read (generated n) []))
+    in_other (plan_of [] walk generated_settings (all_read (generated n))) (plan_spares [] walk generated_settings (all_read (generated n)))
 no_usage walk (Report inputs set) reads = in_other (plan_of inputs.netlist walk set reads) (plan_spares inputs.netlist walk set reads)
 no_usage walk (Shard inputs name set part parts) reads = in_other (plan_of inputs.netlist walk set reads) (plan_spares inputs.netlist walk set reads)
 no_usage walk (Merge inputs name first second set) reads = in_other (merged_of inputs.netlist walk set reads) (merged_spares inputs.netlist walk set reads)

@@ -1,8 +1,9 @@
 -- The order of the checks of a plan.
-use Rattle.std.proofs.Common.{◌≡◌, ◌∙◌, ap, sym, refl, subst, List, [], inl, inr}
+use Rattle.std.proofs.Common.{◌≡◌, ◌∙◌, ap, sym, refl, subst, List, [], ◌∷◌, inl, inr}
 use Rattle.std.specs.Prelude.{Option, Some, None, Result, Ok, Err, ◌⊎◌, option_map}
 use Rattle.fm_base.specs.Names.{Bytes}
-use Rattle.fm_shelf.specs.Content.{HasIfKnown}
+use Rattle.std.specs.List.{AllByRecursion as ForEach}
+use Rattle.fm_shelf.specs.Content.{Content, Held, HasIfKnown}
 use Rattle.fm_shelf.specs.Shelf.{ShelfState, OnlyReadsAny}
 use Rattle.circuit.specs.declared.parts.NetId.{NetId}
 use Rattle.circuit.specs.Circuit.{Circuit}
@@ -17,7 +18,7 @@ use Rattle.campaign_plan.specs.Analysis.{Analysis}
 use Rattle.campaign_plan.specs.declared.PlanRefusal.{PlanRefusal}
 use Rattle.campaign_plan.specs.declared.PlanRefusal.TheVariants as plan
 use Rattle.campaign_plan.specs.PlanFaults.{plan_refusal}
-use Rattle.command_line.specs.Commands.{Inputs}
+use Rattle.command_line.specs.Commands.{Command, Inputs, Gen}
 use Rattle.command_text.specs.declared.status.Status.{Status}
 use Rattle.command_text.specs.declared.status.Status.TheVariants as status
 use Rattle.command_text.specs.declared.status.Which.{Which}
@@ -29,10 +30,10 @@ use Rattle.command_steps.specs.declared.input.Taken.{Taken}
 use Rattle.command_steps.specs.declared.netlist.Ordered.{Ordered}
 use Rattle.command_steps.specs.declared.planned.Planned.{Planned}
 use Rattle.command_steps.specs.declared.planned.Tables.{Tables}
-use Rattle.command_steps.specs.Files.{Files, FilesRead, all_read}
-use Rattle.command_steps.specs.FirstRefusal.{unless, status_of_plan, workload_step, rates_step, points_step, plan_step, netlist_step, plan_of, plan_for, refusal_in, IsLoopAnswer, IsPlanOf, ◌>>=◌}
-use Rattle.command_steps.specs.Held.{HoldsInputs, name_with}
-use Rattle.command_steps.specs.WasRead.{AreRead}
+use Rattle.command_steps.specs.Files.{Files, FilesRead, all_read, by_file}
+use Rattle.command_steps.specs.FirstRefusal.{unless, status_of_plan, netlist_step, plan_of, refusal_in, IsLoopAnswer, IsPlanOf, ◌>>=◌}
+use Rattle.command_steps.specs.FileSteps.{workload_step, rates_step, points_step, plan_step, plan_for, InputsRead, files_with}
+use Rattle.command_steps.specs.Held.{name_with, name_of, files_of, AreRead, AreHeld}
 use Rattle.command_steps.specs.Steps.{StepAs, TakenAs, NetlistAs, OrderedAs, AnswersAs}
 use Rattle.command_steps.specs.PlanSteps.{PlanChecked, PlanRefused, PlannedAs, TablesRefused, TablesAs, MadeAs, analysis_of}
 use Rattle.command_steps.proofs.Keeping.{had_if_known}
@@ -68,24 +69,44 @@ abbrev to_plan : Circuit → Settings → List Run → RateTable → Points → 
 to_plan c set runs rates points = plan_step (record { circuit = c; runs = runs; rates = rates; points = points; settings = set })
 
 abbrev after_rates : Circuit → Settings → FilesRead → List Run → RateTable → Result Analysis Status
-after_rates c set reads runs rates = points_step c reads.points >>= (λ points. to_plan c set runs rates points)
+after_rates c set reads runs rates = points_step c (reads which.Points) >>= (λ points. to_plan c set runs rates points)
 
 abbrev after_runs : Circuit → Settings → FilesRead → List Run → Result Analysis Status
-after_runs c set reads runs = rates_step reads.rates >>= (λ rates. after_rates c set reads runs rates)
+after_runs c set reads runs = rates_step (reads which.Rates) >>= (λ rates. after_rates c set reads runs rates)
 
 abbrev after_net : Settings → FilesRead → Circuit → Result Analysis Status
-after_net set reads c = workload_step c reads.workload >>= (λ runs. after_runs c set reads runs)
+after_net set reads c = workload_step c (reads which.Workload) >>= (λ runs. after_runs c set reads runs)
 
 for_is : (c : Circuit) (set : Settings) (reads : FilesRead) → plan_for c set reads ≡ after_net set reads c
 unfolding plan_for
 for_is c set reads = refl
 
-of_is : (file : Bytes) (walk : Option (List NetId)) (set : Settings) (reads : FilesRead) → plan_of file walk set reads ≡ (netlist_step file walk reads.netlist >>= (λ c. plan_for c set reads))
-unfolding plan_of
+of_is : (file : Bytes) (walk : Option (List NetId)) (set : Settings) (reads : FilesRead) → plan_of file walk set reads ≡ (netlist_step file walk (reads which.Netlist) >>= (λ c. plan_for c set reads))
+unfolding plan_of plan_for workload_step rates_step points_step
 of_is file walk set reads = refl
 
-pub plan_is : (file : Bytes) (walk : Option (List NetId)) (set : Settings) (reads : FilesRead) → plan_of file walk set reads ≡ (netlist_step file walk reads.netlist >>= after_net set reads)
-plan_is file walk set reads = of_is file walk set reads ∙ (λ j. netlist_step file walk reads.netlist >>= (λ c. for_is c set reads j))
+pub plan_is : (file : Bytes) (walk : Option (List NetId)) (set : Settings) (reads : FilesRead) → plan_of file walk set reads ≡ (netlist_step file walk (reads which.Netlist) >>= after_net set reads)
+plan_is file walk set reads = of_is file walk set reads ∙ (λ j. netlist_step file walk (reads which.Netlist) >>= (λ c. for_is c set reads j))
+
+-- of the four inputs the same was read
+abbrev pub AreSame : (reads other : FilesRead) → Type 0
+AreSame reads other =
+    (reads which.Netlist ≡ other which.Netlist) × (reads which.Workload ≡ other which.Workload) × (reads which.Rates ≡ other which.Rates)
+    × (reads which.Points ≡ other which.Points)
+
+pub plan_like : (file : Bytes) (walk : Option (List NetId)) (set : Settings) (reads other : FilesRead) → AreSame reads other → plan_of file walk set reads ≡ plan_of file walk set other
+plan_like file walk set reads other (netlist, workload, rates, points) =
+    plan_is file walk set reads
+    ∙ (λ j. netlist_step file walk (netlist j) >>= after_net set (by_file (netlist j) (workload j) (rates j) (points j) None None None))
+    ∙ sym (plan_is file walk set other)
+
+-- the plan of these files, whichever the others are
+pub plan_with : (file : Bytes) (set : Settings) (files : Files) (p : Analysis) (result first second : Bytes) → IsPlanOf file set files p
+    → IsPlanOf file set (files_with files result first second) p
+plan_with file set files p result first second plan = record {
+  plan = plan_like file None set (all_read (files_with files result first second)) (all_read files) (refl, refl, refl, refl) ∙ plan.plan;
+  no_loop = plan.no_loop;
+}
 
 -- ---- the three files behind a netlist
 
@@ -102,7 +123,7 @@ module _ (inputs : Inputs) (c : Circuit) (before after : ShelfState) where
       by_step (inr (got, fits, is, fault)) =
           let rates = some_fit before after inputs.rates in
           let points = some_fit before after inputs.points in
-          let reads : FilesRead = record { netlist = None; workload = got; rates = rates.0; points = points.0; result = None; first = None; second = None } in
+          let reads : FilesRead = by_file None got rates.0 points.0 None None None in
           inr (record {
             reads = reads;
             workload = fits;
@@ -121,7 +142,7 @@ module _ (inputs : Inputs) (c : Circuit) (before after : ShelfState) where
         by_step (inl memory) = inl memory
         by_step (inr (got, fits, is, fault)) =
             let points = some_fit before after inputs.points in
-            let reads : FilesRead = record { netlist = None; workload = Some work.bytes; rates = got; points = points.0; result = None; first = None; second = None } in
+            let reads : FilesRead = by_file None (Some work.bytes) got points.0 None None None in
             inr (record {
               reads = reads;
               workload = worked.0;
@@ -142,7 +163,7 @@ module _ (inputs : Inputs) (c : Circuit) (before after : ShelfState) where
           by_step : StepAs which.Points (points_step c) inputs.points before after (Err ended) → Refused ended
           by_step (inl memory) = inl memory
           by_step (inr (got, fits, is, fault)) =
-              let reads : FilesRead = record { netlist = None; workload = Some work.bytes; rates = Some rates.bytes; points = got; result = None; first = None; second = None } in
+              let reads : FilesRead = by_file None (Some work.bytes) (Some rates.bytes) got None None None in
               inr (record {
                 reads = reads;
                 workload = worked.0;
@@ -168,7 +189,7 @@ module _ (inputs : Inputs) (set : Settings) (before after : ShelfState) where
       let work = some_fit before after inputs.workload in
       let rates = some_fit before after inputs.rates in
       let points = some_fit before after inputs.points in
-      let reads : FilesRead = record { netlist = got; workload = work.0; rates = rates.0; points = points.0; result = None; first = None; second = None } in
+      let reads : FilesRead = by_file got work.0 rates.0 points.0 None None None in
       inr (record {
         checked = record {
           reads = reads;
@@ -185,22 +206,22 @@ module _ (inputs : Inputs) (set : Settings) (before after : ShelfState) where
     loops = loops_none inputs.netlist ordered.bytes ordered.net net.1 net.2
 
     -- the plan of this netlist
-    with_net : (reads : FilesRead) → reads.netlist ≡ Some ordered.bytes → plan_of inputs.netlist None set reads ≡ plan_for ordered.net set reads
+    with_net : (reads : FilesRead) → (reads which.Netlist) ≡ Some ordered.bytes → plan_of inputs.netlist None set reads ≡ plan_for ordered.net set reads
     with_net reads is = of_is inputs.netlist None set reads ∙ ap (λ r. r >>= (λ c. plan_for c set reads)) (ap (netlist_step inputs.netlist None) is ∙ net.1)
 
     -- a file behind it was refused
     pub plan_tables : (ended : Status) → TablesAs inputs ordered.net mid after (Err ended) → ((ended ≡ status.Memory) ⊎ PlanRefused inputs set before after ended) × IsPlain ended
     plan_tables ended (inl memory, plain) = (inl memory, plain)
     plan_tables ended (inr r, plain) =
-        let reads : FilesRead = record r.reads { netlist = Some ordered.bytes } in (
+        let reads : FilesRead = by_file (Some ordered.bytes) (r.reads which.Workload) (r.reads which.Rates) (r.reads which.Points) None None None in (
           inr (record {
             checked = record {
               reads = reads;
               fit = record {
                 netlist = net.0;
-                workload = fits_since inputs.workload after r.reads.workload first r.workload;
-                rates = fits_since inputs.rates after r.reads.rates first r.rates;
-                points = fits_since inputs.points after r.reads.points first r.points;
+                workload = fits_since inputs.workload after (r.reads which.Workload) first r.workload;
+                rates = fits_since inputs.rates after (r.reads which.Rates) first r.rates;
+                points = fits_since inputs.points after (r.reads which.Points) first r.points;
               };
               walk = None;
               loops = loops;
@@ -213,9 +234,9 @@ module _ (inputs : Inputs) (set : Settings) (before after : ShelfState) where
 
     module _ (tables : Tables) (read : TablesAs inputs ordered.net mid after (Ok tables)) where
       abbrev files : Files
-      files = record { netlist = ordered.bytes; workload = tables.work.bytes; rates = tables.rates.bytes; points = tables.points.bytes }
+      files = by_file ordered.bytes tables.work.bytes tables.rates.bytes tables.points.bytes [] [] []
 
-      were_read : AreRead before inputs files
+      were_read : InputsRead before inputs files
       were_read = record {
         netlist = net.0;
         workload = had_if_known inputs.workload tables.work.bytes first read.0.0;
@@ -223,10 +244,10 @@ module _ (inputs : Inputs) (set : Settings) (before after : ShelfState) where
         points = had_if_known inputs.points tables.points.bytes first read.2.0;
       }
 
-      steps : plan_of inputs.netlist None set (all_read files []) ≡ plan_step (analysis_of ordered tables set)
+      steps : plan_of inputs.netlist None set (all_read files) ≡ plan_step (analysis_of ordered tables set)
       steps =
           let c = ordered.net in
-          let reads : FilesRead = all_read files [] in
+          let reads : FilesRead = all_read files in
           with_net reads refl ∙ for_is c set reads ∙ ap (λ r. r >>= after_runs c set reads) read.0.1 ∙ ap (λ r. r >>= after_rates c set reads tables.work.value) read.1.1
           ∙ ap (λ r. r >>= to_plan c set tables.work.value tables.rates.value) read.2.1
 
@@ -238,7 +259,7 @@ module _ (inputs : Inputs) (set : Settings) (before after : ShelfState) where
           by_answer (inl memory) = inl memory
           by_answer (inr is) = inr (record {
             checked = record {
-              reads = all_read files [];
+              reads = all_read files;
               fit = record { netlist = were_read.netlist; workload = were_read.workload; rates = were_read.rates; points = were_read.points };
               walk = None;
               loops = loops;
@@ -251,8 +272,8 @@ module _ (inputs : Inputs) (set : Settings) (before after : ShelfState) where
       pub plan_made : (made : Planned) → MadeAs ordered tables set (Ok made) → PlannedAs before after inputs set (Ok made)
       plan_made made (is, order, bytes) =
           let same = plan_same (analysis_of ordered tables set) made.plan is in
-          subst (λ (f : Files). AreRead before inputs f × IsPlanOf inputs.netlist set f made.plan × IsOrder made.plan.circuit made.order
-          × IsLoopAnswer inputs.netlist (Some f.netlist) None × (made.plan.settings ≡ set)) (sym bytes) (
+          subst (λ (f : Files). InputsRead before inputs f × IsPlanOf inputs.netlist set f made.plan × IsOrder made.plan.circuit made.order
+          × IsLoopAnswer inputs.netlist (Some (f which.Netlist)) None × (made.plan.settings ≡ set)) (sym bytes) (
             were_read,
             record { plan = steps ∙ is; no_loop = subst HasNoLoop (ap (λ p. p.circuit) (sym same)) net.2 },
             rw order (subst (λ c. IsOrder c ordered.order) (ap (λ p. p.circuit) (sym same)) net.3),
@@ -261,19 +282,22 @@ module _ (inputs : Inputs) (set : Settings) (before after : ShelfState) where
           )
 
 -- files that were read are those that are known to be held
-pub are_held : (shelf : ShelfState) (inputs : Inputs) (files : Files) → AreRead shelf inputs files → (held : Files) → HoldsInputs shelf inputs held → held ≡ files
-are_held shelf inputs files read held holds = λ j. record {
-  netlist = held_is (shelf.content inputs.netlist) held.netlist files.netlist read.netlist holds.netlist j;
-  workload = held_is (shelf.content inputs.workload) held.workload files.workload read.workload holds.workload j;
-  rates = held_is (shelf.content inputs.rates) held.rates files.rates read.rates holds.rates j;
-  points = held_is (shelf.content inputs.points) held.points files.points read.points holds.points j;
-}
+each_held : (content : Which → Content) (read held : Files) (files : List Which) → ForEach (λ file. HasIfKnown (content file) (read file)) files
+    → ForEach (λ file. content file ≡ Held (held file)) files → ForEach (λ file. held file ≡ read file) files
+each_held content read held [] known is = tt
+each_held content read held (file ∷ files) (has, known) (here, is) =
+    (held_is (content file) (held file) (read file) has here, each_held content read held files known is)
+
+pub are_held : (shelf : ShelfState) (command : Command) (read held : Files) → AreRead shelf command read → AreHeld shelf command held
+    → ForEach (λ file. held file ≡ read file) (files_of command)
+are_held shelf (Gen n name workers) read held known is = tt
+are_held shelf command read held known is = each_held (λ file. shelf.content (name_of command file)) read held (files_of command) known is
 
 -- over them nothing refuses a plan that was made
 pub plan_checked : (inputs : Inputs) (set : Settings) (before after : ShelfState) (files : Files) (p : Analysis)
-    → AreRead before inputs files → IsPlanOf inputs.netlist set files p → IsLoopAnswer inputs.netlist (Some files.netlist) None → PlanChecked inputs set before after None
+    → InputsRead before inputs files → IsPlanOf inputs.netlist set files p → IsLoopAnswer inputs.netlist (Some (files which.Netlist)) None → PlanChecked inputs set before after None
 plan_checked inputs set before after files p read plan loops = record {
-  reads = all_read files [];
+  reads = all_read files;
   fit = record { netlist = read.netlist; workload = read.workload; rates = read.rates; points = read.points };
   walk = None;
   loops = loops;

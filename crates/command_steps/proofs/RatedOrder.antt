@@ -13,8 +13,9 @@ use Rattle.command_text.specs.declared.status.Which.TheVariants as which
 use Rattle.command_text.specs.Refusals.{IsPlain}
 use Rattle.command_steps.specs.declared.input.Taken.{Taken}
 use Rattle.command_steps.specs.declared.netlist.Ordered.{Ordered}
-use Rattle.command_steps.specs.Files.{Files, FilesRead, all_read}
-use Rattle.command_steps.specs.FirstRefusal.{netlist_step, rates_step, rated_of, refusal_in, first_refusal, ◌>>=◌}
+use Rattle.command_steps.specs.Files.{Files, FilesRead, all_read, by_file}
+use Rattle.command_steps.specs.FirstRefusal.{netlist_step, rated_of, refusal_in, first_refusal, ◌>>=◌}
+use Rattle.command_steps.specs.FileSteps.{rates_step}
 use Rattle.command_steps.specs.Held.{name_of}
 use Rattle.command_steps.specs.Checked.{NameFits, Checked}
 use Rattle.command_steps.specs.Steps.{StepAs, TakenAs, NetlistAs, OrderedAs, RefusedInOrder, RatedAs}
@@ -24,13 +25,13 @@ use Rattle.command_steps.proofs.InOrder.{some_fit, loops_none, step_since, rose_
 
 -- what was read of its two files
 abbrev reads_of : (netlist rates : Option Bytes) → FilesRead
-reads_of netlist rates = record { netlist = netlist; workload = None; rates = rates; points = None; result = None; first = None; second = None }
+reads_of netlist rates = by_file netlist None rates None None None None
 
 abbrev after_netlist : Option Bytes → Circuit → Result (Circuit × RateTable) Status
 after_netlist rates c = rates_step rates >>= (λ table. Ok (c, table))
 
-rated_is : (n : Bytes) (walk : Option (List NetId)) (reads : FilesRead) → rated_of n walk reads ≡ (netlist_step n walk reads.netlist >>= after_netlist reads.rates)
-unfolding rated_of
+rated_is : (n : Bytes) (walk : Option (List NetId)) (reads : FilesRead) → rated_of n walk reads ≡ (netlist_step n walk (reads which.Netlist) >>= after_netlist (reads which.Rates))
+unfolding rated_of rates_step
 rated_is n walk reads = refl
 
 first_is : (walk : Option (List NetId)) (n r : Bytes) (reads : FilesRead) → first_refusal walk (Parts n r) reads ≡ refusal_in (rated_of n walk reads)
@@ -50,7 +51,7 @@ module _ (n r : Bytes) (before after : ShelfState) where
       inr (record {
         checked = record {
           reads = reads;
-          fit = (fits, other.1);
+          fit = (fits, (other.1, tt));
           walk = walk;
           loops = loops;
           first = first_is walk n r reads ∙ ap refusal_in (rated_is n walk reads ∙ ap (λ s. s >>= after_netlist other.0) is);
@@ -60,15 +61,15 @@ module _ (n r : Bytes) (before after : ShelfState) where
 
   module _ (made : Ordered) (net : OrderedAs n before after (Ok made)) (mid : ShelfState) (first : OnlyReadsAny before mid) where
     -- the rates behind this netlist
-    after_net : (reads : FilesRead) → reads.netlist ≡ Some made.bytes → rated_of n None reads ≡ after_netlist reads.rates made.net
-    after_net reads is = rated_is n None reads ∙ ap (λ s. s >>= after_netlist reads.rates) (ap (netlist_step n None) is ∙ net.1)
+    after_net : (reads : FilesRead) → (reads which.Netlist) ≡ Some made.bytes → rated_of n None reads ≡ after_netlist (reads which.Rates) made.net
+    after_net reads is = rated_is n None reads ∙ ap (λ s. s >>= after_netlist (reads which.Rates)) (ap (netlist_step n None) is ∙ net.1)
 
     -- over this netlist and what was read of the rates, this is the first refusal, or there is none
     by_reads : (got : Option Bytes) (refusal : Option Status) → NameFits before after r got → refusal_in (after_netlist got made.net) ≡ refusal
         → Checked (Parts n r) before after refusal
     by_reads got refusal fits is = record {
       reads = reads_of (Some made.bytes) got;
-      fit = (net.0, fits);
+      fit = (net.0, (fits, tt));
       walk = None;
       loops = loops_none n made.bytes made.net net.1 net.2;
       first = first_is None n r (reads_of (Some made.bytes) got) ∙ ap refusal_in (after_net (reads_of (Some made.bytes) got) refl) ∙ is;
@@ -90,9 +91,9 @@ module _ (n r : Bytes) (before after : ShelfState) where
         → RatedAs before after n r (Ok (record { ordered = made; rates = rates.value }))
     rated_made rates (held, is) =
         let read = had_if_known r rates.bytes first held in
-        let files : Files = record { netlist = made.bytes; workload = []; rates = rates.bytes; points = [] } in
+        let files : Files = by_file made.bytes [] rates.bytes [] [] [] [] in
         let made_of : after_netlist (Some rates.bytes) made.net ≡ Ok (made.net, rates.value) = ap (λ s. s >>= (λ t. Ok (made.net, t))) is in (
-          (files, net.0, read, after_net (all_read files []) refl ∙ made_of),
+          (files, (net.0, (read, tt)), after_net (all_read files) refl ∙ made_of),
           net.2,
           by_reads (Some rates.bytes) None read (ap refusal_in made_of),
         )

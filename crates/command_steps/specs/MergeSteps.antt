@@ -16,9 +16,10 @@ use Rattle.command_text.specs.declared.refused.Refused.{Refused}
 use Rattle.command_text.specs.Refusals.{IsPlain, status_of, HasItsNets}
 use Rattle.command_steps.specs.declared.merged.Merged.{Merged}
 use Rattle.command_steps.specs.Files.{FilesRead}
-use Rattle.command_steps.specs.FirstRefusal.{back_step, merge_step, merged_of, own_header, IsLoopAnswer, ◌>>=◌}
+use Rattle.command_steps.specs.FirstRefusal.{merged_of, own_header, IsLoopAnswer, ◌>>=◌}
 use Rattle.command_steps.specs.Held.{name_with}
-use Rattle.command_steps.specs.Checked.{NameFits, InputsFit, FaultsRose}
+use Rattle.command_steps.specs.Checked.{NameFits, FaultsRose}
+use Rattle.command_steps.specs.FileSteps.{back_step, merge_step, InputsFit}
 use Rattle.command_steps.specs.Steps.{FaultRose}
 use Rattle.command_steps.specs.PlanSteps.{PlannedAs, input_files}
 use Rattle.fm_base.specs.Names.{Bytes}
@@ -27,10 +28,10 @@ use Rattle.fm_base.specs.Names.{Bytes}
 pub record MergeRefused (inputs : Inputs) (first second : Bytes) (set : Settings) (before after : ShelfState) (ended : Status) : Type 0 where
   pub reads : FilesRead
   pub fit : InputsFit before after inputs reads
-  pub one : NameFits before after first reads.first
-  pub two : NameFits before after second reads.second
+  pub one : NameFits before after first (reads which.First)
+  pub two : NameFits before after second (reads which.Second)
   pub walk : Option (List NetId)
-  pub loops : IsLoopAnswer inputs.netlist reads.netlist walk
+  pub loops : IsLoopAnswer inputs.netlist (reads which.Netlist) walk
   pub refused : merged_of inputs.netlist walk set reads ≡ Err ended
   pub fault : (result : Bytes) → FaultsRose (name_with inputs result first second) before after ended
 

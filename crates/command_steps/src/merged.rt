@@ -4,7 +4,7 @@ ghost use Rattle.fm_shelf.specs.Shelf.{OnlyReadsAny};
 ghost use Rattle.campaign_plan.specs.Batches.{AreDistinct};
 ghost use Rattle.campaign_plan.specs.Kept.{AreSettings};
 ghost use Rattle.result_file.specs.KeptRows.{entry_of, header_len};
-ghost use Rattle.command_steps.specs.FirstRefusal.{merge_step};
+ghost use Rattle.command_steps.specs.FileSteps.{merge_step};
 ghost use Rattle.command_steps.specs.Steps.{AnswersAs};
 ghost use Rattle.command_line.specs.Asks.{names_of};
 ghost use Rattle.command_steps.specs.MergeSteps.{BothAs, MergedAs};

@@ -39,7 +39,8 @@ use Rattle.command_text.specs.declared.refused.Refused.{Refused}
 use Rattle.command_text.specs.Refusals.{IsPlain}
 use Rattle.command_steps.specs.declared.begun.Begun.{Begun}
 use Rattle.command_steps.specs.Files.{Files, all_read}
-use Rattle.command_steps.specs.FirstRefusal.{first_refusal, refusal_in, paired_of, pairs_step, status_of_pairs, unless, IsPlanOf}
+use Rattle.command_steps.specs.FirstRefusal.{first_refusal, refusal_in, paired_of, status_of_pairs, unless, IsPlanOf}
+use Rattle.command_steps.specs.FileSteps.{pairs_step, files_with}
 use Rattle.command_steps.specs.Held.{KeepsAll}
 use Rattle.command_steps.specs.Checked.{Checked}
 use Rattle.command_steps.specs.Steps.{RefusedInOrder}
@@ -47,13 +48,14 @@ use Rattle.command_steps.specs.PlanSteps.{input_files}
 use Rattle.command_steps.specs.BegunSteps.{KeptRefused, BegunAs}
 use Rattle.command_steps.proofs.Taken.{why}
 use Rattle.command_steps.proofs.InOrder.{held_is}
-use Rattle.command_steps.proofs.PlanOrder.{are_held}
+use Rattle.command_steps.proofs.PlanOrder.{are_held, plan_with}
 use Rattle.command_steps.proofs.BegunOrder.{paired_made, paired_refused, rows_kept}
 use Rattle.command_steps.proofs.Distinct.{kept_distinct}
 use Rattle.fmeda_top.specs.Promises.{CommandEnds}
 use Rattle.fmeda_top.specs.Tried.{TextAs, ChoosesAs, ArePaired, PairsAs, PairsTold, RefusedBy}
 use Rattle.fmeda_top.proofs.Ending.{text_ends}
 use Rattle.pair_list.proofs.Placing.{under}
+use Rattle.command_steps.proofs.Each.{each_fit, each_read, read_with}
 
 -- ---- the pairs by the rows
 
@@ -147,7 +149,7 @@ module _ (inputs : Inputs) (name : Bytes) (set : Settings) (workers : ℕ) where
   pairs_refused before after ended (inr r) = inr (record {
     checked = record {
       reads = r.reads;
-      fit = (r.fit, r.result);
+      fit = each_fit r.fit (r.result, tt);
       walk = r.walk;
       loops = r.loops;
       first = ap refusal_in (paired_refused inputs.netlist r.walk set r.reads ended r.refused);
@@ -162,6 +164,10 @@ module _ (inputs : Inputs) (name : Bytes) (set : Settings) (workers : ℕ) where
     abbrev found : Files
     found = input_files made.planned.files
 
+    -- with the bytes of the result file
+    abbrev files : Files
+    files = files_with found begun.1.bytes [] []
+
     -- the kept rows are of distinct batches
     pub rows_distinct : AreDistinct p (map entry_of made.kept.rows)
     rows_distinct = kept_distinct made.own p begun.1.bytes made.kept (rows_kept which.Result made.own p begun.1.bytes made.kept begun.1.rows)
@@ -172,11 +178,11 @@ module _ (inputs : Inputs) (name : Bytes) (set : Settings) (workers : ℕ) where
     by_pairs refusal is =
         let read = begun.0.0 in
         record {
-          reads = all_read found begun.1.bytes;
-          fit = (record { netlist = read.netlist; workload = read.workload; rates = read.rates; points = read.points }, begun.1.held);
+          reads = all_read files;
+          fit = each_read read (begun.1.held, tt);
           walk = None;
           loops = begun.0.3;
-          first = ap refusal_in (paired_made inputs.netlist set found p made.own (Some begun.1.bytes) made.kept begun.0.1 begun.1.own begun.1.rows) ∙ is;
+          first = ap refusal_in (paired_made inputs.netlist set found p made.own (all_read files) made.kept (refl, refl, refl, refl) begun.0.1 begun.1.own begun.1.rows) ∙ is;
         }
 
     -- there are no pairs
@@ -189,12 +195,12 @@ module _ (inputs : Inputs) (name : Bytes) (set : Settings) (workers : ℕ) where
 
     paired : pairs_step p made.kept ≡ Ok made.kept → ArePaired before inputs name set p made.kept
     paired chose = (
-      found,
-      begun.0.0,
+      files,
+      read_with begun.1.bytes [] [] begun.0.0,
+      begun.1.held,
       (
-        begun.1.bytes,
-        begun.1.held,
-        (begun.0.1, paired_made inputs.netlist set found p made.own (Some begun.1.bytes) made.kept begun.0.1 begun.1.own begun.1.rows ∙ chose),
+        plan_with inputs.netlist set found p begun.1.bytes [] [] begun.0.1,
+        paired_made inputs.netlist set found p made.own (all_read files) made.kept (refl, refl, refl, refl) begun.0.1 begun.1.own begun.1.rows ∙ chose,
       ),
     )
 
@@ -213,10 +219,10 @@ module _ (inputs : Inputs) (name : Bytes) (set : Settings) (workers : ℕ) where
   -- `pairs` has ended
   pub pairs_end : AllPairsAreTold → (before after : Outside) (ended : Status) → KeepsAll before.shelf after.shelf → PairsAs before after inputs name set workers (Ok ended)
       → CommandEnds command ended before after
-  pairs_end law before after ended keeps (p, k, (files, read, (bytes, held, (plan, paired))), hold, checked, text) =
+  pairs_end law before after ended keeps (p, k, (files, read, held, (plan, paired)), hold, checked, text) =
       text_ends command ended before after (pairs_text p (planes_in k.rows)) checked text (λ out is. (
         keeps,
-        (files, read, (bytes, held, record { p = p; plan = plan; k = k; paired = paired; wrote = is; truly = (law p).truly k.rows hold })),
+        (files, each_read read (held, tt), (p, plan, (k, paired, is, (law p).truly k.rows hold))),
       ))
 
 -- the text of the pairs that were judged

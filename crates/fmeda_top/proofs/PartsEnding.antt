@@ -28,4 +28,4 @@ parts_tried before after out now netlist rates made rated (Err refused) (memory,
 pub parts_end : (before after : Outside) (netlist rates : Bytes) (ended : Status) → KeepsAll before.shelf after.shelf → PartsAs before after netlist rates (Ok ended)
     → CommandEnds (Parts netlist rates) ended before after
 parts_end before after netlist rates ended keeps (c, table, rated, no_loop, checked, text) =
-    text_ends (Parts netlist rates) ended before after (part_table c table) checked text (λ out is. (keeps, (c, table, rated, no_loop, is)))
+    text_ends (Parts netlist rates) ended before after (part_table c table) checked text (λ out is. (keeps, (rated.0, rated.1, (c, table, rated.2, no_loop, is))))

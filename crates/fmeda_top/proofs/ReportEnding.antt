@@ -22,6 +22,7 @@ use Rattle.fmeda_top.specs.Promises.{CommandEnds}
 use Rattle.fmeda_top.specs.Tried.{TextAs, PlanTextAs}
 use Rattle.fmeda_top.proofs.Ending.{text_ends}
 use Rattle.fmeda_top.proofs.PlanEnding.{plan_told}
+use Rattle.command_steps.proofs.Each.{each_fit, each_read}
 
 -- a plan's report, after its files were read
 pub report_told : (before after : ShelfState) (out now : SinkState) (inputs : Inputs) (set : Settings) (made : Planned) → PlannedAs before after inputs set (Ok made)
@@ -34,7 +35,7 @@ report_checked : (inputs : Inputs) (set : Settings) (before after : ShelfState) 
     → PlanChecked inputs set before after refusal → Checked (Report inputs set) before after refusal
 unfolding first_refusal
 report_checked inputs set before after refusal checked =
-    record { reads = checked.reads; fit = checked.fit; walk = checked.walk; loops = checked.loops; first = checked.first }
+    record { reads = checked.reads; fit = each_fit checked.fit tt; walk = checked.walk; loops = checked.loops; first = checked.first }
 
 pub report_refused : (inputs : Inputs) (set : Settings) (before after : ShelfState) (ended : Status) → PlanRefused inputs set before after ended
     → RefusedInOrder (Report inputs set) before after ended
@@ -45,4 +46,4 @@ pub report_end : (before after : Outside) (inputs : Inputs) (set : Settings) (en
     → PlanTextAs before after inputs set true_report (Ok ended) → CommandEnds (Report inputs set) ended before after
 report_end before after inputs set ended keeps (p, (files, read, plan), checked, text) =
     text_ends (Report inputs set) ended before after (true_report p) (report_checked inputs set before.shelf after.shelf None checked) text
-    (λ out is. (keeps, (files, read, (p, plan, is))))
+    (λ out is. (keeps, (files, each_read read tt, (p, plan, is))))

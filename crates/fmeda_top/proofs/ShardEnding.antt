@@ -20,18 +20,20 @@ use Rattle.command_text.specs.declared.status.Status.TheVariants as status
 use Rattle.command_steps.specs.declared.planned.Planned.{Planned}
 use Rattle.command_steps.specs.Files.{Files}
 use Rattle.command_steps.specs.FirstRefusal.{first_refusal, refusal_in, plan_of, IsPlanOf, own_header}
-use Rattle.command_steps.specs.Held.{HoldsInputs, name_in, name_of}
+use Rattle.command_steps.specs.Held.{name_of}
+use Rattle.command_steps.specs.FileSteps.{name_in}
 use Rattle.command_steps.specs.Checked.{Checked}
 use Rattle.command_steps.specs.Steps.{RefusedInOrder}
 use Rattle.command_steps.specs.PlanSteps.{PlanChecked, PlanRefused, PlannedAs, input_files}
 use Rattle.command_steps.proofs.PlanOrder.{are_held, plan_checked}
 use Rattle.fmeda_top.specs.Campaigns.{EndSaid, HasEnded}
-use Rattle.fmeda_top.specs.Promises.{CommandEnds, result_of}
+use Rattle.fmeda_top.specs.Promises.{CommandEnds}
 use Rattle.command_text.specs.declared.status.Which.{Which}
 use Rattle.command_text.specs.declared.status.Which.TheVariants as which
 use Rattle.fmeda_top.proofs.Naming.{same_names}
 use Rattle.fmeda_top.proofs.CampaignEnding.{file_ends}
-use Rattle.fmeda_top.specs.Ends.{DoneAs, FaultAs, LeavesPrefix}
+use Rattle.fmeda_top.specs.Ends.{DoneAs, FaultAs, MayLeave, result_of}
+use Rattle.command_steps.proofs.Each.{each_fit, each_read}
 
 -- how a part may leave a file that it couldn't write
 abbrev pub PartLeft : PartCampaign → (before after : ShelfState) → Type 0
@@ -68,7 +70,7 @@ module _ (inputs : Inputs) (name : Bytes) (set : Settings) (part parts : ℕ) wh
       → Checked command before after refusal
   unfolding first_refusal
   shard_checked before after refusal checked =
-      record { reads = checked.reads; fit = checked.fit; walk = checked.walk; loops = checked.loops; first = checked.first }
+      record { reads = checked.reads; fit = each_fit checked.fit tt; walk = checked.walk; loops = checked.loops; first = checked.first }
 
   pub shard_refused : (before after : ShelfState) (ended : Status) → PlanRefused inputs set before after ended → RefusedInOrder command before after ended
   shard_refused before after ended refused = record { checked = shard_checked before after (Some ended) refused.checked; fault = refused.fault name [] [] }
@@ -92,26 +94,19 @@ module _ (inputs : Inputs) (name : Bytes) (set : Settings) (part parts : ℕ) wh
       keeps,
       (
         files,
-        planned.0,
-        record {
-          p = made.plan;
-          plan = planned.1;
-          entries = is.entries;
-          has = is.has;
-          result = subst (λ o. HasIfKnown (after.content name) (result_text o made.plan is.entries)) own_is is.result;
-          wrote = is.wrote;
-        },
+        each_read planned.0 tt,
+        (
+          made.plan,
+          planned.1,
+          (is.entries, is.has, subst (λ o. HasIfKnown (after.content name) (result_text o made.plan is.entries)) own_is is.result, is.wrote),
+        ),
       ),
     )
 
     -- what is left after a fault of the result file
     pub shard_left : KeepsOthers before.shelf after name → PartLeft part_of mid after → FaultAs command before.shelf after
-    shard_left keeps left = (files, planned.0, (keeps, by_left left))
+    shard_left keeps left = (keeps, (files, each_read planned.0 tt, by_left left))
       where
-        by_left : PartLeft part_of mid after → (after.content name ≡ before.shelf.content name) ⊎ LeavesPrefix inputs.netlist files set (after.content name)
+        by_left : PartLeft part_of mid after → (after.content name ≡ before.shelf.content name) ⊎ MayLeave command files (before.shelf.content name) (after.content name)
         by_left (inl same) = inl (same ∙ ap (λ (content : Bytes → Content). content name) reads.content)
-        by_left (inr prefix) = inr (record {
-          p = made.plan;
-          plan = planned.1;
-          stopped = subst (λ o. LeftPrefix o made.plan (true_planes made.plan) (after.content name)) own_is prefix;
-        })
+        by_left (inr prefix) = inr (made.plan, planned.1, subst (λ o. LeftPrefix o made.plan (true_planes made.plan) (after.content name)) own_is prefix)

@@ -1,39 +1,28 @@
 -- WHAT IS PROMISED OF A CALL OF THE PROGRAM, of the command that its words are. Counts of faults are compared with the call's own entry.
-use Rattle.std.specs.Prelude.{◌≡◌, ◌⊎◌, List, Option, Some, None}
+use Rattle.std.specs.Prelude.{◌≡◌, ◌⊎◌, List, [], ◌∷◌, Option, Some, None, codes}
 use Rattle.fm_base.specs.Names.{Bytes}
 use Rattle.fm_shelf.specs.Content.{Unknown}
 use Rattle.fm_shelf.specs.Shelf.{CountRose}
+use Rattle.fm_shelf.specs.Sink.{WroteOrFailed}
 use Rattle.fm_shelf.specs.Outside.{Outside}
 use Rattle.command_text.specs.declared.status.Status.{Status}
 use Rattle.command_text.specs.declared.status.Status.TheVariants as status
+use Rattle.command_text.specs.declared.status.Which.TheVariants as which
 use Rattle.command_text.specs.declared.status.WriteTo.TheVariants as to
+use Rattle.command_text.specs.RefusalLines.{refused}
 use Rattle.command_text.specs.Named.{no_names}
-use Rattle.command_line.specs.Commands.{Command, Run, Resume, Gen, Shard, Merge}
+use Rattle.command_line.specs.Commands.{Command}
 use Rattle.command_line.specs.Words.{IsAlone, IsCommand, IsNoCommand}
 use Rattle.command_steps.specs.Held.{name_of}
 use Rattle.command_steps.specs.Checked.{Checked, FaultsRose}
-use Rattle.fmeda_top.specs.Ends.{IsRefusal, DoneAs, netlist_known, RefusedAs, FaultAs, FaultSaid, OutFaultAs}
-
--- the result file that a command writes
-abbrev pub result_of : Command → Option Bytes
-result_of (Run inputs name set workers) = Some name
-result_of (Resume inputs name set workers) = Some name
-result_of (Gen n name workers) = Some name
-result_of (Shard inputs name set part parts) = Some name
-result_of (Merge inputs name first second set) = Some name
-result_of _ = None
-
--- the faults of writing this file rose, and there is one
-abbrev pub WritesRose : Option Bytes → (before after : Outside) → Type 0
-WritesRose None before after = ⊥
-WritesRose (Some name) before after = CountRose (before.shelf.write_faults name) (after.shelf.write_faults name)
+use Rattle.fmeda_top.specs.Ends.{OfResult, IsRefusal, DoneAs, netlist_known, RefusedAs, FaultAs, OutFaultAs}
 
 -- a refusal is the answer; where nothing refuses the call is done, or a write has failed
 abbrev pub EndsBy : Option Status → Command → Status → (before after : Outside) → Type 0
 EndsBy (Some refusal) command ended before after = ended ≡ refusal
 EndsBy None command ended before after =
     (ended ≡ status.Done)
-    ⊎ ((ended ≡ status.WriteFault to.Result) × WritesRose (result_of command) before after)
+    ⊎ ((ended ≡ status.WriteFault to.Result) × OfResult command (λ name. CountRose (before.shelf.write_faults name) (after.shelf.write_faults name)))
     ⊎ ((ended ≡ status.WriteFault to.Out) × CountRose before.out.faults after.out.faults)
 
 -- the status is the first refusal over what the call has read, and says that a file can't be read only where a read of it has failed
@@ -49,7 +38,8 @@ pub record CommandEnds (command : Command) (ended : Status) (before after : Outs
   pub cause : EndsInOrder command ended before after ⊎ (ended ≡ status.Memory)
   pub done : ended ≡ status.Done → DoneAs command before after
   pub refusal : IsRefusal ended → RefusedAs (name_of command) (netlist_known command before.shelf) ended before after
-  pub result_fault : ended ≡ status.WriteFault to.Result → FaultAs command before.shelf after.shelf × FaultSaid (name_of command) before.out after.out
+  pub result_fault : ended ≡ status.WriteFault to.Result →
+      FaultAs command before.shelf after.shelf × WroteOrFailed before.out after.out (refused (codes "cannot write" ∷ name_of command which.Result ∷ []))
   pub out_fault : ended ≡ status.WriteFault to.Out → OutFaultAs command before after
 
 -- WHAT IS PROMISED OF A CALL: its words are a command, and no other, and this is promised of it; or they are none, which is Usage; or there

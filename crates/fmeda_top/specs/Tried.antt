@@ -12,13 +12,16 @@ use Rattle.command_text.specs.declared.status.Status.{Status}
 use Rattle.command_text.specs.declared.status.Status.TheVariants as status
 use Rattle.command_text.specs.declared.refused.Refused.{Refused}
 use Rattle.command_text.specs.declared.refused.Refused.TheVariants.{By, Looped}
-use Rattle.command_steps.specs.Files.{all_read}
+use Rattle.command_steps.specs.Files.{Files, all_read}
 use Rattle.command_steps.specs.Checked.{Checked}
 use Rattle.command_text.specs.Texts.{classes_text, audit_text}
 use Rattle.command_text.specs.declared.status.WriteTo.TheVariants as to
+use Rattle.command_text.specs.declared.status.Which.TheVariants as which
+use Rattle.fm_shelf.specs.Content.{HasIfKnown}
 use Rattle.fm_base.specs.Names.{Bytes}
 use Rattle.campaign_plan.specs.declared.Settings.{Settings}
-use Rattle.command_steps.specs.FirstRefusal.{IsPlanOf, audited_of, audit_step, own_header, paired_of, pairs_step}
+use Rattle.command_steps.specs.FirstRefusal.{IsPlanOf, audited_of, audit_step, own_header, paired_of}
+use Rattle.command_steps.specs.FileSteps.{pairs_step, InputsRead}
 use Rattle.command_text.specs.Refusals.{status_of, HasItsNets}
 use Rattle.result_file.specs.declared.KeptRows.{KeptRows}
 use Rattle.result_file.specs.KeptRows.{kept, kept_entries}
@@ -27,11 +30,9 @@ use Rattle.part_table.specs.PartTable.{part_table}
 use Rattle.fmeda_report.specs.Rows.{HoldEachOnce, planes_in}
 use Rattle.pair_list.specs.Chosen.{Chosen, chosen}
 use Rattle.pair_campaign.specs.PairText.{pairs_text}
-use Rattle.command_steps.specs.WasRead.{AreRated, IsClassesPlan}
-use Rattle.command_steps.specs.Steps.{RefusedInOrder}
+use Rattle.command_steps.specs.Steps.{AreRated, IsClassesPlan, RefusedInOrder}
 use Rattle.command_steps.specs.BegunSteps.{KeptChecked, KeptRefused}
 use Rattle.command_steps.specs.PlanSteps.{PlanChecked, PlanRefused}
-use Rattle.fmeda_top.specs.Ends.{OfInputs, OfCampaign}
 
 -- the text of Done went out, or a prefix of it where `out` failed; or nothing was written, for want of memory
 abbrev pub TextAs : (before after : SinkState) → Bytes → Result Status Refused → Type 0
@@ -56,7 +57,7 @@ ClassesAs before after netlist workload (Err refused) =
 -- a command over a plan was tried: it has written this text of the plan, or it was refused and has written nothing
 abbrev pub PlanTextAs : (before after : Outside) → Inputs → Settings → (Analysis → Bytes) → Result Status Refused → Type 0
 PlanTextAs before after inputs set text (Ok ended) =
-    (p : Analysis) × OfInputs before.shelf inputs (λ files. IsPlanOf inputs.netlist set files p) × PlanChecked inputs set before.shelf after.shelf None
+    (p : Analysis) × ((files : Files) × InputsRead before.shelf inputs files × IsPlanOf inputs.netlist set files p) × PlanChecked inputs set before.shelf after.shelf None
     × TextAs before.out after.out (text p) (Ok ended)
 PlanTextAs before after inputs set text (Err refused) =
     RefusedBy inputs.netlist before after refused (PlanRefused inputs set before.shelf after.shelf)
@@ -72,10 +73,14 @@ abbrev pub AuditTold : Analysis → KeptRows → (before after : SinkState) → 
 AuditTold p k before after (Ok ended) = (audit_step p k ≡ Ok k) × TextAs before after (audit_text (length k.rows) p) (Ok ended)
 AuditTold p k before after (Err refused) = ChecksAs p k (Err refused) × (after ≡ before)
 
+-- this is so of the bytes that were read of the four inputs and of the result file
+abbrev pub OfCampaign : ShelfState → Inputs → (name : Bytes) → (Files → Type 0) → Type 0
+OfCampaign shelf inputs name IsSo = (files : Files) × InputsRead shelf inputs files × HasIfKnown (shelf.content name) (files which.Result) × IsSo files
+
 -- the files of `audit` stand for this plan, and these rows of it were found right
 abbrev pub AreAudited : ShelfState → Inputs → Bytes → Settings → Analysis → KeptRows → Type 0
 AreAudited shelf inputs name set p k =
-    OfCampaign shelf inputs name (λ files bytes. IsPlanOf inputs.netlist set files p × (audited_of inputs.netlist None set (all_read files bytes) ≡ Ok k))
+    OfCampaign shelf inputs name (λ files. IsPlanOf inputs.netlist set files p × (audited_of inputs.netlist None set (all_read files) ≡ Ok k))
 
 -- `audit` was tried: it has written its line, or it was refused and has written nothing
 abbrev pub AuditAs : (before after : Outside) → Inputs → Bytes → Settings → Result Status Refused → Type 0
@@ -98,7 +103,7 @@ PairsTold p k before after (Err refused) = (ended : Status) × (refused ≡ By e
 -- the files of `pairs` stand for this plan, and these rows of it pair its faults
 abbrev pub ArePaired : ShelfState → Inputs → Bytes → Settings → Analysis → KeptRows → Type 0
 ArePaired shelf inputs name set p k =
-    OfCampaign shelf inputs name (λ files bytes. IsPlanOf inputs.netlist set files p × (paired_of inputs.netlist None set (all_read files bytes) ≡ Ok k))
+    OfCampaign shelf inputs name (λ files. IsPlanOf inputs.netlist set files p × (paired_of inputs.netlist None set (all_read files) ≡ Ok k))
 
 -- `pairs` was tried: it has written its text, or it was refused and has written nothing
 abbrev pub PairsAs : (before after : Outside) → Inputs → Bytes → Settings → (workers : ℕ) → Result Status Refused → Type 0
@@ -119,7 +124,7 @@ PartsAs before after netlist rates (Err refused) =
 -- the files of a command stand for this plan, and these rows are kept of its result file
 abbrev pub AreKeptOf : ShelfState → Inputs → Bytes → Settings → Analysis → KeptRows → Type 0
 AreKeptOf shelf inputs name set p k =
-    OfCampaign shelf inputs name (λ files bytes. IsPlanOf inputs.netlist set files p × (kept (own_header set files p) p bytes ≡ Ok k))
+    OfCampaign shelf inputs name (λ files. IsPlanOf inputs.netlist set files p × (kept (own_header set files p) p (files which.Result) ≡ Ok k))
 
 -- a command over the rows that are kept was tried: it has written this text of them, or it was refused and has written nothing
 abbrev pub KeptTextAs : (before after : Outside) → Inputs → Bytes → Settings → (Analysis → List Entry → Bytes) → Result Status Refused → Type 0

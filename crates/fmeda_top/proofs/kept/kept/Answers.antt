@@ -1,6 +1,6 @@
 use Rattle.fm_shelf.specs.Outside.{outside}
 use Rattle.std.proofs.Common.{◌∙◌, refl, sym}
-use Rattle.command_steps.specs.Held.{name_in}
+use Rattle.command_steps.specs.FileSteps.{name_in}
 use Rattle.command_line.specs.Asks.{names_of}
 use Rattle.command_steps.specs.BegunSteps.{KeptRefused}
 use Rattle.fmeda_top.specs.Kept.{command_of}

@@ -9,4 +9,4 @@ pub returns-clause-usage : goal.returns-clause-usage
 returns-clause-usage c = usage_of_words
 
 pub returns-clause-read : goal.returns-clause-read
-returns-clause-read c = λ shelf inputs read held is told. are_held shelf inputs read is held told
+returns-clause-read c = are_held
