@@ -1,5 +1,5 @@
 -- Shapes of private steps over the files, which contracts of private functions and proofs name. Nothing public cites them.
-use Rattle.std.specs.Prelude.{◌≡◌, ◌⊎◌, ℕ, ◌^◌, Bool, not, ◌&&◌, List, [], length, Option, Some, None, Result, Ok, Err, find, option_map, if◌then◌else◌, nat_lt, ◌==◌}
+use Rattle.std.specs.Prelude.{◌≡◌, ◌⊎◌, ℕ, Bool, not, ◌&&◌, List, [], length, Option, Some, None, Result, option_map, if◌then◌else◌, nat_lt, ◌==◌}
 use Rattle.fm_shelf.specs.Content.{Content, Absent, HasIfKnown}
 use Rattle.fm_shelf.specs.Shelf.{ShelfState, CountRose}
 use Rattle.circuit.specs.Circuit.{Circuit}

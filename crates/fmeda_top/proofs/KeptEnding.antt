@@ -1,6 +1,6 @@
 -- How a command ends that writes a text of what is kept of a result file.
-use Rattle.std.proofs.Common.{◌≡◌, ◌∙◌, ap, sym, refl, subst, ℕ, List, map, Ok, Err, inl, inr, []}
-use Rattle.std.specs.Prelude.{◌⊎◌, Option, Some, None, Result}
+use Rattle.std.proofs.Common.{◌≡◌, ◌∙◌, ap, sym, refl, subst, List, Ok, Err, inl, []}
+use Rattle.std.specs.Prelude.{Option, None, Result}
 use Rattle.fm_base.specs.Names.{Bytes}
 use Rattle.fm_shelf.specs.Shelf.{ShelfState, CountRose}
 use Rattle.fm_shelf.specs.Sink.{SinkState, Wrote}
@@ -10,16 +10,15 @@ use Rattle.campaign_plan.specs.declared.Settings.{Settings}
 use Rattle.campaign_plan.specs.Analysis.{Analysis}
 use Rattle.campaign_plan.specs.Batches.{AreDistinct, Entry}
 use Rattle.result_file.specs.KeptRows.{kept, kept_entries}
-use Rattle.command_line.specs.Commands.{Command, Faults, Progress, Inputs}
+use Rattle.command_line.specs.Commands.{Command, Inputs}
 use Rattle.command_text.specs.declared.status.Status.{Status}
-use Rattle.command_text.specs.declared.status.Status.TheVariants as status
 use Rattle.command_text.specs.declared.status.Which.{Which}
 use Rattle.command_text.specs.declared.status.Which.TheVariants as which
 use Rattle.command_text.specs.declared.refused.Refused.{Refused}
-use Rattle.command_text.specs.Refusals.{status_of, HasItsNets, IsSaidOf}
+use Rattle.command_text.specs.Refusals.{status_of, HasItsNets}
 use Rattle.command_steps.specs.declared.begun.Begun.{Begun}
 use Rattle.command_steps.specs.Files.{Files, FilesRead, all_read}
-use Rattle.command_steps.specs.FirstRefusal.{first_refusal, refusal_in, kept_of, own_header, IsLoopAnswer, IsPlanOf}
+use Rattle.command_steps.specs.FirstRefusal.{first_refusal, refusal_in, kept_of, IsLoopAnswer}
 use Rattle.command_steps.specs.Held.{KeepsAll, name_of}
 use Rattle.command_steps.specs.FileSteps.{name_in, InputsFit, files_with, InputsRead}
 use Rattle.command_steps.specs.Checked.{Checked, NameFits, ReadsFit}
@@ -28,8 +27,7 @@ use Rattle.command_steps.specs.PlanSteps.{input_files}
 use Rattle.command_steps.specs.BegunSteps.{BegunAs, KeptChecked, KeptRefused}
 use Rattle.command_steps.proofs.BegunOrder.{kept_made, rows_kept}
 use Rattle.command_steps.proofs.Distinct.{kept_distinct}
-use Rattle.command_steps.proofs.InOrder.{held_is}
-use Rattle.command_steps.proofs.PlanOrder.{are_held, plan_with}
+use Rattle.command_steps.proofs.PlanOrder.{plan_with}
 use Rattle.fmeda_top.specs.declared.kept.KeptText.{KeptText}
 use Rattle.fmeda_top.specs.declared.kept.KeptText.TheVariants.{FaultTable, Bounds}
 use Rattle.fmeda_top.specs.Promises.{CommandEnds}

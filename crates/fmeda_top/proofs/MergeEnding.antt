@@ -22,7 +22,6 @@ use Rattle.campaign_run.specs.Left.{IsPrefixOf}
 use Rattle.campaign_run.specs.Outside.{KeepsOthers}
 use Rattle.command_line.specs.Commands.{Command, Merge, Inputs}
 use Rattle.command_text.specs.declared.status.Status.{Status}
-use Rattle.command_text.specs.declared.status.Status.TheVariants as status
 use Rattle.command_text.specs.declared.status.Which.{Which}
 use Rattle.command_text.specs.declared.status.Which.TheVariants as which
 use Rattle.command_steps.specs.declared.merged.Merged.{Merged as Read}
@@ -42,7 +41,6 @@ use Rattle.fmeda_top.specs.Ends.{DoneAs, FaultAs, IsStopped, MayLeave, OfMerged}
 use Rattle.fmeda_top.specs.Written.{rows_file}
 use Rattle.fmeda_top.specs.Campaigns.{EndSaid, HasEnded}
 use Rattle.fmeda_top.specs.Promises.{CommandEnds}
-use Rattle.command_text.specs.Refusals.{IsSaidOf}
 use Rattle.fmeda_top.proofs.CampaignEnding.{file_ends}
 use Rattle.fmeda_top.proofs.Naming.{same_names}
 use Rattle.command_steps.proofs.Each.{each_fit, each_read}

@@ -1,9 +1,8 @@
 -- How `pairs` ends.
-use Rattle.std.proofs.Common.{◌≡◌, ◌∙◌, ap, ap₂, sym, refl, subst, ℕ, ◌+◌, ◌<◌, Bool, true, false, not, List, [], ◌∷◌, map, Ok, Err, inl, inr, arith, suc}
-use Rattle.std.specs.Prelude.{◌⊎◌, ◌==◌, Option, Some, None, option_map, Result, All, Contains}
+use Rattle.std.proofs.Common.{◌≡◌, ◌∙◌, ap, sym, refl, subst, ℕ, ◌+◌, ◌<◌, Bool, true, false, not, List, [], ◌∷◌, map, Ok, Err, inl, inr, arith, suc}
+use Rattle.std.specs.Prelude.{◌⊎◌, ◌==◌, Option, Some, None, option_map, Result, Contains}
 use Rattle.std.specs.List.{list_any}
 use Rattle.std.proofs.lemmas.Bool.Decides.{nat_tests}
-use Rattle.std.proofs.lemmas.List.Elements.{All-filter}
 use Rattle.std.proofs.lemmas.List.Folds.{list_any_at}
 use Rattle.std.proofs.lemmas.List.FromFn.{length-range_with_len, get_or-range_with_len}
 use Rattle.fm_base.specs.Names.{Bytes}
@@ -12,11 +11,9 @@ use Rattle.fm_base.specs.Firsts.{given, first_answer}
 use Rattle.fm_shelf.specs.Shelf.{ShelfState}
 use Rattle.fm_shelf.specs.Sink.{SinkState}
 use Rattle.fm_shelf.specs.Outside.{Outside, outside}
-use Rattle.metric_sums.specs.declared.Class.{Class}
-use Rattle.metric_sums.specs.Classes.{is_class}
 use Rattle.campaign_plan.specs.declared.Settings.{Settings}
-use Rattle.campaign_plan.specs.Analysis.{Analysis, batch_count, fault_count}
-use Rattle.campaign_plan.specs.Batches.{AreDistinct, batches, class_of_fault}
+use Rattle.campaign_plan.specs.Analysis.{Analysis, batch_count}
+use Rattle.campaign_plan.specs.Batches.{AreDistinct, batches}
 use Rattle.result_file.specs.declared.KeptRows.{KeptRows}
 use Rattle.result_file.specs.declared.Row.{Row}
 use Rattle.result_file.specs.KeptRows.{entry_of}
@@ -24,7 +21,6 @@ use Rattle.fmeda_report.specs.Report.{Planes}
 use Rattle.fmeda_report.specs.Rows.{HoldEachOnce, planes_in}
 use Rattle.pair_list.specs.declared.pairs.PairRefusal.{PairRefusal}
 use Rattle.pair_list.specs.declared.pairs.PairRefusal.TheVariants.{Incomplete, TooMany}
-use Rattle.pair_list.specs.Pairs.{faults_in_class}
 use Rattle.pair_list.specs.Chosen.{Chosen, AreFaults, chosen, has_row, pair_refusal, pairs_by_rows, pairs_unless}
 use Rattle.pair_campaign.specs.PairPlanes.{pair_planes}
 use Rattle.pair_campaign.specs.PairText.{pairs_text, text_by_planes}
@@ -39,7 +35,7 @@ use Rattle.command_text.specs.declared.refused.Refused.{Refused}
 use Rattle.command_text.specs.Refusals.{IsPlain}
 use Rattle.command_steps.specs.declared.begun.Begun.{Begun}
 use Rattle.command_steps.specs.Files.{Files, all_read}
-use Rattle.command_steps.specs.FirstRefusal.{first_refusal, refusal_in, paired_of, status_of_pairs, unless, IsPlanOf}
+use Rattle.command_steps.specs.FirstRefusal.{first_refusal, refusal_in, status_of_pairs, unless}
 use Rattle.command_steps.specs.FileSteps.{pairs_step, files_with}
 use Rattle.command_steps.specs.Held.{KeepsAll}
 use Rattle.command_steps.specs.Checked.{Checked}
@@ -47,8 +43,7 @@ use Rattle.command_steps.specs.Steps.{RefusedInOrder}
 use Rattle.command_steps.specs.PlanSteps.{input_files}
 use Rattle.command_steps.specs.BegunSteps.{KeptRefused, BegunAs}
 use Rattle.command_steps.proofs.Taken.{why}
-use Rattle.command_steps.proofs.InOrder.{held_is}
-use Rattle.command_steps.proofs.PlanOrder.{are_held, plan_with}
+use Rattle.command_steps.proofs.PlanOrder.{plan_with}
 use Rattle.command_steps.proofs.BegunOrder.{paired_made, paired_refused, rows_kept}
 use Rattle.command_steps.proofs.Distinct.{kept_distinct}
 use Rattle.fmeda_top.specs.Promises.{CommandEnds}

@@ -1,6 +1,6 @@
 -- How `parts` ends.
-use Rattle.std.proofs.Common.{ap, sym, subst, ℕ, Ok, Err, inl}
-use Rattle.std.specs.Prelude.{Option, None, Result}
+use Rattle.std.proofs.Common.{ap, sym, subst, Ok, Err, inl}
+use Rattle.std.specs.Prelude.{Result}
 use Rattle.fm_base.specs.Names.{Bytes}
 use Rattle.fm_shelf.specs.Shelf.{ShelfState}
 use Rattle.fm_shelf.specs.Sink.{SinkState}

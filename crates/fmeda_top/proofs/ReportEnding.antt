@@ -1,7 +1,6 @@
 -- How `report` ends.
-use Rattle.std.proofs.Common.{◌≡◌, ◌∙◌, ap, sym, refl, subst, ℕ, [], Ok, Err, inl, inr}
-use Rattle.std.specs.Prelude.{◌⊎◌, Option, Some, None, Result}
-use Rattle.fm_base.specs.Names.{Bytes}
+use Rattle.std.proofs.Common.{ap, sym, subst, [], Ok, Err, inl}
+use Rattle.std.specs.Prelude.{Option, Some, None, Result}
 use Rattle.fm_shelf.specs.Shelf.{ShelfState}
 use Rattle.fm_shelf.specs.Sink.{SinkState}
 use Rattle.fm_shelf.specs.Outside.{Outside, outside}
@@ -9,11 +8,10 @@ use Rattle.campaign_plan.specs.declared.Settings.{Settings}
 use Rattle.fmeda_report.specs.Report.{true_report}
 use Rattle.command_line.specs.Commands.{Report, Inputs}
 use Rattle.command_text.specs.declared.status.Status.{Status}
-use Rattle.command_text.specs.declared.status.Status.TheVariants as status
 use Rattle.command_text.specs.declared.refused.Refused.{Refused}
 use Rattle.command_text.specs.Refusals.{status_of, HasItsNets}
 use Rattle.command_steps.specs.declared.planned.Planned.{Planned}
-use Rattle.command_steps.specs.FirstRefusal.{first_refusal, refusal_in, plan_of, IsPlanOf}
+use Rattle.command_steps.specs.FirstRefusal.{first_refusal}
 use Rattle.command_steps.specs.Held.{KeepsAll}
 use Rattle.command_steps.specs.Checked.{Checked}
 use Rattle.command_steps.specs.Steps.{RefusedInOrder}

@@ -1,5 +1,5 @@
 -- How `shard` ends.
-use Rattle.std.proofs.Common.{◌≡◌, ◌∙◌, ap, sym, refl, subst, ℕ, [], Ok, inl, inr}
+use Rattle.std.proofs.Common.{◌≡◌, ◌∙◌, ap, sym, subst, ℕ, [], Ok, inl, inr}
 use Rattle.std.specs.Prelude.{◌⊎◌, Option, Some, None}
 use Rattle.fm_base.specs.Names.{Bytes}
 use Rattle.fm_shelf.specs.Content.{Content, HasIfKnown}
@@ -16,16 +16,15 @@ use Rattle.campaign_run.specs.Outside.{KeepsOthers}
 use Rattle.campaign_shard.specs.RanPart.{PartCampaign, IsPartTold, HasRunPart}
 use Rattle.command_line.specs.Commands.{Command, Shard, Inputs}
 use Rattle.command_text.specs.declared.status.Status.{Status}
-use Rattle.command_text.specs.declared.status.Status.TheVariants as status
 use Rattle.command_steps.specs.declared.planned.Planned.{Planned}
 use Rattle.command_steps.specs.Files.{Files}
-use Rattle.command_steps.specs.FirstRefusal.{first_refusal, refusal_in, plan_of, IsPlanOf, own_header}
+use Rattle.command_steps.specs.FirstRefusal.{first_refusal, own_header}
 use Rattle.command_steps.specs.Held.{name_of}
 use Rattle.command_steps.specs.FileSteps.{name_in}
 use Rattle.command_steps.specs.Checked.{Checked}
 use Rattle.command_steps.specs.Steps.{RefusedInOrder}
 use Rattle.command_steps.specs.PlanSteps.{PlanChecked, PlanRefused, PlannedAs, input_files}
-use Rattle.command_steps.proofs.PlanOrder.{are_held, plan_checked}
+use Rattle.command_steps.proofs.PlanOrder.{plan_checked}
 use Rattle.fmeda_top.specs.Campaigns.{EndSaid, HasEnded}
 use Rattle.fmeda_top.specs.Promises.{CommandEnds}
 use Rattle.command_text.specs.declared.status.Which.{Which}

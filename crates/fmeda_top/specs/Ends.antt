@@ -1,5 +1,5 @@
 -- What a call of the program has done when it ends. Each promise is of the bytes that it read: what its files held, where that is known.
-use Rattle.std.specs.Prelude.{◌≡◌, ◌⊎◌, List, [], ◌∷◌, length, take, Option, Some, None, Ok, MatchOption}
+use Rattle.std.specs.Prelude.{◌≡◌, ◌⊎◌, List, [], length, take, Option, Some, None, Ok, MatchOption}
 use Rattle.fm_shelf.specs.Content.{Content, Held, HasIfKnown, bytes_of}
 use Rattle.fm_shelf.specs.Shelf.{ShelfState}
 use Rattle.fm_shelf.specs.Sink.{Wrote, WrotePrefix, WroteOrFailed}

@@ -1,4 +1,4 @@
-use Rattle.std.proofs.Common.{[], refl}
+use Rattle.std.proofs.Common.{refl}
 use Rattle.fm_shelf.specs.Outside.{outside}
 use Rattle.command_line.specs.Commands.{Parts}
 use Rattle.command_steps.specs.Steps.{RefusedInOrder}
