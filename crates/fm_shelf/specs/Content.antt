@@ -4,8 +4,7 @@ use Rattle.std.specs.Prelude.{◌≡◌, ℕ, List, []}
 
 -- nothing is known, or the file is absent, or it holds these bytes
 pub data Content : Type 0 where
-  Unknown : Content
-  Absent : Content
+  Unknown Absent : Content
   Held : List ℕ → Content
 
 -- the file is known to be there
@@ -22,9 +21,7 @@ IfPresent (Held bytes) P = P bytes
 
 -- where anything is known of it, the file is there, and the fact holds of its bytes
 abbrev pub IsIfKnown : Content → (List ℕ → Type 0) → Type 0
-IsIfKnown Unknown P = Unit {0}
-IsIfKnown Absent P = ⊥
-IsIfKnown (Held bytes) P = P bytes
+IsIfKnown content P = elim content [ Unknown ↦ Unit {0} | Absent ↦ ⊥ | Held bytes ↦ P bytes ]
 
 -- where anything is known of it, the file has these bytes
 abbrev pub HasIfKnown : Content → List ℕ → Type 0
@@ -32,9 +29,7 @@ HasIfKnown content bytes = IsIfKnown content (λ held. held ≡ bytes)
 
 -- the bytes that an append goes on from: an absent file counts as empty
 abbrev pub bytes_of : Content → List ℕ
-bytes_of Unknown = []
-bytes_of Absent = []
-bytes_of (Held bytes) = bytes
+bytes_of = elim [ Held bytes ↦ bytes | _ ↦ [] ]
 
 -- the greatest length of a file that is read: 2^26 bytes
 abbrev pub greatest : ℕ

@@ -1,5 +1,5 @@
 -- What contracts see of an output, and what goes out in a call.
-use Rattle.std.specs.Prelude.{◌≡◌, ◌⊎◌, ℕ, ◌≤◌, List, ◌++◌, length, take, Option, Some, None, Result, OnOk, OnErr}
+use Rattle.std.specs.Prelude.{◌≡◌, ◌⊎◌, ℕ, ◌≤◌, List, ◌++◌, length, take, Option, option_map, Result, OnOk, OnErr}
 use Rattle.fm_shelf.specs.declared.shelf.Failed.{Failed}
 use Rattle.fm_shelf.specs.Shelf.{CountRose}
 
@@ -10,12 +10,7 @@ pub record SinkState : Type 0 where
 
 -- what went out, once these bytes went out too
 abbrev pub with_more : Option (List ℕ) → List ℕ → Option (List ℕ)
-with_more None piece = None
-with_more (Some written) piece = Some (written ++ piece)
-
--- a prefix of the piece went out
-abbrev pub HasPrefix : (before now : Option (List ℕ)) → List ℕ → Type 0
-HasPrefix before now piece = (n : ℕ) × (n ≤ length piece) × (now ≡ with_more before (take n piece))
+with_more written piece = option_map (λ bytes. bytes ++ piece) written
 
 -- the piece went out
 abbrev pub Wrote : (before after : SinkState) → List ℕ → Type 0
@@ -23,7 +18,8 @@ Wrote before after piece = after.written ≡ with_more before.written piece
 
 -- a write failed, and a prefix of the piece went out
 abbrev pub WrotePrefix : (before after : SinkState) → List ℕ → Type 0
-WrotePrefix before after piece = CountRose before.faults after.faults × HasPrefix before.written after.written piece
+WrotePrefix before after piece =
+    CountRose before.faults after.faults × ((n : ℕ) × (n ≤ length piece) × (after.written ≡ with_more before.written (take n piece)))
 
 -- the piece went out; or a write failed, and a prefix of it did
 abbrev pub WroteOrFailed : (before after : SinkState) → List ℕ → Type 0
@@ -34,3 +30,9 @@ pub record Sends (before after : SinkState) (text : List ℕ) (result : Result (
   pub ok : OnOk result (Wrote before after text)
   pub failed : OnErr result (WrotePrefix before after text)
   pub grows : before.faults ≤ after.faults
+
+-- ---- a step that only private contracts and proofs name
+
+-- a prefix of the piece went out
+abbrev pub HasPrefix : (before now : Option (List ℕ)) → List ℕ → Type 0
+HasPrefix before now piece = (n : ℕ) × (n ≤ length piece) × (now ≡ with_more before (take n piece))
