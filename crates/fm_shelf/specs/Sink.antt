@@ -31,7 +31,7 @@ pub record Sends (before after : SinkState) (text : List ℕ) (result : Result (
   pub failed : OnErr result (WrotePrefix before after text)
   pub grows : before.faults ≤ after.faults
 
--- ---- a step that only private contracts and proofs name
+-- ---- a private step, which the promise doesn't cite
 
 -- a prefix of the piece went out
 abbrev pub HasPrefix : (before now : Option (List ℕ)) → List ℕ → Type 0
