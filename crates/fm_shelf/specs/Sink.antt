@@ -18,8 +18,7 @@ Wrote before after piece = after.written ≡ with_more before.written piece
 
 -- a write failed, and a prefix of the piece went out
 abbrev pub WrotePrefix : (before after : SinkState) → List ℕ → Type 0
-WrotePrefix before after piece =
-    CountRose before.faults after.faults × ((n : ℕ) × (n ≤ length piece) × (after.written ≡ with_more before.written (take n piece)))
+WrotePrefix before after piece = CountRose before.faults after.faults × ((n : ℕ) × (n ≤ length piece) × Wrote before after (take n piece))
 
 -- the piece went out; or a write failed, and a prefix of it did
 abbrev pub WroteOrFailed : (before after : SinkState) → List ℕ → Type 0
