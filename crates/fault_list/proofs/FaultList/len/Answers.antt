@@ -1,4 +1,4 @@
-use Rattle.std.proofs.Common.{◌≡◌, ◌≤◌, length, ap, ap₂, sym, subst, ◌∙◌}
+use Rattle.std.proofs.Common.{◌≤◌, length, ap, ap₂, sym, subst, ◌∙◌}
 use Rattle.fault_list.specs.Kept.{count_for, most_faults}
 use Rattle.fault_list.proofs.Numbers.{length_faults}
 use Rattle.fault_list.proofs.FaultList.len.Goals as goal
