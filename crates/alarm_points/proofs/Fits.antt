@@ -30,7 +30,7 @@ use Rattle.fm_base.proofs.Tests.{both_true, clash, false_of, not_not, or_false}
 use Rattle.fm_base.specs.declared.refusal.Refusal.{Refusal}
 use Rattle.alarm_points.specs.declared.Goal.{Goal}
 use Rattle.alarm_points.specs.declared.Points.{Points}
-use Rattle.alarm_points.specs.declared.PointsFault.{PointsFault}
+use Rattle.csv_rows.specs.declared.FaultyRow.{FaultyRow}
 use Rattle.alarm_points.specs.declared.PointsKind.{PointsKind}
 use Rattle.alarm_points.specs.declared.header.Header.{Header}
 use Rattle.alarm_points.specs.declared.header.Header.TheVariants.{OneGoal, NamedGoals}
@@ -378,7 +378,7 @@ unfolding points_of_rows
 rows_fit c [] points sound e = absurd (cc)
 rows_fit c (first ∷ rows) points sound e = under_fit c (header_of first) rows points sound e
 
-pub answer_fits : (c : Circuit) (bytes : Bytes) (result : Result Points (Refusal PointsFault)) → IsNetlist c → Gives (points_of c bytes) result
+pub answer_fits : (c : Circuit) (bytes : Bytes) (result : Result Points (Refusal (FaultyRow PointsKind))) → IsNetlist c → Gives (points_of c bytes) result
     → IfOk result (ArePointsFor c)
 answer_fits c bytes (Ok points) sound e = rows_fit c (rows_of bytes) points sound (sym (file_is c bytes) ∙ e)
 answer_fits c bytes (Err refusal) sound e = tt

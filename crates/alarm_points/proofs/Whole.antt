@@ -11,7 +11,7 @@ use Rattle.fm_base.specs.Firsts.{first_after, first_fault, numbered_fault}
 use Rattle.fm_base.specs.Names.{Bytes, Name}
 use Rattle.fm_base.proofs.OnePass.{first_fault-later, first_fault-here}
 use Rattle.alarm_points.specs.declared.Points.{Points}
-use Rattle.alarm_points.specs.declared.PointsFault.{PointsFault}
+use Rattle.csv_rows.specs.declared.FaultyRow.{FaultyRow}
 use Rattle.alarm_points.specs.declared.PointsKind.{PointsKind}
 use Rattle.alarm_points.specs.declared.PointsKind.TheVariants.{BadCsv}
 use Rattle.alarm_points.specs.declared.header.Header.{Header}
@@ -156,11 +156,11 @@ gives_points c bytes l left w e =
 
 -- ---- a refusal that is passed on
 
-pub passed_on : (expected : Result Points PointsFault) (e : Refusal PointsFault) (result : Result Points (Refusal PointsFault)) → Gives {T = Points} expected (Err e)
+pub passed_on : (expected : Result Points (FaultyRow PointsKind)) (e : Refusal (FaultyRow PointsKind)) (result : Result Points (Refusal (FaultyRow PointsKind))) → Gives {T = Points} expected (Err e)
     → result ≡ Err e → Gives expected result
 passed_on expected e result w same = subst (Gives expected) (sym same) w
 
-pub header_refused : (c : Circuit) (bytes : Bytes) (rows left : List Fields) (e : Refusal PointsFault) (result : Result Points (Refusal PointsFault))
+pub header_refused : (c : Circuit) (bytes : Bytes) (rows left : List Fields) (e : Refusal (FaultyRow PointsKind)) (result : Result Points (Refusal (FaultyRow PointsKind)))
     → rows ≡ rows_of bytes → IsHeaderRead rows left (Err e) → result ≡ Err e → Gives (points_of_rows c (rows_of bytes)) result
 header_refused c bytes rows left e result is w same =
     passed_on (points_of_rows c (rows_of bytes)) e result (subst (λ (r : List Fields). Gives {T = Points} (points_of_rows c r) (Err e)) is (w c)) same

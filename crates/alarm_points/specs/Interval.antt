@@ -8,8 +8,7 @@ use Rattle.alarm_points.specs.declared.Goal.{Goal}
 abbrev pub interval_of : ℕ → Goal → ℕ
 interval_of ftti goal = unwrap_or goal.ftti ftti
 
--- there is a cycle t that differs, and no alarm is raised at any cycle from 0 to t + ftti;
--- a run that ends before t + ftti has no later alarm
+-- there is a cycle t that differs, and no alarm is raised at any cycle from 0 to t + ftti; a run that ends before has no later alarm
 unfoldable pub goes_unalarmed : ℕ → ℕ → (ℕ → Bool) → (ℕ → Bool) → Bool
 goes_unalarmed ftti cycles differs raised =
     some_below cycles (λ t. differs t && not (some_below cycles (λ u. nat_le u (t + ftti) && raised u)))

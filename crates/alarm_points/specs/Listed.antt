@@ -8,7 +8,7 @@ use Rattle.fm_base.specs.Firsts.{given, first_answer, first_after, first_fault, 
 use Rattle.fm_base.specs.Names.{Bytes, Name, is_one_of}
 use Rattle.fm_base.specs.Index.{with_name}
 use Rattle.csv_rows.specs.Rows.{Fields, rows_of}
-use Rattle.alarm_points.specs.declared.PointsFault.{PointsFault}
+use Rattle.csv_rows.specs.declared.FaultyRow.{FaultyRow}
 use Rattle.alarm_points.specs.declared.PointsKind.{PointsKind}
 use Rattle.alarm_points.specs.declared.PointsKind.TheVariants.{BadCsv, BadKind, UnknownNet, Twice, TooLarge, BadGoal, BadInterval}
 use Rattle.alarm_points.specs.declared.header.Header.{Header}
@@ -62,11 +62,11 @@ pub record IsHalfway (c : Circuit) (bytes : Bytes) (l : Listed) (left : List Fie
   pub faultless : first_fault (row_fault_under c h) (before ++ left) ≡ first_after (numbered_fault (row_fault_under c h)) before left
 
 -- the first row is the header; or the file is refused for it
-abbrev pub IsHeaderRead : (rows left : List Fields) → Result Header (Refusal PointsFault) → Type 0
+abbrev pub IsHeaderRead : (rows left : List Fields) → Result Header (Refusal (FaultyRow PointsKind)) → Type 0
 IsHeaderRead rows left (Ok h) = (first : Fields) × (rows ≡ first ∷ left) × (header_of first ≡ Some h)
 IsHeaderRead rows left (Err refusal) = (c : Circuit) → Gives (points_of_rows c rows) (Err refusal)
 
 -- all rows were read, and none has a fault; or the file is refused for one that has
-abbrev pub AreListed : Circuit → Bytes → Listed → Result (Unit {0}) (Refusal PointsFault) → Type 0
+abbrev pub AreListed : Circuit → Bytes → Listed → Result (Unit {0}) (Refusal (FaultyRow PointsKind)) → Type 0
 AreListed c bytes l (Ok done) = IsHalfway c bytes l []
 AreListed c bytes l (Err refusal) = Gives (points_of_rows c (rows_of bytes)) (Err refusal)

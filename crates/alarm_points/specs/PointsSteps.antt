@@ -11,7 +11,7 @@ use Rattle.alarm_points.specs.declared.header.Header.{Header}
 use Rattle.alarm_points.specs.declared.header.Header.TheVariants.{OneGoal, NamedGoals}
 use Rattle.alarm_points.specs.declared.PointsKind.{PointsKind}
 use Rattle.alarm_points.specs.declared.PointsKind.TheVariants.{BadCsv, BadKind, UnknownNet, Twice, TooLarge, NoObserve, BadGoal, BadInterval}
-use Rattle.alarm_points.specs.declared.PointsFault.{PointsFault}
+use Rattle.csv_rows.specs.declared.FaultyRow.{FaultyRow}
 use Rattle.fm_base.specs.Firsts.{given, first_answer}
 use Rattle.fm_base.specs.Lists.{firsts}
 use Rattle.fm_base.specs.Names.{Bytes, Name, is_one_of, distinct, is_label}
@@ -141,21 +141,21 @@ points_listed c h rows = record {
 }
 
 -- a refusal at a row
-abbrev pub points_refusal : {X : Type 0} → ℕ × PointsKind → Result X PointsFault
+abbrev pub points_refusal : {X : Type 0} → ℕ × PointsKind → Result X (FaultyRow PointsKind)
 points_refusal found = Err (record { row = found.0; kind = found.1 })
 
 -- the first faulty row's fault, or else that no row observes, or else the points
-abbrev pub points_unless : Option (ℕ × PointsKind) → Bool → Points → Result Points PointsFault
+abbrev pub points_unless : Option (ℕ × PointsKind) → Bool → Points → Result Points (FaultyRow PointsKind)
 points_unless (Some found) observes points = points_refusal found
 points_unless None false points = points_refusal (1, NoObserve)
 points_unless None true points = Ok points
 
 -- the points under a header
-abbrev pub points_under : Option Header → Circuit → List Fields → Result Points PointsFault
+abbrev pub points_under : Option Header → Circuit → List Fields → Result Points (FaultyRow PointsKind)
 points_under None c rows = points_refusal (1, BadCsv)
 points_under (Some h) c rows = points_unless (first_faulty_row (row_fault_under c h) rows) (list_any (is_observe h) rows) (points_listed c h rows)
 
 -- the points of a file's rows, the first of which is the header
-unfoldable pub points_of_rows : Circuit → List Fields → Result Points PointsFault
+unfoldable pub points_of_rows : Circuit → List Fields → Result Points (FaultyRow PointsKind)
 points_of_rows c [] = points_refusal (1, BadCsv)
 points_of_rows c (header ∷ rows) = points_under (header_of header) c rows

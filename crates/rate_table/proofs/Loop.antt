@@ -2,18 +2,18 @@
 use Rattle.std.proofs.Common.{◌≡◌, ℕ, ◌+◌, ◌≤◌, ◌<◌, ◌^◌, Bool, true, false, List, [], ◌∷◌, ◌++◌, length, map, refl, ap, sym, subst, ◌∙◌, arith, append_assoc, length-append}
 use Rattle.std.specs.Prelude.{Option, Some, None, Result, Ok, Err, option_map}
 use Rattle.std.proofs.lemmas.List.{append-nil}
-use Rattle.fm_base.specs.Firsts.{first_after, first_answer, numbered_fault}
+use Rattle.fm_base.specs.Firsts.{first_after, numbered_fault}
 use Rattle.fm_base.proofs.OnePass.{first_fault-later, first_fault-here}
+use Rattle.csv_rows.specs.declared.FaultyRow.{FaultyRow}
 use Rattle.csv_rows.specs.Rows.{Fields, rows_of, is_row, unless_faulty}
 use Rattle.rate_table.specs.declared.reading.Reading.{Reading}
 use Rattle.rate_table.specs.declared.RatesKind.{RatesKind}
-use Rattle.rate_table.specs.declared.RatesFault.{RatesFault}
 use Rattle.fm_base.specs.declared.refusal.Refusal.{Refusal}
 use Rattle.fm_base.specs.declared.refusal.Refusal.TheVariants.{Fault, Memory}
 use Rattle.fm_base.specs.Answers.{Gives}
 use Rattle.rate_table.specs.Table.{IsRateTable, RateTable}
-use Rattle.rate_table.specs.RatesFile.{row_fault, rate_parts, pattern_of, rates_of, header}
-use Rattle.rate_table.specs.RatesSteps.{rates_under}
+use Rattle.rate_table.specs.RatesFile.{row_fault, rate_parts, pattern_of, rates_of}
+use Rattle.rate_table.specs.RatesSteps.{header, rates_under}
 use Rattle.rate_table.specs.Reading.{HoldsReadRows, IsReading, RowIsRead, at_row}
 
 -- the rows that are done, and those that are left
@@ -49,9 +49,9 @@ pub reading_is : (all left : List Fields) (table : Reading) (number : ℕ) → S
 reading_is all left table number s = record { names = s.holds.names; small = s.holds.small; few = omega (arith, s.holds.fewer, s.holds.few) }
 
 -- the answer, with the first faulty row as it is counted below the header
-abbrev answer : List Fields → Option (ℕ × RatesKind) → Result RateTable RatesFault
+abbrev answer : List Fields → Option (ℕ × RatesKind) → Result RateTable (FaultyRow RatesKind)
 answer rows o =
-    unless_faulty {E = ℕ × RatesKind} (λ fault. record { row = fault.0; kind = fault.1 }) (first_answer (option_map (λ found. (found.0 + 1, found.1)) o ∷ []))
+    unless_faulty (option_map (λ found. (found.0 + 1, found.1)) o ∷ [])
     (record { patterns = map (pattern_of (rate_parts rows)) rows; parts = rate_parts rows })
 
 -- a row's fault is the file's

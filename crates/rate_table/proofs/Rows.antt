@@ -8,7 +8,7 @@ use Rattle.std.proofs.lemmas.List.{append-nil, map-append, length-map, get_or-ma
 use Rattle.std.proofs.lemmas.List.Elements.{All-push}
 use Rattle.std.proofs.lemmas.List.Folds.{find_at, list_any-append, position_or_len_push}
 use Rattle.std.proofs.lemmas.List.Quantifiers.{position-Some}
-use Rattle.std.proofs.lemmas.List.Sums.{position_or_len_is, sum_by_push}
+use Rattle.std.proofs.lemmas.List.Sums.{position_or_len_is, sum_by-cons, sum_by_push}
 use Rattle.std.proofs.lemmas.Option.{slice_get-get_or}
 use Rattle.std.proofs.lemmas.Slice.Eq.{bytes_eq-Decides}
 use Rattle.metric_sums.specs.declared.Role.{Role}
@@ -18,15 +18,15 @@ use Rattle.fm_base.specs.Firsts.{given, first_answer}
 use Rattle.fm_base.specs.Names.{Bytes, is_label, is_one_of, has_repeat}
 use Rattle.fm_base.proofs.Distinct.{firsts-snoc, bytes_eq-sym}
 use Rattle.fm_base.proofs.Tests.{clash, or_false, both_false}
-use Rattle.csv_rows.specs.Rows.{Fields, field}
+use Rattle.csv_rows.specs.Rows.{Fields, field, same_field}
 use Rattle.rate_table.specs.declared.Part.{Part}
 use Rattle.rate_table.specs.declared.Pattern.{Pattern}
 use Rattle.rate_table.specs.declared.RatesKind.{RatesKind}
 use Rattle.rate_table.specs.declared.RatesKind.TheVariants.{BadCsv, BadPart, BadRole, BadCovered, BadRate, TwoMeanings, TooLarge}
 use Rattle.rate_table.specs.Rate.{units_of}
 use Rattle.rate_table.specs.Table.{all_rates, part_names}
-use Rattle.rate_table.specs.RatesFile.{role_of, covered_of, row_part, same_part, rate_parts, row_fault, pattern_of}
-use Rattle.rate_table.specs.RatesSteps.{same_meaning, first_row, is_past, has_star, without_star}
+use Rattle.rate_table.specs.RatesFile.{row_part, rate_parts, row_fault, pattern_of}
+use Rattle.rate_table.specs.RatesSteps.{role_of, covered_of, same_meaning, first_row, is_past, has_star, without_star}
 use Rattle.rate_table.specs.Reading.{is_named_part, is_role, is_same, own_row_fault, Says, IsTold, HasRead, TakesPart, row_pattern}
 use Rattle.rate_table.proofs.Numbers.{position_some, position_none, any_or_none}
 use Rattle.std.proofs.Math.Bool.{or-false}
@@ -39,7 +39,7 @@ abbrev pub tells_of : Bytes → Fields → Bool
 tells_of name row = bytes_eq name (field row 1)
 
 -- the first row of a name is among the first rows of parts
-find-firsts : (name : Bytes) (rows : List Fields) → find (tells_of name) (firsts same_part rows) ≡ find (tells_of name) rows
+find-firsts : (name : Bytes) (rows : List Fields) → find (tells_of name) (firsts (same_field 1) rows) ≡ find (tells_of name) rows
 unfolding firsts
 find-firsts name [] = refl
 find-firsts name (row ∷ rows) = by_cases (tells_of name row) refl (find-firsts name rows)
@@ -50,11 +50,11 @@ find-firsts name (row ∷ rows) = by_cases (tells_of name row) refl (find-firsts
         let same : name ≡ field other 1 = (bytes_eq-Decides name (field other 1)).0 t in
         let here : bytes_eq name (field row 1) ≡ true = rw same e in absurd (clash _ here f)
 
-    by_cases : (b : Bool) → tells_of name row ≡ b → find (tells_of name) (firsts same_part rows) ≡ find (tells_of name) rows
-        → find (tells_of name) (row ∷ filter (λ other. not (same_part other row)) (firsts same_part rows)) ≡ find (tells_of name) (row ∷ rows)
+    by_cases : (b : Bool) → tells_of name row ≡ b → find (tells_of name) (firsts (same_field 1) rows) ≡ find (tells_of name) rows
+        → find (tells_of name) (row ∷ filter (λ other. not (same_field 1 other row)) (firsts (same_field 1) rows)) ≡ find (tells_of name) (row ∷ rows)
     by_cases true e more = rw e refl
     by_cases false e more =
-        rw e (find-filter (tells_of name) (λ other. not (same_part other row)) (firsts same_part rows) (λ other t. others _ e other t refl)
+        rw e (find-filter (tells_of name) (λ other. not (same_field 1 other row)) (firsts (same_field 1) rows) (λ other t. others _ e other t refl)
         ∙ more)
 
 find_same : {X : Type 0} (p q : X → Bool) (xs : List X) → ((x : X) → p x ≡ q x) → find p xs ≡ find q xs
@@ -81,16 +81,16 @@ named_same name row = bytes_eq-sym (field row 1) name
 part_found : (name : Bytes) (rows : List Fields) (n : ℕ) → position (is_named_part name) (rate_parts rows) ≡ Some n → Finds name rows n
 part_found name rows n h =
     let at = position_some (is_named_part name) (rate_parts rows) n h in
-    let lt : n < length (firsts same_part rows) = subst (λ k. n < k) (length-map (firsts same_part rows) row_part) at.2 in
-    let place : position_or_len (λ row. is_named_part name (row_part row)) (firsts same_part rows) ≡ n =
-    sym (position_or_len-map (is_named_part name) row_part (firsts same_part rows)) ∙ at.1 in
-    let first = get_or (firsts same_part rows) n [] in
+    let lt : n < length (firsts (same_field 1) rows) = subst (λ k. n < k) (length-map (firsts (same_field 1) rows) row_part) at.2 in
+    let place : position_or_len (λ row. is_named_part name (row_part row)) (firsts (same_field 1) rows) ≡ n =
+    sym (position_or_len-map (is_named_part name) row_part (firsts (same_field 1) rows)) ∙ at.1 in
+    let first = get_or (firsts (same_field 1) rows) n [] in
     record {
       first = first;
-      found = sym (find-firsts name rows) ∙ sym (find_same (λ row. is_named_part name (row_part row)) (tells_of name) (firsts same_part rows) (named_same name))
-          ∙ find_at (λ row. is_named_part name (row_part row)) (firsts same_part rows)
-          ∙ ap (slice_get (firsts same_part rows)) place ∙ slice_get-get_or (firsts same_part rows) n [] lt;
-      part = λ d. get_or-map row_part (firsts same_part rows) n [] d lt;
+      found = sym (find-firsts name rows) ∙ sym (find_same (λ row. is_named_part name (row_part row)) (tells_of name) (firsts (same_field 1) rows) (named_same name))
+          ∙ find_at (λ row. is_named_part name (row_part row)) (firsts (same_field 1) rows)
+          ∙ ap (slice_get (firsts (same_field 1) rows)) place ∙ slice_get-get_or (firsts (same_field 1) rows) n [] lt;
+      part = λ d. get_or-map row_part (firsts (same_field 1) rows) n [] d lt;
       within = at.2;
     }
 
@@ -115,19 +115,19 @@ some_found p xs x e = by_cases (list_any p xs) refl
 pub part_missing : (name : Bytes) (rows : List Fields) → position (is_named_part name) (rate_parts rows) ≡ None → find (tells_of name) rows ≡ None
 part_missing name rows h =
     let none : list_any (is_named_part name) (rate_parts rows) ≡ false = position_none (is_named_part name) (rate_parts rows) h in
-    sym (find-firsts name rows) ∙ find-none (tells_of name) (firsts same_part rows)
-    (sym (any_same (λ row. is_named_part name (row_part row)) (tells_of name) (firsts same_part rows) (named_same name))
-    ∙ sym (list_any-map (is_named_part name) row_part (firsts same_part rows)) ∙ none)
+    sym (find-firsts name rows) ∙ find-none (tells_of name) (firsts (same_field 1) rows)
+    (sym (any_same (λ row. is_named_part name (row_part row)) (tells_of name) (firsts (same_field 1) rows) (named_same name))
+    ∙ sym (list_any-map (is_named_part name) row_part (firsts (same_field 1) rows)) ∙ none)
 
 -- ---- one row more
 
 -- a row of a part that is there adds no part, and a row of another adds its own
 parts_same : (rows : List Fields) (row first : Fields) → first_row rows row ≡ Some first → rate_parts (rows ++ row ∷ []) ≡ rate_parts rows
-parts_same rows row first e = ap (map row_part) (firsts-snoc same_part rows row ∙ rw (some_found (same_part row) rows first e) refl)
+parts_same rows row first e = ap (map row_part) (firsts-snoc (same_field 1) rows row ∙ rw (some_found (same_field 1 row) rows first e) refl)
 
 parts_more : (rows : List Fields) (row : Fields) → first_row rows row ≡ None → rate_parts (rows ++ row ∷ []) ≡ rate_parts rows ++ row_part row ∷ []
 parts_more rows row e =
-    ap (map row_part) (firsts-snoc same_part rows row ∙ rw (none_found (same_part row) rows e) refl) ∙ map-append row_part (firsts same_part rows) (row ∷ [])
+    ap (map row_part) (firsts-snoc (same_field 1) rows row ∙ rw (none_found (same_field 1 row) rows e) refl) ∙ map-append row_part (firsts (same_field 1) rows) (row ∷ [])
 
 -- what was found stays where it was found
 pub position_kept : {X : Type 0} (p : X → Bool) (xs more : List X) (n : ℕ) → position p xs ≡ Some n → position p (xs ++ more) ≡ Some n
@@ -187,19 +187,73 @@ answers_two None None None (Some d) e rest = refl
 answers_two None None None None (Some e) rest = refl
 answers_two None None None None None rest = refl
 
+-- a row gives no role, or no covering, where its word is none of those
+no_role : (row : Fields) → not (is_one_of (codes "mission" ∷ codes "mechanism" ∷ codes "other" ∷ []) (field row 2)) ≡ is_none (role_of row)
+no_role row = by_cases (bytes_eq (field row 2) (codes "mission")) (bytes_eq (field row 2) (codes "mechanism")) (bytes_eq (field row 2) (codes "other"))
+  where
+    by_cases : (x y z : Bool) → not (x || (y || (z || false))) ≡ is_none (if x then Some Mission else if y then Some Mechanism else if z then Some Other else None)
+    by_cases true y z = refl
+    by_cases false true z = refl
+    by_cases false false true = refl
+    by_cases false false false = refl
+
+no_covering : (row : Fields) → not (is_one_of (codes "yes" ∷ codes "no" ∷ []) (field row 3)) ≡ is_none (covered_of row)
+no_covering row = by_cases (bytes_eq (field row 3) (codes "yes")) (bytes_eq (field row 3) (codes "no"))
+  where
+    by_cases : (x y : Bool) → not (x || (y || false)) ≡ is_none (if x then Some true else if y then Some false else None)
+    by_cases true y = refl
+    by_cases false true = refl
+    by_cases false false = refl
+
+-- the rates of parts and of one more
+rates_with : (part : Part) (parts : List Part) → all_rates (part ∷ parts) ≡ all_rates parts + (part.permanent + part.transient)
+rates_with part parts = omega (arith, sum_by-cons (λ (p : Part). p.permanent + p.transient) part parts)
+
 -- a row's checks are its own and then those after others
 pub row_fault_is : (before : List Fields) (row : Fields) → row_fault before row ≡ option_or (own_row_fault row) (shared_fault before row)
 unfolding row_fault
-row_fault_is before row = answers_two
-    (given (not (length row == 6)) BadCsv) (given (not (is_label (field row 1))) BadPart) (given (is_none (role_of row)) BadRole)
+row_fault_is before row =
+    (λ i. first_answer (given (not (length row == 6)) BadCsv
+    ∷ given (not (is_label (field row 1))) BadPart
+    ∷ given (no_role row i) BadRole
+    ∷ given (no_covering row i) BadCovered
+    ∷ given (is_none (units_of (field row 4)) || is_none (units_of (field row 5))) BadRate
+    ∷ given (not (option_map_or (same_meaning row) (first_row before row) true)) TwoMeanings
+    ∷ given (nat_le 4096 (length before) || (is_none (first_row before row) && nat_lt (10 ^ 18) (rates_with (row_part row) (rate_parts before) i))) TooLarge ∷ []))
+    ∙ answers_two (given (not (length row == 6)) BadCsv) (given (not (is_label (field row 1))) BadPart) (given (is_none (role_of row)) BadRole)
     (given (is_none (covered_of row)) BadCovered) (given (is_none (units_of (field row 4)) || is_none (units_of (field row 5))) BadRate)
     (given (not (option_map_or (same_meaning row) (first_row before row) true)) TwoMeanings
     ∷ given (nat_le 4096 (length before) || is_past before row) TooLarge
     ∷ [])
 
+-- a row that says something is of a part that has it
+role_told : (row : Fields) (r : Role) → role_of row ≡ Some r → (row_part row).role ≡ r
+role_told row r e = by_cases (bytes_eq (field row 2) (codes "mission")) (bytes_eq (field row 2) (codes "mechanism")) (bytes_eq (field row 2) (codes "other")) e
+  where
+    by_cases : (x y z : Bool) → (if x then Some Mission else if y then Some Mechanism else if z then Some Other else None) ≡ Some r
+        → (if x then Mission else if y then Mechanism else Other) ≡ r
+    by_cases true y z e = cc
+    by_cases false true z e = cc
+    by_cases false false true e = cc
+    by_cases false false false e = absurd (cc)
+
+covered_told : (row : Fields) (c : Bool) → covered_of row ≡ Some c → (row_part row).covered ≡ c
+covered_told row c e = by_cases (bytes_eq (field row 3) (codes "yes")) (bytes_eq (field row 3) (codes "no")) e
+  where
+    by_cases : (x y : Bool) → (if x then Some true else if y then Some false else None) ≡ Some c → x ≡ c
+    by_cases true y e = cc
+    by_cases false true e = cc
+    by_cases false false e = absurd (cc)
+
 pub said_part : (row : Fields) (r : Role) (c : Bool) (p t : ℕ) → Says row r c p t
     → row_part row ≡ record { name = field row 1; role = r; covered = c; permanent = p; transient = t }
-said_part row r c p t h = rw (h.role, h.covered, h.permanent, h.transient) refl
+said_part row r c p t h = λ i. record {
+  name = field row 1;
+  role = role_told row r h.role i;
+  covered = covered_told row c h.covered i;
+  permanent = unwrap_or (h.permanent i) 0;
+  transient = unwrap_or (h.transient i) 0;
+}
 
 same_text : (a b : Bytes) → bytes_eq a b ≡ true → a ≡ b
 same_text a b e = (bytes_eq-Decides a b).0 e

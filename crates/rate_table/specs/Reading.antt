@@ -9,18 +9,18 @@ use Rattle.fm_base.specs.declared.refusal.Refusal.TheVariants.{Fault, Memory}
 use Rattle.fm_base.specs.Firsts.{given, first_answer}
 use Rattle.fm_base.specs.Lists.{same_bit}
 use Rattle.fm_base.specs.Names.{Bytes, is_label, has_repeat}
+use Rattle.csv_rows.specs.declared.FaultyRow.{FaultyRow}
 use Rattle.csv_rows.specs.Rows.{Fields, field}
 use Rattle.rate_table.specs.declared.Part.{Part}
 use Rattle.rate_table.specs.declared.Pattern.{Pattern}
 use Rattle.rate_table.specs.declared.RatesKind.{RatesKind}
 use Rattle.rate_table.specs.declared.RatesKind.TheVariants.{BadCsv, BadPart, BadRole, BadCovered, BadRate, TwoMeanings, TooLarge}
-use Rattle.rate_table.specs.declared.RatesFault.{RatesFault}
 use Rattle.rate_table.specs.declared.reading.Reading.{Reading}
 use Rattle.rate_table.specs.declared.reading.Terms.{Terms}
 use Rattle.rate_table.specs.Rate.{units_of}
 use Rattle.rate_table.specs.Table.{all_rates, part_names}
-use Rattle.rate_table.specs.RatesFile.{role_of, covered_of, rate_parts, row_fault, pattern_of}
-use Rattle.rate_table.specs.RatesSteps.{has_star, without_star}
+use Rattle.rate_table.specs.RatesFile.{rate_parts, row_fault, pattern_of}
+use Rattle.rate_table.specs.RatesSteps.{role_of, covered_of, has_star, without_star}
 
 -- a part has this name
 abbrev pub is_named_part : Bytes → Part → Bool
@@ -135,7 +135,7 @@ AddsOrIsPast past old new name terms (Err (Fault kind)) = (past ≡ true) × (ki
 AddsOrIsPast past old new name terms (Err Memory) = Unit {0}
 
 -- the refusal of a file for a row
-abbrev pub at_row : Refusal RatesKind → ℕ → Refusal RatesFault
+abbrev pub at_row : Refusal RatesKind → ℕ → Refusal (FaultyRow RatesKind)
 at_row (Fault kind) row = Fault (record { row = row; kind = kind })
 at_row Memory row = Memory
 

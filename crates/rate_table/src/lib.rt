@@ -8,6 +8,7 @@ mod index;
 mod reading;
 mod units;
 
+use csv_rows::FaultyRow;
 use fm_base::{Name, Seq};
 use index::PatternIndex;
 use metric_sums::Role;
@@ -127,9 +128,5 @@ pub enum RatesKind {
     TooLarge,
 }
 
-/// The first faulty row, counted from the header, which is row 1, and the kind of its fault.
-#[derive(Clone, Copy, Debug, PartialEq, Eq)]
-pub struct RatesFault {
-    pub row: u32,
-    pub kind: RatesKind,
-}
+/// The first faulty row, and the kind of its fault.
+pub type RatesFault = FaultyRow<RatesKind>;

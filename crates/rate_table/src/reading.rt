@@ -4,8 +4,8 @@ ghost use Rattle.std.specs.List.{list_any};
 ghost use Rattle.std.specs.Str.{bytes_eq};
 ghost use Rattle.csv_rows.specs.Rows.{Fields, field, is_row};
 ghost use Rattle.fm_base.specs.Answers.{Gives};
-ghost use Rattle.rate_table.specs.RatesFile.{header, role_of, covered_of, rates_of};
-ghost use Rattle.rate_table.specs.RatesSteps.{has_star, without_star, rates_under};
+ghost use Rattle.rate_table.specs.RatesFile.{rates_of};
+ghost use Rattle.rate_table.specs.RatesSteps.{header, role_of, covered_of, has_star, without_star, rates_under};
 ghost use Rattle.rate_table.specs.Reading.{is_same, name_texts, HoldsReadRows, IsReading, AddsPart, AddsOrIsPast, TellsRow, Numbers, RowIsRead, known, is_too_large, at_row};
 
 use crate::units::units_of;

@@ -5,7 +5,7 @@ use Rattle.std.proofs.lemmas.List.{map-append, append-nil}
 use Rattle.std.proofs.lemmas.Simd.{map-map}
 use Rattle.std.specs.List.{last_or}
 use Rattle.circuit.specs.Circuit.{Circuit}
-use Rattle.csv_rows.specs.Rows.{Fields, field, has_word}
+use Rattle.csv_rows.specs.Rows.{Fields, field, has_word, same_field}
 use Rattle.fm_base.specs.Names.{Name, Bytes, distinct}
 use Rattle.fm_base.proofs.Distinct.{distinct-found, distinct-snoc, is_same}
 use Rattle.fm_base.proofs.Distinct as dis
@@ -16,8 +16,8 @@ use Rattle.workload.specs.declared.builder.Builder.{Builder}
 use Rattle.workload.specs.declared.builder.Last.{Last}
 use Rattle.workload.specs.declared.header.Layout.{Layout}
 use Rattle.workload.specs.declared.run.Run.{Run}
-use Rattle.workload.specs.WorkloadFile.{input_names, run_of, same_name, workloads}
-use Rattle.workload.specs.WorkloadSteps.{header_columns, run_kind, has_kind, vector_of}
+use Rattle.workload.specs.WorkloadFile.{workloads}
+use Rattle.workload.specs.WorkloadSteps.{input_names, run_of, header_columns, run_kind, has_kind, vector_of}
 use Rattle.workload.proofs.Groups.{extend_last, extend_last-snoc, workloads-joins, workloads-parts, workloads-one}
 use Rattle.workload.proofs.RowFaults.{fault_by-is, first_of-none, kinds_step, last_or-snoc, row_fault-is}
 
@@ -57,13 +57,13 @@ grouped_step c header before row runs (Some last) bits w says e = found (last_or
         → AreGrouped c header (before ++ row ∷ []) (runs ++ (if b then [] else last.run ∷ [])) (Some (if b then with_vector last bits else begun row bits))
     new r er name true same =
         let is : field row 0 ≡ last.name = dis.same_name (field row 0) last.name same in
-        let both : same_name r row ≡ true = rw (sym name, is) (is_same last.name) in
+        let both : same_field 0 r row ≡ true = rw (sym name, is) (is_same last.name) in
         let whole : workloads (before ++ row ∷ []) ≡ w.0 ++ (w.1 ++ row ∷ []) ∷ [] =
         workloads-joins before row r er both ∙ ap (extend_last row) w.2 ∙ extend_last-snoc w.0 w.1 row in
         let long : 0 < length (w.1 ++ row ∷ []) = omega (arith, length-append w.1 (row ∷ []), w.3) in
         (w.0, w.1 ++ row ∷ [], whole, long, append-nil runs ∙ w.4, rw (w.5, e) (sym (run_more c header w.1 row w.3)))
     new r er name false same =
-        let apart : same_name r row ≡ false = rw (sym name) (swapped (field row 0) last.name same) in
+        let apart : same_field 0 r row ≡ false = rw (sym name) (swapped (field row 0) last.name same) in
         let whole : workloads (before ++ row ∷ []) ≡ (w.0 ++ w.1 ∷ []) ++ (row ∷ []) ∷ [] =
         workloads-parts before row r er apart ∙ ap (λ (gs : List (List Fields)). gs ++ (row ∷ []) ∷ []) w.2 in
         let more : runs ++ last.run ∷ [] ≡ map (run_of c header) (w.0 ++ w.1 ∷ []) = rw (w.4, w.5) (sym (map-append (run_of c header) w.0 (w.1 ∷ []))) in

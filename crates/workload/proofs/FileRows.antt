@@ -6,18 +6,17 @@ use Rattle.circuit.specs.Circuit.{Circuit}
 use Rattle.csv_rows.specs.Rows.{Fields, first_faulty_row, has_word, rows_of, unless_faulty}
 use Rattle.fm_base.specs.Firsts.{first_answer, given}
 use Rattle.fm_base.specs.Names.{Bytes, has_repeat, is_one_of}
-use Rattle.workload.specs.declared.file.WorkloadFault.{WorkloadFault}
+use Rattle.csv_rows.specs.declared.FaultyRow.{FaultyRow}
 use Rattle.workload.specs.declared.file.WorkloadKind.{WorkloadKind}
 use Rattle.workload.specs.declared.file.WorkloadKind.TheVariants.{BadCsv, BadColumn, MissingInput, Empty}
 use Rattle.workload.specs.declared.run.Run.{Run}
-use Rattle.workload.specs.WorkloadFile.{input_names, row_fault, run_of, workload_of, workloads}
-use Rattle.workload.specs.WorkloadSteps.{header_fault, runs_of_rows, runs_unless}
+use Rattle.workload.specs.WorkloadFile.{row_fault, workload_of, workloads}
+use Rattle.workload.specs.WorkloadSteps.{input_names, run_of, header_fault, runs_of_rows, runs_unless}
 
 -- the faults of the header, of the rows and of the whole, in one list
-abbrev answer : Circuit → Fields → List Fields → (begins columns inputs : Bool) → Option (ℕ × WorkloadKind) → Result (List Run) WorkloadFault
+abbrev answer : Circuit → Fields → List Fields → (begins columns inputs : Bool) → Option (ℕ × WorkloadKind) → Result (List Run) (FaultyRow WorkloadKind)
 answer c header rows begins columns inputs found =
-    unless_faulty (λ fault. record { row = fault.0; kind = fault.1 }) (first_answer (
-    given begins (1, BadCsv) ∷ given columns (1, BadColumn) ∷ given inputs (1, MissingInput) ∷ found ∷ given (length rows == 0) (1, Empty) ∷ []))
+    unless_faulty (given begins (1, BadCsv) ∷ given columns (1, BadColumn) ∷ given inputs (1, MissingInput) ∷ found ∷ given (length rows == 0) (1, Empty) ∷ [])
     (map (run_of c header) (workloads rows))
 
 answer-is : (c : Circuit) (header : Fields) (rows : List Fields) (begins columns inputs : Bool) (found : Option (ℕ × WorkloadKind))

@@ -5,7 +5,7 @@ use Rattle.std.specs.List.{last_or, list_any, list_all}
 use Rattle.std.specs.Option.{option_map_or, option_or}
 use Rattle.std.proofs.lemmas.List.Folds.{find-append}
 use Rattle.circuit.specs.Circuit.{Circuit}
-use Rattle.csv_rows.specs.Rows.{Fields, field}
+use Rattle.csv_rows.specs.Rows.{Fields, field, same_field}
 use Rattle.fm_base.specs.Names.{Name, Bytes, is_one_of}
 use Rattle.fm_base.specs.Text.{is_bit}
 use Rattle.fm_base.proofs.Distinct.{distinct-found, is_same}
@@ -14,7 +14,7 @@ use Rattle.fm_base.proofs.Tests.{and_both}
 use Rattle.workload.specs.Built.{IsBuilt, KeepsKind, fault_by, first_of, is_kind, joins, keeps_kind, last_says, workload_name, row_says, kind_of_word}
 use Rattle.workload.specs.declared.builder.Builder.{Builder}
 use Rattle.workload.specs.declared.builder.Last.{Last}
-use Rattle.workload.specs.WorkloadFile.{row_fault, same_name}
+use Rattle.workload.specs.WorkloadFile.{row_fault}
 use Rattle.workload.specs.WorkloadSteps.{has_kind, is_split}
 use Rattle.fm_base.proofs.Finding.{list_any-map, find-none}
 
@@ -43,8 +43,8 @@ kept_at (Some first) row r e = sym (dis.same_name (field row 1) (field first 1) 
 kept_of : (before : List Fields) (row r : Fields) (n : Name) → n ≡ field row 0 → has_kind before row ≡ true
     → field (unwrap_or (find (λ (b : Fields). bytes_eq n (field b 0)) (before ++ row ∷ [])) r) 1 ≡ field row 1
 kept_of before row r n e h =
-    let same : (is_kind row ≡ true) × (bytes_eq (field row 1) (field (unwrap_or (find (same_name row) before) row) 1) ≡ true) = and_both (is_kind row) _ h in
-    rw (e, find-append) (kept_at (find (same_name row) before) row r same.1)
+    let same : (is_kind row ≡ true) × (bytes_eq (field row 1) (field (unwrap_or (find (same_field 0 row) before) row) 1) ≡ true) = and_both (is_kind row) _ h in
+    rw (e, find-append) (kept_at (find (same_field 0 row) before) row r same.1)
 
 pub kinds_step : (before : List Fields) (row : Fields) → has_kind before row ≡ true → KeepsKind (before ++ row ∷ [])
 kinds_step before row h r last e same =
@@ -55,7 +55,7 @@ kinds_step before row h r last e same =
 -- ---- the tests of a row
 
 joins-is : (row : Fields) (o : Option Fields) (l : Option Last) → option_map row_says o ≡ option_map last_says l
-    → joins l row ≡ option_map_or (same_name row) o false
+    → joins l row ≡ option_map_or (same_field 0 row) o false
 joins-is row None None e = refl
 joins-is row None (Some l) e = absurd (cc)
 joins-is row (Some r) None e = absurd (cc)
@@ -69,11 +69,11 @@ left_false true e = e
 left_false false e = refl
 
 -- no row before has the name
-unnamed : (before : List Fields) (row : Fields) → list_any (same_name row) before ≡ false → has_kind before row ≡ (is_kind row && true)
-unnamed before row e = rw (find-none (same_name row) before e) (ap (λ b. is_kind row && b) (is_same (field row 1)))
+unnamed : (before : List Fields) (row : Fields) → list_any (same_field 0 row) before ≡ false → has_kind before row ≡ (is_kind row && true)
+unnamed before row e = rw (find-none (same_field 0 row) before e) (ap (λ b. is_kind row && b) (is_same (field row 1)))
 
 kind-is : (before : List Fields) (row : Fields) (o : Option Fields) (l : Option Last) → last_or None before ≡ o → option_map row_says o ≡ option_map last_says l
-    → KeepsKind before → (list_any (same_name row) before && not (option_map_or (same_name row) o false)) ≡ false → keeps_kind l row ≡ has_kind before row
+    → KeepsKind before → (list_any (same_field 0 row) before && not (option_map_or (same_field 0 row) o false)) ≡ false → keeps_kind l row ≡ has_kind before row
 kind-is before row None None eo says kept e = sym (unnamed before row (left_false _ e))
 kind-is before row None (Some l) eo says kept e = absurd (cc)
 kind-is before row (Some r) None eo says kept e = absurd (cc)
@@ -91,7 +91,7 @@ kind-is before row (Some r) (Some l) eo says kept e =
 split-is : (c : Circuit) (header : Fields) (before : List Fields) (b : Builder) (row : Fields) → IsBuilt c header before b
     → (is_one_of b.names (field row 0) && not (joins b.last row)) ≡ is_split before row
 split-is c header before b row w =
-    let known : is_one_of b.names (field row 0) ≡ list_any (same_name row) before =
+    let known : is_one_of b.names (field row 0) ≡ list_any (same_field 0 row) before =
     ap (λ (names : List Name). is_one_of names (field row 0)) w.names ∙ distinct-found (map workload_name before) (field row 0) ∙ list_any-map (bytes_eq (field row 0)) workload_name before in
     rw (known, joins-is row (last_or None before) b.last w.last) refl
 

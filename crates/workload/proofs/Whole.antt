@@ -16,12 +16,12 @@ use Rattle.workload.specs.Built.{AreGrouped, IsAdded, IsHalfway, IsLayout, LaysO
 use Rattle.workload.specs.RunsKept.{AreRuns}
 use Rattle.workload.specs.declared.builder.Builder.{Builder}
 use Rattle.workload.specs.declared.builder.Last.{Last}
-use Rattle.workload.specs.declared.file.WorkloadFault.{WorkloadFault}
+use Rattle.csv_rows.specs.declared.FaultyRow.{FaultyRow}
 use Rattle.workload.specs.declared.file.WorkloadKind.{WorkloadKind}
 use Rattle.workload.specs.declared.file.WorkloadKind.TheVariants.{BadCsv}
 use Rattle.workload.specs.declared.run.Run.{Run}
-use Rattle.workload.specs.WorkloadFile.{row_fault, run_of, workload_of, workloads}
-use Rattle.workload.specs.WorkloadSteps.{header_fault, runs_of_rows, runs_unless, vector_of}
+use Rattle.workload.specs.WorkloadFile.{row_fault, workload_of, workloads}
+use Rattle.workload.specs.WorkloadSteps.{run_of, header_fault, runs_of_rows, runs_unless, vector_of}
 use Rattle.workload.proofs.Building.{built_step}
 use Rattle.workload.proofs.FileRows.{said_by_rows}
 use Rattle.workload.proofs.Groups.{workloads-counted, workloads-each, workloads-nil}
@@ -81,7 +81,7 @@ unfolding runs_of_rows
 header_refused c bytes header left kind e fault =
     said_by_rows c bytes (header ∷ left) e ∙ ap (λ f. runs_unless f (first_faulty_row (row_fault header) left) c header left) fault
 
-pub header_gives : (c : Circuit) (bytes : Bytes) (header : Fields) (left : List Fields) (refusal : Refusal WorkloadFault) → rows_of bytes ≡ header ∷ left
+pub header_gives : (c : Circuit) (bytes : Bytes) (header : Fields) (left : List Fields) (refusal : Refusal (FaultyRow WorkloadKind)) → rows_of bytes ≡ header ∷ left
     → LaysOut c header (Err refusal) → Gives (workload_of c bytes) (Err refusal)
 header_gives c bytes header left (Fault fault) e found =
     header_refused c bytes header left fault.kind e found.1 ∙ ap (λ n. Err (record { row = n; kind = fault.kind })) (sym found.0)

@@ -10,13 +10,13 @@ use Rattle.workload.specs.declared.builder.Last.{Last}
 use Rattle.workload.specs.declared.header.Layout.{Layout}
 use Rattle.workload.specs.declared.file.WorkloadKind.{WorkloadKind}
 use Rattle.workload.specs.declared.file.WorkloadKind.TheVariants.{BadCsv, SplitName, BadKind, BadBit, TooLarge, Empty}
-use Rattle.workload.specs.declared.file.WorkloadFault.{WorkloadFault}
+use Rattle.csv_rows.specs.declared.FaultyRow.{FaultyRow}
 use Rattle.workload.specs.declared.run.Run.{Run}
 use Rattle.workload.specs.declared.run.Kind.{Kind}
 use Rattle.workload.specs.declared.run.Kind.TheVariants.{Mission, Test}
-use Rattle.workload.specs.WorkloadFile.{input_names, row_fault, run_of, same_name, workloads}
-use Rattle.workload.specs.WorkloadSteps.{header_columns, header_fault, run_kind, workload_refusal}
-use Rattle.csv_rows.specs.Rows.{Fields, field, has_word, rows_of}
+use Rattle.workload.specs.WorkloadFile.{row_fault, workloads}
+use Rattle.workload.specs.WorkloadSteps.{input_names, run_of, header_columns, header_fault, run_kind, workload_refusal}
+use Rattle.csv_rows.specs.Rows.{same_field, Fields, field, has_word, rows_of}
 use Rattle.fm_base.specs.Firsts.{first_after, first_answer, first_fault, given, numbered_fault}
 use Rattle.fm_base.specs.Names.{Name, Bytes, distinct, has_repeat, is_one_of}
 use Rattle.fm_base.specs.Index.{with_name}
@@ -50,7 +50,7 @@ pub record IsLayout (c : Circuit) (header : Fields) (layout : Layout) : Type 0 w
   pub places : layout.places.items ≡ map (column_place (header_columns header)) (input_names c)
 
 -- the layout of a header, or its first fault
-abbrev pub LaysOut : Circuit → Fields → Result Layout (Refusal WorkloadFault) → Type 0
+abbrev pub LaysOut : Circuit → Fields → Result Layout (Refusal (FaultyRow WorkloadKind)) → Type 0
 LaysOut c header (Ok layout) = (header_fault c header ≡ None) × IsLayout c header layout
 LaysOut c header (Err (Fault fault)) = (fault.row ≡ 1) × (header_fault c header ≡ Some fault.kind)
 LaysOut c header (Err Memory) = Unit {0}
@@ -123,7 +123,7 @@ abbrev pub runs_in : Builder → List Run
 runs_in b = b.runs ++ option_map_or (λ l. l.run ∷ []) b.last []
 
 -- the runs, or a refusal where there is none
-abbrev pub finished : Builder → Result (List Run) WorkloadFault
+abbrev pub finished : Builder → Result (List Run) (FaultyRow WorkloadKind)
 finished b = option_map_or (λ l. Ok (b.runs ++ l.run ∷ [])) b.last (workload_refusal (1, Empty))
 
 -- ---- what it tells of the rows
@@ -138,7 +138,7 @@ last_says last = (last.name, kind_of_word last.run.kind)
 -- a row of the last row's name has its kind in the first row of that name
 abbrev pub KeepsKind : List Fields → Type 0
 KeepsKind before = (row last : Fields) → last_or None before ≡ Some last → bytes_eq (field row 0) (field last 0) ≡ true
-    → field (unwrap_or (find (same_name row) before) row) 1 ≡ field last 1
+    → field (unwrap_or (find (same_field 0 row) before) row) 1 ≡ field last 1
 
 -- the workloads of these rows are those of the runs that are done and the one that was read last
 abbrev pub AreGrouped : Circuit → Fields → List Fields → List Run → Option Last → Type 0

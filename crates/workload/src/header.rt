@@ -2,7 +2,7 @@
 ghost use Rattle.std.specs.Prelude.{◌≡◌, ◌+◌, ◌<◌, ◌≤◌, ◌^◌, length, map, slice_index_or, [], IfOk, List};
 ghost use Rattle.fm_base.specs.Names.{distinct, is_one_of};
 ghost use Rattle.workload.specs.Built.{AreColumns, AreColumnPlaces, LaysOut};
-ghost use Rattle.workload.specs.WorkloadFile.{input_names};
+ghost use Rattle.workload.specs.WorkloadSteps.{input_names};
 
 use crate::file::{WorkloadFault, WorkloadKind, refusal};
 use circuit::netlist::Netlist;

@@ -9,10 +9,8 @@ use std::marker::Model;
 /// What a workload stands for.
 #[derive(Clone, Copy, Debug, PartialEq, Eq)]
 pub enum Kind {
-    /// The item at work.
-    Mission,
-    /// A test of the safety mechanisms.
-    Test,
+    Mission, // the item at work
+    Test, // a test of the safety mechanisms
 }
 
 /// The bits of one cycle.

@@ -3,7 +3,8 @@ use Rattle.std.specs.Prelude.{Result, Err}
 use Rattle.std.proofs.lemmas.Result.{err_from_is_err_and}
 use Rattle.fm_base.specs.Answers.{Gives}
 use Rattle.alarm_points.specs.declared.Points.{Points}
-use Rattle.alarm_points.specs.declared.PointsFault.{PointsFault}
+use Rattle.alarm_points.specs.declared.PointsKind.{PointsKind}
+use Rattle.csv_rows.specs.declared.FaultyRow.{FaultyRow}
 use Rattle.csv_rows.specs.Rows.{rows_of}
 use Rattle.alarm_points.proofs.FileRows.{gives_file}
 use Rattle.alarm_points.proofs.Fits.{answer_fits}
@@ -47,7 +48,7 @@ returns-clause-answers c =
     let halfway = begun c.args.net.now c.args.bytes.now c.in_ok-header.header c.in_ok-listed.listed c.new-rows.result c.read_header.new.rows c.new-rows.ensures c.in_ok-header.ensures
     c.in_ok-listed.ensures.lists in
     let whole = c.in_ok-list_rows.ensures c.args.net.now c.args.bytes.now halfway in
-    let given = λ (expected : Result Points PointsFault). Gives expected c.finish.result in
+    let given = λ (expected : Result Points (FaultyRow PointsKind)). Gives expected c.finish.result in
     gives_file c.args.net.now c.args.bytes.now c.finish.result
     (subst given (sym (gives_points c.args.net.now c.args.bytes.now c.list_rows.new.listed [] whole refl)) (c.finish.ensures c.args.net.now whole.listed.nets))
 

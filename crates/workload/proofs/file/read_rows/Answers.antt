@@ -3,7 +3,8 @@ use Rattle.std.specs.Prelude.{Result}
 use Rattle.std.proofs.lemmas.Result.{err_from_is_err_and}
 use Rattle.fm_base.specs.Answers.{Gives}
 use Rattle.workload.specs.Built.{IsLayout}
-use Rattle.workload.specs.declared.file.WorkloadFault.{WorkloadFault}
+use Rattle.csv_rows.specs.declared.FaultyRow.{FaultyRow}
+use Rattle.workload.specs.declared.file.WorkloadKind.{WorkloadKind}
 use Rattle.workload.specs.declared.run.Run.{Run}
 use Rattle.workload.proofs.Whole.{gives_runs, halfway_runs, halfway_start, halfway_step, header_gives, no_header, row_refused}
 use Rattle.workload.proofs.file.read_rows.Goals as goal
@@ -51,5 +52,5 @@ finish-requires c = halfway_runs c.args.net.now c.args.bytes.now c.each.builder 
 pub returns : goal.returns
 returns c =
     let read : (c.each.rows ≡ []) × (c.read.new.self ≡ []) = rw c.if-branch.false at c.in_ok-read.ensures.row in
-    let given = λ (expected : Result (List Run) WorkloadFault). Gives expected c.finish.result in
+    let given = λ (expected : Result (List Run) (FaultyRow WorkloadKind)). Gives expected c.finish.result in
     subst given (sym (gives_runs c.args.net.now c.args.bytes.now c.each.builder c.each.rows c.each.invariant read.0)) c.finish.ensures

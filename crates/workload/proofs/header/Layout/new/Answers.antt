@@ -3,8 +3,7 @@ use Rattle.std.specs.List.{list_all}
 use Rattle.fm_base.specs.Names.{Name, is_one_of}
 use Rattle.fm_base.proofs.Tests.{both_true}
 use Rattle.workload.specs.Built.{AreColumns, AreColumnPlaces, are_bad, column_place}
-use Rattle.workload.specs.WorkloadFile.{input_names}
-use Rattle.workload.specs.WorkloadSteps.{header_columns}
+use Rattle.workload.specs.WorkloadSteps.{input_names, header_columns}
 use Rattle.workload.proofs.Headers.{bad_distinct, begins, begins_not, header_fault-by}
 use Rattle.workload.proofs.header.Layout.new.Goals as goal
 use Rattle.workload.proofs.header.Layout.new.Goals.{then-not-has_word-via-then-not-has_word, then-not-has_word-via-else-not-has_word+then-not-has_word-2}
