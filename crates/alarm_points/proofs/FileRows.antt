@@ -22,7 +22,7 @@ use Rattle.csv_rows.specs.declared.FaultyRow.{FaultyRow}
 use Rattle.alarm_points.specs.declared.PointsKind.{PointsKind}
 use Rattle.alarm_points.specs.declared.PointsKind.TheVariants.{BadCsv, BadKind, UnknownNet, Twice, TooLarge, NoObserve, BadGoal, BadInterval}
 use Rattle.alarm_points.specs.declared.header.Header.TheVariants.{OneGoal, NamedGoals}
-use Rattle.alarm_points.specs.PointsFile.{interval_read, points_from, points_of, row_fault}
+use Rattle.alarm_points.specs.PointsFile.{interval_read, points_of, row_fault}
 use Rattle.alarm_points.specs.PointsSteps.{goal_from, is_fifth, is_alarm, is_observe, observing_under, point_of, points_listed, points_of_rows, points_under, points_unless, row_fault_under, same_goal_under}
 use Rattle.alarm_points.proofs.Mapped.{filter-map, firsts-map}
 
@@ -33,6 +33,17 @@ long row = [] ∷ codes "-" ∷ row
 -- the rows that observe
 abbrev observing : List Fields → List Fields
 observing rows = filter (has_word (codes "observe") 2) rows
+
+-- the points of rows that have no fault
+abbrev points_from : Circuit → List Fields → Points
+points_from c rows =
+    let nets : List Fields → List NetId = map (λ row. record { 0 = unwrap_or (net_named c (field row 3)) 0 }) in
+    let goal : Fields → Goal = λ first. record {
+      name = field first 0;
+      ftti = unwrap_or (interval_read (field first 1)) None;
+      observe = nets (filter (same_field 0 first) (observing rows));
+    } in
+    record { goals = map goal (firsts (same_field 0) (observing rows)); alarm = nets (filter (has_word (codes "alarm") 2) rows) }
 
 -- ---- under the header that names goals
 

@@ -12,8 +12,8 @@ use Rattle.fm_base.specs.declared.refusal.Refusal.{Refusal}
 use Rattle.fm_base.specs.declared.refusal.Refusal.TheVariants.{Fault, Memory}
 use Rattle.fm_base.specs.Answers.{Gives}
 use Rattle.rate_table.specs.Table.{IsRateTable, RateTable}
-use Rattle.rate_table.specs.RatesFile.{row_fault, rate_parts, pattern_of, rates_of}
-use Rattle.rate_table.specs.RatesSteps.{header, rates_under}
+use Rattle.rate_table.specs.RatesFile.{row_fault, rate_parts, rates_of}
+use Rattle.rate_table.specs.RatesSteps.{header, rates_under, pattern_of}
 use Rattle.rate_table.specs.Reading.{HoldsReadRows, IsReading, RowIsRead, at_row}
 
 -- the rows that are done, and those that are left

@@ -10,7 +10,8 @@ use Rattle.rate_table.specs.declared.RatesKind.{RatesKind}
 use Rattle.rate_table.specs.declared.reading.Reading.{Reading}
 use Rattle.rate_table.specs.declared.reading.Terms.{Terms}
 use Rattle.rate_table.specs.Table.{all_rates}
-use Rattle.rate_table.specs.RatesFile.{row_part, rate_parts, pattern_of}
+use Rattle.rate_table.specs.RatesFile.{row_part, rate_parts}
+use Rattle.rate_table.specs.RatesSteps.{pattern_of}
 use Rattle.rate_table.specs.Reading.{is_named_part, is_same, own_row_fault, Says, HoldsReadRows, TakesPart, AddsOrIsPast, Numbers, known, is_too_large, name_texts, part_with}
 use Rattle.rate_table.proofs.Rows.{meaning_known, two_meanings, too_large_old, too_large_new, takes_old, takes_new, part_missing, said_part}
 

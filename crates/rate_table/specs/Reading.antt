@@ -19,8 +19,8 @@ use Rattle.rate_table.specs.declared.reading.Reading.{Reading}
 use Rattle.rate_table.specs.declared.reading.Terms.{Terms}
 use Rattle.rate_table.specs.Rate.{units_of}
 use Rattle.rate_table.specs.Table.{all_rates, part_names}
-use Rattle.rate_table.specs.RatesFile.{rate_parts, row_fault, pattern_of}
-use Rattle.rate_table.specs.RatesSteps.{role_of, covered_of, has_star, without_star}
+use Rattle.rate_table.specs.RatesFile.{rate_parts, row_fault}
+use Rattle.rate_table.specs.RatesSteps.{role_of, covered_of, has_star, without_star, pattern_of}
 
 -- a part has this name
 abbrev pub is_named_part : Bytes → Part → Bool

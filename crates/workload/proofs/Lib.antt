@@ -3,5 +3,6 @@ pub mod RowFaults
 pub mod Building
 pub mod Whole
 pub mod Headers
+pub mod ByName
 pub mod Fits
 mod FileRows
