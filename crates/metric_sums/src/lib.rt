@@ -6,8 +6,7 @@ ghost use Rattle.metric_sums.specs.Classes.{class_of};
 ghost use Rattle.metric_sums.specs.Metrics.{fraction, spfm_permanent, spfm_transient, lfm, term, spfm_target, lfm_target, pmhf_target, meets, targets_of};
 ghost use Rattle.metric_sums.specs.Totals.{no_sums, plus, share_of, AreSmall, AreConsistent};
 
-/// What a part of the circuit is for: the safety-related function itself, a safety mechanism, or nothing that is
-/// safety-related.
+/// What a part of the circuit is for: the safety-related function, a safety mechanism, or nothing that is safety-related.
 #[derive(Clone, Copy, Debug, PartialEq, Eq)]
 pub enum Role {
     Mission,
@@ -15,8 +14,7 @@ pub enum Role {
     Other,
 }
 
-/// The class of a fault, after the kinds of faults of ISO 26262-1:2018. A fault of hardware that isn't safety-related is
-/// `Outside`.
+/// The class of a fault: the kinds of ISO 26262-1:2018, and `Outside` for hardware that isn't safety-related.
 #[derive(Clone, Copy, Debug, PartialEq, Eq)]
 pub enum Class {
     Safe,
