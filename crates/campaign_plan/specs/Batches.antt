@@ -1,8 +1,8 @@
 -- What each batch of 64 faults is found to be, and the sums over batches.
-use Rattle.std.specs.Prelude.{◌≡◌, ℕ, ◌/◌, ◌%◌, ◌<◌, Bool, ◌&&◌, List, [], ◌∷◌, map, length, All, Contains}
+use Rattle.std.specs.Prelude.{◌≡◌, ℕ, ◌/◌, ◌%◌, ◌<◌, Bool, ◌&&◌, List, [], ◌∷◌, map, filter, length, All, Contains}
 use Rattle.circuit.specs.declared.parts.Fault.{Fault}
 use Rattle.circuit.specs.Circuit.{Circuit}
-use Rattle.fault_list.specs.Faults.{fault_at, fault_number, is_used, used_lanes}
+use Rattle.fault_list.specs.Faults.{fault_at, fault_number, is_used}
 use Rattle.workload.specs.declared.run.Run.{Run}
 use Rattle.alarm_points.specs.declared.Points.{Points}
 use Rattle.metric_sums.specs.declared.Class.{Class}
@@ -20,33 +20,27 @@ use Rattle.circuit.specs.Effects.{is_permanent}
 
 -- the planes of a batch: danger, and notice, of the fault in each lane alone, and 0 where a lane holds no fault
 unfoldable pub outcome_of : Circuit → Points → ℕ → List Run → List Fault → ℕ → Outcome
-outcome_of c points ftti runs fs batch = record {
-  danger = plane_of (λ k. is_used (length fs) batch k && is_dangerous c points ftti runs (fault_at fs (fault_number batch k) ∷ []));
-  noticed = plane_of (λ k. is_used (length fs) batch k && is_noticed c points runs (fault_at fs (fault_number batch k) ∷ []));
-}
+outcome_of c points ftti runs fs batch =
+    let alone : ℕ → List Fault = λ k. fault_at fs (fault_number batch k) ∷ [] in
+    let plane = λ (test : List Fault → Bool). plane_of (λ k. is_used (length fs) batch k && test (alone k)) in
+    record { danger = plane (is_dangerous c points ftti runs); noticed = plane (is_noticed c points runs) }
 
 -- the planes that a plan's batch truly has
 abbrev pub true_planes : Analysis → ℕ → Outcome
 true_planes p batch = outcome_of p.circuit p.points p.settings.ftti p.runs (all_faults p) batch
 
--- the class of fault i, where its danger and its notice are these
-abbrev pub class_with : Analysis → ℕ → Bool → Bool → Class
-class_with p i dangerous noticed =
-    let own = part_numbered p (part_of p (fault_numbered p i)) in
-    class_of dangerous noticed own.role own.covered (is_permanent (fault_numbered p i))
-
--- the class of the fault in a lane, read off the planes of its batch
+-- the class of the fault in a lane, by its bits in the planes of its batch and by its part
 abbrev pub class_in_lane : Analysis → ℕ → Outcome → ℕ → Class
-class_in_lane p batch planes k = class_with p (fault_number batch k) (bit planes.danger k) (bit planes.noticed k)
-
--- what the fault in a lane adds to the sums
-abbrev pub lane_sums : Analysis → ℕ → Outcome → ℕ → Sums
-lane_sums p batch planes k =
-    share_of (class_in_lane p batch planes k) (is_permanent (fault_numbered p (fault_number batch k))) (weight p (fault_number batch k))
+class_in_lane p batch planes k =
+    let fault = fault_numbered p (fault_number batch k) in
+    let own = part_numbered p (part_of p fault) in
+    class_of (bit planes.danger k) (bit planes.noticed k) own.role own.covered (is_permanent fault)
 
 -- the five sums over the faults of one batch
 unfoldable pub own_sums : Analysis → ℕ → Outcome → Sums
-own_sums p batch planes = sums_by (lane_sums p batch planes) (used_lanes (fault_count p) batch)
+own_sums p batch planes =
+    let share : ℕ → ℕ → Sums = λ k i. share_of (class_in_lane p batch planes k) (is_permanent (fault_numbered p i)) (weight p i) in
+    sums_by (λ k. share k (fault_number batch k)) (filter (is_used (fault_count p) batch) (below lanes))
 
 -- a batch and its planes
 abbrev pub Entry : Type 0
@@ -80,3 +74,16 @@ in_order p planes = map (λ batch. (batch, planes batch)) (below (batch_count p)
 -- the class of fault i, where `planes` gives the planes of each batch
 abbrev pub class_of_fault : Analysis → (ℕ → Outcome) → ℕ → Class
 class_of_fault p planes i = class_in_lane p (i / lanes) (planes (i / lanes)) (i % lanes)
+
+-- ---- shapes of private steps
+
+-- the class of fault i, where its danger and its notice are these
+abbrev pub class_with : Analysis → ℕ → Bool → Bool → Class
+class_with p i dangerous noticed =
+    let own = part_numbered p (part_of p (fault_numbered p i)) in
+    class_of dangerous noticed own.role own.covered (is_permanent (fault_numbered p i))
+
+-- what the fault in a lane adds to the sums
+abbrev pub lane_sums : Analysis → ℕ → Outcome → ℕ → Sums
+lane_sums p batch planes k =
+    share_of (class_in_lane p batch planes k) (is_permanent (fault_numbered p (fault_number batch k))) (weight p (fault_number batch k))
