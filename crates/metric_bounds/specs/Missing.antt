@@ -1,4 +1,5 @@
--- The planes of all batches, where some batches are kept and the others are missing. This project's own rule.
+-- The planes of all batches, where some batches are kept and the others are missing, as the laws and private contracts name them: steps of
+-- `progress`.
 use Rattle.std.specs.Prelude.{◌≡◌, ℕ, ◌&&◌, not, Bool, List, Some, unwrap_or}
 use Rattle.metric_sums.specs.Classes.{is_mechanism}
 use Rattle.fm_base.specs.Planes.{plane_of}

@@ -1,5 +1,5 @@
 -- Shapes of private steps: the ends of each metric by themselves, and the lines of the text in groups. Nothing public cites them.
-use Rattle.std.specs.Prelude.{ℕ, Bool, [], ◌∷◌, ◌++◌, Option, Some, codes, decimal}
+use Rattle.std.specs.Prelude.{ℕ, Bool, [], ◌∷◌, ◌++◌, Option, Some, None, codes, decimal}
 use Rattle.metric_sums.specs.declared.Asil.{Asil}
 use Rattle.metric_sums.specs.declared.Sums.{Sums}
 use Rattle.metric_sums.specs.Classes.{is_mechanism}
@@ -12,7 +12,7 @@ use Rattle.metric_bounds.specs.declared.Ends.{Ends}
 use Rattle.metric_bounds.specs.declared.EndSums.{EndSums}
 use Rattle.metric_bounds.specs.declared.Standing.{Standing}
 use Rattle.metric_bounds.specs.Bounds.{lfm_ends, spfm_ends, standing_of, term_standing}
-use Rattle.metric_bounds.specs.Progress.{standing_word}
+use Rattle.metric_bounds.specs.declared.Standing.TheVariants.{Met, Missed, Open}
 
 -- the fault is on a net of a safety mechanism
 abbrev pub is_on_mechanism : Analysis → ℕ → Bool
@@ -43,6 +43,13 @@ ends_line label ends = line (label ∷ codes "from" ∷ fraction_word ends.least
 -- those of the term
 abbrev pub term_line : (least greatest : ℕ) → Bytes
 term_line least greatest = line (codes "term" ∷ codes "from" ∷ decimal least ∷ codes "to" ∷ decimal greatest ∷ [])
+
+-- how a target stands, or `-` where the metric has no value
+abbrev pub standing_word : Option Standing → Bytes
+standing_word None = codes "-"
+standing_word (Some Met) = codes "met"
+standing_word (Some Missed) = codes "missed"
+standing_word (Some Open) = codes "open"
 
 -- a target
 abbrev pub standing_line : Bytes → Option Standing → Bytes

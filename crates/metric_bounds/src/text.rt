@@ -6,8 +6,8 @@ ghost use Rattle.result_file.specs.KeptRows.{entry_of};
 ghost use Rattle.result_merge.specs.Tables.{planes_table};
 ghost use Rattle.fm_shelf.specs.Sink.{Sends};
 ghost use Rattle.fmeda_report.specs.Words.{fraction_word as word_of_fraction};
-ghost use Rattle.metric_bounds.specs.Progress.{progress, standing_word as word_of_standing, AreAllConsistent};
-ghost use Rattle.metric_bounds.specs.Steps.{bound_lines, ends_line, judged_lines, share_line, standing_line, standing_lines, term_line};
+ghost use Rattle.metric_bounds.specs.Progress.{progress, AreAllConsistent};
+ghost use Rattle.metric_bounds.specs.Steps.{bound_lines, ends_line, judged_lines, share_line, standing_line, standing_lines, standing_word as word_of_standing, term_line};
 
 use crate::sums::{kept_sums, sums_at_ends};
 use crate::{EndSums, Ends, Standing};
