@@ -1,6 +1,6 @@
 -- Danger and notice of a list of faults, over whole runs. Source: observation points and diagnostics as in
 -- ISO 26262-11:2018, and the fault tolerant time interval of ISO 26262-1:2018, by this project's profile.
-use Rattle.std.specs.Prelude.{ℕ, Bool, true, false, not, ◌&&◌, ◌||◌, List, [], unwrap_or}
+use Rattle.std.specs.Prelude.{ℕ, ◌+◌, Bool, true, false, not, ◌&&◌, ◌||◌, List, [], nat_le, unwrap_or}
 use Rattle.std.specs.List.{list_any}
 use Rattle.circuit.specs.declared.parts.Fault.{Fault}
 use Rattle.circuit.specs.declared.parts.NetId.{NetId}
@@ -22,17 +22,18 @@ with_faults c x run t net = trace c x run.vectors t net.0
 abbrev pub is_raised : Circuit → Points → List Fault → Run → ℕ → Bool
 is_raised c points x run t = list_any (λ net. with_faults c x run t net && not (with_faults c [] run t net)) points.alarm
 
--- dangerous: in some run of kind `mission` and for some goal, some observation net differs from the golden run at some cycle, and no alarm
--- is raised up to the end of the interval after it, which is the goal's own or else that of the settings
+-- dangerous: in some run of kind `mission`, for some goal, an observation net differs from the golden run at a cycle t, and no alarm is
+-- raised from cycle 0 to t + the interval, the goal's own or else that of the settings; a run that ends before has no later alarm
 unfoldable pub is_dangerous : Circuit → Points → ℕ → List Run → List Fault → Bool
 is_dangerous c points ftti runs x =
     let is_other : Run → ℕ → NetId → Bool = λ run t net. not (same_bit (with_faults c x run t net) (with_faults c [] run t net)) in
+    let alarmed : Run → ℕ → Bool = λ run end. some_below (cycles_of run) (λ u. nat_le u end && is_raised c points x run u) in
     let violates : Run → Goal → Bool = λ run goal.
-    goes_unalarmed (unwrap_or goal.ftti ftti) (cycles_of run) (λ t. list_any (is_other run t) goal.observe) (is_raised c points x run) in
+    some_below (cycles_of run) (λ t. list_any (is_other run t) goal.observe && not (alarmed run (t + unwrap_or goal.ftti ftti))) in
     list_any (λ run. list_any (λ goal. elim run.kind [ Mission ↦ true | Test ↦ false ] && violates run goal) points.goals) runs
 
--- noticed: in some run an alarm is raised at some cycle, or the run is of kind `test` and some alarm net is silenced at some cycle, so that it
--- is 0 with the faults and 1 in the golden run
+-- noticed: in some run an alarm is raised at some cycle, or the run is of kind `test` and some alarm net is silenced at some cycle: it is 0
+-- with the faults and 1 in the golden run
 unfoldable pub is_noticed : Circuit → Points → List Run → List Fault → Bool
 is_noticed c points runs x =
     let silenced : Run → ℕ → Bool = λ run t. list_any (λ net. not (with_faults c x run t net) && with_faults c [] run t net) points.alarm in

@@ -24,7 +24,7 @@ use Rattle.std.proofs.Math.Bool.{or-false}
 
 danger_more : (c : Circuit) (points : Points) (ftti : ℕ) (runs : List Run) (run : Run) (faults : List Fault)
     → is_dangerous c points ftti (runs ++ run ∷ []) faults ≡ (is_dangerous c points ftti runs faults || is_dangerous_in c points ftti faults run)
-unfolding is_dangerous
+unfolding is_dangerous goes_unalarmed
 danger_more c points ftti runs run faults =
     let test = is_dangerous_in c points ftti faults in
     list_any-append test runs (run ∷ []) ∙ ap (λ b. is_dangerous c points ftti runs faults || b) (or-false (test run))
