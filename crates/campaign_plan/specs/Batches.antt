@@ -21,9 +21,8 @@ use Rattle.circuit.specs.Effects.{is_permanent}
 -- the planes of a batch: danger, and notice, of the fault in each lane alone, and 0 where a lane holds no fault
 unfoldable pub outcome_of : Circuit → Points → ℕ → List Run → List Fault → ℕ → Outcome
 outcome_of c points ftti runs fs batch =
-    let alone : ℕ → List Fault = λ k. fault_at fs (fault_number batch k) ∷ [] in
-    let plane = λ (test : List Fault → Bool). plane_of (λ k. is_used (length fs) batch k && test (alone k)) in
-    record { danger = plane (is_dangerous c points ftti runs); noticed = plane (is_noticed c points runs) }
+    let plane = λ (test : Fault → Bool). plane_of (λ k. is_used (length fs) batch k && test (fault_at fs (fault_number batch k))) in
+    record { danger = plane (λ f. is_dangerous c points ftti runs (f ∷ [])); noticed = plane (λ f. is_noticed c points runs (f ∷ [])) }
 
 -- the planes that a plan's batch truly has
 abbrev pub true_planes : Analysis → ℕ → Outcome

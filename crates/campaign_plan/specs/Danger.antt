@@ -32,8 +32,7 @@ is_dangerous c points ftti runs x =
     some_below (cycles_of run) (λ t. list_any (is_other run t) goal.observe && not (alarmed run (t + unwrap_or goal.ftti ftti))) in
     list_any (λ run. list_any (λ goal. elim run.kind [ Mission ↦ true | Test ↦ false ] && violates run goal) points.goals) runs
 
--- noticed: in some run an alarm is raised at some cycle, or the run is of kind `test` and some alarm net is silenced at some cycle: it is 0
--- with the faults and 1 in the golden run
+-- noticed: some run raises an alarm at some cycle, or one of kind `test` silences one: it is 0 with the faults and 1 in the golden run
 unfoldable pub is_noticed : Circuit → Points → List Run → List Fault → Bool
 is_noticed c points runs x =
     let silenced : Run → ℕ → Bool = λ run t. list_any (λ net. not (with_faults c x run t net) && with_faults c [] run t net) points.alarm in
