@@ -20,6 +20,52 @@ use Rattle.result_file.specs.ResultText.{row_text, row_of, result_rows, result_t
 use Rattle.fm_base.specs.Firsts.{given, first_answer, first_fault}
 use Rattle.fm_base.specs.Names.{Bytes}
 
+-- the number that hexadecimal digits stand for
+unfoldable pub hex_value : Bytes → ℕ
+hex_value digits = fold (λ n digit. 16 * n + position_or_len (nat_eq digit) (codes "0123456789abcdef")) 0 digits
+
+-- the row that a piece of 130 bytes reads as
+abbrev pub row_read : Bytes → Row
+row_read piece =
+    let at : ℕ → ℕ = λ from. hex_value (slice_range piece from (from + 16)) in
+    let sums : Sums =
+    record { permanent_all = at 45; permanent_danger = at 62; latent = at 79; transient_all = at 96; transient_danger = at 113 } in
+    record { batch = hex_value (slice_range piece 2 10); danger = at 11; noticed = at 28; sums = sums }
+
+-- the batch and the planes of a row
+abbrev pub entry_of : Row → Entry
+entry_of row = (row.batch, record { danger = row.danger; noticed = row.noticed })
+
+-- the first rule that a piece breaks, behind the pieces before it: it is no row's text; its batch isn't below the number of batches, or stands
+-- in an earlier row; a bit is 1 in a lane that holds no fault; its sums aren't those of the planes of this and the earlier rows
+unfoldable pub row_fault : Analysis → List Bytes → Bytes → Option RowFault
+row_fault p before piece =
+    let rows = map row_read before in
+    let row = row_read piece in
+    let unused : Bool = list_any (λ k. not (is_used (fault_count p) row.batch k) && (bit row.danger k || bit row.noticed k)) (below lanes) in
+    let computed = total p (map entry_of rows ++ entry_of row ∷ []) in
+    first_answer (given (not (bytes_eq (row_text row) piece)) why.Form ∷ given (nat_le (batch_count p) row.batch) why.Range
+    ∷ given (list_any (λ earlier. earlier.batch == row.batch) rows) why.Repeated ∷ given unused why.UnusedLane
+    ∷ given (not (same_sums row.sums computed)) (why.Sums row.sums computed) ∷ [])
+
+-- what is kept of a file under the plan's own header of 89 bytes, with rows of 130, or the first rule that it breaks: nothing of a file that
+-- is the beginning of the header, and nothing of a last row of fewer bytes, which isn't looked at
+unfoldable pub kept : Bytes → Analysis → Bytes → Result KeptRows ResultRefusal
+kept own p bytes =
+    let rows : List Bytes = map (λ k. slice_range bytes (89 + 130 * k) (89 + 130 * (k + 1))) (below ((length bytes - 89) / 130)) in
+    if nat_lt (length bytes) 89 && starts_with nat_eq own bytes then Ok (record { rows = []; whole = 0 })
+    else if not (bytes_eq (take 89 bytes) own) then Err (Foreign (take 89 bytes) own)
+    else elim (first_fault (row_fault p) rows) [
+      | Some bad ↦ Err (BadRow bad.0 bad.1)
+      | None ↦ Ok (record { rows = map row_read rows; whole = 89 + 130 * length rows })
+    ]
+
+-- the batches and planes of kept rows
+abbrev pub kept_entries : KeptRows → List Entry
+kept_entries k = map entry_of k.rows
+
+-- ---- shapes of private steps, which the promise on the program doesn't cite
+
 -- the length of the header in bytes
 abbrev pub header_len : ℕ
 header_len = 89
@@ -28,69 +74,25 @@ header_len = 89
 abbrev pub row_len : ℕ
 row_len = 130
 
--- the number that hexadecimal digits stand for
-unfoldable pub hex_value : Bytes → ℕ
-hex_value digits = fold (λ n digit. 16 * n + position_or_len (nat_eq digit) (codes "0123456789abcdef")) 0 digits
-
--- the row that a piece of 130 bytes reads as
-abbrev pub row_read : Bytes → Row
-row_read piece =
-    let number : ℕ → ℕ → ℕ = λ from digits. hex_value (slice_range piece from (from + digits)) in
-    let sums : Sums = record {
-      permanent_all = number 45 16;
-      permanent_danger = number 62 16;
-      latent = number 79 16;
-      transient_all = number 96 16;
-      transient_danger = number 113 16;
-    } in
-    record { batch = number 2 8; danger = number 11 16; noticed = number 28 16; sums = sums }
-
--- the batch and the planes of a row
-abbrev pub entry_of : Row → Entry
-entry_of row = (row.batch, record { danger = row.danger; noticed = row.noticed })
-
--- a lane that holds no fault has a bit that is 1
-abbrev pub has_unused_lane : Analysis → Row → Bool
-has_unused_lane p row =
-    list_any (λ k. not (is_used (fault_count p) row.batch k) && (bit row.danger k || bit row.noticed k)) (below lanes)
-
--- the first rule that a piece breaks, behind the pieces before it
-unfoldable pub row_fault : Analysis → List Bytes → Bytes → Option RowFault
-row_fault p before piece =
-    let rows = map row_read before in
-    let row = row_read piece in
-    let computed = total p (map entry_of rows ++ entry_of row ∷ []) in
-    first_answer (
-    given (not (bytes_eq (row_text row) piece)) why.Form
-    ∷ given (nat_le (batch_count p) row.batch) why.Range
-    ∷ given (list_any (λ earlier. earlier.batch == row.batch) rows) why.Repeated
-    ∷ given (has_unused_lane p row) why.UnusedLane
-    ∷ given (not (same_sums row.sums computed)) (why.Sums row.sums computed)
-    ∷ [])
-
 -- the whole rows behind the header; a last piece of fewer bytes isn't looked at
 abbrev pub whole_pieces : Bytes → List Bytes
 whole_pieces bytes = map (λ k. slice_range bytes (header_len + row_len * k) (header_len + row_len * (k + 1))) (below ((length bytes - header_len) / row_len))
 
 -- the first bad row, or else the rows and the bytes that are kept
 abbrev pub kept_unless : Option (ℕ × RowFault) → List Bytes → Result KeptRows ResultRefusal
-kept_unless (Some found) rows = Err (BadRow found.0 found.1)
-kept_unless None rows = Ok (record { rows = map row_read rows; whole = header_len + row_len * length rows })
+kept_unless fault rows = elim fault [
+  | Some bad ↦ Err (BadRow bad.0 bad.1)
+  | None ↦ Ok (record { rows = map row_read rows; whole = header_len + row_len * length rows })
+]
 
 -- the file is shorter than a header, and begins as the own one does
 abbrev pub is_torn_header : Bytes → Bytes → Bool
 is_torn_header own bytes = nat_lt (length bytes) header_len && starts_with nat_eq own bytes
 
--- what is kept of a file under the plan's own header, or the first rule that it breaks
-unfoldable pub kept : Bytes → Analysis → Bytes → Result KeptRows ResultRefusal
-kept own p bytes =
-    if is_torn_header own bytes then Ok (record { rows = []; whole = 0 })
-    else if not (bytes_eq (take header_len bytes) own) then Err (Foreign (take header_len bytes) own)
-    else kept_unless (first_fault (row_fault p) (whole_pieces bytes)) (whole_pieces bytes)
-
--- the batches and planes of kept rows
-abbrev pub kept_entries : KeptRows → List Entry
-kept_entries k = map entry_of k.rows
+-- a lane that holds no fault has a bit that is 1
+abbrev pub has_unused_lane : Analysis → Row → Bool
+has_unused_lane p row =
+    list_any (λ k. not (is_used (fault_count p) row.batch k) && (bit row.danger k || bit row.noticed k)) (below lanes)
 
 -- a piece has the row's form: it is the text of the row that it reads as
 abbrev pub has_form : Bytes → Bool
