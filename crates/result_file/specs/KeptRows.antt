@@ -36,20 +36,20 @@ row_read piece =
 abbrev pub entry_of : Row → Entry
 entry_of row = (row.batch, record { danger = row.danger; noticed = row.noticed })
 
--- the first rule that a piece breaks, behind the pieces before it: it is no row's text; its batch isn't below the number of batches, or stands
--- in an earlier row; a bit is 1 in a lane that holds no fault; its sums aren't those of the planes of this and the earlier rows
+-- the first rule that a piece breaks, behind the pieces before it: it is no row's text; its batch isn't below the number of batches, or
+-- stands in an earlier row; a lane that holds no fault has a bit that is 1; its sums aren't those of this row's and the earlier planes
 unfoldable pub row_fault : Analysis → List Bytes → Bytes → Option RowFault
 row_fault p before piece =
     let rows = map row_read before in
     let row = row_read piece in
-    let unused : Bool = list_any (λ k. not (is_used (fault_count p) row.batch k) && (bit row.danger k || bit row.noticed k)) (below lanes) in
+    let unused = list_any (λ k. not (is_used (fault_count p) row.batch k) && (bit row.danger k || bit row.noticed k)) (below lanes) in
     let computed = total p (map entry_of rows ++ entry_of row ∷ []) in
     first_answer (given (not (bytes_eq (row_text row) piece)) why.Form ∷ given (nat_le (batch_count p) row.batch) why.Range
     ∷ given (list_any (λ earlier. earlier.batch == row.batch) rows) why.Repeated ∷ given unused why.UnusedLane
     ∷ given (not (same_sums row.sums computed)) (why.Sums row.sums computed) ∷ [])
 
--- what is kept of a file under the plan's own header of 89 bytes, with rows of 130, or the first rule that it breaks: nothing of a file that
--- is the beginning of the header, and nothing of a last row of fewer bytes, which isn't looked at
+-- what is kept of a file under the plan's own header of 89 bytes, with rows of 130, or the first rule that it breaks: nothing where it is
+-- shorter than a header, and begins as the own one does; a last row of fewer bytes isn't looked at
 unfoldable pub kept : Bytes → Analysis → Bytes → Result KeptRows ResultRefusal
 kept own p bytes =
     let rows : List Bytes = map (λ k. slice_range bytes (89 + 130 * k) (89 + 130 * (k + 1))) (below ((length bytes - 89) / 130)) in

@@ -63,7 +63,7 @@ same_find f g a (suc n) same =
     ap₂ {C = Option ℕ} (λ (b : Bool) (o : Option ℕ). if b then Some a else o) (same a (omega arith) (omega arith)) rest
 
 same_first : (n : ℕ) (a b : List Entry) → first_other_at n (planes_table n a) (planes_table n b) ≡ first_other n a b
-unfolding below first_other
+unfolding below
 same_first n a b =
     same_find (other_at (planes_table n a) (planes_table n b)) (is_other_in a b) 0 n
     (λ k le lt. ap₂ are_other (table_at n a k (omega (arith, lt))) (table_at n b k (omega (arith, lt))))

@@ -25,7 +25,6 @@ use Rattle.result_merge.proofs.Looking.{once_within}
 -- ---- one more batch
 
 rising_more : (n : ℕ) (had : ℕ → Option Outcome) → rising (n + 1) had ≡ rising n had ++ filter_map (entry_if had) (n ∷ [])
-unfolding rising
 rising_more n had =
     let more : n + 1 ≡ suc n = omega arith in
     ap (λ k. filter_map (entry_if had) (below k)) more ∙ ap (filter_map (entry_if had)) (below_push n) ∙ filter_map-append (entry_if had) (below n) (n ∷ [])
@@ -48,7 +47,7 @@ pub record AreSoFar (p : Analysis) (had : ℕ → Option Outcome) (n : ℕ) (row
   pub sums_are : sums ≡ total p (rising n had)
 
 pub none_yet : (p : Analysis) (had : ℕ → Option Outcome) (rows : List Row) (sums : Sums) → rows ≡ [] → sums ≡ no_sums → AreSoFar p had 0 rows sums
-unfolding rising below result_rows
+unfolding below result_rows
 none_yet p had rows sums e f = record { rows_are = e; sums_are = f }
 
 distinct_rising : (p : Analysis) (had : ℕ → Option Outcome) (n : ℕ) → n ≤ batch_count p → AreDistinct p (rising n had)
