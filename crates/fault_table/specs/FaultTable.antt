@@ -1,5 +1,8 @@
 -- The table of faults: a row for each fault of the kept batches, in the order of the fault list. This project's own columns.
-use Rattle.std.specs.Prelude.{ℕ, ◌/◌, ◌%◌, List, [], ◌∷◌, ◌++◌, flat_map, filter, is_some, codes, decimal}
+use Rattle.std.specs.Prelude.{ℕ, ◌/◌, ◌%◌, List, [], ◌∷◌, ◌++◌, map, flat_map, Some, None, if◌then◌else◌, codes, decimal}
+use Rattle.std.specs.List.{join_with_byte}
+use Rattle.std.specs.Str.{byte}
+use Rattle.circuit.specs.declared.parts.Fault.TheVariants.{Stuck, Flip, Pulse}
 use Rattle.circuit.specs.Names.{net_name}
 use Rattle.fm_base.specs.Lists.{below}
 use Rattle.fm_base.specs.Names.{Bytes}
@@ -12,23 +15,23 @@ use Rattle.campaign_plan.specs.Batches.{Entry, class_in_lane}
 use Rattle.campaign_plan.specs.Weights.{weight}
 use Rattle.fmeda_report.specs.Words.{role_word, class_word}
 use Rattle.result_merge.specs.Union.{found}
-use Rattle.result_merge.specs.Merged.{listed_planes}
-use Rattle.fault_table.specs.Csv.{csv_row}
-use Rattle.fault_table.specs.Words.{kind_word, covered_word, bit_word}
+use Rattle.fault_table.specs.Csv.{csv_field}
 
 -- the row of fault i, where its batch has these planes: the class is the report's, the weight is in units of 10^-6 FIT
 unfoldable pub fault_row : Analysis → Outcome → ℕ → Bytes
 fault_row p planes i =
     let fault = fault_numbered p i in
     let part = part_numbered p (part_of p fault) in
-    csv_row (
-    fault_name p.circuit fault ∷ net_name p.circuit (net_of_fault p.circuit fault) ∷ kind_word fault ∷ part.name ∷ role_word part.role
-    ∷ covered_word part.covered ∷ class_word (class_in_lane p (i / lanes) planes (i % lanes)) ∷ bit_word (bit planes.danger (i % lanes))
-    ∷ bit_word (bit planes.noticed (i % lanes)) ∷ decimal (weight p i) ∷ [])
+    let kind : Bytes = elim fault [ Stuck n value ↦ codes "stuck-at" | Flip latch cycle ↦ codes "flip" | Pulse n cycle ↦ codes "pulse" ] in
+    let covered = if part.covered then codes "yes" else codes "no" in
+    let in_plane : ℕ → Bytes = λ plane. if bit plane (i % lanes) then codes "1" else codes "0" in
+    let fields : List Bytes =
+    fault_name p.circuit fault ∷ net_name p.circuit (net_of_fault p.circuit fault) ∷ kind ∷ part.name ∷ role_word part.role ∷ covered
+    ∷ class_word (class_in_lane p (i / lanes) planes (i % lanes)) ∷ in_plane planes.danger ∷ in_plane planes.noticed ∷ decimal (weight p i) ∷ [] in
+    join_with_byte (byte ",") (map csv_field fields) ++ 10 ∷ []
 
 -- THE TABLE of the faults of these batches: the names of the columns, and a row for each fault, in list order
 unfoldable pub fault_table : Analysis → List Entry → Bytes
 fault_table p entries =
-    let kept_faults = filter (λ i. is_some (found entries (i / lanes))) (below (fault_count p)) in
     whole_line (codes "fault,net,kind,part,role,covered,class,dangerous,noticed,weight")
-    ++ flat_map (λ i. fault_row p (listed_planes entries (i / lanes)) i) kept_faults
+    ++ flat_map (λ i. elim (found entries (i / lanes)) [ Some planes ↦ fault_row p planes i | None ↦ [] ]) (below (fault_count p))

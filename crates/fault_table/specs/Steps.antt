@@ -1,17 +1,15 @@
 -- Shapes of private steps: how the fields of a row are written one by one. Nothing public cites them.
-use Rattle.std.specs.Prelude.{ℕ, ◌/◌, ◌%◌, Bool, ◌||◌, ◌==◌, List, [], ◌∷◌, filter, Option, Some, None, is_some, if◌then◌else◌, codes, decimal}
+use Rattle.std.specs.Prelude.{ℕ, ◌/◌, ◌%◌, Bool, ◌||◌, ◌==◌, List, [], ◌∷◌, Option, Some, None, if◌then◌else◌, codes, decimal}
 use Rattle.std.specs.Str.{byte}
 use Rattle.circuit.specs.Names.{net_name}
-use Rattle.fm_base.specs.Lists.{below}
 use Rattle.fm_base.specs.Names.{Bytes}
 use Rattle.fm_base.specs.Planes.{lanes, bit}
 use Rattle.fault_list.specs.Faults.{net_of_fault}
 use Rattle.campaign_plan.specs.declared.Outcome.{Outcome}
-use Rattle.campaign_plan.specs.Analysis.{Analysis, fault_count, fault_numbered, part_numbered, part_of}
-use Rattle.campaign_plan.specs.Batches.{Entry, class_in_lane}
+use Rattle.campaign_plan.specs.Analysis.{Analysis, fault_numbered, part_numbered, part_of}
+use Rattle.campaign_plan.specs.Batches.{class_in_lane}
 use Rattle.campaign_plan.specs.Weights.{weight}
 use Rattle.fmeda_report.specs.Words.{role_word, class_word}
-use Rattle.result_merge.specs.Union.{found}
 use Rattle.fault_table.specs.FaultTable.{fault_row}
 use Rattle.fault_table.specs.Words.{kind_word, covered_word, bit_word}
 
@@ -38,11 +36,6 @@ further_fields p planes i =
     ∷ class_word (class_in_lane p (i / lanes) planes (i % lanes)) ∷ bit_word (bit planes.danger (i % lanes))
     ∷ bit_word (bit planes.noticed (i % lanes)) ∷ decimal (weight p i) ∷ []
 
--- the faults of the kept batches, in list order
-abbrev pub kept_faults : Analysis → List Entry → List ℕ
-kept_faults p entries = filter (λ i. is_some (found entries (i / lanes))) (below (fault_count p))
-
 -- the row of fault i where its batch has planes, and else nothing
 abbrev pub row_if_kept : Analysis → Option Outcome → ℕ → Bytes
-row_if_kept p None i = []
-row_if_kept p (Some planes) i = fault_row p planes i
+row_if_kept p kept i = elim kept [ Some planes ↦ fault_row p planes i | None ↦ [] ]

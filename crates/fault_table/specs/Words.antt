@@ -1,4 +1,4 @@
--- The words of the table that the report doesn't have.
+-- Shapes of private steps: the words of the table that the report doesn't have. The promise on the program doesn't cite them.
 use Rattle.std.specs.Prelude.{Bool, if◌then◌else◌, codes}
 use Rattle.circuit.specs.declared.parts.Fault.{Fault}
 use Rattle.circuit.specs.declared.parts.Fault.TheVariants.{Stuck, Flip, Pulse}
@@ -6,9 +6,7 @@ use Rattle.fm_base.specs.Names.{Bytes}
 
 -- the kind of a fault
 abbrev pub kind_word : Fault → Bytes
-kind_word (Stuck n value) = codes "stuck-at"
-kind_word (Flip latch cycle) = codes "flip"
-kind_word (Pulse n cycle) = codes "pulse"
+kind_word fault = elim fault [ Stuck n value ↦ codes "stuck-at" | Flip latch cycle ↦ codes "flip" | Pulse n cycle ↦ codes "pulse" ]
 
 -- whether a safety mechanism covers a part, as a rates file says it
 abbrev pub covered_word : Bool → Bytes

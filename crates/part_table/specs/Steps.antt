@@ -2,6 +2,7 @@
 use Rattle.std.specs.Prelude.{ℕ, Bool, false, List, [], ◌∷◌, length, count_by, find, Option, is_none, slice_index_or, if◌then◌else◌, ◌==◌, codes, decimal}
 use Rattle.std.specs.Option.{option_map_or}
 use Rattle.circuit.specs.Circuit.{Circuit}
+use Rattle.circuit.specs.Names.{net_name}
 use Rattle.metric_sums.specs.declared.Role.TheVariants.{Other}
 use Rattle.rate_table.specs.declared.Part.{Part}
 use Rattle.rate_table.specs.declared.Pattern.{Pattern}
@@ -9,7 +10,11 @@ use Rattle.rate_table.specs.Table.{RateTable}
 use Rattle.fm_base.specs.Lists.{below}
 use Rattle.fm_base.specs.Names.{Bytes}
 use Rattle.fm_base.specs.Text.{line}
-use Rattle.part_table.specs.PartTable.{name_or_dash, row_of_net}
+use Rattle.part_table.specs.PartTable.{row_of_net}
+
+-- the name of a net, or `-` where there is none
+abbrev pub name_or_dash : Circuit → Option ℕ → Bytes
+name_or_dash c net = option_map_or (net_name c) net (codes "-")
 
 -- it is row k
 abbrev pub is_at_row : ℕ → Option ℕ → Bool

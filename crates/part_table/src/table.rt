@@ -4,8 +4,8 @@ ghost use Rattle.circuit.specs.Sound.{IsNetlist};
 ghost use Rattle.fm_base.specs.Lists.{below};
 ghost use Rattle.fm_shelf.specs.Sink.{Sends};
 ghost use Rattle.fmeda_report.specs.Words.{role_word as word_of_role};
-ghost use Rattle.part_table.specs.PartTable.{name_or_dash as name_by, part_table, row_line};
-ghost use Rattle.part_table.specs.Steps.{unmatched_line, star_word as word_of_star};
+ghost use Rattle.part_table.specs.PartTable.{part_table, row_line};
+ghost use Rattle.part_table.specs.Steps.{name_or_dash as name_by, unmatched_line, star_word as word_of_star};
 
 use crate::counts::{count_none, counts_of, first_none, firsts_of};
 use crate::look::{rows_of_latches, rows_of_nets};

@@ -11,8 +11,8 @@ use Rattle.fm_base.specs.Names.{Bytes}
 use Rattle.fm_base.specs.Text.{line}
 use Rattle.fmeda_report.specs.Words.{role_word}
 use Rattle.fmeda_report.proofs.Sending.{sends_as, sends_stop, sends_then}
-use Rattle.part_table.specs.PartTable.{name_or_dash, row_line}
-use Rattle.part_table.specs.Steps.{net_numbers, part_of_pattern, pattern_numbered, star_word, row_takes}
+use Rattle.part_table.specs.PartTable.{row_line}
+use Rattle.part_table.specs.Steps.{name_or_dash, net_numbers, part_of_pattern, pattern_numbered, star_word, row_takes}
 use Rattle.part_table.specs.Counted.{Looked}
 use Rattle.part_table.proofs.Looking.{first_net, latch_count, net_count, row_pieces}
 use Rattle.part_table.proofs.table.PartTable.write_row.Goals as goal

@@ -3,8 +3,7 @@ use Rattle.std.specs.Prelude.{codes, decimal, count_by, find, is_none, Option}
 use Rattle.fm_base.specs.Lists.{below}
 use Rattle.fm_base.specs.Text.{line}
 use Rattle.fmeda_report.proofs.Sending.{sends_as}
-use Rattle.part_table.specs.PartTable.{name_or_dash}
-use Rattle.part_table.specs.Steps.{unmatched_line}
+use Rattle.part_table.specs.Steps.{name_or_dash, unmatched_line}
 use Rattle.part_table.specs.Counted.{row_in_list, Looked}
 use Rattle.part_table.proofs.Looking.{first_unmatched, length_rows, unmatched_count}
 use Rattle.part_table.proofs.table.PartTable.write_unmatched.Goals as goal
