@@ -5,7 +5,6 @@ use Rattle.fm_base.specs.Lists.{below}
 use Rattle.campaign_plan.specs.Analysis.{fault_count}
 use Rattle.campaign_plan.specs.Batches.{class_of_fault}
 use Rattle.result_merge.specs.Tables.{planes_at}
-use Rattle.pair_list.specs.Pairs.{faults_in_class}
 use Rattle.pair_list.proofs.Choosing.{none_passing, one_passes, one_fails, few_passing}
 use Rattle.pair_list.proofs.choice.faults_in_class.Goals.{then-is_in_class+in_ok-push, else-is_in_class}
 use Rattle.pair_list.proofs.choice.faults_in_class.Goals as goal
@@ -23,7 +22,6 @@ loop-i-preserved c =
     ]
 
 pub returns-clause-faults : goal.returns-clause-faults
-unfolding faults_in_class
 returns-clause-faults c =
     let count : c.len-i-end.result ≡ fault_count c.args.plan.now = c.len-i-end.ensures.count ∙ ap length c.faults.ensures.value in
     let end : c.loop-i.i ≡ fault_count c.args.plan.now = omega (arith, count, c.loop-i-test.false, c.loop-i.auto.i-end) in
