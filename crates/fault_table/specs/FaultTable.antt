@@ -23,12 +23,11 @@ fault_row p planes i =
     let fault = fault_numbered p i in
     let part = part_numbered p (part_of p fault) in
     let kind : Bytes = elim fault [ Stuck n value ↦ codes "stuck-at" | Flip latch cycle ↦ codes "flip" | Pulse n cycle ↦ codes "pulse" ] in
-    let covered = if part.covered then codes "yes" else codes "no" in
     let in_plane : ℕ → Bytes = λ plane. if bit plane (i % lanes) then codes "1" else codes "0" in
-    let fields : List Bytes =
-    fault_name p.circuit fault ∷ net_name p.circuit (net_of_fault p.circuit fault) ∷ kind ∷ part.name ∷ role_word part.role ∷ covered
-    ∷ class_word (class_in_lane p (i / lanes) planes (i % lanes)) ∷ in_plane planes.danger ∷ in_plane planes.noticed ∷ decimal (weight p i) ∷ [] in
-    join_with_byte (byte ",") (map csv_field fields) ++ 10 ∷ []
+    join_with_byte (byte ",") (map csv_field (
+    fault_name p.circuit fault ∷ net_name p.circuit (net_of_fault p.circuit fault) ∷ kind ∷ part.name ∷ role_word part.role
+    ∷ (if part.covered then codes "yes" else codes "no") ∷ class_word (class_in_lane p (i / lanes) planes (i % lanes))
+    ∷ in_plane planes.danger ∷ in_plane planes.noticed ∷ decimal (weight p i) ∷ [])) ++ 10 ∷ []
 
 -- THE TABLE of the faults of these batches: the names of the columns, and a row for each fault, in list order
 unfoldable pub fault_table : Analysis → List Entry → Bytes

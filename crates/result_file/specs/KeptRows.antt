@@ -53,12 +53,10 @@ row_fault p before piece =
 unfoldable pub kept : Bytes → Analysis → Bytes → Result KeptRows ResultRefusal
 kept own p bytes =
     let rows : List Bytes = map (λ k. slice_range bytes (89 + 130 * k) (89 + 130 * (k + 1))) (below ((length bytes - 89) / 130)) in
+    let fault = first_fault (row_fault p) rows in
     if nat_lt (length bytes) 89 && starts_with nat_eq own bytes then Ok (record { rows = []; whole = 0 })
     else if not (bytes_eq (take 89 bytes) own) then Err (Foreign (take 89 bytes) own)
-    else elim (first_fault (row_fault p) rows) [
-      | Some bad ↦ Err (BadRow bad.0 bad.1)
-      | None ↦ Ok (record { rows = map row_read rows; whole = 89 + 130 * length rows })
-    ]
+    else elim fault [ Some it ↦ Err (BadRow it.0 it.1) | None ↦ Ok (record { rows = map row_read rows; whole = 89 + 130 * length rows }) ]
 
 -- the batches and planes of kept rows
 abbrev pub kept_entries : KeptRows → List Entry
