@@ -74,12 +74,11 @@ reports c before after sums board (worked, kept) fine wrote =
     let finished = has_finished o c.k.whole before.shelf after.shelf board worked fine in
     let hold : HoldEachOnce c.p board.rows =
     hold_each c.p o board.rows (length_entries c.p (campaign_planes c)) kept.rows_are (have_all o c.k.whole before.shelf after.shelf board worked fine) in
-    let part = are_part c.p (campaign_planes c) o board.rows refl kept.rows_are in
     record {
       reported = record {
         wrote = wrote;
         entries = map planed board.rows;
-        whole = record { distinct = part.distinct; each = hold.each; have = part.have };
+        whole = (are_part c.p (campaign_planes c) o board.rows refl kept.rows_are, hold.each);
         result = subst (HasIfKnown (after.shelf.content c.name)) (text_result c.p (campaign_planes c) o board.rows refl kept.entries kept.rows_are) (kept.file finished.0 fine);
       };
       first = begin_kept c.k.rows board.rows finished.1.starts;

@@ -2,7 +2,7 @@
 use Rattle.std.proofs.Common.{◌≡◌, ◌≢◌, ℕ, zero, suc, ◌+◌, ◌<◌, ◌⊎◌, inl, inr, true, false, List, [], ◌∷◌, map, length, take, get_or, refl, ap, sym, subst, ◌∙◌, arith}
 use Rattle.std.specs.Prelude.{All, Some, find, ◌==◌, sum_by, unwrap_or, option_map}
 use Rattle.std.proofs.lemmas.List.{length-map, get_or-map, take-map}
-use Rattle.std.proofs.lemmas.List.Elements.{All-nil, All-cons, All-head, All-tail}
+use Rattle.std.proofs.lemmas.List.Elements.{All-head, All-tail, All-take}
 use Rattle.std.proofs.lemmas.List.Sums.{sum_by-cons}
 use Rattle.metric_sums.specs.declared.Sums.{Sums}
 use Rattle.metric_sums.specs.Totals.{sums_by}
@@ -67,11 +67,6 @@ sums_by-same f g xs same = λ i. record {
   transient_danger = sum_by-same (λ x. (f x).transient_danger) (λ x. (g x).transient_danger) xs (λ k d lt. ap (λ (s : Sums). s.transient_danger) (same k d lt)) i;
 }
 
-all_take : {X : Type 0} (P : X → Type 0) (n : ℕ) (xs : List X) → All P xs → All P (take n xs)
-all_take P zero xs all = All-nil P
-all_take P (suc n) [] all = All-nil P
-all_take P (suc n) (x ∷ xs) all = All-cons P x (take n xs) (All-head P x xs all) (all_take P n xs (All-tail P x xs all))
-
 -- each row that is kept has the entry of its batch
 entry_kept : (p : Analysis) (k : KeptRows) → AreKept p k.rows → (i : ℕ) (d : Row) → i < length k.rows
     → board_entry (entries_for p (checkpointed_or_true p k)) (get_or k.rows i d).batch
@@ -102,7 +97,7 @@ kept_rows_due p k o e h =
     ap (sums_over entries) (take-map (λ (r : Row). r.batch) i k.rows)
     ∙ sums_by-map (λ batch. (board_entry entries batch).own) (λ (r : Row). r.batch) (take i k.rows)
     ∙ sums_by-same (λ (r : Row). (board_entry entries r.batch).own) (λ (r : Row). own_sums p (planed r).0 (planed r).1) (take i k.rows)
-    (all_take (λ (row : Row). (board_entry entries row.batch).own ≡ own_sums p (planed row).0 (planed row).1) i k.rows own)
+    (All-take (λ (row : Row). (board_entry entries row.batch).own ≡ own_sums p (planed row).0 (planed row).1) i k.rows own)
     ∙ sym (sums_by-map (λ (entry : Entry). own_sums p entry.0 entry.1) planed (take i k.rows))) in
     record {
       due = λ i lt. (

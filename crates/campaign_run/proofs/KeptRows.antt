@@ -74,9 +74,6 @@ passes true false false true same sums h = absurd (cc)
 passes true false false false false sums h = absurd (cc)
 passes true false false false true sums h = (refl, refl, refl, refl)
 
-HasForm : List ℕ → Type 0
-HasForm piece = row_text (row_read piece) ≡ piece
-
 row_passes : (p : Analysis) (before : List (List ℕ)) (piece : List ℕ) → AreKept p (map row_read before) → row_fault p before piece ≡ None
     → AreKept p (map row_read before ++ row_read piece ∷ []) × (row_text (row_read piece) ≡ piece)
 unfolding row_fault

@@ -5,8 +5,5 @@ pub mod Finding
 pub mod Reporting
 pub mod Leaving
 pub mod Ending
-pub mod Anew
-pub mod Cutting
 pub mod KeptPrefix
-pub mod TrueLanes
 pub mod GoingOn

@@ -8,15 +8,15 @@ use Rattle.result_file.specs.KeptRows.{kept_entries}
 
 -- the planes that were kept of a batch, or else those that it truly has
 abbrev pub checkpointed_or_true : Analysis → KeptRows → ℕ → Outcome
-checkpointed_or_true p k batch = unwrap_or (option_map (λ entry. entry.1) (find (λ entry. entry.0 == batch) (kept_entries k))) (true_planes p batch)
-
--- each batch of the plan once, with the planes that `planes` gives
-pub record IsWhole (p : Analysis) (planes : ℕ → Outcome) (entries : List Entry) : Type 0 where
-  pub distinct : AreDistinct p entries
-  pub each : (batch : ℕ) → batch < batch_count p → Contains (batches entries) batch
-  pub have : All (λ entry. entry.1 ≡ planes entry.0) entries
+checkpointed_or_true p k batch = unwrap_or (option_map (λ e. e.1) (find (λ e. e.0 == batch) (kept_entries k))) (true_planes p batch)
 
 -- some batches of the plan, none of them twice, with the planes that `planes` gives
 pub record IsPart (p : Analysis) (planes : ℕ → Outcome) (entries : List Entry) : Type 0 where
   pub distinct : AreDistinct p entries
   pub have : All (λ entry. entry.1 ≡ planes entry.0) entries
+
+-- ---- a shape of private steps, which the promise on the program doesn't cite
+
+-- each batch of the plan once, with the planes that `planes` gives
+abbrev pub IsWhole : Analysis → (ℕ → Outcome) → List Entry → Type 0
+IsWhole p planes entries = IsPart p planes entries × ((batch : ℕ) → batch < batch_count p → Contains (batches entries) batch)

@@ -1,5 +1,5 @@
 -- What a campaign has left when it couldn't write its result file.
-use Rattle.std.specs.Prelude.{◌≡◌, ℕ, List, take}
+use Rattle.std.specs.Prelude.{◌≡◌, ℕ, List, length, take}
 use Rattle.fm_shelf.specs.Content.{Content, IsIfKnown}
 use Rattle.campaign_plan.specs.declared.Outcome.{Outcome}
 use Rattle.campaign_plan.specs.Analysis.{Analysis}
@@ -7,7 +7,6 @@ use Rattle.campaign_plan.specs.Batches.{Entry}
 use Rattle.result_file.specs.ResultText.{result_text}
 use Rattle.fm_base.specs.Names.{Bytes}
 use Rattle.campaign_run.specs.Found.{IsPart}
-use Rattle.campaign_run.specs.Reported.{BeginsWith}
 
 -- where anything is known of it, the file is a byte prefix of this text
 abbrev pub IsPrefixOf : Content → (text : Bytes) → Type 0
@@ -21,4 +20,4 @@ pub record LeftPrefix (own : Bytes) (p : Analysis) (planes : ℕ → Outcome) (h
 
 -- where anything is known of it, the file begins with these bytes
 abbrev pub BeginsAs : Content → (start : Bytes) → Type 0
-BeginsAs held start = IsIfKnown held (λ bytes. BeginsWith bytes start)
+BeginsAs held start = IsIfKnown held (λ bytes. take (length start) bytes ≡ start)

@@ -11,4 +11,4 @@ KeepsOthers before after name = (other : Bytes) → other ≢ name → after.con
 
 -- what would be seen had this text gone out since then
 abbrev pub had_written : (before after : Outside) → (text : Bytes) → Outside
-had_written before after text = record { shelf = after.shelf; out = record { written = with_more before.out.written text; faults = after.out.faults } }
+had_written before after text = record after { out = record after.out { written = with_more before.out.written text } }
