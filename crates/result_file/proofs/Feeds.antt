@@ -2,8 +2,8 @@
 use Rattle.std.proofs.Common.{◌≡◌, ℕ, ◌<◌, List, [], ◌∷◌, ◌++◌, length, refl, ap, ap₂, sym, ◌∙◌, arith, append_assoc, append-nil}
 use Rattle.std.specs.Prelude.{codes, decimal}
 use Rattle.fm_base.specs.Text.{spaced}
-use Rattle.result_file.specs.ResultText.{cycles_text}
-use Rattle.result_file.specs.Feeding.{settings_words, cycles_fed}
+use Rattle.result_file.specs.ResultText.{cycles_text, settings_words}
+use Rattle.result_file.specs.Feeding.{cycles_fed}
 
 -- what is fed of cycles is their text
 pub fed : (cycles : List ℕ) → cycles_fed cycles ≡ cycles_text cycles

@@ -3,8 +3,8 @@ ghost use Rattle.std.specs.Prelude.{◌≡◌, ◌++◌, ◌∷◌, [], ℕ, Lis
 ghost use Rattle.std.specs.List.{flat_map};
 ghost use Rattle.sha2.specs.Hashers.{Holds256};
 ghost use Rattle.fm_base.specs.Text.{spaced};
-ghost use Rattle.result_file.specs.ResultText.{settings_line, own_digest};
-ghost use Rattle.result_file.specs.Feeding.{settings_words, digest_line, after_comma, cycles_fed};
+ghost use Rattle.result_file.specs.ResultText.{settings_words, settings_line, own_digest};
+ghost use Rattle.result_file.specs.Feeding.{digest_line, after_comma, cycles_fed};
 
 use crate::text::put_digest;
 use campaign_plan::Settings;
