@@ -1,7 +1,8 @@
 -- What a campaign leaves of its file when a write has failed.
-use Rattle.std.proofs.Common.{◌≡◌, ◌≢◌, ℕ, zero, suc, ◌+◌, ◌⊎◌, inl, inr, List, [], ◌∷◌, ◌++◌, map, length, take, refl, ap, sym, subst, ◌∙◌, append_assoc, append-nil}
+use Rattle.std.proofs.Common.{◌≡◌, ◌≢◌, ℕ, ◌+◌, ◌⊎◌, inl, inr, min, List, [], ◌∷◌, ◌++◌, map, length, take, refl, ap, sym, subst, ◌∙◌, arith, append_assoc, append-nil}
 use Rattle.std.specs.Prelude.{flat_map}
 use Rattle.std.proofs.lemmas.Bool.{cases_eq}
+use Rattle.std.proofs.lemmas.List.{take-append-le, take_min}
 use Rattle.std.proofs.lemmas.List.Concat.{flat_map-append}
 use Rattle.std.proofs.Math.Seq.{take-append_seam, take-append-add, take-length}
 use mathlib.Core.List.{IsPrefix}
@@ -23,9 +24,7 @@ use Rattle.campaign_run.proofs.Reporting.{are_part, text_result}
 
 -- the first n of a list are a prefix of it and more
 front : (n : ℕ) (xs ys : List ℕ) → (m : ℕ) × (take n xs ≡ take m (xs ++ ys))
-front zero xs ys = (0, refl)
-front (suc n) [] ys = (0, refl)
-front (suc n) (x ∷ xs) ys = let rest = front n xs ys in (suc rest.0, ap (λ l. x ∷ l) rest.1)
+front n xs ys = (min n (length xs), sym (take-append-le (min n (length xs)) xs ys (omega arith) ∙ take_min n xs))
 
 begins_with : (start text bytes more : List ℕ) → (start ≡ []) ⊎ (start ≡ text) → bytes ≡ text ++ more → BeginsWith bytes start
 begins_with start text bytes more from e = elim from as (λ _. BeginsWith bytes start) [

@@ -18,7 +18,7 @@ use Rattle.fmeda_report.specs.Rows.{HoldEachOnce, planes_in}
 use Rattle.fmeda_report.proofs.RowPlanes.{row_found, rows_below, planes_in-at, planes_in-none}
 use Rattle.fmeda_report.proofs.TrueReport.{past_planes}
 use Rattle.campaign_board.specs.declared.entry.Entry.{Entry as BoardEntry}
-use Rattle.campaign_board.specs.Boards.{Start, AreEntries, board_entry, batches_of, file_text}
+use Rattle.campaign_board.specs.Boards.{Start, AreEntries, board_entry, batches_of, row_with, file_text}
 use Rattle.campaign_board.specs.Kept.{AreRows}
 use Rattle.campaign_board.proofs.Results.{boards_are_results}
 use Rattle.campaign_run.specs.declared.run.Text.{Text}
@@ -44,9 +44,6 @@ hold_each p o rows many h each = record {
   each = λ batch lt. subst (λ bs. Contains bs batch) (sym (same_batches rows)) (each batch (omega (arith, lt, many)));
 }
 
-pub entries_many : (p : Analysis) (planes : ℕ → Outcome) (o : Start) → o.entries ≡ entries_for p planes → length o.entries ≡ batch_count p
-entries_many p planes o e = ap length e ∙ length_entries p planes
-
 -- each row has the planes of its batch
 planes_at_row : (p : Analysis) (planes : ℕ → Outcome) (o : Start) (rows : List Row) → o.entries ≡ entries_for p planes → AreRows o rows
     → All (λ (row : Row). (planed row).1 ≡ planes (planed row).0) rows
@@ -58,20 +55,15 @@ planes_at_row p planes o rows e h i d lt =
     let entry : board_entry o.entries batch ≡ entry_with p planes batch = ap (λ es. board_entry es batch) e ∙ entry_at p planes batch lower in
     let due = h.due i lt in
     let here : row.batch ≡ batch = ap (λ (r : Row). r.batch) due ∙ ap (λ (e : BoardEntry). e.batch) entry in
-    let found : (planed row).1 ≡ planes batch =
-    ap (λ (r : Row). (planed r).1) due ∙ ap (λ (e : BoardEntry). outcome_in e) entry in
+    let found : (planed row).1 ≡ planes batch = ap (λ (r : Row). (planed r).1) due ∙ ap (λ (e : BoardEntry). (planed (row_with e row.sums)).1) entry in
     let same : get_or rows i d ≡ row = get_or_default rows i d no_row lt in
     subst (λ (r : Row). (planed r).1 ≡ planes (planed r).0) (sym same) (found ∙ ap planes (sym here))
-  where
-    outcome_in : BoardEntry → Outcome
-    outcome_in entry = record { danger = entry.danger; noticed = entry.noticed }
-
-have_planes : (p : Analysis) (planes : ℕ → Outcome) (o : Start) (rows : List Row) → o.entries ≡ entries_for p planes → AreRows o rows
-    → All (λ (entry : Entry). entry.1 ≡ planes entry.0) (map planed rows)
-have_planes p planes o rows e h = All-map (λ (entry : Entry). entry.1 ≡ planes entry.0) planed rows (planes_at_row p planes o rows e h)
 
 pub are_part : (p : Analysis) (planes : ℕ → Outcome) (o : Start) (rows : List Row) → o.entries ≡ entries_for p planes → AreRows o rows → IsPart p planes (map planed rows)
-are_part p planes o rows e h = record { distinct = distinct_rows p o rows (entries_many p planes o e) h; have = have_planes p planes o rows e h }
+are_part p planes o rows e h = record {
+  distinct = distinct_rows p o rows (ap length e ∙ length_entries p planes) h;
+  have = All-map (λ (entry : Entry). entry.1 ≡ planes entry.0) planed rows (planes_at_row p planes o rows e h);
+}
 
 -- ---- the report
 

@@ -17,7 +17,7 @@ use Rattle.fmeda_report.specs.Words.{role_word, class_word}
 use Rattle.result_merge.specs.Union.{found}
 use Rattle.fault_table.specs.Csv.{csv_field}
 
--- the row of fault i, where its batch has these planes: the class is the report's, the weight is in units of 10^-6 FIT
+-- the CSV row of fault i, where its batch has these planes: the class is the report's, the weight is in units of 10^-6 FIT
 unfoldable pub fault_row : Analysis → Outcome → ℕ → Bytes
 fault_row p planes i =
     let fault = fault_numbered p i in
