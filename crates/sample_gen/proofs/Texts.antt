@@ -61,3 +61,7 @@ grows piece before more = more ∙ ap (λ t. t ++ piece) before
 -- the same, by a piece in other words
 pub grows_as : {text was now piece : Bytes} (other : Bytes) → text ≡ was → piece ≡ other → now ≡ text ++ piece → now ≡ was ++ other
 grows_as {text = text} other before same more = grows other before (more ∙ ap (λ p. text ++ p) same)
+
+-- a text that grows twice more, by a piece and its end
+pub grows_twice : {text was one two : Bytes} (piece end : Bytes) → text ≡ was → one ≡ text ++ piece → two ≡ one ++ end → two ≡ was ++ (piece ++ end)
+grows_twice {was = was} piece end before first more = grows end (grows piece before first) more ∙ append_assoc was piece end

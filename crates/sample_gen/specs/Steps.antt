@@ -1,6 +1,5 @@
 -- Shapes of private steps: how a netlist and a workload are put together line by line. Nothing public cites them.
 use Rattle.std.specs.Prelude.{ℕ, ◌-◌, ◌%◌, ◌++◌, if◌then◌else◌, ◌==◌, codes, decimal}
-use Rattle.fm_base.specs.Text.{whole_line}
 use Rattle.fm_base.specs.Names.{Bytes}
 use Rattle.sample_gen.specs.Sample.{stage_lines}
 
@@ -18,4 +17,4 @@ both_stages i = stage_lines (codes "m") (codes "a") i ++ stage_lines (codes "n")
 
 -- the row of cycle t
 abbrev pub vector_line : ℕ → Bytes
-vector_line t = if t % 3 == 0 then whole_line (codes "w,mission,1") else whole_line (codes "w,mission,0")
+vector_line t = if t % 3 == 0 then codes "w,mission,1\n" else codes "w,mission,0\n"
