@@ -34,7 +34,7 @@ use Rattle.bench_reader.specs.Steps.{bad_bench, bench_unless, latch_nets_of, net
 use Rattle.bench_reader.proofs.Gathering.{IsGathered, Outcome, full_large, lines_gathered, nets_gathered, outs_of, parts_of, second_at, too_large_is, visits_of}
 use Rattle.bench_reader.proofs.Loose.{loose_found, undriven_found}
 use Rattle.bench_reader.proofs.Rows.{lines_fit}
-use Rattle.bench_reader.proofs.Sound.{lines_driven, netlist_sound}
+use Rattle.bench_reader.proofs.Sound.{bench_told, lines_driven, netlist_sound}
 use Rattle.fm_base.proofs.Options.{or_none}
 
 -- ---- faults
@@ -68,12 +68,12 @@ circuit_from_parts names p = made_circuit names (made_drivers p names) p
 module _ (lines : List Said) (once : two_drivers lines ≡ None) (driven : undriven lines ≡ None) where
   drivers_made : drivers_by (map (net_id (nets_of lines)) (inputs_of lines)) (map (net_id (nets_of lines)) (table_nets_of lines)) (map (net_id (nets_of lines)) (latch_nets_of lines)) (length (nets_of lines))
       ≡ map (driver_of (drivers_of lines)) (nets_of lines)
-  unfolding drivers_of table_nets_of latch_nets_of
+  unfolding drivers_of inputs_of table_nets_of latch_nets_of
   drivers_made =
       drivers-put (nets_of lines) (inputs_of lines) (table_nets_of lines) (latch_nets_of lines) (lines_driven lines once driven)
 
   circuit_made : circuit_from_parts (nets_of lines) (parts_of (nets_of lines) lines) ≡ circuit_of lines
-  unfolding circuit_of outputs_of
+  unfolding circuit_of drivers_of inputs_of nets_of outputs_of
   circuit_made = ap (λ (ds : List Driver). made_circuit (nets_of lines) ds (parts_of (nets_of lines) lines)) drivers_made
 
   circuit_is : (g : Gathered) → IsGathered lines g → g.second ≡ None → circuit_from g ≡ circuit_of lines
@@ -186,21 +186,19 @@ file_ready bytes g e none = ready (said_lines bytes) g (file_outcome bytes g e) 
 
 -- its answer is that of the file
 pub file_answered : (bytes : Bytes) (g : Gathered) (r : Result Circuit (Refusal BenchFault)) → gathered_of bytes ≡ Ok g → Gives (answer_of g) r → Gives (bench_of bytes) r
-unfolding bench_of
 file_answered bytes g r e gives =
     gives_same (bench_of bytes) (answer_of g) r
-    (sym (answer_is (said_lines bytes) g (file_outcome bytes g e) (split_gathered (line_fault (said_lines bytes)) (said_lines bytes) g e).0)) gives
+    (bench_told bytes ∙ sym (answer_is (said_lines bytes) g (file_outcome bytes g e) (split_gathered (line_fault (said_lines bytes)) (said_lines bytes) g e).0)) gives
 
 fault_only : (o : Option BenchFault) (lines : List Said) (fault : BenchFault) → gathered_unless o lines ≡ Err fault → o ≡ Some fault
 fault_only None lines fault e = cc
 fault_only (Some found) lines fault e = let same : found ≡ fault = cc in ap (λ (x : BenchFault). Some x) same
 
 refused_by : (bytes : Bytes) (why : Refusal BenchFault) → Gives (gathered_of bytes) (Err why) → Gives (bench_of bytes) (Err why)
-unfolding bench_of
 refused_by bytes Memory gives = tt
 refused_by bytes (Fault fault) gives =
     let found = fault_only (line_fault (said_lines bytes)) (said_lines bytes) fault gives in
-    ap (λ (o : Option BenchFault). bench_unless (option_or o (net_fault (said_lines bytes))) (said_lines bytes)) found
+    bench_told bytes ∙ ap (λ (o : Option BenchFault). bench_unless (option_or o (net_fault (said_lines bytes))) (said_lines bytes)) found
 
 -- a fault of a line is that of the file
 pub file_refused : (bytes : Bytes) (why : Refusal BenchFault) (r : Result Circuit (Refusal BenchFault)) → Gives (gathered_of bytes) (Err why) → r ≡ Err why → Gives (bench_of bytes) r

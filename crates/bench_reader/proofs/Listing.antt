@@ -5,8 +5,8 @@ use Rattle.std.specs.Option.{option_map}
 use Rattle.fm_base.specs.Names.{Name}
 use Rattle.bench_reader.specs.Gates.{gate_named, is_word}
 use Rattle.bench_reader.specs.Meant.{is_end, listed, more_listed, HasNoMore, HasNoName}
-use Rattle.bench_reader.specs.Statement.{nothing, wrong, driver_line, more_names, names_in, statement_of}
-use Rattle.bench_reader.specs.Steps.{latch_line, port_line, table_line}
+use Rattle.bench_reader.specs.Statement.{nothing, wrong, more_names, statement_of}
+use Rattle.bench_reader.specs.Steps.{driver_line, latch_line, names_in, port_line, table_line}
 use Rattle.bench_reader.specs.declared.BenchKind.TheVariants.{BadLine}
 use Rattle.bench_reader.specs.Tokens.{Token, opening, closing, comma, equals, name}
 

@@ -14,7 +14,7 @@ use Rattle.fm_base.proofs.Below.{map-below}
 use Rattle.fm_base.proofs.Tests.{and_both}
 use Rattle.bench_reader.specs.declared.gate.Gate.{Gate}
 use Rattle.bench_reader.specs.declared.gate.Gate.TheVariants.{And, Nand, Or, Nor, Xor, Xnor, Not, Buffer}
-use Rattle.bench_reader.specs.Gates.{cells_of, odd_rows, takes_inputs}
+use Rattle.bench_reader.specs.Gates.{cells_of, odd_rows, parity_rows, takes_inputs}
 use Rattle.bench_reader.specs.Steps.{is_odd_row, most_inputs}
 
 -- one more cell
@@ -56,9 +56,23 @@ pub no_numbers : (inputs : ℕ) → [] ≡ filter is_odd_row (map (cells_of inpu
 unfolding below
 no_numbers inputs = refl
 
-pub all_numbers : (inputs number : ℕ) (rows : List (List Lit)) → number ≡ 2 ^ inputs → rows ≡ filter is_odd_row (map (cells_of inputs) (below number)) → rows ≡ odd_rows inputs
+-- the binary numbers that are chosen are the rows by parity: computed for each number of cells that a gate may have
+pub chosen_rows : (inputs : ℕ) → inputs ≤ 8 → odd_rows inputs ≡ parity_rows true inputs
+unfolding odd_rows below
+chosen_rows zero h = refl
+chosen_rows (suc zero) h = refl
+chosen_rows (suc (suc zero)) h = refl
+chosen_rows (suc (suc (suc zero))) h = refl
+chosen_rows (suc (suc (suc (suc zero)))) h = refl
+chosen_rows (suc (suc (suc (suc (suc zero))))) h = refl
+chosen_rows (suc (suc (suc (suc (suc (suc zero)))))) h = refl
+chosen_rows (suc (suc (suc (suc (suc (suc (suc zero))))))) h = refl
+chosen_rows (suc (suc (suc (suc (suc (suc (suc (suc zero)))))))) h = refl
+chosen_rows (suc (suc (suc (suc (suc (suc (suc (suc (suc n))))))))) h = absurd (omega arith)
+
+pub all_numbers : (inputs number : ℕ) (rows : List (List Lit)) → inputs ≤ 8 → number ≡ 2 ^ inputs → rows ≡ filter is_odd_row (map (cells_of inputs) (below number)) → rows ≡ parity_rows true inputs
 unfolding odd_rows
-all_numbers inputs number rows h e = e ∙ ap (λ n. filter is_odd_row (map (cells_of inputs) (below n))) h
+all_numbers inputs number rows few h e = e ∙ ap (λ n. filter is_odd_row (map (cells_of inputs) (below n))) h ∙ chosen_rows inputs few
 
 -- no more rows than numbers
 pub few_odd : (inputs : ℕ) → length (odd_rows inputs) ≤ 2 ^ inputs
@@ -73,9 +87,9 @@ few_odd inputs =
     count_most : (p : List Lit → Bool) (rows : List (List Lit)) → count_by p rows ≤ length rows
     count_most p rows = count_by-le-length p rows
 
-pub few_rows : (inputs : ℕ) (rows : List (List Lit)) → inputs ≤ 8 → rows ≡ odd_rows inputs → length rows ≤ 256
+pub few_rows : (inputs : ℕ) (rows : List (List Lit)) → inputs ≤ 8 → rows ≡ parity_rows true inputs → length rows ≤ 256
 few_rows inputs rows h e =
-    let size = ap (λ (rs : List (List Lit)). length rs) e in
+    let size = ap (λ (rs : List (List Lit)). length rs) (e ∙ sym (chosen_rows inputs h)) in
     let most = few_odd inputs in
     let some : 0 < 2 = omega arith in
     let eight : 2 ^ inputs ≤ 2 ^ 8 = pow-le-pow_right some h in

@@ -1,22 +1,23 @@
 -- Each row of a gate's table has a literal for each input.
 use Rattle.std.proofs.Common.{◌≡◌, ℕ, zero, suc, Bool, true, false, cond, ◌&&◌, List, [], ◌∷◌, length, map, replicate, refl, ap, arith}
-use Rattle.std.specs.Prelude.{◌^◌, Option, Some, None, codes, nat_le}
+use Rattle.std.specs.Prelude.{not, Option, Some, None, codes, nat_le}
 use Rattle.std.specs.List.{AllByRecursion, before_first, enumerate_from, slice_split}
 use Rattle.std.proofs.lemmas.Bool.{leb-true}
 use Rattle.blif_text.specs.Lines.{is_feed, is_hash}
-use Rattle.fm_base.specs.Lists.{below}
+use Rattle.circuit.specs.declared.parts.Lit.{Lit}
+use Rattle.circuit.specs.declared.parts.Lit.TheVariants.{Zero, One}
 use Rattle.fm_base.specs.Names.{Bytes, Name}
 use Rattle.fm_base.proofs.Tests.{and_both}
 use Rattle.bench_reader.specs.declared.BenchKind.TheVariants.{BadLine, BadCount}
 use Rattle.bench_reader.specs.declared.gate.Gate.{Gate}
 use Rattle.bench_reader.specs.declared.gate.Gate.TheVariants.{And, Nand, Or, Nor, Xor, Xnor, Not, Buffer}
-use Rattle.bench_reader.specs.Gates.{cells_of, gate_named, is_word, odd_rows, takes_inputs}
+use Rattle.bench_reader.specs.Gates.{gate_named, is_word, parity_rows, takes_inputs}
 use Rattle.bench_reader.specs.Gather.{StatementFits}
 use Rattle.bench_reader.specs.LineFault.{said, said_lines}
-use Rattle.bench_reader.specs.Statement.{input, output, table, wrong, driver_line, names_in, statement_of}
+use Rattle.bench_reader.specs.Statement.{input, output, table, wrong, statement_of}
 use Rattle.bench_reader.specs.Tokens.{Token, opening, closing, equals, name, tokens_of}
-use Rattle.bench_reader.specs.Steps.{gate_rows, is_odd_row, latch_line, port_line, table_line}
-use Rattle.blif_text.proofs.Slices.{all-filter}
+use Rattle.bench_reader.specs.Steps.{driver_line, gate_rows, latch_line, names_in, port_line, table_line}
+use Rattle.blif_text.proofs.Slices.{all-append}
 
 -- ---- rows
 
@@ -24,17 +25,17 @@ length_replicate : {X : Type 0} (n : ℕ) (x : X) → length (replicate n x) ≡
 length_replicate zero x = refl
 length_replicate (suc n) x = ap (λ k. suc k) (length_replicate n x)
 
-length_cells : (n k : ℕ) → length (cells_of n k) ≡ n
-length_cells zero k = refl
-length_cells (suc n) k = ap (λ m. suc m) (length_cells n k)
+-- a cell in front of each row
+cells_fit : (cell : Lit) (n : ℕ) (rows : List (List Lit)) → AllByRecursion (λ row. length row ≡ n) rows → AllByRecursion (λ row. length row ≡ suc n) (map (λ row. cell ∷ row) rows)
+cells_fit cell n [] h = tt
+cells_fit cell n (row ∷ rows) h = (ap (λ m. suc m) h.0, cells_fit cell n rows h.1)
 
-cells_fit : (n : ℕ) (ks : List ℕ) → AllByRecursion (λ row. length row ≡ n) (map (cells_of n) ks)
-cells_fit n [] = tt
-cells_fit n (k ∷ ks) = (length_cells n k, cells_fit n ks)
-
-odd_fit : (n : ℕ) → AllByRecursion (λ row. length row ≡ n) (odd_rows n)
-unfolding odd_rows
-odd_fit n = all-filter (λ row. length row ≡ n) is_odd_row (map (cells_of n) (below (2 ^ n))) (cells_fit n (below (2 ^ n)))
+parity_fit : (odd : Bool) (n : ℕ) → AllByRecursion (λ row. length row ≡ n) (parity_rows odd n)
+parity_fit true zero = tt
+parity_fit false zero = (refl, tt)
+parity_fit odd (suc n) =
+    all-append (λ row. length row ≡ suc n) (map (λ row. Zero ∷ row) (parity_rows odd n)) (map (λ row. One ∷ row) (parity_rows (not odd) n))
+    (cells_fit Zero n (parity_rows odd n) (parity_fit odd n)) (cells_fit One n (parity_rows (not odd) n) (parity_fit (not odd) n))
 
 -- one input alone
 one_input : (n : ℕ) → (nat_le 1 n && nat_le n 1) ≡ true → 1 ≡ n
@@ -49,8 +50,8 @@ gate_fits And n e = (length_replicate n _, tt)
 gate_fits Nand n e = (length_replicate n _, tt)
 gate_fits Or n e = (length_replicate n _, tt)
 gate_fits Nor n e = (length_replicate n _, tt)
-gate_fits Xor n e = odd_fit n
-gate_fits Xnor n e = odd_fit n
+gate_fits Xor n e = parity_fit true n
+gate_fits Xnor n e = parity_fit true n
 gate_fits Not n e = (one_input n e, tt)
 gate_fits Buffer n e = (one_input n e, tt)
 

@@ -1,17 +1,16 @@
 -- The tokens of a text, one after the other.
 use Rattle.std.proofs.Common.{◌≡◌, ℕ, suc, ◌+◌, ◌-◌, ◌≤◌, ◌<◌, Bool, true, false, cond, not, List, [], ◌∷◌, refl, ap, sym, ◌∙◌, length, get_or, take, drop, arith}
-use Rattle.std.specs.Prelude.{◌==◌, Option, Some, None, is_none, nat_lt}
-use Rattle.std.specs.List.{list_any, position_or_len}
+use Rattle.std.specs.Prelude.{◌==◌, Option, Some, None, is_some, nat_lt}
+use Rattle.std.specs.List.{before_first, list_any, position_or_len}
 use Rattle.std.specs.Option.{option_map_or}
 use Rattle.std.specs.Str.{byte}
 use Rattle.std.proofs.Math.Seq.{drop-cons, take-length}
 use Rattle.std.proofs.lemmas.Bool.{ltb-true}
-use Rattle.std.proofs.lemmas.List.{length-drop}
+use Rattle.std.proofs.lemmas.List.{length-drop, length-take}
 use Rattle.blif_text.specs.Lines.{is_white}
-use Rattle.fm_base.proofs.Tests.{and_both, both_false, both_true, not_true, false_of}
+use Rattle.fm_base.proofs.Tests.{both_false, not_not, not_true, false_of, or_false}
 use Rattle.bench_reader.specs.Meant.{begins_inked}
-use Rattle.bench_reader.specs.Tokens.{Token, opening, closing, comma, equals, name, begins_name, is_wide_token, mark_of, tokens_of, with_name_byte}
-use Rattle.bench_reader.specs.Steps.{is_name_byte}
+use Rattle.bench_reader.specs.Tokens.{Token, opening, closing, comma, equals, name, begins_name, ends_name, is_wide_token, mark_of, tokens_of}
 
 -- white space gives no token
 pub white_first : (b : ℕ) (text : List ℕ) → is_white b ≡ true → tokens_of (b ∷ text) ≡ tokens_of text
@@ -23,62 +22,68 @@ pub mark_first : (b : ℕ) (text : List ℕ) (m : Token) → is_white b ≡ fals
 unfolding tokens_of
 mark_first b text m e f = rw (e, f) refl
 
-no_mark : (o : Option Token) → is_none o ≡ true → o ≡ None
+no_mark : (o : Option Token) → is_some o ≡ false → o ≡ None
 no_mark None e = refl
 no_mark (Some m) e = cc
 
-name_byte_first : (b : ℕ) (text : List ℕ) → is_name_byte b ≡ true → tokens_of (b ∷ text) ≡ with_name_byte b (begins_name text) (tokens_of text)
+-- where a name goes on in the text, its first token is the rest of the name
+abbrev others : List ℕ → List Token → List Token
+others more tokens = elim more [ [] ↦ tokens | _ ↦ drop 1 tokens ]
+
+name_byte_first : (b : ℕ) (text : List ℕ) → ends_name b ≡ false → tokens_of (b ∷ text) ≡ name (b ∷ before_first ends_name text) ∷ others (before_first ends_name text) (tokens_of text)
 unfolding tokens_of
 name_byte_first b text e =
-    let parts = and_both (not (is_white b)) (is_none (mark_of b)) e in
-    rw (not_true (is_white b) parts.0, no_mark (mark_of b) parts.1) refl
+    let parts = or_false (is_white b) (is_some (mark_of b)) e in
+    rw (parts.0, no_mark (mark_of b) parts.1) refl
 
--- the place of the first byte that ends a name
-abbrev pub ending : ℕ → Bool
-ending b = not (is_name_byte b)
-
-no_name_place : (text : List ℕ) → begins_name text ≡ false → position_or_len ending text ≡ 0
+no_name_place : (text : List ℕ) → begins_name text ≡ false → position_or_len ends_name text ≡ 0
 no_name_place [] e = refl
-no_name_place (b ∷ text) e = rw e refl
+no_name_place (b ∷ text) e = rw (not_not (ends_name b) e) refl
 
 suc_place : (n : ℕ) → 1 + n ≡ suc n
 suc_place n = omega arith
+
+-- the place of the end of a name is behind its first byte
+place_is : (b : ℕ) (text : List ℕ) → ends_name b ≡ false → position_or_len ends_name (b ∷ text) ≡ suc (position_or_len ends_name text)
+place_is b text e = rw e (suc_place (position_or_len ends_name text))
 
 -- the tokens of a text that begins with a name of so many bytes
 abbrev cut_at : List ℕ → ℕ → List Token
 cut_at text n = name (take n text) ∷ tokens_of (drop n text)
 
+others_none : (text : List ℕ) (tokens : List Token) → begins_name text ≡ false → others (before_first ends_name text) tokens ≡ tokens
+others_none text tokens e = ap (λ n. others (take n text) tokens) (no_name_place text e)
+
+others_some : (text : List ℕ) (tokens : List Token) → begins_name text ≡ true → others (before_first ends_name text) tokens ≡ drop 1 tokens
+others_some [] tokens e = cc
+others_some (b ∷ text) tokens e = ap (λ n. others (take n (b ∷ text)) tokens) (place_is b text (not_true (ends_name b) e))
+
 -- a name in front is a token
 pub name_first : (text : List ℕ) → begins_name text ≡ true
-    → tokens_of text ≡ name (take (position_or_len ending text) text) ∷ tokens_of (drop (position_or_len ending text) text)
+    → tokens_of text ≡ name (take (position_or_len ends_name text) text) ∷ tokens_of (drop (position_or_len ends_name text) text)
 name_first [] e = cc
-name_first (b ∷ text) e = name_byte_first b text e ∙ by_cases (begins_name text) refl (name_first text) ∙ sym placed
+name_first (b ∷ text) e =
+    let inside = not_true (ends_name b) e in
+    name_byte_first b text inside ∙ by_cases (begins_name text) refl (name_first text) ∙ sym (ap (cut_at (b ∷ text)) (place_is b text inside))
   where
-    place_is : position_or_len ending (b ∷ text) ≡ suc (position_or_len ending text)
-    place_is = rw e (suc_place (position_or_len ending text))
-
-    placed : cut_at (b ∷ text) (position_or_len ending (b ∷ text)) ≡ cut_at (b ∷ text) (suc (position_or_len ending text))
-    placed = ap (cut_at (b ∷ text)) place_is
-
     by_cases : (touches : Bool) → begins_name text ≡ touches
-        → (begins_name text ≡ true → tokens_of text ≡ name (take (position_or_len ending text) text) ∷ tokens_of (drop (position_or_len ending text) text))
-        → with_name_byte b touches (tokens_of text) ≡ cut_at (b ∷ text) (suc (position_or_len ending text))
-    by_cases true f more = ap (with_name_byte b true) (more f)
-    by_cases false f more = alone (tokens_of text) ∙ sym (ap (λ n. cut_at (b ∷ text) (suc n)) (no_name_place text f))
-      where
-        alone : (tokens : List Token) → with_name_byte b false tokens ≡ name (b ∷ []) ∷ tokens
-        alone tokens = refl
+        → (begins_name text ≡ true → tokens_of text ≡ name (take (position_or_len ends_name text) text) ∷ tokens_of (drop (position_or_len ends_name text) text))
+        → name (b ∷ before_first ends_name text) ∷ others (before_first ends_name text) (tokens_of text) ≡ cut_at (b ∷ text) (suc (position_or_len ends_name text))
+    by_cases true f more =
+        ap (λ (ts : List Token). name (b ∷ before_first ends_name text) ∷ ts) (others_some text (tokens_of text) f ∙ ap (λ (ts : List Token). drop 1 ts) (more f))
+    by_cases false f more =
+        ap (λ (ts : List Token). name (b ∷ before_first ends_name text) ∷ ts) (others_none text (tokens_of text) f ∙ sym (ap (λ n. tokens_of (drop n text)) (no_name_place text f)))
 
-pub name_place_some : (text : List ℕ) → begins_name text ≡ true → 0 < position_or_len ending text
+pub name_place_some : (text : List ℕ) → begins_name text ≡ true → 0 < position_or_len ends_name text
 name_place_some [] e = cc
-name_place_some (b ∷ text) e = rw e (omega arith)
+name_place_some (b ∷ text) e = let next = place_is b text (not_true (ends_name b) e) in omega arith
 
 -- all that is left
 pub rest_whole : (text : List ℕ) (n : ℕ) → take (length text - n) (drop n text) ≡ drop n text
 rest_whole text n = ap (λ k. take k (drop n text)) (sym (length-drop n text)) ∙ take-length (drop n text)
 
 -- the name that is cut off
-pub name_cut : (text : List ℕ) (n : ℕ) → begins_name text ≡ true → n ≡ position_or_len ending text
+pub name_cut : (text : List ℕ) (n : ℕ) → begins_name text ≡ true → n ≡ position_or_len ends_name text
     → tokens_of text ≡ name (take n text) ∷ tokens_of (take (length text - n) (drop n text))
 name_cut text n e is = name_first text e ∙ ap (cut_at text) (sym is) ∙ ap (λ (rest : List ℕ). name (take n text) ∷ tokens_of rest) (sym (rest_whole text n))
 
@@ -95,9 +100,21 @@ within_more n m h [] all = tt
 within_more n m h (name text ∷ tokens) all = (let h2 = all.0 in omega arith, within_more n m h tokens all.1)
 within_more n m h (_ ∷ tokens) all = within_more n m h tokens all
 
-named_within : (b : ℕ) (touches : Bool) (n : ℕ) (tokens : List Token) → IsWithin n tokens → IsWithin (suc n) (with_name_byte b touches tokens)
-named_within b true n (name text ∷ tokens) all = (let h = all.0 in omega arith, within_more n (suc n) (omega arith) tokens all.1)
-named_within b touches n tokens all = (omega arith, within_more n (suc n) (omega arith) tokens all)
+named_within : (b : ℕ) (text : List ℕ) (tokens : List Token) → IsWithin (length text) tokens
+    → IsWithin (suc (length text)) (name (b ∷ before_first ends_name text) ∷ others (before_first ends_name text) tokens)
+named_within b text tokens all = (
+  let short = length-take (position_or_len ends_name text) text in omega arith,
+  by_cases (before_first ends_name text),
+)
+  where
+    without : (ts : List Token) → IsWithin (length text) ts → IsWithin (suc (length text)) (drop 1 ts)
+    without [] h = tt
+    without (name n ∷ ts) h = within_more (length text) (suc (length text)) (omega arith) ts h.1
+    without (_ ∷ ts) h = within_more (length text) (suc (length text)) (omega arith) ts h
+
+    by_cases : (more : List ℕ) → IsWithin (suc (length text)) (others more tokens)
+    by_cases [] = within_more (length text) (suc (length text)) (omega arith) tokens all
+    by_cases (c ∷ more) = without tokens all
 
 -- white space, a mark or a byte of a name
 each_within : (w p q r s : Bool) (n : ℕ) (tokens named : List Token) → IsWithin n tokens → IsWithin n named
@@ -113,9 +130,9 @@ tokens_within : (text : List ℕ) → IsWithin (length text) (tokens_of text)
 unfolding tokens_of
 tokens_within [] = tt
 tokens_within (b ∷ text) =
-    each_within (is_white b) (b == byte "(") (b == byte ")") (b == byte ",") (b == byte "=") (suc (length text)) (tokens_of text) (with_name_byte b (begins_name text) (tokens_of text))
+    each_within (is_white b) (b == byte "(") (b == byte ")") (b == byte ",") (b == byte "=") (suc (length text)) (tokens_of text) (name (b ∷ before_first ends_name text) ∷ others (before_first ends_name text) (tokens_of text))
     (within_more (length text) (suc (length text)) (omega arith) (tokens_of text) (tokens_within text))
-    (named_within b (begins_name text) (length text) (tokens_of text) (tokens_within text))
+    (named_within b text (tokens_of text) (tokens_within text))
 
 not_wide : (tokens : List Token) (n : ℕ) → n ≤ 255 → IsWithin n tokens → list_any is_wide_token tokens ≡ false
 not_wide [] n h all = refl
@@ -169,9 +186,8 @@ mark_ahead text ink b m e inked h is mark =
 pub name_ahead : (ink : List ℕ) (b : ℕ) → begins_inked ink ≡ true → 1 ≤ length ink → b ≡ get_or ink 0 0 → None ≡ mark_of b → begins_name ink ≡ true
 name_ahead ink b inked h is mark =
     let cut : ink ≡ b ∷ drop 1 ink = first_byte ink (drop 1 ink) b (omega arith) is refl in
-    let ink_byte : not (is_white b) ≡ true = sym (ap begins_inked cut) ∙ inked in
-    let no_mark_byte : is_none (mark_of b) ≡ true = ap is_none (sym mark) in
-    ap begins_name cut ∙ both_true (not (is_white b)) (is_none (mark_of b)) ink_byte no_mark_byte
+    let white : is_white b ≡ false = not_true (is_white b) (sym (ap begins_inked cut) ∙ inked) in
+    ap begins_name cut ∙ ap not (both_false (is_white b) (is_some (mark_of b)) white (ap is_some (sym mark)))
 
 pub cut_shorter : (text : List ℕ) (n : ℕ) → 0 < n → n ≤ length text → length (take (length text - n) (drop n text)) < length text
 cut_shorter text n some h = let size = length-drop n text in let whole = ap (λ (rest : List ℕ). length rest) (rest_whole text n) in omega arith

@@ -1,11 +1,10 @@
 -- Shapes of private steps: what the code and its proofs name of the definitions beside. Nothing public cites them.
-use Rattle.std.specs.Prelude.{ℕ, ◌*◌, not, ◌&&◌, false, Bool, List, [], ◌∷◌, count_by, ◌%◌, ◌==◌, flat_map, is_none, length, map, Option, Some, None, if◌then◌else◌, codes, Result, Ok, Err}
+use Rattle.std.specs.Prelude.{ℕ, ◌*◌, false, Bool, List, [], ◌∷◌, count_by, ◌%◌, ◌==◌, flat_map, length, map, Option, Some, None, if◌then◌else◌, codes, Result, Ok, Err}
 use Rattle.std.specs.Option.{option_map, option_or}
 use Rattle.circuit.specs.declared.parts.Latch.{Latch}
 use Rattle.circuit.specs.declared.parts.Lit.{Lit}
 use Rattle.circuit.specs.declared.parts.Table.{Table}
 use Rattle.circuit.specs.Circuit.{Circuit}
-use Rattle.blif_text.specs.Lines.{is_white}
 use Rattle.fm_base.specs.Firsts.{first_answer, given}
 use Rattle.fm_base.specs.Names.{Name, distinct}
 use Rattle.net_names.specs.Nets.{net_id}
@@ -13,18 +12,14 @@ use Rattle.bench_reader.specs.declared.BenchFault.{BenchFault}
 use Rattle.bench_reader.specs.declared.BenchKind.{BenchKind}
 use Rattle.bench_reader.specs.declared.BenchKind.TheVariants.{BadLine, BadGate, BadCount, TooWide}
 use Rattle.bench_reader.specs.declared.gate.Gate.{Gate}
-use Rattle.bench_reader.specs.Gates.{gate_plane, gate_rule, is_one_cell, is_word, takes_inputs}
+use Rattle.bench_reader.specs.Gates.{gate_named, gate_plane, gate_rule, is_one_cell, is_word, takes_inputs}
 use Rattle.bench_reader.specs.LineFault.{Said, at_line, line_fault}
 use Rattle.bench_reader.specs.Net.{circuit_of}
 use Rattle.bench_reader.specs.NetFault.{too_large, two_drivers, undriven}
-use Rattle.bench_reader.specs.Statement.{Statement, input, output, table, latch, wrong}
-use Rattle.bench_reader.specs.Tokens.{mark_of}
+use Rattle.bench_reader.specs.Statement.{Statement, input, output, table, latch, wrong, more_names}
+use Rattle.bench_reader.specs.Tokens.{Token, closing, comma}
 
 -- ---- tokens and lines
-
--- a byte of a name
-abbrev pub is_name_byte : ℕ → Bool
-is_name_byte b = not (is_white b) && is_none (mark_of b)
 
 -- the kind of a faulty line
 abbrev pub kind_of : Said → Option BenchKind
@@ -35,6 +30,10 @@ abbrev pub fault_of : Said → Option BenchFault
 fault_of line = option_map (at_line line.number) (kind_of line)
 
 -- ---- statements
+
+-- the names behind an opening bracket: the same as behind commas where one is put in front, or none
+abbrev pub names_in : List Token → Option (List Name)
+names_in tokens = elim tokens [ closing ∷ [] ↦ Some [] | others ↦ more_names (comma ∷ others) ]
 
 -- `word(net)`
 abbrev pub port_line : Name → Name → Statement
@@ -51,6 +50,11 @@ table_line out word ins = elim word [
   | Some gate ↦ if takes_inputs gate (length ins) then table out gate ins else wrong BadCount
   | None ↦ wrong BadGate
 ]
+
+-- `out = word(ins)`, where the names in the brackets are well-formed
+abbrev pub driver_line : (out word : Name) → Option (List Name) → Statement
+driver_line out word None = wrong BadLine
+driver_line out word (Some ins) = if is_word (codes "DFF") word then latch_line out ins else table_line out (gate_named word) ins
 
 -- ---- gates
 

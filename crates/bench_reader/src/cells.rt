@@ -1,7 +1,7 @@
 // The rows of a gate's table.
 ghost use Rattle.std.specs.Prelude.{◌≡◌, ◌==◌, ◌≤◌, ◌<◌, ◌^◌, ◌/◌, ◌%◌, ◌∷◌, [], true, IfOk, if◌then◌else◌, length, replicate};
 ghost use Rattle.circuit.specs.declared.parts.Lit.TheVariants.{Zero, One};
-ghost use Rattle.bench_reader.specs.Gates.{cells_of, is_one_cell, odd_rows, takes_inputs};
+ghost use Rattle.bench_reader.specs.Gates.{cells_of, is_one_cell, parity_rows, takes_inputs};
 ghost use Rattle.bench_reader.specs.Steps.{gate_rows, is_odd_row};
 
 use crate::gate::Gate;
@@ -61,7 +61,7 @@ fn is_a_one(cell: Lit) -> bool
 /// The rows of so many cells with an odd number of ones, as rising binary numbers.
 fn parity_rows(alloc: Global, inputs: u32) -> Result<Rows, AllocError>
     requires { inputs ≤ 8 }
-    ensures { IfOk result (λ rows. rows ≡ odd_rows inputs) }
+    ensures { IfOk result (λ rows. rows ≡ parity_rows true inputs) }
 {
     let mut rows = Seq::new(alloc);
     let numbers = 2usize.pow(inputs);

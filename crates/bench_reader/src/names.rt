@@ -2,7 +2,8 @@
 ghost use Rattle.std.specs.Prelude.{◌≡◌, ◌∷◌, [], ◌+◌, ◌<◌, length, IfSome, MatchOption};
 ghost use Rattle.std.specs.Option.{option_map};
 ghost use Rattle.bench_reader.specs.Meant.{is_end, listed, more_listed, names_ahead, HasNoMore, HasNoName};
-ghost use Rattle.bench_reader.specs.Statement.{more_names, names_in};
+ghost use Rattle.bench_reader.specs.Statement.{more_names};
+ghost use Rattle.bench_reader.specs.Steps.{names_in};
 ghost use Rattle.bench_reader.specs.Tokens.{comma, name, tokens_of};
 
 use crate::token::{Token, next_token};

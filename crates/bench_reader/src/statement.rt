@@ -2,8 +2,8 @@
 ghost use Rattle.std.specs.Prelude.{◌≡◌, ◌∷◌, length};
 ghost use Rattle.bench_reader.specs.Gates.{gate_named};
 ghost use Rattle.bench_reader.specs.Meant.{listed, meant, token_of};
-ghost use Rattle.bench_reader.specs.Statement.{driver_line, names_in, statement_of};
-ghost use Rattle.bench_reader.specs.Steps.{latch_line, port_line, table_line};
+ghost use Rattle.bench_reader.specs.Statement.{statement_of};
+ghost use Rattle.bench_reader.specs.Steps.{driver_line, latch_line, names_in, port_line, table_line};
 ghost use Rattle.bench_reader.specs.Tokens.{equals, name, opening, tokens_of};
 
 use crate::gate::{gate_of, names_word};

@@ -3,8 +3,7 @@ ghost use Rattle.std.specs.Prelude.{◌≡◌, ◌∷◌, [], ◌<◌, ◌≤◌
 ghost use Rattle.std.specs.List.{list_any, position_or_len};
 ghost use Rattle.std.specs.Option.{option_map};
 ghost use Rattle.bench_reader.specs.Meant.{begins_inked, token_of};
-ghost use Rattle.bench_reader.specs.Tokens.{begins_name, is_wide_token, mark_of, tokens_of};
-ghost use Rattle.bench_reader.specs.Steps.{is_name_byte};
+ghost use Rattle.bench_reader.specs.Tokens.{begins_name, ends_name, is_wide_token, mark_of, tokens_of};
 
 use blif_text::places::is_white_byte;
 
@@ -47,14 +46,14 @@ fn mark<'a>(b: u8) -> Option<Token<'a>>
 
 /// Whether a byte is no byte of a name: white space or a mark.
 fn ends_name(b: u8) -> bool
-    ensures { result ≡ not (is_name_byte b) }
+    ensures { result ≡ ends_name b }
 {
     is_white_byte(b) || b == b'(' || b == b')' || b == b',' || b == b'='
 }
 
 /// The place of the first byte that ends a name, or the length.
 fn name_end(text: &[u8]) -> usize
-    ensures place { result ≡ position_or_len (λ b. not (is_name_byte b)) text.now }
+    ensures place { result ≡ position_or_len ends_name text.now }
     ensures within { result ≤ length text.now }
 {
     for (i, b) in text.iter().enumerate() {

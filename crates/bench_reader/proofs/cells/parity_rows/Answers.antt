@@ -17,4 +17,4 @@ loop-number-preserved c =
     ]
 
 pub returns : goal.returns
-returns c = all_numbers c.args.inputs c.loop-number.number c.loop-number.rows (let e = c.pow-numbers.ensures in omega arith) c.loop-number.invariant
+returns c = all_numbers c.args.inputs c.loop-number.number c.loop-number.rows c.requires (let e = c.pow-numbers.ensures in omega arith) c.loop-number.invariant

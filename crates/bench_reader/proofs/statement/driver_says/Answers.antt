@@ -1,5 +1,5 @@
 use Rattle.std.proofs.Common.{ap, sym, ◌∙◌}
-use Rattle.bench_reader.specs.Statement.{driver_line}
+use Rattle.bench_reader.specs.Steps.{driver_line}
 use Rattle.bench_reader.specs.Tokens.{tokens_of}
 use Rattle.bench_reader.proofs.Listing.{counted_names, uncounted_names, driver_latch, driver_table}
 use Rattle.bench_reader.proofs.statement.driver_says.Goals as goal
