@@ -19,10 +19,9 @@ use Rattle.fm_base.proofs.Tests.{or_cases, or_second}
 use Rattle.net_names.specs.Nets.{net_id}
 use Rattle.net_names.proofs.Few.{no_more}
 use Rattle.net_names.proofs.Times.{place}
-use Rattle.bench_reader.specs.Gates.{gate_plane}
+use Rattle.bench_reader.specs.Gates.{GateRule}
 use Rattle.bench_reader.specs.declared.BenchFault.{BenchFault}
 use Rattle.bench_reader.specs.declared.BenchKind.TheVariants.{TooLarge, TwoDrivers}
-use Rattle.bench_reader.specs.declared.gate.Gate.{Gate}
 use Rattle.bench_reader.specs.declared.gather.Gathered.{Gathered}
 use Rattle.bench_reader.specs.declared.parts.Parts.{Parts}
 use Rattle.bench_reader.specs.Gather.{add_input, add_latch, add_output, add_said, add_statement, add_table, driven_at, gate_table, gathered_from, is_full, no_lines, with_nets, with_part}
@@ -30,7 +29,7 @@ use Rattle.bench_reader.specs.LineFault.{Said, at_line}
 use Rattle.bench_reader.specs.Marks.{NetMarks, no_nets, ids_from, is_driven, is_given, mention, mention_all, with_driven, with_given}
 use Rattle.bench_reader.specs.Net.{driven_at as drives_at, driven_of, inputs_of, nets_at, nets_of}
 use Rattle.bench_reader.specs.NetFault.{too_large, two_drivers}
-use Rattle.bench_reader.specs.Steps.{cells_at, gate_rows, input_at, latch_net, latch_nets_of, latch_on_line, output_at, outputs_of, table_net, table_nets_of, table_on_line}
+use Rattle.bench_reader.specs.Steps.{cells_at, input_at, latch_net, latch_nets_of, latch_on_line, output_at, outputs_of, table_net, table_nets_of, table_on_line}
 use Rattle.bench_reader.specs.Statement.{Statement, nothing, input, output, table, latch, wrong}
 use Rattle.bench_reader.proofs.Marked.{IsMarked, Visit, all_grows, all_marked, among_more, blank, drive_marked, give_marked, grows, id_stays, ids_all, is_driven_marked, is_given_marked, length_ids, mark_of, mention_marked, mentioned, names_of, visits_at}
 use Rattle.fm_base.proofs.Options.{or_none}
@@ -418,7 +417,7 @@ module _ (lines : List Said) (g : Gathered) (h : IsGathered lines g) (n : ℕ) (
         latch_fresh latch_adds
 
   -- `out = AND(ins)`, and likewise the other gates
-  module _ (out : Name) (gate : Gate) (ins : List Name) where
+  module _ (out : Name) (gate : GateRule) (ins : List Name) where
     abbrev head : NetMarks
     head = mention n g.nets out
 
@@ -455,15 +454,15 @@ module _ (lines : List Said) (g : Gathered) (h : IsGathered lines g) (n : ℕ) (
         (a.0 ++ b.0, b.1 ∙ ap (λ (ns : List Name). ns ++ b.0) a.1 ∙ append_assoc g.nets.names a.0 b.0)
 
     table_cells : counted.cells ≡ sum_by cells_in lines + cells_at (table out gate ins)
-    table_cells = ap (λ c. c + length (gate_rows gate (length ids)) * length ids) h.cells ∙ ap (λ k. sum_by cells_in lines + length (gate_rows gate k) * k) (length_ids n head ins)
+    table_cells = ap (λ c. c + length (gate.rows (length ids)) * length ids) h.cells ∙ ap (λ k. sum_by cells_in lines + length (gate.rows k) * k) (length_ids n head ins)
 
     table_equal : (a b : List NetId) → a ≡ b → gate_table gate a ≡ gate_table gate b
     table_equal a b e = ap (gate_table gate) e
 
-    table_is : (more : List Name) → made ≡ record { ins = map (net_id (whole.names ++ more)) ins; rows = gate_rows gate (length ins); on = gate_plane gate }
+    table_is : (more : List Name) → made ≡ record { ins = map (net_id (whole.names ++ more)) ins; rows = gate.rows (length ins); on = gate.on }
     table_is more =
         table_equal ids (map (net_id (whole.names ++ more)) ins) (ids_all n head ins more)
-        ∙ ap (λ k. record { ins = map (net_id (whole.names ++ more)) ins; rows = gate_rows gate k; on = gate_plane gate }) (length-map ins (net_id (whole.names ++ more)))
+        ∙ ap (λ k. record { ins = map (net_id (whole.names ++ more)) ins; rows = gate.rows k; on = gate.on }) (length-map ins (net_id (whole.names ++ more)))
 
     table_adds : (more : List Name)
         → parts_by (map (net_id (whole.names ++ more)) (inputs_of lines)) (map (net_id (whole.names ++ more)) (outputs_of lines))

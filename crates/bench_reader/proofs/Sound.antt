@@ -20,7 +20,6 @@ use Rattle.net_names.proofs.Brought.{all-brought, as-many, in-order}
 use Rattle.net_names.proofs.Driven.{drives-of-lines}
 use Rattle.net_names.proofs.Once.{driven-once}
 use Rattle.net_names.proofs.Sound.{is-net, is-table, netlist-of-names, size-of-drivers}
-use Rattle.bench_reader.specs.Gates.{gate_plane}
 use Rattle.bench_reader.specs.declared.BenchFault.{BenchFault}
 use Rattle.bench_reader.specs.declared.BenchKind.TheVariants.{TooLarge}
 use Rattle.fm_base.specs.Firsts.{given}
@@ -28,11 +27,11 @@ use Rattle.bench_reader.specs.Bench.{bench_of}
 use Rattle.bench_reader.specs.LineFault.{Said, at_line, line_fault, said_lines}
 use Rattle.bench_reader.specs.Net.{circuit_of, driven_at, driven_of, drivers_of, inputs_of, nets_at, nets_of}
 use Rattle.bench_reader.specs.NetFault.{too_large, two_drivers, undriven}
-use Rattle.bench_reader.specs.Steps.{bad_bench, bench_unless, cells_at, gate_rows, input_at, latch_net, latch_nets_of, latch_on_line, output_at, outputs_of, table_net, table_nets_of, table_on_line as line_table}
+use Rattle.bench_reader.specs.Steps.{bad_bench, bench_unless, cells_at, input_at, latch_net, latch_nets_of, latch_on_line, output_at, outputs_of, table_net, table_nets_of, table_on_line as line_table}
 use Rattle.bench_reader.specs.Statement.{Statement, input, table, latch}
 use Rattle.bench_reader.proofs.Drives.{driven_net, driven_once, names_nets, net_driven, output_net}
 use Rattle.bench_reader.specs.Gather.{StatementFits}
-use Rattle.bench_reader.proofs.Rows.{gate_fits, lines_fit}
+use Rattle.bench_reader.proofs.Rows.{lines_fit}
 use Rattle.fm_base.proofs.Options.{none_both}
 
 -- ---- what a table and a latch keep
@@ -49,7 +48,7 @@ module _ (nets : List Name) (c : Circuit) (size : length c.drivers ≡ length ne
       (λ line q r. at line.says q r) some e f
     where
       at : (says : Statement) → list_all (is_one_of nets) (nets_at says) ≡ true → StatementFits says → AllByRecursion (IsTable c) (cons_option (line_table nets says) [])
-      at (table out gate ins) e f = (is-table nets c size ins (gate_rows gate (length ins)) (gate_plane gate) (rest_pass nets out ins e) (gate_fits gate (length ins) f), tt)
+      at (table out gate ins) e f = (is-table nets c size ins (gate.rows (length ins)) gate.on (rest_pass nets out ins e) f.1, tt)
       at says e f = tt
 
   sources_fit : (some : List Said) → AllByRecursion (λ line. list_all (is_one_of nets) (nets_at line.says) ≡ true) some
@@ -160,9 +159,9 @@ cells_same nets (line ∷ lines) =
     at : (says : Statement) (tables : List Table) → sum_by (λ (t : Table). length t.rows * length t.ins) tables ≡ sum_by (λ (l : Said). cells_at l.says) lines
         → sum_by (λ (t : Table). length t.rows * length t.ins) (cons_option (line_table nets says) tables) ≡ cells_at says + sum_by (λ (l : Said). cells_at l.says) lines
     at (table out gate ins) tables e =
-        sum_by-cons (λ (t : Table). length t.rows * length t.ins) (record { ins = map (net_id nets) ins; rows = gate_rows gate (length ins); on = gate_plane gate }) tables
-        ∙ ap (λ n. length (gate_rows gate (length ins)) * n + sum_by (λ (t : Table). length t.rows * length t.ins) tables) (length-map ins (net_id nets))
-        ∙ ap (λ n. length (gate_rows gate (length ins)) * length ins + n) e
+        sum_by-cons (λ (t : Table). length t.rows * length t.ins) (record { ins = map (net_id nets) ins; rows = gate.rows (length ins); on = gate.on }) tables
+        ∙ ap (λ n. length (gate.rows (length ins)) * n + sum_by (λ (t : Table). length t.rows * length t.ins) tables) (length-map ins (net_id nets))
+        ∙ ap (λ n. length (gate.rows (length ins)) * length ins + n) e
     at says tables e = e ∙ zero_first (sum_by (λ (l : Said). cells_at l.says) lines)
 
 -- the netlist of a file or its first fault, step by step

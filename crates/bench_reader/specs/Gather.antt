@@ -1,5 +1,6 @@
 -- What is gathered of the lines of a file, one after the other.
 use Rattle.std.specs.Prelude.{◌≡◌, ℕ, ◌+◌, ◌*◌, ◌^◌, Bool, true, false, ◌||◌, List, [], ◌∷◌, ◌++◌, fold, if◌then◌else◌, length, nat_lt, None, is_none}
+use Rattle.std.specs.List.{AllByRecursion}
 use Rattle.std.specs.Option.{option_or}
 use Rattle.circuit.specs.declared.parts.Latch.{Latch}
 use Rattle.circuit.specs.declared.parts.NetId.{NetId}
@@ -7,18 +8,16 @@ use Rattle.circuit.specs.declared.parts.Table.{Table}
 use Rattle.fm_base.specs.Firsts.{given}
 use Rattle.fm_base.specs.Names.{Name}
 use Rattle.net_names.specs.Nets.{net_id}
-use Rattle.bench_reader.specs.declared.gate.Gate.{Gate}
 use Rattle.bench_reader.specs.declared.gather.Gathered.{Gathered}
 use Rattle.bench_reader.specs.declared.parts.Parts.{Parts}
-use Rattle.bench_reader.specs.Gates.{gate_plane, takes_inputs}
-use Rattle.bench_reader.specs.Steps.{gate_rows}
+use Rattle.bench_reader.specs.Gates.{GateRule, takes}
 use Rattle.bench_reader.specs.LineFault.{Said}
 use Rattle.bench_reader.specs.Marks.{NetMarks, ids_from, is_driven, is_given, mention, mention_all, no_nets, with_driven, with_given}
 use Rattle.bench_reader.specs.Statement.{Statement, input, output, table, latch}
 
--- a table has as many inputs as its gate allows
+-- a table has as many inputs as its gate allows, and a cell for each in each row
 abbrev pub StatementFits : Statement → Type 0
-StatementFits (table out gate ins) = takes_inputs gate (length ins) ≡ true
+StatementFits (table out gate ins) = (takes gate (length ins) ≡ true) × AllByRecursion (λ row. length row ≡ length ins) (gate.rows (length ins))
 StatementFits _ = Unit {0}
 
 abbrev pub no_parts : Parts
@@ -66,10 +65,10 @@ add_latch g line out from =
     with_part (driven_at (with_nets g both) line to) (λ p. record p { latches = p.latches ++ held ∷ []; latch_nets = p.latch_nets ++ to ∷ [] })
 
 -- the table of a gate
-abbrev pub gate_table : Gate → List NetId → Table
-gate_table gate ins = record { ins = ins; rows = gate_rows gate (length ins); on = gate_plane gate }
+abbrev pub gate_table : GateRule → List NetId → Table
+gate_table gate ins = record { ins = ins; rows = gate.rows (length ins); on = gate.on }
 
-abbrev pub add_table : Gathered → ℕ → Name → Gate → List Name → Gathered
+abbrev pub add_table : Gathered → ℕ → Name → GateRule → List Name → Gathered
 add_table g line out gate ins =
     let nets = mention line g.nets out in
     let all = mention_all line nets ins in

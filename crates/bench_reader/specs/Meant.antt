@@ -11,6 +11,7 @@ use Rattle.bench_reader.specs.declared.says.Says.{Says}
 use Rattle.bench_reader.specs.declared.says.Says.TheVariants.{Nothing, Input, Output, Table, Latch, Wrong}
 use Rattle.bench_reader.specs.declared.token.Token as held
 use Rattle.bench_reader.specs.declared.token.Token.TheVariants as tokens
+use Rattle.bench_reader.specs.Gates.{gate_rule}
 use Rattle.bench_reader.specs.Statement.{Statement, nothing, input, output, table, latch, wrong}
 use Rattle.bench_reader.specs.Tokens.{Token, opening, closing, comma, equals, name, tokens_of}
 
@@ -68,6 +69,6 @@ abbrev pub meant : Says → Statement
 meant Nothing = nothing
 meant (Input net) = input net.now
 meant (Output net) = output net.now
-meant (Table out gate ins) = table out.now gate (listed (tokens_of ins.now))
+meant (Table out gate ins) = table out.now (gate_rule gate) (listed (tokens_of ins.now))
 meant (Latch out from) = latch out.now from.now
 meant (Wrong why) = wrong (kind_of_malformed why)

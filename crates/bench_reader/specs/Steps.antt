@@ -12,7 +12,7 @@ use Rattle.bench_reader.specs.declared.BenchFault.{BenchFault}
 use Rattle.bench_reader.specs.declared.BenchKind.{BenchKind}
 use Rattle.bench_reader.specs.declared.BenchKind.TheVariants.{BadLine, BadGate, BadCount, TooWide}
 use Rattle.bench_reader.specs.declared.gate.Gate.{Gate}
-use Rattle.bench_reader.specs.Gates.{gate_named, gate_plane, gate_rule, is_one_cell, is_word, takes_inputs}
+use Rattle.bench_reader.specs.Gates.{GateRule, gate_named, gate_rule, is_one_cell, is_word, takes}
 use Rattle.bench_reader.specs.LineFault.{Said, at_line, line_fault}
 use Rattle.bench_reader.specs.Net.{circuit_of}
 use Rattle.bench_reader.specs.NetFault.{too_large, two_drivers, undriven}
@@ -45,9 +45,9 @@ latch_line out (from ∷ []) = latch out from
 latch_line out _ = wrong BadCount
 
 -- `out = word(ins)` with another word
-abbrev pub table_line : Name → Option Gate → List Name → Statement
+abbrev pub table_line : Name → Option GateRule → List Name → Statement
 table_line out word ins = elim word [
-  | Some gate ↦ if takes_inputs gate (length ins) then table out gate ins else wrong BadCount
+  | Some gate ↦ if takes gate (length ins) then table out gate ins else wrong BadCount
   | None ↦ wrong BadGate
 ]
 
@@ -64,11 +64,11 @@ is_odd_row row = count_by is_one_cell row % 2 == 1
 
 -- the most inputs that a gate may have
 abbrev pub most_inputs : Gate → ℕ
-most_inputs gate = (gate_rule gate).0
+most_inputs gate = (gate_rule gate).most
 
 -- the rows of a gate's table
 abbrev pub gate_rows : Gate → ℕ → List (List Lit)
-gate_rows gate = (gate_rule gate).1
+gate_rows gate = (gate_rule gate).rows
 
 -- ---- what one line brings
 
@@ -95,7 +95,7 @@ latch_net _ = []
 -- the table of a line, if it has one
 abbrev pub table_on_line : List Name → Statement → Option Table
 table_on_line nets (table out gate ins) =
-    Some (record { ins = map (net_id nets) ins; rows = gate_rows gate (length ins); on = gate_plane gate })
+    Some (record { ins = map (net_id nets) ins; rows = gate.rows (length ins); on = gate.on })
 table_on_line nets _ = None
 
 -- the latch of a line, if it has one
@@ -105,7 +105,7 @@ latch_on_line nets _ = None
 
 -- the cells of a line's table
 abbrev pub cells_at : Statement → ℕ
-cells_at (table out gate ins) = length (gate_rows gate (length ins)) * length ins
+cells_at (table out gate ins) = length (gate.rows (length ins)) * length ins
 cells_at _ = 0
 
 -- ---- what all lines bring

@@ -1,6 +1,7 @@
 // The gates of a netlist file, but for flip-flops.
 ghost use Rattle.std.specs.Prelude.{◌≡◌, codes};
-ghost use Rattle.bench_reader.specs.Gates.{gate_named, gate_plane, is_word, takes_inputs};
+ghost use Rattle.std.specs.Option.{option_map};
+ghost use Rattle.bench_reader.specs.Gates.{gate_named, gate_plane, gate_rule, is_word, takes_inputs};
 ghost use Rattle.bench_reader.specs.Steps.{most_inputs};
 
 /// What a gate does with its inputs.
@@ -34,7 +35,7 @@ pub fn names_word(capitals: &[u8], name: &[u8]) -> bool
 /// The gate of a word.
 #[tactic(auto, unfolding(crate::specs::Gates::gate_named))]
 pub fn gate_of(word: &[u8]) -> Option<Gate>
-    ensures { result ≡ gate_named word.now }
+    ensures { option_map gate_rule result ≡ gate_named word.now }
 {
     if names_word(b"AND", word) {
         return Some(Gate::And);

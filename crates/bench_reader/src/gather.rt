@@ -1,6 +1,6 @@
 // What is gathered of the lines of a file, one after the other.
 ghost use Rattle.std.specs.Prelude.{◌≡◌, ◌+◌, ◌-◌, ◌<◌, ◌≤◌, ◌^◌, Bool, true, length, is_none, IfOk, OnOk};
-ghost use Rattle.bench_reader.specs.Gates.{takes_inputs};
+ghost use Rattle.bench_reader.specs.Gates.{gate_rule, takes_inputs};
 ghost use Rattle.bench_reader.specs.Gather.{add_input, add_latch, add_output, add_said, add_table, driven_at, gate_table, is_full, no_lines, StatementFits};
 ghost use Rattle.bench_reader.specs.Marks.{ids_from, mention_all};
 ghost use Rattle.bench_reader.specs.Meant.{listed, meant};
@@ -110,7 +110,7 @@ fn put_latch<'a>(
 /// The table of a gate.
 fn table_of(alloc: Global, gate: Gate, ins: NetIds) -> Result<Table, AllocError>
     requires { takes_inputs gate (length ins) ≡ true }
-    ensures table { IfOk result (λ t. t ≡ gate_table gate ins) }
+    ensures table { IfOk result (λ t. t ≡ gate_table (gate_rule gate) ins) }
     ensures rows { IfOk result (λ t. length t.rows ≤ 256) }
     ensures ins { IfOk result (λ t. length t.ins ≤ 1024) }
 {
@@ -133,7 +133,7 @@ fn put_table<'a>(
     requires few { length gathered.old.nets.names ≤ 2 ^ 18 }
     requires small { gathered.old.cells ≤ 2 ^ 24 }
     requires fits { takes_inputs gate (length (listed (tokens_of ins.now))) ≡ true }
-    ensures { OnOk result (gathered.new ≡ add_table gathered.old line out.now gate (listed (tokens_of ins.now))) }
+    ensures { OnOk result (gathered.new ≡ add_table gathered.old line out.now (gate_rule gate) (listed (tokens_of ins.now))) }
 {
     let out = gathered.nets.mention(line, out)?;
     let ins = mention_names(alloc, &mut gathered.nets, line, ins)?;
