@@ -26,15 +26,16 @@ use Rattle.bench_reader.specs.declared.parts.Parts.{Parts}
 use Rattle.bench_reader.specs.Answer.{IsSmallNetlist, answer_of, circuit_from, circuit_unless, fault_in, gathered_of, gathered_unless}
 use Rattle.bench_reader.specs.Bench.{bench_of}
 use Rattle.bench_reader.specs.Gather.{gathered_from, is_full, no_lines, StatementFits}
-use Rattle.bench_reader.specs.LineFault.{Said, at_line, line_fault, said_lines}
+use Rattle.bench_reader.specs.LineFault.{Said, at_line, line_fault, numbered_lines}
 use Rattle.bench_reader.specs.Marks.{first_loose}
-use Rattle.bench_reader.specs.Net.{circuit_of, driven_of, drivers_of, inputs_of, nets_of}
+use Rattle.bench_reader.specs.Net.{driven_of, drivers_of, inputs_of, nets_of}
 use Rattle.bench_reader.specs.NetFault.{too_large, two_drivers, undriven}
-use Rattle.bench_reader.specs.Steps.{bad_bench, bench_unless, latch_nets_of, net_fault, outputs_of, table_nets_of}
+use Rattle.bench_reader.specs.Steps.{bad_bench, bench_unless, latch_nets_of, net_fault, numbered_circuit, table_nets_of}
 use Rattle.bench_reader.proofs.Gathering.{IsGathered, Outcome, full_large, lines_gathered, nets_gathered, outs_of, parts_of, second_at, too_large_is, visits_of}
 use Rattle.bench_reader.proofs.Loose.{loose_found, undriven_found}
 use Rattle.bench_reader.proofs.Rows.{lines_fit}
-use Rattle.bench_reader.proofs.Sound.{bench_told, lines_driven, netlist_sound}
+use Rattle.bench_reader.proofs.Numbered.{bench_told}
+use Rattle.bench_reader.proofs.Sound.{lines_driven, netlist_sound}
 use Rattle.fm_base.proofs.Options.{or_none}
 
 -- ---- faults
@@ -72,11 +73,10 @@ module _ (lines : List Said) (once : two_drivers lines ≡ None) (driven : undri
   drivers_made =
       drivers-put (nets_of lines) (inputs_of lines) (table_nets_of lines) (latch_nets_of lines) (lines_driven lines once driven)
 
-  circuit_made : circuit_from_parts (nets_of lines) (parts_of (nets_of lines) lines) ≡ circuit_of lines
-  unfolding circuit_of drivers_of inputs_of nets_of outputs_of
+  circuit_made : circuit_from_parts (nets_of lines) (parts_of (nets_of lines) lines) ≡ numbered_circuit lines
   circuit_made = ap (λ (ds : List Driver). made_circuit (nets_of lines) ds (parts_of (nets_of lines) lines)) drivers_made
 
-  circuit_is : (g : Gathered) → IsGathered lines g → g.second ≡ None → circuit_from g ≡ circuit_of lines
+  circuit_is : (g : Gathered) → IsGathered lines g → g.second ≡ None → circuit_from g ≡ numbered_circuit lines
   circuit_is g h none =
       let parts = h.parts none [] ∙ ap (λ (ns : List Name). parts_of ns lines) (append-nil g.nets.names ∙ nets_gathered lines g h) in
       ap (circuit_from_parts g.nets.names) parts ∙ ap (λ (ns : List Name). circuit_from_parts ns (parts_of (nets_of lines) lines)) (nets_gathered lines g h) ∙ circuit_made
@@ -144,7 +144,7 @@ module _ (lines : List Said) (g : Gathered) (outcome : Outcome lines g) (none : 
   pub ready : AllByRecursion (λ line. StatementFits line.says) lines → IsSmallNetlist g
   ready fit = ready_for lines once_none driven_none fit small_enough g is_gathered second_none
 
-  circuit_gathered : circuit_from g ≡ circuit_of lines
+  circuit_gathered : circuit_from g ≡ numbered_circuit lines
   circuit_gathered = circuit_is lines once_none driven_none g is_gathered second_none
 
 abbrev as_circuit : Circuit → Result Circuit BenchFault
@@ -176,19 +176,19 @@ split_gathered None lines g e = (refl, same e)
     same : gathered_unless None lines ≡ Ok g → gathered_from no_lines lines ≡ g
     same e = cc
 
-file_outcome : (bytes : Bytes) (g : Gathered) → gathered_of bytes ≡ Ok g → Outcome (said_lines bytes) g
+file_outcome : (bytes : Bytes) (g : Gathered) → gathered_of bytes ≡ Ok g → Outcome (numbered_lines bytes) g
 file_outcome bytes g e =
-    subst (Outcome (said_lines bytes)) (split_gathered (line_fault (said_lines bytes)) (said_lines bytes) g e).1 (lines_gathered (said_lines bytes))
+    subst (Outcome (numbered_lines bytes)) (split_gathered (line_fault (numbered_lines bytes)) (numbered_lines bytes) g e).1 (lines_gathered (numbered_lines bytes))
 
 -- what was gathered is ready where it has no fault
 pub file_ready : (bytes : Bytes) (g : Gathered) → gathered_of bytes ≡ Ok g → fault_in g ≡ None → IsSmallNetlist g
-file_ready bytes g e none = ready (said_lines bytes) g (file_outcome bytes g e) none (lines_fit bytes)
+file_ready bytes g e none = ready (numbered_lines bytes) g (file_outcome bytes g e) none (lines_fit bytes)
 
 -- its answer is that of the file
 pub file_answered : (bytes : Bytes) (g : Gathered) (r : Result Circuit (Refusal BenchFault)) → gathered_of bytes ≡ Ok g → Gives (answer_of g) r → Gives (bench_of bytes) r
 file_answered bytes g r e gives =
     gives_same (bench_of bytes) (answer_of g) r
-    (bench_told bytes ∙ sym (answer_is (said_lines bytes) g (file_outcome bytes g e) (split_gathered (line_fault (said_lines bytes)) (said_lines bytes) g e).0)) gives
+    (bench_told bytes ∙ sym (answer_is (numbered_lines bytes) g (file_outcome bytes g e) (split_gathered (line_fault (numbered_lines bytes)) (numbered_lines bytes) g e).0)) gives
 
 fault_only : (o : Option BenchFault) (lines : List Said) (fault : BenchFault) → gathered_unless o lines ≡ Err fault → o ≡ Some fault
 fault_only None lines fault e = cc
@@ -197,8 +197,8 @@ fault_only (Some found) lines fault e = let same : found ≡ fault = cc in ap (�
 refused_by : (bytes : Bytes) (why : Refusal BenchFault) → Gives (gathered_of bytes) (Err why) → Gives (bench_of bytes) (Err why)
 refused_by bytes Memory gives = tt
 refused_by bytes (Fault fault) gives =
-    let found = fault_only (line_fault (said_lines bytes)) (said_lines bytes) fault gives in
-    bench_told bytes ∙ ap (λ (o : Option BenchFault). bench_unless (option_or o (net_fault (said_lines bytes))) (said_lines bytes)) found
+    let found = fault_only (line_fault (numbered_lines bytes)) (numbered_lines bytes) fault gives in
+    bench_told bytes ∙ ap (λ (o : Option BenchFault). bench_unless (option_or o (net_fault (numbered_lines bytes))) (numbered_lines bytes)) found
 
 -- a fault of a line is that of the file
 pub file_refused : (bytes : Bytes) (why : Refusal BenchFault) (r : Result Circuit (Refusal BenchFault)) → Gives (gathered_of bytes) (Err why) → r ≡ Err why → Gives (bench_of bytes) r

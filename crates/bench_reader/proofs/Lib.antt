@@ -1,5 +1,6 @@
 pub mod Rows
 pub mod Drives
+pub mod Numbered
 pub mod Sound
 pub mod Marked
 pub mod Tokenizing

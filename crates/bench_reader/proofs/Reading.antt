@@ -9,7 +9,7 @@ use Rattle.blif_text.specs.Lines.{is_feed}
 use Rattle.fm_base.specs.Firsts.{first_where}
 use Rattle.fm_base.proofs.OnePass.{first_where-here, first_where-later}
 use Rattle.bench_reader.specs.declared.BenchFault.{BenchFault}
-use Rattle.bench_reader.specs.LineFault.{Said, at_line, line_fault, said, said_lines}
+use Rattle.bench_reader.specs.LineFault.{Said, at_line, line_fault, said, numbered_lines}
 use Rattle.fm_base.specs.Answers.{Gives}
 use Rattle.fm_base.specs.declared.refusal.Refusal.{Refusal}
 use Rattle.fm_base.specs.declared.refusal.Refusal.TheVariants.{Fault, Memory}
@@ -26,8 +26,8 @@ said_from number text = map said (enumerate_from number (slice_split is_feed tex
 abbrev pub said_at : ℕ → List ℕ → Said
 said_at number text = said (number, text)
 
-pub said_all : (bytes : List ℕ) → said_from 1 bytes ≡ said_lines bytes
-unfolding said_lines
+pub said_all : (bytes : List ℕ) → said_from 1 bytes ≡ numbered_lines bytes
+unfolding numbered_lines
 said_all bytes = refl
 
 abbrev numbered : ℕ → List (List ℕ) → List Said
@@ -77,15 +77,15 @@ said_first number text n e h = by_cases (cases_lt n (length text) h)
 
 -- a line that is refused refuses the file
 refused_by : (before now : Gathered) (number : ℕ) (rest bytes : List ℕ) (n : ℕ) (why : Refusal BenchFault) → n ≡ position_or_len is_feed rest → n ≤ length rest
-    → line_fault (said_from number rest) ≡ line_fault (said_lines bytes) → LineGives before now number (take n rest) (Err why) → Gives (gathered_of bytes) (Err why)
+    → line_fault (said_from number rest) ≡ line_fault (numbered_lines bytes) → LineGives before now number (take n rest) (Err why) → Gives (gathered_of bytes) (Err why)
 refused_by before now number rest bytes n Memory e h told gives = tt
 refused_by before now number rest bytes n (Fault fault) e h told gives =
     let first = said_first number rest n e h in
-    let found : line_fault (said_lines bytes) ≡ Some fault = sym told ∙ ap line_fault first.1 ∙ fault_here (said_at number (take n rest)) first.0 fault gives in
-    ap (λ (o : Option BenchFault). gathered_unless o (said_lines bytes)) found
+    let found : line_fault (numbered_lines bytes) ≡ Some fault = sym told ∙ ap line_fault first.1 ∙ fault_here (said_at number (take n rest)) first.0 fault gives in
+    ap (λ (o : Option BenchFault). gathered_unless o (numbered_lines bytes)) found
 
 pub refused_here : (before now : Gathered) (number : ℕ) (rest bytes : List ℕ) (n : ℕ) (why : Refusal BenchFault) (r : Result Gathered (Refusal BenchFault))
-    → n ≡ position_or_len is_feed rest → n ≤ length rest → line_fault (said_from number rest) ≡ line_fault (said_lines bytes)
+    → n ≡ position_or_len is_feed rest → n ≤ length rest → line_fault (said_from number rest) ≡ line_fault (numbered_lines bytes)
     → LineGives before now number (take n rest) (Err why) → r ≡ Err why → Gives (gathered_of bytes) r
 refused_here before now number rest bytes n why r e h told gives is =
     subst (λ (x : Result Gathered (Refusal BenchFault)). Gives (gathered_of bytes) x) (sym is) (refused_by before now number rest bytes n why e h told gives)
@@ -95,19 +95,19 @@ as_ok g = Ok g
 
 -- the last line
 pub gathered_all : (before now : Gathered) (number : ℕ) (rest bytes : List ℕ) (n : ℕ) → n ≡ position_or_len is_feed rest → n ≡ length rest
-    → line_fault (said_from number rest) ≡ line_fault (said_lines bytes) → gathered_from before (said_from number rest) ≡ gathered_from no_lines (said_lines bytes)
+    → line_fault (said_from number rest) ≡ line_fault (numbered_lines bytes) → gathered_from before (said_from number rest) ≡ gathered_from no_lines (numbered_lines bytes)
     → (kind_of (said_at number (take n rest)) ≡ None) × (now ≡ add_said before (said_at number (take n rest))) → gathered_of bytes ≡ Ok now
 gathered_all before now number rest bytes n e h fault told gives =
     let last = said_whole number rest n e h in
-    let free : line_fault (said_lines bytes) ≡ None = sym fault ∙ ap line_fault last ∙ fault_later (said_at number (take n rest)) [] gives.0 ∙ fault_nowhere in
-    let all : gathered_from no_lines (said_lines bytes) ≡ now = sym told ∙ ap (gathered_from before) last ∙ sym gives.1 in
-    ap (λ (o : Option BenchFault). gathered_unless o (said_lines bytes)) free ∙ ap as_ok all
+    let free : line_fault (numbered_lines bytes) ≡ None = sym fault ∙ ap line_fault last ∙ fault_later (said_at number (take n rest)) [] gives.0 ∙ fault_nowhere in
+    let all : gathered_from no_lines (numbered_lines bytes) ≡ now = sym told ∙ ap (gathered_from before) last ∙ sym gives.1 in
+    ap (λ (o : Option BenchFault). gathered_unless o (numbered_lines bytes)) free ∙ ap as_ok all
 
 -- one line of several
 pub line_passed : (before now : Gathered) (number : ℕ) (rest next bytes : List ℕ) (n : ℕ) → n ≡ position_or_len is_feed rest → n < length rest → next ≡ drop (n + 1) rest
-    → line_fault (said_from number rest) ≡ line_fault (said_lines bytes) → gathered_from before (said_from number rest) ≡ gathered_from no_lines (said_lines bytes)
+    → line_fault (said_from number rest) ≡ line_fault (numbered_lines bytes) → gathered_from before (said_from number rest) ≡ gathered_from no_lines (numbered_lines bytes)
     → (kind_of (said_at number (take n rest)) ≡ None) × (now ≡ add_said before (said_at number (take n rest)))
-    → (line_fault (said_from (number + 1) next) ≡ line_fault (said_lines bytes)) × (gathered_from now (said_from (number + 1) next) ≡ gathered_from no_lines (said_lines bytes))
+    → (line_fault (said_from (number + 1) next) ≡ line_fault (numbered_lines bytes)) × (gathered_from now (said_from (number + 1) next) ≡ gathered_from no_lines (numbered_lines bytes))
 line_passed before now number rest next bytes n e h is fault told gives =
     let cut = said_cut number rest next n e h is in (
       sym (ap line_fault cut ∙ fault_later (said_at number (take n rest)) (said_from (number + 1) next) gives.0) ∙ fault,

@@ -13,7 +13,7 @@ use Rattle.bench_reader.specs.declared.gate.Gate.{Gate}
 use Rattle.bench_reader.specs.declared.gate.Gate.TheVariants.{And, Nand, Or, Nor, Xor, Xnor, Not, Buffer}
 use Rattle.bench_reader.specs.Gates.{GateRule, even_rows, gate_named, gate_rule, is_word, parity_rows, takes}
 use Rattle.bench_reader.specs.Gather.{StatementFits}
-use Rattle.bench_reader.specs.LineFault.{said, said_lines}
+use Rattle.bench_reader.specs.LineFault.{said, numbered_lines}
 use Rattle.bench_reader.specs.Statement.{input, output, table, wrong, statement_of}
 use Rattle.bench_reader.specs.Tokens.{Token, opening, closing, equals, name, tokens_of}
 use Rattle.bench_reader.specs.Steps.{driver_line, latch_line, names_in, port_line, table_line}
@@ -118,6 +118,6 @@ pub said_fit : (pieces : List (ℕ × Bytes)) → AllByRecursion (λ line. State
 said_fit [] = tt
 said_fit (piece ∷ pieces) = (statement_fits (tokens_of (before_first is_hash piece.1)), said_fit pieces)
 
-pub lines_fit : (bytes : Bytes) → AllByRecursion (λ line. StatementFits line.says) (said_lines bytes)
-unfolding said_lines
+pub lines_fit : (bytes : Bytes) → AllByRecursion (λ line. StatementFits line.says) (numbered_lines bytes)
+unfolding numbered_lines
 lines_fit bytes = said_fit (enumerate_from 1 (slice_split is_feed bytes))

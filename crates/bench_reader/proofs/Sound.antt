@@ -1,10 +1,8 @@
 -- The netlist of a `.bench` file is one: each net has one driver and is the net of it, and all numbers are in range.
-use Rattle.std.proofs.Common.{◌≡◌, ℕ, ◌+◌, ◌*◌, ◌≤◌, ◌^◌, true, ◌||◌, List, [], ◌∷◌, refl, ap, sym, ◌∙◌, subst, length, arith}
+use Rattle.std.proofs.Common.{◌≡◌, ◌≤◌, ◌^◌, true, ◌||◌, List, [], ◌∷◌, refl, sym, ◌∙◌, subst, length, arith}
 use Rattle.std.specs.Prelude.{map, flat_map, filter_map, Option, Some, None, Ok, sum_by, nat_lt}
 use Rattle.std.specs.List.{AllByRecursion, cons_option, list_all}
-use Rattle.std.specs.Option.{option_or}
-use Rattle.std.proofs.lemmas.List.{length-map}
-use Rattle.std.proofs.lemmas.List.Sums.{sum_by-cons}
+use Rattle.bench_reader.proofs.Numbered.{bench_told}
 use Rattle.std.proofs.lemmas.Bool.{ltb-false}
 use Rattle.circuit.specs.declared.parts.Latch.{Latch}
 use Rattle.circuit.specs.declared.parts.Table.{Table}
@@ -21,13 +19,11 @@ use Rattle.net_names.proofs.Driven.{drives-of-lines}
 use Rattle.net_names.proofs.Once.{driven-once}
 use Rattle.net_names.proofs.Sound.{is-net, is-table, netlist-of-names, size-of-drivers}
 use Rattle.bench_reader.specs.declared.BenchFault.{BenchFault}
-use Rattle.bench_reader.specs.declared.BenchKind.TheVariants.{TooLarge}
-use Rattle.fm_base.specs.Firsts.{given}
 use Rattle.bench_reader.specs.Bench.{bench_of}
-use Rattle.bench_reader.specs.LineFault.{Said, at_line, line_fault, said_lines}
-use Rattle.bench_reader.specs.Net.{circuit_of, driven_at, driven_of, drivers_of, inputs_of, nets_at, nets_of}
+use Rattle.bench_reader.specs.LineFault.{Said, line_fault, numbered_lines}
+use Rattle.bench_reader.specs.Net.{driven_at, driven_of, drivers_of, inputs_of, nets_at, nets_of}
 use Rattle.bench_reader.specs.NetFault.{too_large, two_drivers, undriven}
-use Rattle.bench_reader.specs.Steps.{bad_bench, bench_unless, cells_at, input_at, latch_net, latch_nets_of, latch_on_line, output_at, outputs_of, table_net, table_nets_of, table_on_line as line_table}
+use Rattle.bench_reader.specs.Steps.{bad_bench, bench_unless, cells_at, input_at, latch_net, latch_nets_of, latch_on_line, numbered_circuit, output_at, outputs_of, table_net, table_nets_of, table_on_line as line_table}
 use Rattle.bench_reader.specs.Statement.{Statement, input, table, latch}
 use Rattle.bench_reader.proofs.Drives.{driven_net, driven_once, names_nets, net_driven, output_net}
 use Rattle.bench_reader.specs.Gather.{StatementFits}
@@ -113,7 +109,7 @@ module _ (lines : List Said) (once : two_drivers lines ≡ None) (driven : undri
       (λ name e. net_driven lines driven name e) (λ name e. driven_net lines name e)
 
   abbrev made : Circuit
-  made = circuit_of lines
+  made = numbered_circuit lines
 
   abbrev tables : List Table
   tables = filter_map (λ (line : Said). line_table nets line.says) lines
@@ -123,7 +119,7 @@ module _ (lines : List Said) (once : two_drivers lines ≡ None) (driven : undri
 
   -- the netlist of lines
   pub netlist_sound : AllByRecursion (λ line. StatementFits line.says) lines → length (nets_of lines) ≤ 2 ^ 18 → IsNetlist made
-  unfolding circuit_of drivers_of inputs_of nets_of outputs_of table_nets_of latch_nets_of
+  unfolding drivers_of inputs_of outputs_of table_nets_of latch_nets_of
   netlist_sound fit small =
       let size : length made.drivers ≡ length nets = size-of-drivers nets ins tabs lats (outputs_of lines) tables latches lines_driven (beside nets lines) in
       netlist-of-names nets ins tabs lats (outputs_of lines) tables latches lines_driven (beside nets lines) small
@@ -146,39 +142,13 @@ unfaulted lines e =
     let five = none_both (undriven lines) None four.1 in
     (three.0, four.0, five.0)
 
--- the cells of a netlist's tables are those of its lines
-cells_same : (nets : List Name) (lines : List Said)
-    → sum_by (λ (t : Table). length t.rows * length t.ins) (filter_map (λ (line : Said). line_table nets line.says) lines) ≡ sum_by (λ (line : Said). cells_at line.says) lines
-cells_same nets [] = refl
-cells_same nets (line ∷ lines) =
-    at line.says (filter_map (λ (l : Said). line_table nets l.says) lines) (cells_same nets lines) ∙ sym (sum_by-cons (λ (l : Said). cells_at l.says) line lines)
-  where
-    zero_first : (n : ℕ) → n ≡ 0 + n
-    zero_first n = omega arith
-
-    at : (says : Statement) (tables : List Table) → sum_by (λ (t : Table). length t.rows * length t.ins) tables ≡ sum_by (λ (l : Said). cells_at l.says) lines
-        → sum_by (λ (t : Table). length t.rows * length t.ins) (cons_option (line_table nets says) tables) ≡ cells_at says + sum_by (λ (l : Said). cells_at l.says) lines
-    at (table out gate ins) tables e =
-        sum_by-cons (λ (t : Table). length t.rows * length t.ins) (record { ins = map (net_id nets) ins; rows = gate.rows (length ins); on = gate.on }) tables
-        ∙ ap (λ n. length (gate.rows (length ins)) * n + sum_by (λ (t : Table). length t.rows * length t.ins) tables) (length-map ins (net_id nets))
-        ∙ ap (λ n. length (gate.rows (length ins)) * length ins + n) e
-    at says tables e = e ∙ zero_first (sum_by (λ (l : Said). cells_at l.says) lines)
-
--- the netlist of a file or its first fault, step by step
-pub bench_told : (bytes : Bytes) → bench_of bytes ≡ bench_unless (bad_bench (said_lines bytes)) (said_lines bytes)
-unfolding bench_of circuit_of line_fault too_large two_drivers undriven nets_of driven_of
-bench_told bytes =
-    let lines = said_lines bytes in
-    ap (λ cells. bench_unless (option_or (line_fault lines) (option_or (given (nat_lt (2 ^ 18) (length (nets_of lines)) || nat_lt (2 ^ 24) cells) (at_line 1 TooLarge)) (option_or (two_drivers lines) (option_or (undriven lines) None)))) lines)
-    (cells_same (nets_of lines) lines)
-
 -- A NETLIST THAT A FILE GIVES is one
 pub bench_is : (bytes : Bytes) (c : Circuit) → bench_of bytes ≡ Ok c → IsNetlist c
-bench_is bytes c e = by_cases (bad_bench (said_lines bytes)) refl (sym (bench_told bytes) ∙ e)
+bench_is bytes c e = by_cases (bad_bench (numbered_lines bytes)) refl (sym (bench_told bytes) ∙ e)
   where
-    by_cases : (o : Option BenchFault) → bad_bench (said_lines bytes) ≡ o → bench_unless o (said_lines bytes) ≡ Ok c → IsNetlist c
+    by_cases : (o : Option BenchFault) → bad_bench (numbered_lines bytes) ≡ o → bench_unless o (numbered_lines bytes) ≡ Ok c → IsNetlist c
     by_cases None none e =
-        let free = unfaulted (said_lines bytes) none in
-        subst IsNetlist (same_answer (circuit_of (said_lines bytes)) c _ refl e)
-        (netlist_sound (said_lines bytes) free.1 free.2 (lines_fit bytes) (few_nets (said_lines bytes) free.0))
+        let free = unfaulted (numbered_lines bytes) none in
+        subst IsNetlist (same_answer (numbered_circuit (numbered_lines bytes)) c _ refl e)
+        (netlist_sound (numbered_lines bytes) free.1 free.2 (lines_fit bytes) (few_nets (numbered_lines bytes) free.0))
     by_cases (Some fault) some e = cc

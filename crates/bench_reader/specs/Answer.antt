@@ -11,7 +11,7 @@ use Rattle.bench_reader.specs.declared.BenchFault.{BenchFault}
 use Rattle.bench_reader.specs.declared.BenchKind.TheVariants.{TooLarge, TwoDrivers}
 use Rattle.bench_reader.specs.declared.gather.Gathered.{Gathered}
 use Rattle.bench_reader.specs.Gather.{add_said, gathered_from, is_full, no_lines}
-use Rattle.bench_reader.specs.LineFault.{Said, at_line, line_fault, said, said_lines}
+use Rattle.bench_reader.specs.LineFault.{Said, at_line, line_fault, said, numbered_lines}
 use Rattle.bench_reader.specs.Marks.{first_loose}
 use Rattle.bench_reader.specs.Steps.{fault_of, kind_of}
 
@@ -53,7 +53,7 @@ gathered_unless (Some fault) lines = Err fault
 gathered_unless None lines = Ok (gathered_from no_lines lines)
 
 abbrev pub gathered_of : Bytes → Result Gathered BenchFault
-gathered_of bytes = gathered_unless (line_fault (said_lines bytes)) (said_lines bytes)
+gathered_of bytes = gathered_unless (line_fault (numbered_lines bytes)) (numbered_lines bytes)
 
 -- what a line brings, or its fault; want of memory is free
 abbrev pub LineGives : Gathered → Gathered → ℕ → Bytes → Result (Unit {0}) (Refusal BenchFault) → Type 0

@@ -1,5 +1,5 @@
 -- Shapes of private steps: what the code and its proofs name of the definitions beside. Nothing public cites them.
-use Rattle.std.specs.Prelude.{ℕ, ◌*◌, false, Bool, List, [], ◌∷◌, count_by, ◌%◌, ◌==◌, flat_map, length, map, Option, Some, None, if◌then◌else◌, codes, Result, Ok, Err}
+use Rattle.std.specs.Prelude.{ℕ, ◌*◌, false, Bool, List, [], ◌∷◌, count_by, ◌%◌, ◌==◌, filter_map, flat_map, length, map, Option, Some, None, if◌then◌else◌, codes, Result, Ok, Err}
 use Rattle.std.specs.Option.{option_map, option_or}
 use Rattle.circuit.specs.declared.parts.Latch.{Latch}
 use Rattle.circuit.specs.declared.parts.Lit.{Lit}
@@ -7,14 +7,14 @@ use Rattle.circuit.specs.declared.parts.Table.{Table}
 use Rattle.circuit.specs.Circuit.{Circuit}
 use Rattle.fm_base.specs.Firsts.{first_answer, given}
 use Rattle.fm_base.specs.Names.{Name, distinct}
-use Rattle.net_names.specs.Nets.{net_id}
+use Rattle.net_names.specs.Nets.{driver_of, net_id}
 use Rattle.bench_reader.specs.declared.BenchFault.{BenchFault}
 use Rattle.bench_reader.specs.declared.BenchKind.{BenchKind}
 use Rattle.bench_reader.specs.declared.BenchKind.TheVariants.{BadLine, BadGate, BadCount, TooWide}
 use Rattle.bench_reader.specs.declared.gate.Gate.{Gate}
 use Rattle.bench_reader.specs.Gates.{GateRule, gate_named, gate_rule, is_one_cell, is_word, takes}
 use Rattle.bench_reader.specs.LineFault.{Said, at_line, line_fault}
-use Rattle.bench_reader.specs.Net.{circuit_of}
+use Rattle.bench_reader.specs.Net.{drivers_of, inputs_of, nets_of}
 use Rattle.bench_reader.specs.NetFault.{too_large, two_drivers, undriven}
 use Rattle.bench_reader.specs.Statement.{Statement, input, output, table, latch, wrong, more_names}
 use Rattle.bench_reader.specs.Tokens.{Token, closing, comma}
@@ -122,6 +122,17 @@ table_nets_of lines = flat_map (λ line. table_net line.says) lines
 unfoldable pub latch_nets_of : List Said → List Name
 latch_nets_of lines = flat_map (λ line. latch_net line.says) lines
 
+-- the netlist of lines
+abbrev pub numbered_circuit : List Said → Circuit
+numbered_circuit lines = record {
+  names = nets_of lines;
+  drivers = map (driver_of (drivers_of lines)) (nets_of lines);
+  tables = filter_map (λ line. table_on_line (nets_of lines) line.says) lines;
+  latches = filter_map (λ line. latch_on_line (nets_of lines) line.says) lines;
+  inputs = map (net_id (nets_of lines)) (inputs_of lines);
+  outputs = map (net_id (nets_of lines)) (outputs_of lines);
+}
+
 -- the first fault of all lines together
 abbrev pub net_fault : List Said → Option BenchFault
 net_fault lines = first_answer (too_large lines ∷ two_drivers lines ∷ undriven lines ∷ [])
@@ -132,4 +143,4 @@ bad_bench lines = option_or (line_fault lines) (net_fault lines)
 
 -- the netlist of lines, unless there is a fault
 abbrev pub bench_unless : Option BenchFault → List Said → Result Circuit BenchFault
-bench_unless fault lines = elim fault [ Some fault ↦ Err fault | None ↦ Ok (circuit_of lines) ]
+bench_unless fault lines = elim fault [ Some fault ↦ Err fault | None ↦ Ok (numbered_circuit lines) ]

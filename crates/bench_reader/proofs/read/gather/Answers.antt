@@ -2,7 +2,7 @@ use Rattle.std.proofs.Common.{ap, ◌∙◌, arith}
 use Rattle.std.specs.Prelude.{Err}
 use Rattle.std.proofs.lemmas.Result.{err_from_is_err_and}
 use Rattle.bench_reader.specs.Gather.{gathered_from}
-use Rattle.bench_reader.specs.LineFault.{line_fault, said_lines}
+use Rattle.bench_reader.specs.LineFault.{line_fault, numbered_lines}
 use Rattle.bench_reader.specs.declared.gather.Gathered.{Gathered}
 use Rattle.bench_reader.proofs.Reading.{said_all, refused_here, gathered_all, line_passed}
 use Rattle.bench_reader.proofs.read.gather.Goals as goal
@@ -11,7 +11,7 @@ pub lines-init : goal.lines-init
 lines-init c = record {
   counted = omega arith;
   fault = ap line_fault (said_all c.args.bytes.now);
-  told = ap (gathered_from c.new-gathered.result) (said_all c.args.bytes.now) ∙ ap (λ (g : Gathered). gathered_from g (said_lines c.args.bytes.now)) c.new-gathered.ensures;
+  told = ap (gathered_from c.new-gathered.result) (said_all c.args.bytes.now) ∙ ap (λ (g : Gathered). gathered_from g (numbered_lines c.args.bytes.now)) c.new-gathered.ensures;
 }
 
 pub returns-in_err-take_line : goal.returns-in_err-take_line
