@@ -30,11 +30,16 @@ no_mark (Some m) e = cc
 abbrev others : List ℕ → List Token → List Token
 others more tokens = elim more [ [] ↦ tokens | _ ↦ drop 1 tokens ]
 
+no_white_no_mark : (white : Bool) (mark : Option Token) (tokens named : List Token) → white ≡ false → mark ≡ None
+    → cond white tokens (option_map_or (λ m. m ∷ tokens) mark named) ≡ named
+no_white_no_mark white mark tokens named e f = rw (e, f) refl
+
 name_byte_first : (b : ℕ) (text : List ℕ) → ends_name b ≡ false → tokens_of (b ∷ text) ≡ name (b ∷ before_first ends_name text) ∷ others (before_first ends_name text) (tokens_of text)
 unfolding tokens_of
 name_byte_first b text e =
     let parts = or_false (is_white b) (is_some (mark_of b)) e in
-    rw (parts.0, no_mark (mark_of b) parts.1) refl
+    no_white_no_mark (is_white b) (mark_of b) (tokens_of text) (name (b ∷ before_first ends_name text) ∷ others (before_first ends_name text) (tokens_of text)) parts.0
+    (no_mark (mark_of b) parts.1)
 
 no_name_place : (text : List ℕ) → begins_name text ≡ false → position_or_len ends_name text ≡ 0
 no_name_place [] e = refl
