@@ -2,8 +2,8 @@
 ghost use Rattle.std.specs.Prelude.{◌≡◌, ◌<◌, ◌≤◌, ◌+◌, ◌++◌, ◌∷◌, [], codes, OnOk, IfOk};
 ghost use Rattle.std.specs.List.{flat_map};
 ghost use Rattle.fm_base.specs.Lists.{below};
-ghost use Rattle.sample_gen.specs.Sample.{netlist_text as netlist_of, stage_lines};
-ghost use Rattle.sample_gen.specs.Steps.{both_stages, with_number as number_behind, source_of as source_by};
+ghost use Rattle.sample_gen.specs.Sample.{netlist_text as netlist_of};
+ghost use Rattle.sample_gen.specs.Steps.{both_stages, stage_lines, with_number as number_behind, source_of as source_by};
 
 use crate::lines::put_line;
 use fm_base::{Bytes, Line, Seq};
