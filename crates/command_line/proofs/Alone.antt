@@ -10,8 +10,8 @@ use Rattle.metric_sums.specs.declared.Asil.{Asil}
 use Rattle.metric_sums.specs.declared.Asil.TheVariants.{B, C, D}
 use Rattle.fmeda_report.specs.Words.{asil_word}
 use Rattle.command_line.specs.Commands.{Command, Classes, Check, Run, Resume, Audit, Gen, Report, Inputs, Shard, Merge, Pairs, Parts, Faults, Progress}
-use Rattle.command_line.specs.Words.{entry, HasAsil, HasCampaign, HasInputs, HasPlan, HasSettings, HasWorkers, IsCommand, SaidBy}
-use Rattle.command_line.specs.WordsSteps.{IsMet, IsNumber, command_word}
+use Rattle.command_line.specs.Words.{entry, HasInputs, HasNumber, HasPlan, HasSettings, IsCommand}
+use Rattle.command_line.specs.WordsSteps.{HasCampaign, IsMet, IsNumber, SaidBy, command_word}
 use Rattle.command_line.specs.Table.{fmeda_app}
 use Rattle.command_line.proofs.CycleLists.{same_cycles}
 use Rattle.std.proofs.lemmas.Option.{same_Some}
@@ -24,10 +24,10 @@ apart a b e same = clash (bytes_eq a b) (ap (bytes_eq a) (sym same) ∙ is_same 
 
 pub same_inputs : (rows : List Row) (a b : Inputs) → HasInputs rows a → HasInputs rows b → a ≡ b
 same_inputs rows a b p q = λ i. record {
-  netlist = (p.netlist ∙ sym q.netlist) i;
-  workload = (p.workload ∙ sym q.workload) i;
-  rates = (p.rates ∙ sym q.rates) i;
-  points = (p.points ∙ sym q.points) i;
+  netlist = (p.0 ∙ sym q.0) i;
+  workload = (p.1 ∙ sym q.1) i;
+  rates = (p.2 ∙ sym q.2) i;
+  points = (p.3 ∙ sym q.3) i;
 }
 
 -- a level has a word of its own
@@ -43,27 +43,18 @@ same_number rows id a b p q =
     let text : p.0 ≡ q.0 = same_Some p.0 q.0 (sym p.1 ∙ q.1) in
     p.2.1 ∙ ap (λ t. digits_value 10 (without_leading_plus t)) text ∙ sym q.2.1
 
-same_settings : (rows : List Row) (Fits : Asil → Type 0) → ((a b : Asil) → Fits a → Fits b → a ≡ b) → (a b : Settings) → HasSettings rows Fits a → HasSettings rows Fits b → a ≡ b
-same_settings rows Fits asil a b p q =
-    let ftti : a.ftti ≡ b.ftti = same_number rows (codes "ftti") a.ftti b.ftti p.ftti.number q.ftti.number in
-    let flips : a.flips ≡ b.flips = same_cycles 16 (entry rows (codes "flips")) a.flips b.flips p.lists.flips q.lists.flips in
-    let pulses : a.pulses ≡ b.pulses = same_cycles 4 (entry rows (codes "pulses")) a.pulses b.pulses p.lists.pulses q.lists.pulses in
-    let level : a.asil ≡ b.asil = asil a.asil b.asil p.asil q.asil in
-    λ i. record { ftti = ftti i; flips = flips i; pulses = pulses i; asil = level i }
+same_settings : (rows : List Row) (level : Text) (a b : Settings) → HasSettings rows level a → HasSettings rows level b → a ≡ b
+same_settings rows level a b p q =
+    let ftti : a.ftti ≡ b.ftti = same_number rows (codes "ftti") a.ftti b.ftti p.0.number q.0.number in
+    let flips : a.flips ≡ b.flips = same_cycles 16 (entry rows (codes "flips")) a.flips b.flips p.1.0 q.1.0 in
+    let pulses : a.pulses ≡ b.pulses = same_cycles 4 (entry rows (codes "pulses")) a.pulses b.pulses p.1.1 q.1.1 in
+    let asil : a.asil ≡ b.asil = same_asil a.asil b.asil (sym p.2 ∙ q.2) in
+    λ i. record { ftti = ftti i; flips = flips i; pulses = pulses i; asil = asil i }
 
-same_workers : (rows : List Row) (a b : ℕ) → HasWorkers rows a → HasWorkers rows b → a ≡ b
+same_workers : (rows : List Row) (a b : ℕ) → HasNumber rows (codes "workers") 1 32 a → HasNumber rows (codes "workers") 1 32 b → a ≡ b
 same_workers rows a b p q = same_number rows (codes "workers") a b p.number q.number
 
 -- ---- the whole
-
-same_campaign : (rows : List Row) (make : Inputs → Text → Settings → ℕ → Command) (i j : Inputs) (r s : Text) (a b : Settings) (n m : ℕ) → HasCampaign rows i r a n → HasCampaign rows j s b m
-    → make i r a n ≡ make j s b m
-same_campaign rows make i j r s a b n m p q =
-    let inputs : i ≡ j = same_inputs rows i j p.0 q.0 in
-    let name : r ≡ s = p.1.name ∙ sym q.1.name in
-    let set : a ≡ b = same_settings rows (HasAsil rows) (λ x y told said. same_asil x y (sym told ∙ said)) a b p.2 q.2 in
-    let workers : n ≡ m = same_workers rows n m p.3 q.3 in
-    λ t. make (inputs t) (name t) (set t) (workers t)
 
 -- three parts that are the same
 pub record SamePlan (i j : Inputs) (r s : Text) (a b : Settings) : Type 0 where
@@ -71,47 +62,45 @@ pub record SamePlan (i j : Inputs) (r s : Text) (a b : Settings) : Type 0 where
   pub name : r ≡ s
   pub set : a ≡ b
 
-module _ (rows : List Row) (Fits : Asil → Type 0) (asil : (a b : Asil) → Fits a → Fits b → a ≡ b) where
-  same_parts : (i j : Inputs) (r s : Text) (a b : Settings) → HasPlan rows Fits i r a → HasPlan rows Fits j s b → SamePlan i j r s a b
-  same_parts i j r s a b p q = record {
-    inputs = same_inputs rows i j p.0 q.0;
-    name = p.1.name ∙ sym q.1.name;
-    set = same_settings rows Fits asil a b p.2 q.2;
-  }
+same_plan : (rows : List Row) (level : Text) (i j : Inputs) (r s : Text) (a b : Settings) → HasPlan rows level i r a → HasPlan rows level j s b → SamePlan i j r s a b
+same_plan rows level i j r s a b p q = record {
+  inputs = same_inputs rows i j p.0 q.0;
+  name = p.2 ∙ sym q.2;
+  set = same_settings rows level a b p.1 q.1;
+}
 
--- where no word tells the ASIL
-same_plan : (rows : List Row) (i j : Inputs) (r s : Text) (a b : Settings) → HasPlan rows (λ asil. asil ≡ D) i r a → HasPlan rows (λ asil. asil ≡ D) j s b → SamePlan i j r s a b
-same_plan rows = same_parts rows (λ asil. asil ≡ D) (λ x y left right. left ∙ sym right)
-
--- where one does
-same_leveled : (rows : List Row) (i j : Inputs) (r s : Text) (a b : Settings) → HasPlan rows (HasAsil rows) i r a → HasPlan rows (HasAsil rows) j s b → SamePlan i j r s a b
-same_leveled rows = same_parts rows (HasAsil rows) (λ x y told said. same_asil x y (sym told ∙ said))
+same_campaign : (rows : List Row) (make : Inputs → Text → Settings → ℕ → Command) (i j : Inputs) (r s : Text) (a b : Settings) (n m : ℕ) → HasCampaign rows i r a n → HasCampaign rows j s b m
+    → make i r a n ≡ make j s b m
+same_campaign rows make i j r s a b n m p q =
+    let same = same_plan rows (entry rows (codes "asil")) i j r s a b p.0 q.0 in
+    let workers : n ≡ m = same_workers rows n m p.1 q.1 in
+    λ t. make (same.inputs t) (same.name t) (same.set t) (workers t)
 
 -- one command of a word is said
-same_said : (rows : List Row) (a b : Command) → command_word a ≡ command_word b → SaidBy rows a → SaidBy rows b → a ≡ b
+same_said : (rows : List Row) (a b : Command) → command_word rows a ≡ command_word rows b → SaidBy rows a → SaidBy rows b → a ≡ b
 same_said rows (Classes netlist workload) (Classes other work) e p q = λ t. Classes ((p.0 ∙ sym q.0) t) ((p.1 ∙ sym q.1) t)
 same_said rows (Check i flips pulses) (Check j others more) e p q =
     let inputs : i ≡ j = same_inputs rows i j p.0 q.0 in
-    let flip_cycles : flips ≡ others = same_cycles 16 (entry rows (codes "flips")) flips others p.1.flips q.1.flips in
-    let pulse_cycles : pulses ≡ more = same_cycles 4 (entry rows (codes "pulses")) pulses more p.1.pulses q.1.pulses in
+    let flip_cycles : flips ≡ others = same_cycles 16 (entry rows (codes "flips")) flips others p.1.0 q.1.0 in
+    let pulse_cycles : pulses ≡ more = same_cycles 4 (entry rows (codes "pulses")) pulses more p.1.1 q.1.1 in
     λ t. Check (inputs t) (flip_cycles t) (pulse_cycles t)
 same_said rows (Run i r a n) (Run j s b m) e p q = same_campaign rows Run i j r s a b n m p q
 same_said rows (Resume i r a n) (Resume j s b m) e p q = same_campaign rows Resume i j r s a b n m p q
 same_said rows (Audit i r a) (Audit j s b) e p q =
-    let same = same_plan rows i j r s a b p q in
+    let same = same_plan rows (codes "D") i j r s a b p q in
     λ t. Audit (same.inputs t) (same.name t) (same.set t)
 same_said rows (Shard i r a k m) (Shard j s b l n) e p q =
-    let same = same_plan rows i j r s a b p.0 q.0 in
-    let part : k ≡ l = same_number rows (codes "part") k l p.1.number.number q.1.number.number in
-    let parts : m ≡ n = same_number rows (codes "of") m n p.1.many.number q.1.many.number in
+    let same = same_plan rows (codes "D") i j r s a b p.0 q.0 in
+    let part : k ≡ l = same_number rows (codes "part") k l p.1.0.number q.1.0.number in
+    let parts : m ≡ n = same_number rows (codes "of") m n p.1.1.number q.1.1.number in
     λ t. Shard (same.inputs t) (same.name t) (same.set t) (part t) (parts t)
 same_said rows (Merge i r x y a) (Merge j s z w b) e p q =
-    let same = same_plan rows i j r s a b p.0 q.0 in
-    let first : x ≡ z = p.1.one ∙ sym q.1.one in
-    let second : y ≡ w = p.1.two ∙ sym q.1.two in
+    let same = same_plan rows (codes "D") i j r s a b p.0 q.0 in
+    let first : x ≡ z = p.1.0 ∙ sym q.1.0 in
+    let second : y ≡ w = p.1.1 ∙ sym q.1.1 in
     λ t. Merge (same.inputs t) (same.name t) (first t) (second t) (same.set t)
 same_said rows (Pairs i r a n) (Pairs j s b m) e p q =
-    let same = same_plan rows i j r s a b p.0 q.0 in
+    let same = same_plan rows (codes "D") i j r s a b p.0 q.0 in
     let workers : n ≡ m = same_workers rows n m p.1 q.1 in
     λ t. Pairs (same.inputs t) (same.name t) (same.set t) (workers t)
 same_said rows (Gen stages r n) (Gen others s m) e p q =
@@ -121,24 +110,25 @@ same_said rows (Gen stages r n) (Gen others s m) e p q =
     λ t. Gen (count t) (name t) (workers t)
 same_said rows (Report i a) (Report j b) e p q =
     let inputs : i ≡ j = same_inputs rows i j p.0 q.0 in
-    let set : a ≡ b = same_settings rows (HasAsil rows) (λ x y told said. same_asil x y (sym told ∙ said)) a b p.1 q.1 in
+    let set : a ≡ b = same_settings rows (entry rows (codes "asil")) a b p.1 q.1 in
     λ t. Report (inputs t) (set t)
 same_said rows (Parts netlist rates) (Parts other work) e p q = λ t. Parts ((p.0 ∙ sym q.0) t) ((p.1 ∙ sym q.1) t)
 same_said rows (Faults i r a) (Faults j s b) e p q =
-    let same = same_plan rows i j r s a b p q in
+    let same = same_plan rows (codes "D") i j r s a b p q in
     λ t. Faults (same.inputs t) (same.name t) (same.set t)
 same_said rows (Progress i r a) (Progress j s b) e p q =
-    let same = same_leveled rows i j r s a b p q in
+    let same = same_plan rows (entry rows (codes "asil")) i j r s a b p q in
     λ t. Progress (same.inputs t) (same.name t) (same.set t)
-same_said rows a b e p q = absurd (apart (command_word a) (command_word b) refl e)
+same_said rows a b e p q = absurd (apart (command_word rows a) (command_word rows b) refl e)
 
 -- what was met is one command at most
 same_met : (met : Option (Text × List Row)) (a b : Command) → IsMet met a → IsMet met b → a ≡ b
 same_met met a b p q =
-    let both : (command_word a, p.0) ≡ (command_word b, q.0) = same_Some (command_word a, p.0) (command_word b, q.0) (sym p.1 ∙ q.1) in
-    let word : command_word a ≡ command_word b = ap (λ (w : Text × List Row). w.0) both in
+    let both : (command_word p.0 a, p.0) ≡ (command_word q.0 b, q.0) = same_Some (command_word p.0 a, p.0) (command_word q.0 b, q.0) (sym p.1 ∙ q.1) in
+    let word : command_word p.0 a ≡ command_word q.0 b = ap (λ (w : Text × List Row). w.0) both in
     let rows : p.0 ≡ q.0 = ap (λ (w : Text × List Row). w.1) both in
-    same_said q.0 a b word (subst (λ (r : List Row). SaidBy r a) rows p.2) q.2
+    let own : command_word q.0 a ≡ command_word q.0 b = subst (λ (r : List Row). command_word r a ≡ command_word q.0 b) rows word in
+    same_said q.0 a b own (subst (λ (r : List Row). SaidBy r a) rows p.2) q.2
 
 -- words are one command at most
 pub same_command : (words : List Text) (a b : Command) → IsCommand words a → IsCommand words b → a ≡ b

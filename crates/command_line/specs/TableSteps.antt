@@ -1,9 +1,26 @@
 -- Shapes of private steps: the arguments and the commands of the table as the code adds them, one after the other.
-use Rattle.std.specs.Prelude.{ℕ, List, [], ◌∷◌, fold, take, codes, true}
-use Rattle.clap.specs.Words.{App, Rule, new_app, with_rule, with_subcommand}
-use Rattle.command_line.specs.Table.{bounded, commands, option, positional, required_option}
+use Rattle.std.specs.Prelude.{ℕ, List, [], ◌∷◌, fold, take, codes, true, pos, Some}
+use Rattle.clap.specs.Words.{App, Rule, Text, new_app, new_rule, with_rule, with_subcommand}
+use Rattle.clap.specs.declared.builder.value_parser.ValueParser.TheVariants as vp
+use Rattle.command_line.specs.Table.{commands}
 
 -- ---- arguments
+
+-- an argument by its place, which must be given
+abbrev pub positional : Text → Rule
+positional id = record (new_rule id) { required = true }
+
+-- an option with a default
+abbrev pub option : Text → Text → Rule
+option id value = record (new_rule id) { long = Some id; defaults = value ∷ [] }
+
+-- an option that must be given
+abbrev pub required_option : Text → Rule
+required_option id = record (new_rule id) { long = Some id; required = true }
+
+-- an argument or an option that takes numbers within these bounds alone
+abbrev pub bounded : Rule → ℕ → ℕ → Rule
+bounded rule low high = record rule { parser = Some (vp.Signed (pos low) (pos high)) }
 
 -- `[--ftti F]`
 abbrev pub ftti_rule : Rule

@@ -1,114 +1,78 @@
 -- Which command words are. The first word is the program's name.
--- Rows are the arguments behind the command's word, with what `clap` finds for each.
 use Rattle.std.specs.Prelude.{◌≡◌, ◌≢◌, ℕ, ◌<◌, ◌≤◌, List, [], Some, Ok, codes, unwrap_or}
 use Rattle.std.specs.Str.Parse.{ParsesUnsigned}
 use Rattle.std.specs.declared.num.ParseIntError.{ParseIntError}
 use Rattle.clap.specs.Faults.{fault_of}
 use Rattle.clap.specs.Words.{Row, Text, first_of, one_of, subcommand_of}
+use Rattle.fault_list.specs.Faults.{AreCycles}
 use Rattle.campaign_plan.specs.declared.Settings.{Settings}
-use Rattle.metric_sums.specs.declared.Asil.{Asil}
-use Rattle.metric_sums.specs.declared.Asil.TheVariants.{D}
+use Rattle.result_file.specs.ResultText.{cycles_text}
 use Rattle.fmeda_report.specs.Words.{asil_word}
-use Rattle.command_line.specs.Commands.{Command, Classes, Check, Run, Resume, Audit, Gen, Report, Inputs, IsCycleList, Shard, Merge, Pairs, Parts, Faults, Progress}
+use Rattle.command_line.specs.Commands.{Command, Classes, Check, Run, Resume, Audit, Gen, Report, Inputs, Shard, Merge, Pairs, Parts, Faults, Progress}
 use Rattle.command_line.specs.Table.{fmeda_app}
 
--- ---- what stands behind a command's word
+-- ---- what stands behind a command's word: rows are the arguments there, with what `clap` finds for each
 
--- the text of an argument or of an option, its default included
-abbrev pub entry : List Row → Text → Text
-entry rows id = unwrap_or (first_of id rows) []
+module _ (rows : List Row) where
+  -- the text of an argument or of an option, its default included
+  abbrev pub entry : Text → Text
+  entry id = unwrap_or (first_of id rows) []
 
--- an argument or an option, its default included, is this number, read as unsigned numbers of 32 bits are, and within these bounds
-pub record HasNumber (rows : List Row) (id : Text) (low high n : ℕ) : Type 0 where
-  pub number : (text : Text) × (one_of id rows ≡ Some text) × ParsesUnsigned {E = ParseIntError} 32 10 text (Ok n)
-  pub least : low ≤ n
-  pub most : n ≤ high
+  -- an argument or an option, its default included, is this number, read as unsigned numbers of 32 bits are, and within these bounds
+  pub record HasNumber (id : Text) (low high n : ℕ) : Type 0 where
+    pub number : (text : Text) × (one_of id rows ≡ Some text) × ParsesUnsigned {E = ParseIntError} 32 10 text (Ok n)
+    pub least : low ≤ n
+    pub most : n ≤ high
 
--- the number of workers
-abbrev pub HasWorkers : List Row → ℕ → Type 0
-HasWorkers rows workers = HasNumber rows (codes "workers") 1 32 workers
+  -- the names of the four input files
+  abbrev pub HasInputs : Inputs → Type 0
+  HasInputs inputs = (inputs.netlist ≡ entry (codes "netlist")) × (inputs.workload ≡ entry (codes "workload"))
+      × (inputs.rates ≡ entry (codes "rates")) × (inputs.points ≡ entry (codes "points"))
 
--- the ASIL that a campaign, or a report, is told
-abbrev pub HasAsil : List Row → Asil → Type 0
-HasAsil rows asil = entry rows (codes "asil") ≡ asil_word asil
+  -- the cycles of flips, at most 16, and of pulses, at most 4: `none`, or decimal numbers joined by commas, strictly rising, up to 65535
+  abbrev pub HasLists : (flips pulses : List ℕ) → Type 0
+  HasLists flips pulses = ((entry (codes "flips") ≡ cycles_text flips) × AreCycles 16 flips)
+      × ((entry (codes "pulses") ≡ cycles_text pulses) × AreCycles 4 pulses)
 
--- the names of the four input files
-pub record HasInputs (rows : List Row) (inputs : Inputs) : Type 0 where
-  pub netlist : inputs.netlist ≡ entry rows (codes "netlist")
-  pub workload : inputs.workload ≡ entry rows (codes "workload")
-  pub rates : inputs.rates ≡ entry rows (codes "rates")
-  pub points : inputs.points ≡ entry rows (codes "points")
+  -- the settings of a plan: its interval in cycles, its lists, and the ASIL that this word is
+  abbrev pub HasSettings : (level : Text) → Settings → Type 0
+  HasSettings level set = HasNumber (codes "ftti") 0 4096 set.ftti × HasLists set.flips set.pulses × (level ≡ asil_word set.asil)
 
--- the name of the result file, which is the text of no input's name
-pub record HasResult (rows : List Row) (inputs : Inputs) (result : Text) : Type 0 where
-  pub name : result ≡ entry rows (codes "result")
-  pub other : (result ≢ inputs.netlist) × (result ≢ inputs.workload) × (result ≢ inputs.rates) × (result ≢ inputs.points)
+  -- a plan, with the ASIL that this word is, and the name of its result file, which is the text of no input's name
+  abbrev pub HasPlan : (level : Text) → Inputs → (result : Text) → Settings → Type 0
+  HasPlan level inputs result set = HasInputs inputs × HasSettings level set × (result ≡ entry (codes "result"))
+      × (result ≢ inputs.netlist) × (result ≢ inputs.workload) × (result ≢ inputs.rates) × (result ≢ inputs.points)
 
--- the cycles of flips, at most 16, and of pulses, at most 4
-pub record HasLists (rows : List Row) (flip_cycles pulse_cycles : List ℕ) : Type 0 where
-  pub flips : IsCycleList 16 (entry rows (codes "flips")) flip_cycles
-  pub pulses : IsCycleList 4 (entry rows (codes "pulses")) pulse_cycles
-
--- the settings of a plan: its interval in cycles, its lists, and an ASIL of which this holds
-pub record HasSettings (rows : List Row) (Fits : Asil → Type 0) (set : Settings) : Type 0 where
-  pub ftti : HasNumber rows (codes "ftti") 0 4096 set.ftti
-  pub lists : HasLists rows set.flips set.pulses
-  pub asil : Fits set.asil
-
--- a plan and its result file, with an ASIL of which this holds
-abbrev pub HasPlan : List Row → (Asil → Type 0) → Inputs → Text → Settings → Type 0
-HasPlan rows Fits inputs result set = HasInputs rows inputs × HasResult rows inputs result × HasSettings rows Fits set
-
--- what `audit`, `shard`, `merge`, `pairs` and `faults` say alike; they are told no ASIL, and their settings have D
-abbrev pub HasPlanWords : List Row → Inputs → Text → Settings → Type 0
-HasPlanWords rows = HasPlan rows (λ asil. asil ≡ D)
-
--- what `run` and `resume` say alike
-abbrev pub HasCampaign : List Row → Inputs → Text → Settings → ℕ → Type 0
-HasCampaign rows inputs result set workers =
-    HasInputs rows inputs × HasResult rows inputs result × HasSettings rows (HasAsil rows) set × HasWorkers rows workers
-
--- which part of how many
-pub record HasPartWords (rows : List Row) (part parts : ℕ) : Type 0 where
-  pub number : HasNumber rows (codes "part") 0 1023 part
-  pub many : HasNumber rows (codes "of") 1 1024 parts
-  pub one : part < parts
-
--- the names of the files that are merged, of which neither is the result file; these two may be one
-pub record HasSources (rows : List Row) (result first second : Text) : Type 0 where
-  pub one : first ≡ entry rows (codes "first")
-  pub two : second ≡ entry rows (codes "second")
-  pub neither : (result ≢ first) × (result ≢ second)
+  -- the words of a command: its own word, and what those behind it say. The settings have ASIL D where no word tells it; and the names of
+  -- the two files of `merge` may be one, and neither is the result file's
+  abbrev pub words_of : Command → Text × Type 0
+  words_of command =
+      let HasWorkers : ℕ → Type 0 = λ workers. HasNumber (codes "workers") 1 32 workers in
+      let IsPart : ℕ → ℕ → Type 0 = λ k m. HasNumber (codes "part") 0 1023 k × HasNumber (codes "of") 1 1024 m × (k < m) in
+      let AreSources : Text → Text → Text → Type 0 = λ result first second. (first ≡ entry (codes "first"))
+      × (second ≡ entry (codes "second")) × (result ≢ first) × (result ≢ second) in
+      elim command [
+        | Classes netlist workload ↦ (codes "classes", (netlist ≡ entry (codes "netlist")) × (workload ≡ entry (codes "workload")))
+        | Check inputs flips pulses ↦ (codes "check", HasInputs inputs × HasLists flips pulses)
+        | Run inputs result set workers ↦ (codes "run", HasPlan (entry (codes "asil")) inputs result set × HasWorkers workers)
+        | Resume inputs result set workers ↦ (codes "resume", HasPlan (entry (codes "asil")) inputs result set × HasWorkers workers)
+        | Audit inputs result set ↦ (codes "audit", HasPlan (codes "D") inputs result set)
+        | Gen n result workers ↦ (codes "gen", HasNumber (codes "stages") 1 1000 n × (result ≡ entry (codes "result")) × HasWorkers workers)
+        | Report inputs set ↦ (codes "report", HasInputs inputs × HasSettings (entry (codes "asil")) set)
+        | Shard inputs result set part parts ↦ (codes "shard", HasPlan (codes "D") inputs result set × IsPart part parts)
+        | Merge inputs result first second set ↦ (codes "merge", HasPlan (codes "D") inputs result set × AreSources result first second)
+        | Pairs inputs result set workers ↦ (codes "pairs", HasPlan (codes "D") inputs result set × HasWorkers workers)
+        | Parts netlist rates ↦ (codes "parts", (netlist ≡ entry (codes "netlist")) × (rates ≡ entry (codes "rates")))
+        | Faults inputs result set ↦ (codes "faults", HasPlan (codes "D") inputs result set)
+        | Progress inputs result set ↦ (codes "progress", HasPlan (entry (codes "asil")) inputs result set)
+      ]
 
 -- ---- commands
-
--- the words of a command: its own word, and what the arguments behind it say
-abbrev pub words_of : Command → Text × (List Row → Type 0)
-words_of (Classes netlist workload) =
-    (codes "classes", λ rows. (netlist ≡ entry rows (codes "netlist")) × (workload ≡ entry rows (codes "workload")))
-words_of (Check inputs flips pulses) = (codes "check", λ rows. HasInputs rows inputs × HasLists rows flips pulses)
-words_of (Run inputs result set workers) = (codes "run", λ rows. HasCampaign rows inputs result set workers)
-words_of (Resume inputs result set workers) = (codes "resume", λ rows. HasCampaign rows inputs result set workers)
-words_of (Audit inputs result set) = (codes "audit", λ rows. HasPlanWords rows inputs result set)
-words_of (Gen stages result workers) =
-    (codes "gen", λ rows. HasNumber rows (codes "stages") 1 1000 stages × (result ≡ entry rows (codes "result")) × HasWorkers rows workers)
-words_of (Report inputs set) = (codes "report", λ rows. HasInputs rows inputs × HasSettings rows (HasAsil rows) set)
-words_of (Shard inputs result set part parts) = (codes "shard", λ rows. HasPlanWords rows inputs result set × HasPartWords rows part parts)
-words_of (Merge inputs result first second set) =
-    (codes "merge", λ rows. HasPlanWords rows inputs result set × HasSources rows result first second)
-words_of (Pairs inputs result set workers) = (codes "pairs", λ rows. HasPlanWords rows inputs result set × HasWorkers rows workers)
-words_of (Parts netlist rates) = (codes "parts", λ rows. (netlist ≡ entry rows (codes "netlist")) × (rates ≡ entry rows (codes "rates")))
-words_of (Faults inputs result set) = (codes "faults", λ rows. HasPlanWords rows inputs result set)
-words_of (Progress inputs result set) = (codes "progress", λ rows. HasPlan rows (HasAsil rows) inputs result set)
-
--- what stands behind the command's word says this
-abbrev pub SaidBy : List Row → Command → Type 0
-SaidBy rows command = (words_of command).1 rows
 
 -- `clap` states no fault of the words, and the subcommand that it states is this command
 abbrev pub IsCommand : List Text → Command → Type 0
 IsCommand words command = (fault_of fmeda_app words ≡ [])
-    × ((rows : List Row) × (subcommand_of fmeda_app words ≡ Some ((words_of command).0, rows)) × SaidBy rows command)
+    × ((rows : List Row) × (subcommand_of fmeda_app words ≡ Some ((words_of rows command).0, rows)) × (words_of rows command).1)
 
 -- the words are no other command than this one
 abbrev pub IsAlone : List Text → Command → Type 0

@@ -1,7 +1,8 @@
 // What the words ask for.
 ghost use Rattle.std.specs.Prelude.{◌≡◌, ◌≢◌, IfOk, MatchResult, codes, map, string_bytes};
 ghost use Rattle.clap.specs.Words.{found_of, rows_of, subcommand_rows_of};
-ghost use Rattle.command_line.specs.Words.{HasAsil, IsAlone, IsCommand};
+ghost use Rattle.fmeda_report.specs.Words.{asil_word};
+ghost use Rattle.command_line.specs.Words.{entry, IsAlone, IsCommand};
 ghost use Rattle.command_line.specs.Asks.{told_by, IsWordsRefusal};
 ghost use Rattle.command_line.specs.WordsSteps.{AreCampaign, ArePlanWords, AsksMet, IsCommandOfWord};
 ghost use Rattle.command_line.specs.declared.read.WordsRefusal.TheVariants.{Memory};
@@ -177,7 +178,7 @@ fn plan_with<'a>(
     matches: &ArgMatches<'a>,
     asil: Asil,
 ) -> Result<PlanWords<'a>, WordsRefusal>
-    ensures { ArePlanWords (rows_of (found_of matches.now)) (λ level. level ≡ asil) result }
+    ensures { ArePlanWords (rows_of (found_of matches.now)) (asil_word asil) result }
 {
     let inputs = inputs_of(matches);
     let Some(result) = result_of(matches, &inputs) else {
@@ -193,7 +194,7 @@ fn plan_with<'a>(
 
 // The same with the ASIL that the words tell.
 fn leveled_of<'a>(alloc: Global, matches: &ArgMatches<'a>) -> Result<PlanWords<'a>, WordsRefusal>
-    ensures { ArePlanWords (rows_of (found_of matches.now)) (HasAsil (rows_of (found_of matches.now))) result }
+    ensures { ArePlanWords (rows_of (found_of matches.now)) (entry (rows_of (found_of matches.now)) (codes "asil")) result }
 {
     let asil = asil_of(matches)?;
     plan_with(alloc, matches, asil)
@@ -201,7 +202,7 @@ fn leveled_of<'a>(alloc: Global, matches: &ArgMatches<'a>) -> Result<PlanWords<'
 
 // The same of words that tell none.
 fn plan_words_of<'a>(alloc: Global, matches: &ArgMatches<'a>) -> Result<PlanWords<'a>, WordsRefusal>
-    ensures { ArePlanWords (rows_of (found_of matches.now)) (λ asil. asil ≡ Asil.D) result }
+    ensures { ArePlanWords (rows_of (found_of matches.now)) (codes "D") result }
 {
     plan_with(alloc, matches, Asil::D)
 }

@@ -3,8 +3,8 @@ ghost use Rattle.std.specs.Prelude.{◌≡◌, ◌∷◌, [], IfOk, codes, false
 ghost use Rattle.clap.specs.Words.{app_of, new_app, rule_of};
 ghost use Rattle.clap.specs.declared.builder.command.Command.TheViews.{out-Command};
 ghost use Rattle.command_line.specs.OneMore.{HasCommandToo};
-ghost use Rattle.command_line.specs.TableSteps.{asil_rule, check_app, classes_app, ftti_rule, faults_app, gen_app, input_rules, list_rules, merge_app, pairs_app, parts_app, progress_app, program_with, report_app, result_rules, shard_app, with_campaign, with_plan, with_rules, workers_rule};
-ghost use Rattle.command_line.specs.Table.{bounded, fmeda_app, positional, option, required_option};
+ghost use Rattle.command_line.specs.TableSteps.{asil_rule, bounded, check_app, classes_app, faults_app, ftti_rule, gen_app, input_rules, list_rules, merge_app, option, pairs_app, parts_app, positional, program_with, progress_app, report_app, required_option, result_rules, shard_app, with_campaign, with_plan, with_rules, workers_rule};
+ghost use Rattle.command_line.specs.Table.{fmeda_app};
 
 use clap::{Arg, Command, value_parser};
 use std::alloc::{AllocError, Global};

@@ -1,6 +1,6 @@
 use Rattle.std.proofs.Common.{codes}
 use Rattle.clap.specs.Words.{new_app, with_rule}
-use Rattle.command_line.specs.Table.{positional}
+use Rattle.command_line.specs.TableSteps.{positional}
 use Rattle.command_line.proofs.Rows.{argued, kept_local, last_argued, last_local}
 use Rattle.command_line.proofs.table.classes_command.Goals as goal
 

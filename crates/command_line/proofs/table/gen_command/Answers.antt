@@ -1,7 +1,6 @@
 use Rattle.std.proofs.Common.{codes}
 use Rattle.clap.specs.Words.{new_app, with_rule}
-use Rattle.command_line.specs.Table.{bounded, positional}
-use Rattle.command_line.specs.TableSteps.{workers_rule}
+use Rattle.command_line.specs.TableSteps.{bounded, positional, workers_rule}
 use Rattle.command_line.proofs.Rows.{argued, kept_local, last_argued, last_local}
 use Rattle.command_line.proofs.table.gen_command.Goals as goal
 

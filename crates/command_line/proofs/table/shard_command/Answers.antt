@@ -1,7 +1,6 @@
 use Rattle.std.proofs.Common.{codes}
 use Rattle.clap.specs.Words.{new_app, with_rule}
-use Rattle.command_line.specs.Table.{bounded, required_option}
-use Rattle.command_line.specs.TableSteps.{with_plan}
+use Rattle.command_line.specs.TableSteps.{bounded, required_option, with_plan}
 use Rattle.command_line.proofs.Rows.{argued, kept_local, last_argued, last_local}
 use Rattle.command_line.proofs.table.shard_command.Goals as goal
 

@@ -1,6 +1,6 @@
 use Rattle.std.proofs.Common.{refl, codes}
 use Rattle.clap.specs.Words.{app_of, with_rule}
-use Rattle.command_line.specs.Table.{option}
+use Rattle.command_line.specs.TableSteps.{option}
 use Rattle.command_line.proofs.Rows.{argued, kept_local, last_argued, last_local}
 use Rattle.command_line.proofs.table.with_lists.Goals as goal
 

@@ -1,7 +1,6 @@
 use Rattle.std.proofs.Common.{refl, codes}
 use Rattle.clap.specs.Words.{app_of, with_rule}
-use Rattle.command_line.specs.TableSteps.{ftti_rule}
-use Rattle.command_line.specs.Table.{positional}
+use Rattle.command_line.specs.TableSteps.{ftti_rule, positional}
 use Rattle.command_line.proofs.Rows.{argued, kept_local, last_argued, last_local}
 use Rattle.command_line.proofs.table.with_result.Goals as goal
 
