@@ -10,12 +10,16 @@ use Rattle.command_text.specs.RefusalLines.{refused, row_why}
 use Rattle.result_file.specs.declared.RowFault.{RowFault}
 use Rattle.fm_base.specs.Names.{Bytes}
 
--- the words of the kind, and then those of a name, are all words of the kind
-pub kind_said : (before after : SinkState) (file number : Bytes) (kind : List Bytes) (word : Bytes) (names shown : List Bytes)
-    → kind ≡ word ∷ names → names ≡ shown
-    → IsSaid before after (refused (file ∷ number ∷ word ∷ shown)) → IsSaid before after (refused (file ∷ number ∷ kind))
-kind_said before after file number kind word names shown e n said =
-    subst (λ words. IsSaid before after (refused (file ∷ number ∷ words))) (sym (e ∙ ap (λ rest. word ∷ rest) n)) said
+-- a word, and where there is one the net behind it, are the text of the kind
+pub named_said : (before after : SinkState) (file number kind word behind net : Bytes) → kind ≡ word ++ behind → behind ≡ 32 ∷ net
+    → IsSaid before after (refused (file ∷ number ∷ word ∷ net ∷ [])) → IsSaid before after (refused (file ∷ number ∷ kind ∷ []))
+named_said before after file number kind word behind net e n said =
+    subst (λ text. IsSaid before after (refused (file ∷ number ∷ text ∷ []))) (sym (e ∙ ap (λ rest. word ++ rest) n)) said
+
+pub bare_said : (before after : SinkState) (file number kind word behind : Bytes) → kind ≡ word ++ behind → behind ≡ []
+    → IsSaid before after (refused (file ∷ number ∷ word ∷ [])) → IsSaid before after (refused (file ∷ number ∷ kind ∷ []))
+bare_said before after file number kind word behind e n said =
+    subst (λ text. IsSaid before after (refused (file ∷ number ∷ text ∷ []))) (sym (e ∙ ap (λ rest. word ++ rest) n ∙ append-nil word)) said
 
 -- words with a space before each but the first
 spaced_cons : (word : Bytes) (words : List Bytes) → spaced (word ∷ words) ≡ word ++ flat_map (λ w. 32 ∷ w) words

@@ -6,7 +6,7 @@ use Rattle.circuit.specs.Names.{net_name}
 use Rattle.bench_reader.specs.declared.BenchKind.{BenchKind}
 use Rattle.bench_reader.specs.declared.BenchKind.TheVariants as bench
 use Rattle.blif_text.specs.declared.NetlistKind.{NetlistKind}
-use Rattle.blif_text.specs.declared.NetlistKind.TheVariants as netlist
+use Rattle.blif_text.specs.declared.NetlistKind.TheVariants.{NoModel, BadToken, Directive, BadRow, MixedPlane, BadLatch, LevelLatch, TooWide, TwoModels, UnknownModel, BadFormal, Unbound, Recursive, TooDeep, TooLarge, TwoClocks, BadClock, ClockRead, TwoDrivers, Undriven}
 use Rattle.workload.specs.declared.file.WorkloadKind.{WorkloadKind}
 use Rattle.workload.specs.declared.file.WorkloadKind.TheVariants as workload
 use Rattle.rate_table.specs.declared.RatesKind.{RatesKind}
@@ -15,7 +15,7 @@ use Rattle.alarm_points.specs.declared.PointsKind.{PointsKind}
 use Rattle.alarm_points.specs.declared.PointsKind.TheVariants as points
 use Rattle.campaign_plan.specs.declared.Outcome.{Outcome}
 use Rattle.result_file.specs.declared.RowFault.{RowFault}
-use Rattle.result_file.specs.declared.RowFault.TheVariants as why
+use Rattle.result_file.specs.declared.RowFault.TheVariants.{Form, Range, Repeated, UnusedLane, Sums}
 use Rattle.result_file.specs.ResultText.{sums_words}
 use Rattle.fm_base.specs.Text.{line, hex}
 use Rattle.command_text.specs.declared.status.Status.{Status}
@@ -27,120 +27,76 @@ use Rattle.command_text.specs.declared.status.WriteTo.TheVariants as to
 use Rattle.std.specs.Str.{byte}
 use Rattle.fm_base.specs.Names.{Bytes}
 
--- the word of each kind; for Undriven the net's name follows
-abbrev pub netlist_kind : NetlistKind → List Bytes
-netlist_kind netlist.NoModel = codes "NoModel" ∷ []
-netlist_kind netlist.BadToken = codes "BadToken" ∷ []
-netlist_kind netlist.Directive = codes "Directive" ∷ []
-netlist_kind netlist.BadRow = codes "BadRow" ∷ []
-netlist_kind netlist.MixedPlane = codes "MixedPlane" ∷ []
-netlist_kind netlist.BadLatch = codes "BadLatch" ∷ []
-netlist_kind netlist.LevelLatch = codes "LevelLatch" ∷ []
-netlist_kind netlist.TooWide = codes "TooWide" ∷ []
-netlist_kind netlist.TwoModels = codes "TwoModels" ∷ []
-netlist_kind netlist.UnknownModel = codes "UnknownModel" ∷ []
-netlist_kind netlist.BadFormal = codes "BadFormal" ∷ []
-netlist_kind netlist.Unbound = codes "Unbound" ∷ []
-netlist_kind netlist.Recursive = codes "Recursive" ∷ []
-netlist_kind netlist.TooDeep = codes "TooDeep" ∷ []
-netlist_kind netlist.TooLarge = codes "TooLarge" ∷ []
-netlist_kind netlist.TwoClocks = codes "TwoClocks" ∷ []
-netlist_kind netlist.BadClock = codes "BadClock" ∷ []
-netlist_kind netlist.ClockRead = codes "ClockRead" ∷ []
-netlist_kind netlist.TwoDrivers = codes "TwoDrivers" ∷ []
-netlist_kind (netlist.Undriven name) = codes "Undriven" ∷ name ∷ []
+-- the word of a kind of refusal of a BLIF file, which is in one of these lines; the net's name follows Undriven
+abbrev pub netlist_kind : NetlistKind → Bytes
+netlist_kind kind = codes (elim kind [ NoModel ↦ "NoModel" | BadToken ↦ "BadToken" | Directive ↦ "Directive" | BadRow ↦ "BadRow" | _ ↦ "" ])
+    ++ codes (elim kind [ MixedPlane ↦ "MixedPlane" | BadLatch ↦ "BadLatch" | LevelLatch ↦ "LevelLatch" | TooWide ↦ "TooWide" | _ ↦ "" ])
+    ++ codes (elim kind [ TwoModels ↦ "TwoModels" | UnknownModel ↦ "UnknownModel" | BadFormal ↦ "BadFormal" | _ ↦ "" ])
+    ++ codes (elim kind [ Unbound ↦ "Unbound" | Recursive ↦ "Recursive" | TooDeep ↦ "TooDeep" | TooLarge ↦ "TooLarge" | _ ↦ "" ])
+    ++ codes (elim kind [ TwoClocks ↦ "TwoClocks" | BadClock ↦ "BadClock" | ClockRead ↦ "ClockRead" | TwoDrivers ↦ "TwoDrivers" | _ ↦ "" ])
+    ++ elim kind [ Undriven net ↦ codes "Undriven " ++ net | _ ↦ [] ]
 
--- the word of each kind of refusal of a `.bench` file, likewise
-abbrev pub bench_kind : BenchKind → List Bytes
-bench_kind bench.BadLine = codes "BadLine" ∷ []
-bench_kind bench.BadGate = codes "BadGate" ∷ []
-bench_kind bench.BadCount = codes "BadCount" ∷ []
-bench_kind bench.TooWide = codes "TooWide" ∷ []
-bench_kind bench.TooLarge = codes "TooLarge" ∷ []
-bench_kind bench.TwoDrivers = codes "TwoDrivers" ∷ []
-bench_kind (bench.Undriven name) = codes "Undriven" ∷ name ∷ []
+-- likewise of a `.bench` file
+abbrev pub bench_kind : BenchKind → Bytes
+bench_kind kind = codes (elim kind [ bench.BadLine ↦ "BadLine" | bench.BadGate ↦ "BadGate" | bench.BadCount ↦ "BadCount" | _ ↦ "" ])
+    ++ codes (elim kind [ bench.TooWide ↦ "TooWide" | bench.TooLarge ↦ "TooLarge" | bench.TwoDrivers ↦ "TwoDrivers" | _ ↦ "" ])
+    ++ elim kind [ bench.Undriven net ↦ codes "Undriven " ++ net | _ ↦ [] ]
 
--- the word of each kind of workload refusal
+-- of a workload
 abbrev pub workload_kind : WorkloadKind → Bytes
-workload_kind workload.BadCsv = codes "BadCsv"
-workload_kind workload.BadColumn = codes "BadColumn"
-workload_kind workload.MissingInput = codes "MissingInput"
-workload_kind workload.SplitName = codes "SplitName"
-workload_kind workload.BadKind = codes "BadKind"
-workload_kind workload.BadBit = codes "BadBit"
-workload_kind workload.TooLarge = codes "TooLarge"
-workload_kind workload.Empty = codes "Empty"
+workload_kind kind =
+    codes (elim kind [ workload.BadCsv ↦ "BadCsv" | workload.BadColumn ↦ "BadColumn" | workload.MissingInput ↦ "MissingInput" | _ ↦ "" ])
+    ++ codes (elim kind [ workload.SplitName ↦ "SplitName" | workload.BadKind ↦ "BadKind" | workload.BadBit ↦ "BadBit" | _ ↦ "" ])
+    ++ codes (elim kind [ workload.TooLarge ↦ "TooLarge" | workload.Empty ↦ "Empty" | _ ↦ "" ])
 
--- the word of each kind of rates refusal
+-- of rates
 abbrev pub rates_kind : RatesKind → Bytes
-rates_kind rates.BadCsv = codes "BadCsv"
-rates_kind rates.BadPart = codes "BadPart"
-rates_kind rates.BadRole = codes "BadRole"
-rates_kind rates.BadCovered = codes "BadCovered"
-rates_kind rates.BadRate = codes "BadRate"
-rates_kind rates.TwoMeanings = codes "TwoMeanings"
-rates_kind rates.TooLarge = codes "TooLarge"
+rates_kind kind = codes (elim kind [ rates.BadCsv ↦ "BadCsv" | rates.BadPart ↦ "BadPart" | rates.BadRole ↦ "BadRole" | _ ↦ "" ])
+    ++ codes (elim kind [ rates.BadCovered ↦ "BadCovered" | rates.BadRate ↦ "BadRate" | rates.TwoMeanings ↦ "TwoMeanings" | _ ↦ "" ])
+    ++ codes (elim kind [ rates.TooLarge ↦ "TooLarge" | _ ↦ "" ])
 
--- the word of each kind of points refusal
+-- of points
 abbrev pub points_kind : PointsKind → Bytes
-points_kind points.BadCsv = codes "BadCsv"
-points_kind points.BadKind = codes "BadKind"
-points_kind points.UnknownNet = codes "UnknownNet"
-points_kind points.Twice = codes "Twice"
-points_kind points.TooLarge = codes "TooLarge"
-points_kind points.NoObserve = codes "NoObserve"
-points_kind points.BadGoal = codes "BadGoal"
-points_kind points.BadInterval = codes "BadInterval"
+points_kind kind = codes (elim kind [ points.BadCsv ↦ "BadCsv" | points.BadKind ↦ "BadKind" | points.UnknownNet ↦ "UnknownNet" | _ ↦ "" ])
+    ++ codes (elim kind [ points.Twice ↦ "Twice" | points.TooLarge ↦ "TooLarge" | points.NoObserve ↦ "NoObserve" | _ ↦ "" ])
+    ++ codes (elim kind [ points.BadGoal ↦ "BadGoal" | points.BadInterval ↦ "BadInterval" | _ ↦ "" ])
 
--- for Sums the kept and the computed sums follow
+-- why a row of the result file is refused; the kept and the computed sums follow
 abbrev pub row_why : RowFault → List Bytes
-row_why why.Form = codes "Form" ∷ []
-row_why why.Range = codes "Range" ∷ []
-row_why why.Repeated = codes "Repeated" ∷ []
-row_why why.UnusedLane = codes "UnusedLane" ∷ []
-row_why (why.Sums kept computed) = codes "Sums kept" ∷ sums_words kept ++ codes "computed" ∷ sums_words computed
-
--- the first bytes of a file, up to a line feed or 88 bytes; each that isn't from space to `~` is shown as `?`
-abbrev pub shown_start : Bytes → Bytes
-shown_start found = map (λ b. if nat_le 32 b && nat_le b 126 then b else byte "?") (take 88 (before_first (λ b. b == 10) found))
-
--- two planes, in 16 hexadecimal digits each
-abbrev pub planes_words : Outcome → List Bytes
-planes_words planes = hex 16 planes.danger ∷ hex 16 planes.noticed ∷ []
-
--- a line that says what was refused
-abbrev pub refused : List Bytes → Bytes
-refused words = line (codes "refused:" ∷ words)
+row_why w = codes (elim w [ Form ↦ "Form" | Range ↦ "Range" | Repeated ↦ "Repeated" | UnusedLane ↦ "UnusedLane" | Sums _ _ ↦ "Sums kept" ])
+    ∷ elim w [ Sums kept computed ↦ sums_words kept ++ codes "computed" ∷ sums_words computed | _ ↦ [] ]
 
 -- the line of a refusal, where the files have these names and the netlist is this circuit; no line after Done, nor for a fault of `out`
 unfoldable pub refusal_line : (Which → Bytes) → Circuit → Status → Bytes
-refusal_line file c status.Done = []
-refusal_line file c status.Usage = refused (codes "usage" ∷ [])
-refusal_line file c (status.Netlist fault) = refused (codes "netlist line" ∷ decimal fault.line ∷ netlist_kind fault.kind)
-refusal_line file c (status.Bench fault) = refused (codes "bench line" ∷ decimal fault.line ∷ bench_kind fault.kind)
-refusal_line file c (status.Loop walk) = refused (codes "loop" ∷ map (λ net. net_name c net.0) walk)
-refusal_line file c (status.Rates fault) = refused (codes "rates row" ∷ decimal fault.row ∷ rates_kind fault.kind ∷ [])
-refusal_line file c (status.Points fault) = refused (codes "points row" ∷ decimal fault.row ∷ points_kind fault.kind ∷ [])
-refusal_line file c (status.Workload fault) = refused (codes "workload row" ∷ decimal fault.row ∷ workload_kind fault.kind ∷ [])
-refusal_line file c (status.MissingRate net name) = refused (codes "no rate for net" ∷ name ∷ [])
-refusal_line file c (status.IdleRate part permanent) =
-    refused (codes "part" ∷ part ∷ codes "has a" ∷ (if permanent then codes "permanent" else codes "transient") ∷ codes "rate and no such fault" ∷ [])
-refusal_line file c (status.TooLarge (what.File which)) = refused (file which ∷ codes "is longer than 67108864 bytes" ∷ [])
-refusal_line file c (status.TooLarge what.Faults) = refused (codes "more than 1048576 faults" ∷ [])
-refusal_line file c (status.TooLarge what.Outputs) = refused (codes "more than 1024 outputs" ∷ [])
-refusal_line file c (status.TooLarge what.Pairs) = refused (codes "more than 1048576 pairs" ∷ [])
-refusal_line file c (status.Foreign found own) = refused (codes "foreign result file, found" ∷ (shown_start found ++ codes ",") ∷ codes "own" ∷ take 88 own ∷ [])
-refusal_line file c (status.BadRow number why) = refused (codes "result row" ∷ decimal number ∷ row_why why)
-refusal_line file c (status.Disagrees batch kept computed) =
-    refused (codes "batch" ∷ decimal batch ∷ codes "kept" ∷ planes_words kept ++ codes "computed" ∷ planes_words computed)
-refusal_line file c (status.Differs batch first second) =
-    refused (codes "batch" ∷ decimal batch ∷ codes "first" ∷ planes_words first ++ codes "second" ∷ planes_words second)
-refusal_line file c (status.Incomplete have batches) =
-    refused (codes "result file has" ∷ decimal have ∷ codes "of" ∷ decimal batches ∷ codes "batches" ∷ [])
-refusal_line file c (status.ReadFault which) = refused (codes "cannot read" ∷ file which ∷ [])
-refusal_line file c (status.WriteFault to.Result) = refused (codes "cannot write" ∷ file which.Result ∷ [])
-refusal_line file c (status.WriteFault to.Out) = []
-refusal_line file c status.Memory = refused (codes "out of memory" ∷ [])
+refusal_line file c ended =
+    -- two planes behind a word; and how a file begins, up to a line feed or 88 bytes, with `?` for what isn't from space to `~`
+    let both : Bytes → Outcome → List Bytes = λ word planes. word ∷ hex 16 planes.danger ∷ hex 16 planes.noticed ∷ [] in
+    let head = λ (t : Bytes). map (λ b. if nat_le 32 b && nat_le b 126 then b else byte "?") (take 88 (before_first (λ b. b == 10) t)) in
+    elim ended [
+      | status.Usage ↦ codes "refused: usage\n"
+      | status.Netlist fault ↦ line (codes "refused: netlist line" ∷ decimal fault.line ∷ netlist_kind fault.kind ∷ [])
+      | status.Bench fault ↦ line (codes "refused: bench line" ∷ decimal fault.line ∷ bench_kind fault.kind ∷ [])
+      | status.Loop walk ↦ line (codes "refused:" ∷ codes "loop" ∷ map (λ net. net_name c net.0) walk)
+      | status.Rates fault ↦ line (codes "refused: rates row" ∷ decimal fault.row ∷ rates_kind fault.kind ∷ [])
+      | status.Points fault ↦ line (codes "refused: points row" ∷ decimal fault.row ∷ points_kind fault.kind ∷ [])
+      | status.Workload fault ↦ line (codes "refused: workload row" ∷ decimal fault.row ∷ workload_kind fault.kind ∷ [])
+      | status.MissingRate net name ↦ line (codes "refused: no rate for net" ∷ name ∷ [])
+      | status.IdleRate part permanent ↦ line (codes "refused: part" ∷ part
+          ∷ codes "has a" ∷ (if permanent then codes "permanent" else codes "transient") ∷ codes "rate and no such fault" ∷ [])
+      | status.TooLarge (what.File which) ↦ line (codes "refused:" ∷ file which ∷ codes "is longer than 67108864 bytes" ∷ [])
+      | status.TooLarge what.Faults ↦ codes "refused: more than 1048576 faults\n"
+      | status.TooLarge what.Outputs ↦ codes "refused: more than 1024 outputs\n"
+      | status.TooLarge what.Pairs ↦ codes "refused: more than 1048576 pairs\n"
+      | status.Foreign it own ↦ line (codes "refused: foreign result file, found" ∷ (head it ++ codes ",") ∷ codes "own" ∷ take 88 own ∷ [])
+      | status.BadRow number why ↦ line (codes "refused: result row" ∷ decimal number ∷ row_why why)
+      | status.Disagrees n kept own ↦ line (codes "refused: batch" ∷ decimal n ∷ both (codes "kept") kept ++ both (codes "computed") own)
+      | status.Differs n one two ↦ line (codes "refused: batch" ∷ decimal n ∷ both (codes "first") one ++ both (codes "second") two)
+      | status.Incomplete n all ↦ line (codes "refused: result file has" ∷ decimal n ∷ codes "of" ∷ decimal all ∷ codes "batches" ∷ [])
+      | status.ReadFault which ↦ line (codes "refused: cannot read" ∷ file which ∷ [])
+      | status.WriteFault to.Result ↦ line (codes "refused: cannot write" ∷ file which.Result ∷ [])
+      | status.Memory ↦ codes "refused: out of memory\n"
+      | _ ↦ []
+    ]
 
 -- the exit code of a status
 abbrev pub code_of : Status → ℕ
@@ -163,3 +119,9 @@ code_of (status.Incomplete have batches) = 16
 code_of (status.ReadFault which) = 20
 code_of (status.WriteFault to) = 21
 code_of status.Memory = 30
+
+-- ---- a shape of private steps
+
+-- a line that says what was refused
+abbrev pub refused : List Bytes → Bytes
+refused words = line (codes "refused:" ∷ words)

@@ -1,5 +1,6 @@
 -- Shapes of private steps: what the code and its proofs name of the definitions beside. Nothing public cites them.
-use Rattle.std.specs.Prelude.{ℕ, ◌&&◌, List, [], ◌∷◌, if◌then◌else◌, length, nat_le, codes, decimal}
+use Rattle.std.specs.Prelude.{ℕ, ◌&&◌, ◌==◌, List, [], ◌∷◌, if◌then◌else◌, length, map, nat_le, take, codes, decimal}
+use Rattle.std.specs.List.{before_first}
 use Rattle.std.specs.Str.{byte}
 use Rattle.circuit.specs.Circuit.{Circuit}
 use Rattle.workload.specs.declared.run.Run.{Run}
@@ -7,9 +8,10 @@ use Rattle.workload.specs.Runs.{all_cycles}
 use Rattle.alarm_points.specs.declared.Points.{Points}
 use Rattle.alarm_points.specs.PointsFile.{observed}
 use Rattle.rate_table.specs.Table.{RateTable, all_rates}
+use Rattle.campaign_plan.specs.declared.Outcome.{Outcome}
 use Rattle.campaign_plan.specs.Analysis.{Analysis, fault_count, batch_count}
 use Rattle.fm_base.specs.Names.{Bytes}
-use Rattle.fm_base.specs.Text.{line}
+use Rattle.fm_base.specs.Text.{line, hex}
 
 -- the lines of `check`: the sizes of a netlist
 abbrev pub netlist_line : Circuit → Bytes
@@ -36,3 +38,11 @@ faults_line p = line (codes "faults" ∷ decimal (fault_count p) ∷ codes "batc
 -- a byte as it is shown
 abbrev pub shown_byte : ℕ → ℕ
 shown_byte b = if nat_le 32 b && nat_le b 126 then b else byte "?"
+
+-- the first bytes of a file, as they are shown
+abbrev pub shown_start : Bytes → Bytes
+shown_start found = map shown_byte (take 88 (before_first (λ b. b == 10) found))
+
+-- two planes, in 16 hexadecimal digits each
+abbrev pub planes_words : Outcome → List Bytes
+planes_words planes = hex 16 planes.danger ∷ hex 16 planes.noticed ∷ []

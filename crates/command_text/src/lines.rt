@@ -7,8 +7,8 @@ ghost use Rattle.circuit.specs.Circuit.{Circuit};
 ghost use Rattle.result_file.specs.ResultText.{sums_words};
 ghost use Rattle.command_text.specs.Said.{IsSaid};
 ghost use Rattle.command_text.specs.Named.{name_by};
-ghost use Rattle.command_text.specs.RefusalLines.{refused, planes_words, row_why, shown_start, refusal_line};
-ghost use Rattle.command_text.specs.Steps.{shown_byte};
+ghost use Rattle.command_text.specs.RefusalLines.{refused, row_why, refusal_line};
+ghost use Rattle.command_text.specs.Steps.{planes_words, shown_byte, shown_start};
 
 use crate::refusal::say;
 use blif_text::places::feed_place;

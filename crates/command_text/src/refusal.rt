@@ -1,7 +1,7 @@
 // The lines of refusals.
 ghost use Rattle.std.specs.Prelude.{◌≡◌, ◌∷◌, ◌++◌, [], map, MatchOption, codes, decimal, if◌then◌else◌};
 ghost use Rattle.fm_base.specs.Text.{line, hex};
-ghost use Rattle.command_text.specs.Said.{IsSaid, shown_bench_names, shown_names};
+ghost use Rattle.command_text.specs.Said.{IsSaid, shown_bench_net as bench_net_behind, shown_net as net_behind};
 ghost use Rattle.command_text.specs.RefusalLines.{bench_kind, netlist_kind, workload_kind as word_of_workload, rates_kind as word_of_rates, points_kind as word_of_points, refused};
 
 use alarm_points::{PointsFault, PointsKind};
@@ -58,7 +58,7 @@ fn refuse_named<'a, O: Sink>(
 
 // The word of a kind of netlist fault.
 fn netlist_word(kind: &NetlistKind) -> &'static [u8]
-    ensures { netlist_kind kind.now ≡ result.now ∷ shown_names kind.now }
+    ensures { netlist_kind kind.now ≡ result.now ++ net_behind kind.now }
 {
     match kind {
         NetlistKind::NoModel => b"NoModel",
@@ -86,7 +86,7 @@ fn netlist_word(kind: &NetlistKind) -> &'static [u8]
 
 // The net that a kind of netlist fault shows.
 fn shown_net(kind: &NetlistKind) -> Option<&[u8]>
-    ensures { MatchOption result (shown_names kind.now ≡ []) (λ name. shown_names kind.now ≡ name.now ∷ []) }
+    ensures { MatchOption result (net_behind kind.now ≡ []) (λ net. net_behind kind.now ≡ 32 ∷ net.now) }
 {
     match kind {
         NetlistKind::Undriven(name) => Some(name.as_slice()),
@@ -96,7 +96,7 @@ fn shown_net(kind: &NetlistKind) -> Option<&[u8]>
 
 pub(crate) fn refuse_netlist<O: Sink>(out: &mut O, fault: &NetlistFault)
     ensures { IsSaid (O.seen out.old) (O.seen out.new)
-        (refused (codes "netlist line" ∷ decimal fault.now.line ∷ netlist_kind fault.now.kind)) }
+        (refused (codes "netlist line" ∷ decimal fault.now.line ∷ netlist_kind fault.now.kind ∷ [])) }
 {
     let word = netlist_word(&fault.kind);
     match shown_net(&fault.kind) {
@@ -107,7 +107,7 @@ pub(crate) fn refuse_netlist<O: Sink>(out: &mut O, fault: &NetlistFault)
 
 // The word of a kind of fault of a `.bench` file.
 fn bench_word(kind: &BenchKind) -> &'static [u8]
-    ensures { bench_kind kind.now ≡ result.now ∷ shown_bench_names kind.now }
+    ensures { bench_kind kind.now ≡ result.now ++ bench_net_behind kind.now }
 {
     match kind {
         BenchKind::BadLine => b"BadLine",
@@ -122,7 +122,7 @@ fn bench_word(kind: &BenchKind) -> &'static [u8]
 
 // The net that such a kind shows.
 fn shown_bench_net(kind: &BenchKind) -> Option<&[u8]>
-    ensures { MatchOption result (shown_bench_names kind.now ≡ []) (λ name. shown_bench_names kind.now ≡ name.now ∷ []) }
+    ensures { MatchOption result (bench_net_behind kind.now ≡ []) (λ net. bench_net_behind kind.now ≡ 32 ∷ net.now) }
 {
     match kind {
         BenchKind::Undriven(name) => Some(name.as_slice()),
@@ -132,7 +132,7 @@ fn shown_bench_net(kind: &BenchKind) -> Option<&[u8]>
 
 pub(crate) fn refuse_bench<O: Sink>(out: &mut O, fault: &BenchFault)
     ensures { IsSaid (O.seen out.old) (O.seen out.new)
-        (refused (codes "bench line" ∷ decimal fault.now.line ∷ bench_kind fault.now.kind)) }
+        (refused (codes "bench line" ∷ decimal fault.now.line ∷ bench_kind fault.now.kind ∷ [])) }
 {
     let word = bench_word(&fault.kind);
     match shown_bench_net(&fault.kind) {

@@ -1,15 +1,15 @@
-use Rattle.std.specs.Prelude.{codes, decimal, []}
+use Rattle.std.specs.Prelude.{codes, decimal}
 use Rattle.command_text.specs.RefusalLines.{netlist_kind}
-use Rattle.command_text.specs.Said.{shown_names}
-use Rattle.command_text.proofs.Saying.{kind_said}
+use Rattle.command_text.specs.Said.{shown_net}
+use Rattle.command_text.proofs.Saying.{bare_said, named_said}
 use Rattle.command_text.proofs.refusal.refuse_netlist.Goals as goal
 
 pub returns-in-Some : goal.returns-in-Some
 returns-in-Some g c =
-    kind_said (g.O.Sink.seen c.args.out.now) (g.O.Sink.seen c.refuse_named.new.out) (codes "netlist line") (decimal c.args.fault.now.line) (netlist_kind c.args.fault.now.kind) c.netlist_word-word.result.now
-    (shown_names c.args.fault.now.kind) _ c.netlist_word-word.ensures c.in-Some.ensures c.refuse_named.ensures
+    named_said (g.O.Sink.seen c.args.out.now) (g.O.Sink.seen c.refuse_named.new.out) (codes "netlist line") (decimal c.args.fault.now.line) (netlist_kind c.args.fault.now.kind) c.netlist_word-word.result.now
+    (shown_net c.args.fault.now.kind) _ c.netlist_word-word.ensures c.in-Some.ensures c.refuse_named.ensures
 
 pub returns-in-None : goal.returns-in-None
 returns-in-None g c =
-    kind_said (g.O.Sink.seen c.args.out.now) (g.O.Sink.seen c.refuse_row.new.out) (codes "netlist line") (decimal c.args.fault.now.line) (netlist_kind c.args.fault.now.kind) c.netlist_word-word.result.now
-    (shown_names c.args.fault.now.kind) [] c.netlist_word-word.ensures c.in-None.ensures c.refuse_row.ensures
+    bare_said (g.O.Sink.seen c.args.out.now) (g.O.Sink.seen c.refuse_row.new.out) (codes "netlist line") (decimal c.args.fault.now.line) (netlist_kind c.args.fault.now.kind) c.netlist_word-word.result.now
+    (shown_net c.args.fault.now.kind) c.netlist_word-word.ensures c.in-None.ensures c.refuse_row.ensures

@@ -2,7 +2,8 @@ use Rattle.std.proofs.Common.{ap, ap₂, sym, map, List, [], ◌∷◌, ◌++◌
 use Rattle.std.specs.Prelude.{codes, decimal, slice_index_or, take}
 use Rattle.circuit.specs.declared.parts.NetId.{NetId}
 use Rattle.command_text.specs.Named.{name_by}
-use Rattle.command_text.specs.RefusalLines.{refusal_line, shown_start}
+use Rattle.command_text.specs.RefusalLines.{refusal_line}
+use Rattle.command_text.specs.Steps.{shown_start}
 use Rattle.fm_base.specs.Names.{Bytes}
 use Rattle.command_text.proofs.Statuses.{said_as, words_said, nothing_said}
 use Rattle.command_text.proofs.refuse.refuse.Goals as goal
