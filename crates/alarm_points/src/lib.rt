@@ -35,14 +35,23 @@ pub struct Points {
 /// The kinds of refusal of a points file. On one row the first of these decides.
 #[derive(Clone, Copy, Debug, PartialEq, Eq)]
 pub enum PointsKind {
-    BadCsv, // there is no header, or a row has another number of fields than the header
-    BadKind, // neither `observe` nor `alarm`
-    UnknownNet, // no net has the name
-    Twice, // the same goal, kind and net stood in an earlier row
-    TooLarge, // more than 1,024 points
-    NoObserve, // there is no observation point; this is looked at after all rows, and shown at row 1
-    BadGoal, // the goal of an observation point is malformed or would be the fifth, or that of an alarm point isn't `-`
-    BadInterval, // that of an observation point is malformed or isn't that of the goal's first row, or that of an alarm point isn't `-`
+    /// There is no header, or a row has another number of fields than the header.
+    BadCsv,
+    /// Neither `observe` nor `alarm`.
+    BadKind,
+    /// No net has the name.
+    UnknownNet,
+    /// The same goal, kind and net stood in an earlier row.
+    Twice,
+    /// More than 1,024 points.
+    TooLarge,
+    /// There is no observation point. This is looked at after all rows, and shown at row 1.
+    NoObserve,
+    /// The goal of an observation point is malformed or would be the fifth, or that of an alarm point isn't `-`.
+    BadGoal,
+    /// The interval of an observation point is malformed or another than that of the goal's first row, or that of an alarm
+    /// point isn't `-`.
+    BadInterval,
 }
 
 /// The first faulty row, and the kind of its fault.

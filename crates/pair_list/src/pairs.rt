@@ -17,10 +17,12 @@ use std::marker::Model;
 // The most pairs.
 const MOST: usize = 1_048_576;
 
-/// Why there are no pairs: some batch has no row, there are so many rows of so many batches; or there are more than 1,048,576 pairs.
+/// Why there are no pairs.
 #[derive(Clone, Copy, Debug, PartialEq, Eq)]
 pub enum PairRefusal {
+    /// Some batch has no row: there are so many rows, of so many batches.
     Incomplete { have: u32, batches: u32 },
+    /// There are more than 1,048,576 pairs.
     TooMany,
 }
 

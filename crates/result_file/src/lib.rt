@@ -28,26 +28,34 @@ pub struct Row {
 /// Rows, in the order in which they were appended.
 pub type RowList = Seq<Row>;
 
-/// The rows kept of a file, and how many of its first bytes hold the header and them (the rest is torn); 0 where no header is whole.
+/// The rows that are kept of a file, and the number of its first bytes that hold the header and them: what follows is torn.
+/// It is 0 where not even the header is whole.
 #[derive(Drop)]
 pub struct KeptRows {
     pub rows: RowList,
     pub whole: u64,
 }
 
-/// The first rule that a whole row breaks, in the order in which they are looked at; `row_fault` of the specs has each.
+/// The first rule that a whole row breaks, in the order in which they are looked at.
 #[derive(Clone, Copy, Debug, PartialEq, Eq)]
 pub enum RowFault {
+    /// It isn't of a row's form: `r`, a batch, two planes and five sums in lower-case hexadecimal, with single spaces.
     Form,
+    /// Its batch isn't below the number of batches.
     Range,
+    /// Its batch stood in an earlier row.
     Repeated,
+    /// A plane has a bit that is 1 in a lane that holds no fault.
     UnusedLane,
+    /// Its sums aren't those of the planes of this and the earlier rows.
     Sums { kept: Sums, computed: Sums },
 }
 
-/// Why a file isn't read back: its first bytes, at most 89, aren't the own header, so it is of other inputs; or a row, from 1, is bad.
+/// Why a file isn't read back.
 #[derive(Drop)]
 pub enum ResultRefusal {
+    /// Its first bytes, at most 89 of them, aren't the own header: it is the result of other inputs or settings.
     Foreign { found: Line, own: Line },
+    /// The first bad row, counted from 1.
     BadRow { number: u32, why: RowFault },
 }

@@ -15,14 +15,22 @@ use std::alloc::Global;
 /// The kinds of refusal of a workload file. On one row the first of these decides.
 #[derive(Clone, Copy, Debug, PartialEq, Eq)]
 pub enum WorkloadKind {
-    BadCsv, // there is no header, it doesn't begin with `workload,kind`, or a row has another number of fields
-    BadColumn, // a column is no input, or names one twice
-    MissingInput, // an input has no column
-    SplitName, // the name stood in an earlier workload, another one between
-    BadKind, // neither `mission` nor `test`, or another kind than that of the workload's first row
-    BadBit, // a bit that is neither `0` nor `1`
-    TooLarge, // more than 65,536 cycles
-    Empty, // there is no row under the header
+    /// There is no header, it doesn't begin with `workload,kind`, or a row has another number of fields.
+    BadCsv,
+    /// A column is no input, or names one twice.
+    BadColumn,
+    /// An input has no column.
+    MissingInput,
+    /// The name stood in an earlier workload, another one between.
+    SplitName,
+    /// Neither `mission` nor `test`, or another kind than that of the workload's first row.
+    BadKind,
+    /// A bit that is neither `0` nor `1`.
+    BadBit,
+    /// More than 65,536 cycles.
+    TooLarge,
+    /// There is no row under the header.
+    Empty,
 }
 
 /// The first faulty row, and the kind of its fault.

@@ -9,8 +9,10 @@ use std::marker::Model;
 /// What a workload stands for.
 #[derive(Clone, Copy, Debug, PartialEq, Eq)]
 pub enum Kind {
-    Mission, // the item at work
-    Test, // a test of the safety mechanisms
+    /// The item at work.
+    Mission,
+    /// A test of the safety mechanisms.
+    Test,
 }
 
 /// The bits of one cycle.
