@@ -15,7 +15,8 @@ use Rattle.blif_text.specs.declared.token.Token.{Token}
 use Rattle.blif_model.specs.LineFault.{Said}
 use Rattle.blif_model.specs.Models.{rows_below}
 use Rattle.blif_model.specs.Tokens.{texts_of}
-use Rattle.blif_model.specs.Walk.{Act, FlatLatch, Step, flat_latch, flat_table}
+use Rattle.blif_model.specs.Statement.{LatchLine}
+use Rattle.blif_model.specs.Walk.{Act, Step, flat_latch, flat_table}
 use Rattle.blif_flatten.specs.declared.flat.NameId.{NameId}
 use Rattle.blif_flatten.specs.declared.flat.NumberedAct.{NumberedAct}
 use Rattle.blif_flatten.specs.declared.flat.NumberedAct.TheVariants.{Table, Latch}
@@ -115,7 +116,7 @@ option_listed f (Some id) (Some name) e = cc
 option_listed f None (Some name) e = cc
 option_listed f (Some id) None e = cc
 
-pub latch_numbered : {old one two new : List Name} (s : FlatLatch) (l : NumberedLatch) → HaveNumbers old one (s.from ∷ []) (l.from ∷ [])
+pub latch_numbered : {old one two new : List Name} (s : LatchLine) (l : NumberedLatch) → HaveNumbers old one (s.from ∷ []) (l.from ∷ [])
     → HaveNumbers one two (s.to ∷ []) (l.to ∷ []) → HaveNumbers two new (option_to_list s.control) (option_to_list l.control)
     → option_map (λ e. e.now) l.edge ≡ s.edge → l.start ≡ s.start → IsNumberedAs old new (flat_latch s) (Latch l)
 latch_numbered {old} {one} {two} {new} s l from to control edge start =

@@ -3,7 +3,8 @@ use Rattle.std.specs.Prelude.{◌≡◌, ℕ, ◌<◌, List, [], ◌∷◌, ◌+
 use Rattle.std.specs.Option.{option_map, option_to_list}
 use Rattle.fm_base.specs.Names.{Name, distinct}
 use Rattle.blif_model.specs.Models.{rows_below}
-use Rattle.blif_model.specs.Walk.{FlatLatch, Act, takes, gives, clocks, visits, flat_table, flat_latch, Step, visited}
+use Rattle.blif_model.specs.Statement.{LatchLine}
+use Rattle.blif_model.specs.Walk.{Act, takes, gives, clocks, visits, flat_table, flat_latch, Step, visited}
 use Rattle.blif_model.specs.WalkSteps.{control_of}
 use Rattle.blif_flatten.specs.declared.flat.NameId.{NameId}
 use Rattle.blif_flatten.specs.declared.flat.NumberedLatch.{NumberedLatch}
@@ -18,7 +19,7 @@ use Rattle.blif_flatten.specs.declared.flat.NumberedStep.{NumberedStep}
 abbrev pub name_at : List Name → NameId → Name
 name_at names id = slice_index_or names id.0 []
 
-abbrev pub latch_by : (NameId → Name) → NumberedLatch → FlatLatch
+abbrev pub latch_by : (NameId → Name) → NumberedLatch → LatchLine
 latch_by name_of l = record {
   from = name_of l.from;
   to = name_of l.to;

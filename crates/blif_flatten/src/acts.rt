@@ -1,11 +1,11 @@
 // What a line does with its nets, by their numbers.
 ghost use Rattle.std.specs.Prelude.{◌≡◌, ◌++◌, [], List, map, IfOk};
-ghost use Rattle.std.specs.Option.{option_map, option_map_or, option_to_list};
-ghost use Rattle.blif_model.specs.Meant.{bindings_of, clocking_of, latch_line_of, meant};
+ghost use Rattle.std.specs.Option.{option_map, option_to_list};
+ghost use Rattle.blif_model.specs.Meant.{bindings_of, control_said, edge_said, latch_line_of, meant};
 ghost use Rattle.blif_model.specs.Models.{rows_below};
 ghost use Rattle.blif_model.specs.Tokens.{texts_of};
-ghost use Rattle.blif_model.specs.Walk.{acts_of, flat_latch, flat_latch_of, flat_table, net_of, port, visits};
-ghost use Rattle.blif_model.specs.WalkSteps.{control_net};
+ghost use Rattle.blif_model.specs.Walk.{acts_of, flat_latch, flat_table, net_of, visits};
+ghost use Rattle.blif_model.specs.WalkSteps.{flat_latch_of, port};
 ghost use Rattle.fm_base.specs.Names.{Name};
 ghost use Rattle.blif_flatten.specs.declared.flat.NameId.{NameId};
 ghost use Rattle.blif_flatten.specs.Flat.{act_by, ids_in, mentioned, name_at};
@@ -48,7 +48,7 @@ fn port_act<'m, 'a>(
     kind: Port,
     tokens: &[Token<'_>],
 ) -> Result<NumberedAct<'m, 'a>, AllocError>
-    ensures { IfOk result (IsNumberedAs names.old.index names.new.index (port (scope_at place.now) (own_act kind) (texts_of tokens.now))) }
+    ensures { IfOk result (IsNumberedAs names.old.index names.new.index (port (own_act kind) (texts_of tokens.now) (scope_at place.now))) }
 {
     let ids = names.number_all(place, Mention::Whole, tokens)?;
     match place {
@@ -90,7 +90,7 @@ fn control_number(
     place: &Place<'_>,
     clocking: Option<Clocked<'_>>,
 ) -> Result<Option<NameId>, AllocError>
-    ensures { IfOk result (λ o. HaveNumbers names.old.index names.new.index (option_to_list (option_map_or (control_net (scope_at place.now)) (clocking_of clocking.entry) None)) (option_to_list o)) }
+    ensures { IfOk result (λ o. HaveNumbers names.old.index names.new.index (option_to_list (option_map (net_of (scope_at place.now)) (control_said clocking.entry))) (option_to_list o)) }
 {
     match clocking {
         None => Ok(None),
@@ -104,7 +104,7 @@ fn control_number(
 }
 
 fn edge_of(clocking: Option<Clocked<'_>>) -> Option<&[u8]>
-    ensures { option_map (λ e. e.now) result ≡ option_map (λ c. c.edge) (clocking_of clocking.entry) }
+    ensures { option_map (λ e. e.now) result ≡ edge_said clocking.entry }
 {
     match clocking {
         None => None,

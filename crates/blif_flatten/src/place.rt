@@ -2,7 +2,8 @@
 ghost use Rattle.std.specs.Prelude.{◌≡◌, ◌++◌, map, IfOk, OnOk};
 ghost use Rattle.blif_model.specs.Meant.{bindings_of};
 ghost use Rattle.blif_model.specs.Tokens.{texts_of};
-ghost use Rattle.blif_model.specs.Walk.{net_of, path_of, scope_of};
+ghost use Rattle.blif_model.specs.Walk.{net_of, scope_of};
+ghost use Rattle.blif_model.specs.WalkSteps.{path_of};
 ghost use Rattle.blif_flatten.specs.Seen.{scope_at};
 
 use crate::bound::BoundNets;
@@ -54,7 +55,7 @@ pub fn net_in<'n>(
 
 /// The path of an instance.
 fn inner_path(alloc: Global, place: &Place<'_>, instance: u64) -> Result<Name, AllocError>
-    ensures { IfOk result (λ n. n ≡ path_of (scope_at place.now) instance) }
+    ensures { IfOk result (λ n. n ≡ path_of instance (scope_at place.now)) }
 {
     let mut buffer = Buffer::new();
     let number = buffer.format(instance).as_bytes();

@@ -1,5 +1,5 @@
 -- What a netlist file that isn't refused gives: each fault that could be isn't there, and the netlist is one.
-use Rattle.std.proofs.Common.{◌≡◌, ◌≤◌, ◌^◌, List, [], ◌∷◌, refl, subst, length}
+use Rattle.std.proofs.Common.{◌≡◌, ◌≤◌, ◌^◌, List, [], ◌∷◌, refl, sym, subst, ◌∙◌, length}
 use Rattle.std.specs.Prelude.{Option, Some, None, Ok}
 use Rattle.std.specs.List.{AllByRecursion}
 use Rattle.std.proofs.lemmas.Bool.{ltb-false}
@@ -12,12 +12,13 @@ use Rattle.fm_base.proofs.Tests.{or_false}
 use Rattle.net_names.proofs.Answers.{not_given, same_answer}
 use Rattle.blif_model.specs.LineFault.{line_fault, said_lines}
 use Rattle.blif_model.specs.Models.{Model, file_models}
-use Rattle.blif_model.specs.ModelFault.{model_fault, two_models, unknown_model, bad_formal, unbound, recursive, too_deep, too_large}
+use Rattle.blif_model.specs.ModelFault.{model_fault, model_faults}
 use Rattle.blif_model.specs.ModelSteps.{count_of_nets}
 use Rattle.blif_model.specs.Walk.{Step, walk, nets_of}
-use Rattle.blif_model.specs.WalkFault.{walk_fault, two_clocks, bad_clock, clock_read, two_drivers, undriven}
+use Rattle.blif_model.specs.WalkFault.{walk_fault, walk_faults, two_clocks, bad_clock, clock_read, two_drivers, undriven}
 use Rattle.blif_model.specs.Net.{bad_net, circuit_of, netlist_of}
 use Rattle.blif_model.specs.WalkSteps.{netlist_unless}
+use Rattle.blif_model.proofs.Answer.{netlist-told}
 use Rattle.blif_model.proofs.TableRows.{rows-fit}
 use Rattle.blif_model.proofs.Fits.{walk-fits}
 use Rattle.blif_model.proofs.Sound.{netlist-sound}
@@ -42,11 +43,9 @@ unfaulted bytes e =
 
 -- at most 2^18 nets
 few_nets : (models : List Model) → model_fault models ≡ None → length (nets_of (walk models)) ≤ 2 ^ 18
-unfolding model_fault too_large
+unfolding model_fault
 few_nets models e =
-    let none =
-    none_each (two_models models ∷ unknown_model models ∷ bad_formal models ∷ unbound models ∷ recursive models
-    ∷ too_deep models ∷ too_large models ∷ []) e in
+    let none = none_each (model_faults models) e in
     ltb-false (2 ^ 18) (count_of_nets models) (or_false _ _ (not_given _ _ none.1.1.1.1.1.1.0)).1
 
 -- no fault of the walk is none of each kind
@@ -58,9 +57,9 @@ pub record HasNone (steps : List Step) : Type 0 where
   pub driven : undriven steps ≡ None
 
 pub walk_unfaulted : (steps : List Step) → walk_fault steps ≡ None → HasNone steps
-unfolding walk_fault
+unfolding walk_fault two_clocks bad_clock clock_read two_drivers undriven
 walk_unfaulted steps e =
-    let none = none_each (two_clocks steps ∷ bad_clock steps ∷ clock_read steps ∷ two_drivers steps ∷ undriven steps ∷ []) e in
+    let none = none_each (walk_faults steps) e in
     record { clocks = none.0; controls = none.1.0; reads = none.1.1.0; drivers = none.1.1.1.0; driven = none.1.1.1.1.0 }
 
 -- the netlist of a file without a fault
@@ -73,8 +72,7 @@ unfaulted-netlist bytes u =
 
 -- a netlist that a file gives is one
 pub netlist-is : (bytes : Bytes) (c : Circuit) → netlist_of bytes ≡ Ok c → IsNetlist c
-unfolding netlist_of
-netlist-is bytes c e = by_cases (bad_net bytes) refl e
+netlist-is bytes c e = by_cases (bad_net bytes) refl (sym (netlist-told bytes) ∙ e)
   where
     by_cases : (o : Option NetlistFault) → bad_net bytes ≡ o → netlist_unless (walk (file_models bytes)) o ≡ Ok c → IsNetlist c
     by_cases None none e =

@@ -128,7 +128,7 @@ module _ (steps : List Step) (once : two_drivers steps ≡ None) (driven : undri
 
   -- the netlist of a walk
   pub netlist-sound : clock_read steps ≡ None → StepsFit steps → length (nets_of steps) ≤ 2 ^ 18 → IsNetlist (circuit_of steps)
-  unfolding circuit_of output_names_of table_names_of latch_names_of
+  unfolding circuit_of input_names_of output_names_of table_names_of latch_names_of
   netlist-sound unread fit small =
       let tables : List Table = filter_map (λ s. table_of nets s.act) steps in
       let latches : List Latch = filter_map (λ s. latch_of nets s.act) steps in

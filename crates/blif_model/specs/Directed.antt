@@ -3,7 +3,7 @@ use Rattle.std.specs.Prelude.{Bool, List, [], ◌∷◌, Option, Some, None}
 use Rattle.fm_base.specs.Names.{Name}
 use Rattle.blif_text.specs.declared.NetlistKind.TheVariants as kinds
 use Rattle.blif_model.specs.Statement.{Statement, inputs, outputs, clock, latch, instance, row, passed, wrong, table_line}
-use Rattle.blif_model.specs.StatementSteps.{model_line, plain_latch, end_line}
+use Rattle.blif_model.specs.StatementSteps.{model_line, named_control, plain_latch, end_line}
 use Rattle.blif_model.specs.Kinds.{kind_of_malformed}
 use Rattle.blif_model.specs.Meant.{bindings_of}
 use Rattle.blif_model.specs.declared.directive.Directive.{Directive}
@@ -14,7 +14,7 @@ abbrev pub latch_statement : Bool → List Name → Statement
 latch_statement start (from ∷ to ∷ []) = plain_latch from to start
 latch_statement start (from ∷ to ∷ init ∷ []) = plain_latch from to start
 latch_statement start (from ∷ to ∷ edge ∷ control ∷ names) =
-    latch (record { from = from; to = to; clocking = Some (record { edge = edge; control = control }); start = start })
+    latch (record { from = from; to = to; edge = Some edge; control = named_control control; start = start })
 latch_statement start _ = wrong kinds.BadLatch
 
 -- the names behind `.subckt`, where all bindings are good

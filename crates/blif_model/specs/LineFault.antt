@@ -42,9 +42,7 @@ table_above before =
 
 -- the output of a row is its last token
 abbrev pub row_output : List Name → Name
-row_output [] = []
-row_output (output ∷ []) = output
-row_output (cells ∷ output ∷ _) = output
+row_output = elim [ [] ↦ [] | output ∷ [] ↦ output | cells ∷ output ∷ _ ↦ output ]
 
 -- the output of the first row of the table that a row belongs to, where there is one
 unfoldable pub plane_above : List Said → Option Name

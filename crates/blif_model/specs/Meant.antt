@@ -1,8 +1,9 @@
 -- What the statement of a line means.
-use Rattle.std.specs.Prelude.{List, map, Option}
-use Rattle.std.specs.Option.{option_map}
+use Rattle.std.specs.Prelude.{List, map, Option, None}
+use Rattle.std.specs.Option.{option_map, option_map_or}
 use Rattle.fm_base.specs.Names.{Name}
-use Rattle.blif_model.specs.Statement.{Binding, Clocking, LatchLine, Statement, model, inputs, outputs, clock, table, latch, instance, end, row, passed, unnamed, wrong, binding_of}
+use Rattle.blif_model.specs.Statement.{Binding, LatchLine, Statement, model, inputs, outputs, clock, table, latch, instance, end, row, passed, unnamed, wrong, binding_of}
+use Rattle.blif_model.specs.StatementSteps.{named_control}
 use Rattle.blif_model.specs.declared.says.Clocked.{Clocked}
 use Rattle.blif_model.specs.declared.says.LatchSays.{LatchSays}
 use Rattle.blif_model.specs.declared.says.Says.{Says}
@@ -10,11 +11,22 @@ use Rattle.blif_model.specs.declared.says.Says.TheVariants.{Model, Inputs, Outpu
 use Rattle.blif_model.specs.Kinds.{kind_of_malformed}
 use Rattle.blif_model.specs.Tokens.{texts_of}
 
-abbrev pub clocking_of : Option Clocked → Option Clocking
-clocking_of clocked = option_map (λ c. record { edge = c.edge.now; control = c.control.now }) clocked
+-- the type of a latch
+abbrev pub edge_said : Option Clocked → Option Name
+edge_said clocked = option_map (λ c. c.edge.now) clocked
+
+-- its control, but none for `NIL`
+abbrev pub control_said : Option Clocked → Option Name
+control_said clocked = option_map_or (λ c. named_control c.control.now) clocked None
 
 abbrev pub latch_line_of : LatchSays → LatchLine
-latch_line_of l = record { from = l.from.now; to = l.to.now; clocking = clocking_of l.clocking; start = l.start }
+latch_line_of l = record {
+  from = l.from.now;
+  to = l.to.now;
+  edge = edge_said l.clocking;
+  control = control_said l.clocking;
+  start = l.start;
+}
 
 -- the bindings of tokens
 abbrev pub bindings_of : List Name → List Binding

@@ -1,5 +1,5 @@
 -- Shapes of private steps: what is asked of the tokens of a line, one by one.
-use Rattle.std.specs.Prelude.{Bool, ◌&&◌, ◌==◌, nat_lt, List, [], ◌∷◌, length, if◌then◌else◌, Some, None, codes, bytes_eq, slice_index}
+use Rattle.std.specs.Prelude.{Bool, ◌&&◌, ◌==◌, nat_lt, List, [], ◌∷◌, length, if◌then◌else◌, Option, Some, None, codes, bytes_eq, slice_index}
 use Rattle.std.specs.Str.{byte}
 use Rattle.blif_text.specs.declared.NetlistKind.TheVariants.{BadToken, BadLatch, LevelLatch}
 use Rattle.fm_base.specs.Names.{Name, is_one_of}
@@ -39,14 +39,18 @@ is_edge = is_one_of (codes "fe" ∷ codes "re" ∷ [])
 abbrev pub is_level : Name → Bool
 is_level = is_one_of (codes "ah" ∷ codes "al" ∷ codes "as" ∷ [])
 
+-- the control of a latch, but none for `NIL`
+abbrev pub named_control : Name → Option Name
+named_control control = if bytes_eq control (codes "NIL") then None else Some control
+
 -- a latch without a type
 abbrev pub plain_latch : Name → Name → Bool → Statement
-plain_latch from to start = latch (record { from = from; to = to; clocking = None; start = start })
+plain_latch from to start = latch (record { from = from; to = to; edge = None; control = None; start = start })
 
 -- a latch with a type and a control
 abbrev pub typed_latch : Name → Name → Name → Name → Bool → Statement
 typed_latch from to type control start =
-    if is_edge type then latch (record { from = from; to = to; clocking = Some (record { edge = type; control = control }); start = start })
+    if is_edge type then latch (record { from = from; to = to; edge = Some type; control = named_control control; start = start })
     else if is_level type then wrong LevelLatch
     else wrong BadLatch
 

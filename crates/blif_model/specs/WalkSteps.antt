@@ -1,6 +1,6 @@
 -- Shapes of private steps: the walk item by item, what each line of it brings, and the netlist part by part.
-use Rattle.std.specs.Prelude.{ℕ, ◌+◌, ◌==◌, List, [], ◌∷◌, ◌++◌, map, Option, Some, None, codes, bytes_eq, if◌then◌else◌, Result, Ok, Err}
-use Rattle.std.specs.Option.{option_to_list}
+use Rattle.std.specs.Prelude.{ℕ, ◌+◌, ◌==◌, List, [], ◌∷◌, ◌++◌, map, Option, Some, None, codes, decimal, if◌then◌else◌, Result, Ok, Err}
+use Rattle.std.specs.Option.{option_map, option_to_list}
 use Rattle.std.specs.Str.{byte}
 use Rattle.circuit.specs.declared.parts.Lit.{Lit}
 use Rattle.circuit.specs.declared.parts.Lit.TheVariants.{Zero, One, Any}
@@ -12,12 +12,22 @@ use Rattle.net_names.specs.Nets.{net_id}
 use Rattle.blif_text.specs.declared.NetlistFault.{NetlistFault}
 use Rattle.blif_model.specs.Models.{Item}
 use Rattle.blif_model.specs.Net.{circuit_of, lits_of, table_plane}
-use Rattle.blif_model.specs.Statement.{Clocking, Statement, instance}
-use Rattle.blif_model.specs.Walk.{Act, takes, gives, clocks, flat_table, flat_latch, Scope, Step, acts_of, net_of, scope_of, unclocked}
+use Rattle.blif_model.specs.Statement.{LatchLine, Statement, instance}
+use Rattle.blif_model.specs.Walk.{Act, takes, gives, clocks, visits, flat_table, flat_latch, Scope, top, inside, Step, acts_of, net_of, scope_of, unclocked}
 
--- the net of a control, but none for `NIL`
-abbrev pub control_net : Scope → Clocking → Option Name
-control_net scope clocking = if bytes_eq clocking.control (codes "NIL") then None else Some (net_of scope clocking.control)
+-- the path of instance j
+abbrev pub path_of : ℕ → Scope → Name
+path_of j = elim [ top ↦ codes "u" ++ decimal j | inside path bound ↦ path ++ codes ".u" ++ decimal j ]
+
+-- a line of ports means something of its own in the main model alone
+abbrev pub port : (List Name → Act) → List Name → Scope → Act
+port own names scope = let net = net_of scope in elim scope [ top ↦ own names | inside path bound ↦ visits (map net names) ]
+
+-- a latch line with net names
+abbrev pub flat_latch_of : Scope → LatchLine → LatchLine
+flat_latch_of scope l =
+    let net = net_of scope in
+    record { from = net l.from; to = net l.to; edge = l.edge; control = option_map net l.control; start = l.start }
 
 -- behind a `.subckt` line comes the walk of its instance, which is instance j
 abbrev pub inner_steps : (Scope → Name → List Step) → Scope → ℕ → Statement → List Step

@@ -27,7 +27,7 @@ fn instance_directive(names: &[Token<'_>]) -> Directive
 }
 
 /// The directive of a word, with the names behind it.
-#[tactic(auto, unfolding(crate::specs::Statement::directive_line))]
+#[tactic(auto, unfolding(crate::specs::Statement::directive_line, crate::specs::Statement::table_line))]
 fn directive_of(word: &[u8], names: &[Token<'_>]) -> Directive
     ensures { directed result (texts_of names.now) ≡ directive_line word.now (texts_of names.now) }
 {

@@ -36,7 +36,7 @@ module _ (steps : List Step) (unfaulted : walk_fault steps ≡ None) where
   pub built : (c : Circuit) → c.names ≡ nets_of steps → c.drivers ≡ drivers_by (ids (input_names_of steps)) (ids (table_names_of steps)) (ids (latch_names_of steps)) (length (nets_of steps))
       → c.tables ≡ filter_map (λ s. table_of (nets_of steps) s.act) steps → c.latches ≡ filter_map (λ s. latch_of (nets_of steps) s.act) steps
       → c.inputs ≡ ids (input_names_of steps) → c.outputs ≡ ids (output_names_of steps) → c ≡ circuit_of steps
-  unfolding circuit_of
+  unfolding circuit_of input_names_of table_names_of latch_names_of output_names_of
   built c named driven tabled latched taken given =
       let drivers = driven ∙ drivers-put (nets_of steps) (input_names_of steps) (table_names_of steps) (latch_names_of steps) once in
       rw (sym drivers, sym tabled, sym latched, sym taken, sym given, sym named) refl

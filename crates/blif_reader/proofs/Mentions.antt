@@ -1,16 +1,15 @@
 -- The clock names of the flattened main model are no more than its mentions of them.
-use Rattle.std.proofs.Common.{ℕ, zero, suc, ◌+◌, ◌≤◌, cond, List, [], ◌∷◌, ◌++◌, length, arith}
-use Rattle.std.specs.Prelude.{Option, Some, None, map, filter_map, sum_by, bytes_eq, codes}
-use Rattle.std.specs.Option.{option_map_or, option_to_list}
-use Rattle.std.proofs.lemmas.Bool.Decides.{nat_tests}
+use Rattle.std.proofs.Common.{ℕ, zero, suc, ◌+◌, ◌≤◌, List, [], ◌∷◌, ◌++◌, length, arith}
+use Rattle.std.specs.Prelude.{Option, Some, None, map, filter_map, sum_by}
+use Rattle.std.specs.Option.{option_map, option_map_or, option_to_list}
 use Rattle.std.proofs.lemmas.List.Concat.{length-flat_map}
 use Rattle.std.proofs.lemmas.List.Sums.{sum_by-append, sum_by-cons, sum_by-le}
 use Rattle.fm_base.specs.Names.{Name}
-use Rattle.blif_model.specs.Statement.{Clocking, Statement, inputs, outputs, clock, latch, instance}
+use Rattle.blif_model.specs.Statement.{Statement, inputs, outputs, clock, latch, instance}
 use Rattle.blif_model.specs.Models.{Item, Instance, Model, at_model, model_named, main_of, instances, sum_over_instances}
 use Rattle.blif_model.specs.ModelSteps.{instance_from}
-use Rattle.blif_model.specs.Walk.{Scope, top, inside, Step, acts_of, clock_names, scope_of, steps_from, enter, walk}
-use Rattle.blif_model.specs.WalkSteps.{clocked, control_net, inner_steps, next}
+use Rattle.blif_model.specs.Walk.{Scope, top, inside, Step, acts_of, clock_names, net_of, scope_of, steps_from, enter, walk}
+use Rattle.blif_model.specs.WalkSteps.{clocked, inner_steps, next}
 use Rattle.blif_reader.specs.Mentions.{count_of_mentions, mention_count, mentions_on}
 use Rattle.blif_model.proofs.Counts.{named_sum, named_at, named_more}
 
@@ -22,12 +21,12 @@ abbrev own_sum : List Item → ℕ
 own_sum items = sum_by (λ (item : Item). mentions_on item.says) items
 
 -- those of a line's own step, and of its instance
-control_mention : (scope : Scope) (c : Option Clocking) → length (option_to_list (option_map_or (control_net scope) c None)) ≤ option_map_or (λ (k : Clocking). cond (bytes_eq k.control (codes "NIL")) 0 1) c 0
+control_mention : (scope : Scope) (c : Option Name) → length (option_to_list (option_map (net_of scope) c)) ≤ length (option_to_list c)
 control_mention scope None = omega arith
-control_mention scope (Some c) = grind (arith, nat_tests)
+control_mention scope (Some name) = omega arith
 
 act_of_line : (scope : Scope) (line : ℕ) (says : Statement) (rows : List (List Name)) → clocks_in (map (λ act. record { line = line; act = act }) (acts_of scope says rows)) ≤ mentions_on says
-act_of_line scope line (latch l) rows = omega (arith, control_mention scope l.clocking)
+act_of_line scope line (latch l) rows = omega (arith, control_mention scope l.control)
 act_of_line top line (clock names) rows = omega arith
 act_of_line (inside path bound) line (clock names) rows = omega arith
 act_of_line top line (inputs names) rows = omega arith

@@ -1,13 +1,13 @@
 -- How often clock names stand in the flattened main model: on `.clock` lines, and as controls of latches.
-use Rattle.std.specs.Prelude.{ℕ, List, length, codes, bytes_eq, if◌then◌else◌, sum_by}
-use Rattle.std.specs.Option.{option_map_or}
+use Rattle.std.specs.Prelude.{ℕ, List, length, sum_by}
+use Rattle.std.specs.Option.{option_to_list}
 use Rattle.blif_model.specs.Models.{Model, main_of, sum_over_instances}
 use Rattle.blif_model.specs.Statement.{Statement, clock, latch}
 
 -- on a line
 abbrev pub mentions_on : Statement → ℕ
 mentions_on (clock names) = length names
-mentions_on (latch line) = option_map_or (λ c. if bytes_eq c.control (codes "NIL") then 0 else 1) line.clocking 0
+mentions_on (latch line) = length (option_to_list line.control)
 mentions_on _ = 0
 
 -- in a model, without the instances in it

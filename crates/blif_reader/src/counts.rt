@@ -1,8 +1,8 @@
 // Instances, cells and clock names of a model, counted line by line.
-ghost use Rattle.std.specs.Prelude.{◌≡◌, ◌+◌, ◌*◌, ◌<◌, ◌≤◌, ◌^◌, bytes_eq, codes, if◌then◌else◌, length, max, min, sum_by};
-ghost use Rattle.std.specs.Option.{option_map_or};
+ghost use Rattle.std.specs.Prelude.{◌≡◌, ◌+◌, ◌*◌, ◌<◌, ◌≤◌, ◌^◌, length, max, min, sum_by};
+ghost use Rattle.std.specs.Option.{option_to_list};
 ghost use Rattle.blif_model.specs.Grouped.{model_of};
-ghost use Rattle.blif_model.specs.Meant.{meant};
+ghost use Rattle.blif_model.specs.Meant.{control_said, meant};
 ghost use Rattle.blif_model.specs.Models.{items_of, rows_below};
 ghost use Rattle.blif_model.specs.ModelSteps.{cells_from};
 ghost use Rattle.blif_reader.specs.Counts.{count_on, instances_on, model_count};
@@ -68,7 +68,7 @@ fn line_cells(says: Says<'_, '_>, below: &[ReadLine<'_>], cap: u64) -> u64
 
 /// The control of a latch, where it has one; `NIL` is none.
 fn control_count(clocking: Option<Clocked<'_>>) -> usize
-    ensures { result ≡ option_map_or (λ c. if bytes_eq c.control.now (codes "NIL") then 0 else 1) clocking.entry 0 }
+    ensures { result ≡ length (option_to_list (control_said clocking.entry)) }
 {
     match clocking {
         None => 0,

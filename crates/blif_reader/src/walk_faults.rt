@@ -85,7 +85,7 @@ fn undriven(
 
 /// The fault that is found in the flattened model, if there is one: the kinds from TwoClocks to Undriven, in this order. `clocks`
 /// has the marks of the clock names.
-#[tactic(auto, unfolding(blif_model::specs::WalkFault::walk_fault))]
+#[tactic(auto, unfolding(blif_model::specs::WalkFault::walk_fault, blif_model::specs::WalkFault::two_clocks, blif_model::specs::WalkFault::bad_clock, blif_model::specs::WalkFault::clock_read, blif_model::specs::WalkFault::two_drivers, blif_model::specs::WalkFault::undriven))]
 pub fn walk_fault(
     alloc: Global,
     flat: &FlatModel<'_, '_>,

@@ -25,25 +25,30 @@ is_hash b = b == byte "#"
 unfoldable pub bare : Bytes → Bytes
 bare line = let text = before_first is_hash line in take (length text - suffix_len is_white text) text
 
--- the last byte of the bare line is a backslash, so the next physical line is joined
-abbrev pub is_joined : Bytes → Bool
-is_joined line = slice_index (bare line) (length (bare line) - 1) == byte "\\"
-
--- the tokens of a physical line: what stands between white bytes and has a byte, the backslash that joins left out
-abbrev pub tokens_of : Bytes → List Bytes
-tokens_of line =
-    let text = if is_joined line then take (length (bare line) - 1) (bare line) else bare line in
-    filter (λ token. nat_lt 0 (length token)) (slice_split is_white text)
-
--- the logical lines of numbered physical lines: a joined line goes on with the tokens of the next one, where there is one
+-- the logical lines of numbered physical lines, whose tokens stand between white bytes; a backslash at a line's end joins the next one
 unfoldable pub joined : List (ℕ × Bytes) → List Line
 joined [] = []
 joined (first ∷ rest) =
-    let own = tokens_of first.1 in
+    let line = bare first.1 in
+    let joins = slice_index line (length line - 1) == byte "\\" in
+    let text = if joins then take (length line - 1) line else line in
+    let own = filter (λ token. nat_lt 0 (length token)) (slice_split is_white text) in
     let more = joined rest in
-    if is_joined first.1 then record { number = first.0; tokens = own ++ flat_map (λ next. next.tokens) (take 1 more) } ∷ drop 1 more
+    if joins then record { number = first.0; tokens = own ++ flat_map (λ next. next.tokens) (take 1 more) } ∷ drop 1 more
     else record { number = first.0; tokens = own } ∷ more
 
 -- the logical lines of a file that have tokens; physical lines are numbered from 1
 unfoldable pub lines_of : Bytes → List Line
 lines_of bytes = filter (λ line. nat_lt 0 (length line.tokens)) (joined (enumerate_from 1 (slice_split is_feed bytes)))
+
+-- ---- shapes of private steps
+
+-- the last byte of the bare line is a backslash, so the next physical line is joined
+abbrev pub is_joined : Bytes → Bool
+is_joined line = slice_index (bare line) (length (bare line) - 1) == byte "\\"
+
+-- the tokens of a physical line
+abbrev pub tokens_of : Bytes → List Bytes
+tokens_of line =
+    let text = if is_joined line then take (length (bare line) - 1) (bare line) else bare line in
+    filter (λ token. nat_lt 0 (length token)) (slice_split is_white text)

@@ -1,6 +1,6 @@
 use Rattle.std.proofs.Common.{refl}
 use Rattle.blif_model.specs.Meant.{latch_line_of}
-use Rattle.blif_model.specs.Walk.{flat_latch_of}
+use Rattle.blif_model.specs.WalkSteps.{flat_latch_of}
 use Rattle.blif_flatten.specs.Seen.{scope_at}
 use Rattle.blif_flatten.proofs.Numbering.{latch_numbered}
 use Rattle.blif_flatten.proofs.acts.latch_act.Goals as goal
