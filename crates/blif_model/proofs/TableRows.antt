@@ -60,6 +60,7 @@ plane_above_more before line = fold_push (λ above (l : Said). plane_after above
 -- a row in its place is a row for the inputs of the table above
 row_here : (before : List Said) (tokens ins : List Name) → table_above before ≡ Some ins → place_fault before (row tokens) ≡ None
     → is_row_of (length ins) tokens ≡ true
+unfolding table_above
 row_here before tokens ins t e = grind arith
 
 rows_fit : (before lines : List Said) (ins : List Name) → AreSound before lines → table_above before ≡ Some ins
@@ -112,5 +113,5 @@ none_or true found fault e = e
 none_or false found fault e = cc
 
 pub rows-fit : (lines : List Said) → line_fault lines ≡ None → AllByRecursion ModelFits (models_of lines)
-unfolding line_fault
+unfolding line_fault kind_of
 rows-fit lines e = models_fit [] lines (none_or _ (first_after fault_of [] lines) _ e)

@@ -29,27 +29,11 @@ said_lines bytes =
     let is_wide = λ (token : Bytes). nat_lt 255 (length token) in
     map (λ line. record { number = line.number; says = statement_of line.tokens; wide = list_any is_wide line.tokens }) (lines_of bytes)
 
--- ---- where a line stands
-
--- a line stands inside a model where the last `.model` or `.end` line before it is a `.model` line
-unfoldable pub is_inside : List Said → Bool
-is_inside before = fold (λ inside line. elim line.says [ model name ↦ true | end ↦ false | _ ↦ inside ]) false before
-
--- the inputs of the table that a row belongs to: nothing but rows and lines that are read past stands in between
-unfoldable pub table_above : List Said → Option (List Name)
-table_above before =
-    fold (λ above line. elim line.says [ table ins out ↦ Some ins | row tokens ↦ above | passed ↦ above | _ ↦ None ]) None before
+-- ---- the kind of a line
 
 -- the output of a row is its last token
 abbrev pub row_output : List Name → Name
 row_output = elim [ [] ↦ [] | output ∷ [] ↦ output | cells ∷ output ∷ _ ↦ output ]
-
--- the output of the first row of the table that a row belongs to, where there is one
-unfoldable pub plane_above : List Said → Option Name
-plane_above before =
-    fold (λ above line. elim line.says [ row tokens ↦ option_or above (Some (row_output tokens)) | passed ↦ above | _ ↦ None ]) None before
-
--- ---- rows
 
 -- a row for no inputs is a bit; otherwise it is a cell for each input, which is 0, 1 or a dash, and a bit
 abbrev pub is_row_of : ℕ → List Name → Bool
@@ -58,32 +42,45 @@ is_row_of count (cells ∷ output ∷ []) =
     nat_lt 0 count && length cells == count && list_all (λ b. b == byte "0" || b == byte "1" || b == byte "-") cells && is_bit output
 is_row_of count _ = false
 
--- a row follows a table, is well-formed, and has the output of the table's first row
-abbrev pub row_fault : List Said → List Name → Option NetlistKind
-row_fault before tokens =
-    let is_mixed = option_map_or (λ output. not (bytes_eq output (row_output tokens))) (plane_above before) false in
-    let fault_below = λ (ins : List Name). if is_row_of (length ins) tokens then given is_mixed MixedPlane else Some BadRow in
-    option_map_or fault_below (table_above before) (Some BadRow)
-
--- ---- the least kind
-
 -- the kind of a line, the width of its tokens aside: a `.model` line and one that is read past may stand anywhere, any other in a model
 abbrev pub place_fault : List Said → Statement → Option NetlistKind
-place_fault before passed = None
-place_fault before (model name) = None
-place_fault before unnamed = Some BadToken
-place_fault before (wrong kind) = if is_inside before then Some kind else Some NoModel
-place_fault before (row tokens) = if is_inside before then row_fault before tokens else Some NoModel
-place_fault before (table ins out) = if is_inside before then given (nat_lt 1024 (length ins)) TooWide else Some NoModel
-place_fault before _ = if is_inside before then None else Some NoModel
+place_fault before says =
+    -- a line stands inside a model where the last `.model` or `.end` line before it is a `.model` line
+    let inside = fold (λ inside line. elim line.says [ model name ↦ true | end ↦ false | _ ↦ inside ]) false before in
+    -- a row belongs to a table where nothing but rows and lines that are read past stands in between, and has the output of its first row
+    let above = fold (λ above line. elim line.says [ table ins out ↦ Some ins | row tokens ↦ above | passed ↦ above | _ ↦ None ]) None before in
+    let plane = fold (λ p line. elim line.says [ row cells ↦ option_or p (Some (row_output cells)) | passed ↦ p | _ ↦ None ]) None before in
+    let is_mixed = λ (tokens : List Name). option_map_or (λ output. not (bytes_eq output (row_output tokens))) plane false in
+    let own_plane = λ (tokens : List Name) (ins : List Name). if is_row_of (length ins) tokens then given (is_mixed tokens) MixedPlane else Some BadRow in
+    let of_row = λ (tokens : List Name). option_map_or (own_plane tokens) above (Some BadRow) in
+    let of_table = λ (ins : List Name). given (nat_lt 1024 (length ins)) TooWide in
+    let own : Option NetlistKind = elim says [ wrong kind ↦ Some kind | row tokens ↦ of_row tokens | table ins out ↦ of_table ins | _ ↦ None ] in
+    elim says [ passed ↦ None | model name ↦ None | unnamed ↦ Some BadToken | _ ↦ if inside then own else Some NoModel ]
 
--- the least kind of a line: the width of its tokens comes last
-unfoldable pub kind_of : List Said → Said → Option NetlistKind
-kind_of before line = option_or (place_fault before line.says) (given line.wide TooWide)
-
--- the first faulty line; a file without a line that is read is faulty at line 1
+-- the first faulty line, by its least kind; a file without a line that is read is faulty at line 1
 unfoldable pub line_fault : List Said → Option NetlistFault
 line_fault lines =
+    let least_kind = λ (before : List Said) (line : Said). option_or (place_fault before line.says) (given line.wide TooWide) in
     if list_any (λ line. elim line.says [ passed ↦ false | _ ↦ true ]) lines
-    then first_after (λ before line. option_map (at_line line.number) (kind_of before line)) [] lines
+    then first_after (λ before line. option_map (at_line line.number) (least_kind before line)) [] lines
     else Some (at_line 1 NoModel)
+
+-- ---- shapes of private steps: where a line stands, and its kind
+
+-- a line stands inside a model
+unfoldable pub is_inside : List Said → Bool
+is_inside before = fold (λ inside line. elim line.says [ model name ↦ true | end ↦ false | _ ↦ inside ]) false before
+
+-- the inputs of the table that a row belongs to
+unfoldable pub table_above : List Said → Option (List Name)
+table_above before =
+    fold (λ above line. elim line.says [ table ins out ↦ Some ins | row tokens ↦ above | passed ↦ above | _ ↦ None ]) None before
+
+-- the output of the first row of that table, where there is one
+unfoldable pub plane_above : List Said → Option Name
+plane_above before =
+    fold (λ above line. elim line.says [ row tokens ↦ option_or above (Some (row_output tokens)) | passed ↦ above | _ ↦ None ]) None before
+
+-- the least kind of a line
+unfoldable pub kind_of : List Said → Said → Option NetlistKind
+kind_of before line = option_or (place_fault before line.says) (given line.wide TooWide)

@@ -1,14 +1,14 @@
 -- Shapes of private steps: what a line says as it is read, what it means for the place of the next one, and its fault part by part.
-use Rattle.std.specs.Prelude.{ℕ, Bool, true, false, not, ◌||◌, ◌==◌, List, length, map, Option, Some, None, bytes_eq, nat_lt}
+use Rattle.std.specs.Prelude.{ℕ, Bool, true, false, not, ◌||◌, ◌==◌, List, if◌then◌else◌, length, map, Option, Some, None, bytes_eq, nat_lt}
 use Rattle.std.specs.Option.{option_or, option_map, option_map_or}
 use Rattle.std.specs.Str.{byte}
 use Rattle.blif_text.specs.declared.NetlistKind.{NetlistKind}
-use Rattle.blif_text.specs.declared.NetlistKind.TheVariants.{MixedPlane, TooWide}
+use Rattle.blif_text.specs.declared.NetlistKind.TheVariants.{BadRow, MixedPlane, TooWide}
 use Rattle.blif_text.specs.declared.NetlistFault.{NetlistFault}
 use Rattle.blif_text.specs.Placed.{PlacedLine, is_wide}
 use Rattle.fm_base.specs.Firsts.{given}
 use Rattle.fm_base.specs.Names.{Name}
-use Rattle.blif_model.specs.LineFault.{Said, at_line, kind_of, plane_above, row_fault, row_output}
+use Rattle.blif_model.specs.LineFault.{Said, at_line, is_row_of, kind_of, plane_above, row_output, table_above}
 use Rattle.blif_model.specs.Statement.{Statement, model, table, end, row, passed, wrong, statement_of}
 
 -- the texts of a line's tokens
@@ -46,6 +46,11 @@ is_cell b = b == byte "0" || b == byte "1" || b == byte "-"
 abbrev pub plane_fault : List Said → List Name → Option NetlistKind
 plane_fault before tokens =
     given (option_map_or (λ output. not (bytes_eq output (row_output tokens))) (plane_above before) false) MixedPlane
+
+-- a row follows a table, is well-formed, and has the output of the table's first row
+abbrev pub row_fault : List Said → List Name → Option NetlistKind
+row_fault before tokens =
+    option_map_or (λ ins. if is_row_of (length ins) tokens then plane_fault before tokens else Some BadRow) (table_above before) (Some BadRow)
 
 -- the kind of a line inside a model, the width of its tokens aside
 abbrev pub own_line_kind : List Said → Statement → Option NetlistKind

@@ -3,8 +3,8 @@ ghost use Rattle.std.specs.Prelude.{◌≡◌, [], List};
 ghost use Rattle.std.specs.List.{list_any};
 ghost use Rattle.std.specs.Option.{option_map};
 ghost use Rattle.fm_base.specs.Firsts.{first_after};
-ghost use Rattle.blif_model.specs.LineFault.{kind_of, line_fault, place_fault, plane_above, row_fault, Said};
-ghost use Rattle.blif_model.specs.LineSteps.{fault_of, is_read, own_line_kind, plane_fault};
+ghost use Rattle.blif_model.specs.LineFault.{kind_of, line_fault, place_fault, plane_above, Said};
+ghost use Rattle.blif_model.specs.LineSteps.{fault_of, is_read, own_line_kind, plane_fault, row_fault};
 ghost use Rattle.blif_model.specs.Meant.{meant};
 ghost use Rattle.blif_model.specs.Position.{IsBehind};
 ghost use Rattle.blif_model.specs.Tokens.{texts_of};
@@ -66,6 +66,7 @@ fn own_fault(position: &Position<'_, '_>, says: Says<'_, '_>) -> Option<NetlistK
     }
 }
 
+#[tactic(auto, unfolding(crate::specs::LineFault::is_inside, crate::specs::LineFault::table_above, crate::specs::LineFault::plane_above))]
 fn place_fault(position: &Position<'_, '_>, says: Says<'_, '_>) -> Option<NetlistKind>
     ensures { (before : List Said) → IsBehind before position.now → result ≡ place_fault before (meant says.entry) }
 {
@@ -136,7 +137,7 @@ fn any_read(lines: &[ReadLine<'_>]) -> bool
 }
 
 /// The fault of a file's lines, if there is one.
-#[tactic(auto, unfolding(crate::specs::LineFault::line_fault))]
+#[tactic(auto, unfolding(crate::specs::LineFault::line_fault, crate::specs::LineFault::kind_of))]
 pub fn fault_in(lines: &[ReadLine<'_>]) -> Option<NetlistFault>
     ensures { result ≡ line_fault lines.now }
 {
