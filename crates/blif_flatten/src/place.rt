@@ -2,8 +2,8 @@
 ghost use Rattle.std.specs.Prelude.{◌≡◌, ◌++◌, map, IfOk, OnOk};
 ghost use Rattle.blif_model.specs.Meant.{bindings_of};
 ghost use Rattle.blif_model.specs.Tokens.{texts_of};
-ghost use Rattle.blif_model.specs.Walk.{net_of, scope_of};
-ghost use Rattle.blif_model.specs.WalkSteps.{path_of};
+ghost use Rattle.blif_model.specs.Walk.{net_of};
+ghost use Rattle.blif_model.specs.WalkSteps.{scope_of, path_of};
 ghost use Rattle.blif_flatten.specs.Seen.{scope_at};
 
 use crate::bound::BoundNets;

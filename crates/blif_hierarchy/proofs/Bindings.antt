@@ -134,7 +134,7 @@ first_link models kind line test each none =
 
 pub link_faults : (models : List Model)
     → link_fault (file_links models) ≡ first_answer (unknown_model models ∷ bad_formal models ∷ unbound models ∷ [])
-unfolding unknown_model bad_formal unbound
+unfolding unknown_model bad_formal unbound formals formal_inputs
 link_faults models =
     rw (
       first_link models UnknownModel (λ (l : LinkLines). l.unknown) (λ i. is_none (model_named models i.name)) (λ f i. refl) refl,

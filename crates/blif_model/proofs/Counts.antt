@@ -7,8 +7,8 @@ use Rattle.std.proofs.lemmas.List.Sums.{sum_by-append, sum_by-cons}
 use Rattle.blif_model.specs.Statement.{Statement, table, instance}
 use Rattle.blif_model.specs.Models.{Item, Instance, Model, model_named, main_of, instances, sum_over_instances, cell_count}
 use Rattle.blif_model.specs.ModelSteps.{instance_from, cells_from}
-use Rattle.blif_model.specs.Walk.{Scope, top, inside, Act, flat_table, Step, acts_of, scope_of, net_of, steps_from, enter, walk}
-use Rattle.blif_model.specs.WalkSteps.{inner_steps, next}
+use Rattle.blif_model.specs.Walk.{Scope, top, inside, Act, flat_table, Step, acts_of, net_of, steps_from, enter, walk}
+use Rattle.blif_model.specs.WalkSteps.{scope_of, inner_steps, next}
 use Rattle.fm_base.specs.Names.{Name}
 use Rattle.blif_model.proofs.Depth.{number_of, sum_by_numbers}
 

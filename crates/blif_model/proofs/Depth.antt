@@ -14,8 +14,8 @@ use Rattle.fm_base.proofs.Tests.{both_false, or_false}
 use Rattle.net_names.proofs.Answers.{none_given}
 use Rattle.blif_model.specs.Models.{Model, Item, Instance, at_model, model_named, instances, has_nest, main_of, sum_over_instances}
 use Rattle.blif_model.specs.ModelSteps.{instance_from}
-use Rattle.blif_model.specs.Walk.{Scope, Step, top, enter, scope_of, steps_from, walk}
-use Rattle.blif_model.specs.WalkSteps.{steps_of, next}
+use Rattle.blif_model.specs.Walk.{Scope, Step, top, enter, steps_from, walk}
+use Rattle.blif_model.specs.WalkSteps.{scope_of, steps_of, next}
 use Rattle.blif_model.specs.ModelFault.{too_deep}
 
 -- what is asked of a `.subckt` line by its model's name

@@ -9,8 +9,8 @@ use Rattle.blif_text.proofs.Slices.{all-append}
 use Rattle.blif_model.specs.LineFault.{is_row_of}
 use Rattle.blif_model.specs.Statement.{Statement, table, instance}
 use Rattle.blif_model.specs.Models.{Item, Model, model_named, main_of}
-use Rattle.blif_model.specs.Walk.{Scope, top, inside, Act, flat_table, Step, acts_of, scope_of, net_of, steps_from, enter, walk}
-use Rattle.blif_model.specs.WalkSteps.{inner_steps, next}
+use Rattle.blif_model.specs.Walk.{Scope, top, inside, Act, flat_table, Step, acts_of, net_of, steps_from, enter, walk}
+use Rattle.blif_model.specs.WalkSteps.{scope_of, inner_steps, next}
 use Rattle.blif_model.proofs.TableRows.{RowsFit, ItemFits, ModelFits}
 
 -- the rows of a table of the walk have a cell for each input

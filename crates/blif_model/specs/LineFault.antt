@@ -48,13 +48,13 @@ place_fault before says =
     -- a line stands inside a model where the last `.model` or `.end` line before it is a `.model` line
     let inside = fold (λ inside line. elim line.says [ model name ↦ true | end ↦ false | _ ↦ inside ]) false before in
     -- a row belongs to a table where nothing but rows and lines that are read past stands in between, and has the output of its first row
-    let above = fold (λ above line. elim line.says [ table ins out ↦ Some ins | row tokens ↦ above | passed ↦ above | _ ↦ None ]) None before in
+    let above = fold (λ t line. elim line.says [ table ins out ↦ Some ins | row cells ↦ t | passed ↦ t | _ ↦ None ]) None before in
     let plane = fold (λ p line. elim line.says [ row cells ↦ option_or p (Some (row_output cells)) | passed ↦ p | _ ↦ None ]) None before in
     let is_mixed = λ (tokens : List Name). option_map_or (λ output. not (bytes_eq output (row_output tokens))) plane false in
-    let own_plane = λ (tokens : List Name) (ins : List Name). if is_row_of (length ins) tokens then given (is_mixed tokens) MixedPlane else Some BadRow in
+    let own_plane = λ (tokens ins : List Name). if is_row_of (length ins) tokens then given (is_mixed tokens) MixedPlane else Some BadRow in
     let of_row = λ (tokens : List Name). option_map_or (own_plane tokens) above (Some BadRow) in
     let of_table = λ (ins : List Name). given (nat_lt 1024 (length ins)) TooWide in
-    let own : Option NetlistKind = elim says [ wrong kind ↦ Some kind | row tokens ↦ of_row tokens | table ins out ↦ of_table ins | _ ↦ None ] in
+    let own : Option NetlistKind = elim says [ wrong kind ↦ Some kind | row t ↦ of_row t | table ins out ↦ of_table ins | _ ↦ None ] in
     elim says [ passed ↦ None | model name ↦ None | unnamed ↦ Some BadToken | _ ↦ if inside then own else Some NoModel ]
 
 -- the first faulty line, by its least kind; a file without a line that is read is faulty at line 1

@@ -50,7 +50,8 @@ plane_fault before tokens =
 -- a row follows a table, is well-formed, and has the output of the table's first row
 abbrev pub row_fault : List Said → List Name → Option NetlistKind
 row_fault before tokens =
-    option_map_or (λ ins. if is_row_of (length ins) tokens then plane_fault before tokens else Some BadRow) (table_above before) (Some BadRow)
+    let fault = λ (ins : List Name). if is_row_of (length ins) tokens then plane_fault before tokens else Some BadRow in
+    option_map_or fault (table_above before) (Some BadRow)
 
 -- the kind of a line inside a model, the width of its tokens aside
 abbrev pub own_line_kind : List Said → Statement → Option NetlistKind

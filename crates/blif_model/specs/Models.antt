@@ -43,31 +43,13 @@ models_of (line ∷ lines) =
     let items = items_of (before_first (λ below. elim below.says [ end ↦ true | model name ↦ true | _ ↦ false ]) lines) in
     elim line.says [ model name ↦ record { name = name; line = line.number; items = items } ∷ [] | _ ↦ [] ] ++ models_of lines
 
--- the models of the bytes of a file
-unfoldable pub file_models : Bytes → List Model
-file_models bytes = models_of (said_lines bytes)
-
 -- the first model is the main one
 abbrev pub main_of : List Model → Model
 main_of models = slice_index_or models 0 (record { name = []; line = 1; items = [] })
 
--- the model of a name
-abbrev pub model_named : List Model → Name → Option Model
-model_named models name = find (λ m. bytes_eq m.name name) models
-
 -- a value of the model of a name, or the default where there is none
 abbrev pub at_model : {X : Type 0} → List Model → Name → (Model → X) → X → X
-at_model models name value default = option_map_or value (model_named models name) default
-
--- ---- formals
-
--- the formal inputs of a model, which each instance binds: the names on its `.inputs` and `.clock` lines
-unfoldable pub formal_inputs : Model → List Name
-formal_inputs m = flat_map (λ item. elim item.says [ inputs names ↦ names | clock names ↦ names | _ ↦ [] ]) m.items
-
--- the formals of a model, which an instance may bind: those on its `.outputs` lines too
-unfoldable pub formals : Model → List Name
-formals m = flat_map (λ item. elim item.says [ inputs names ↦ names | outputs names ↦ names | clock names ↦ names | _ ↦ [] ]) m.items
+at_model models name value default = option_map_or value (find (λ m. bytes_eq m.name name) models) default
 
 -- ---- instances
 
@@ -95,6 +77,24 @@ unfoldable pub sum_over_instances : (Model → ℕ) → List Model → ℕ → M
 sum_over_instances own models zero m = own m
 sum_over_instances own models (suc depth) m =
     own m + sum_by (λ i. at_model models i.name (sum_over_instances own models depth) 0) (instances m)
+
+-- ---- shapes of private steps: the models of a file, one of a name, and what is told of a model
+
+-- the models of the bytes of a file
+unfoldable pub file_models : Bytes → List Model
+file_models bytes = models_of (said_lines bytes)
+
+-- the model of a name
+abbrev pub model_named : List Model → Name → Option Model
+model_named models name = find (λ m. bytes_eq m.name name) models
+
+-- the formal inputs of a model, which each instance binds: the names on its `.inputs` and `.clock` lines
+unfoldable pub formal_inputs : Model → List Name
+formal_inputs m = flat_map (λ item. elim item.says [ inputs names ↦ names | clock names ↦ names | _ ↦ [] ]) m.items
+
+-- the formals of a model, which an instance may bind: those on its `.outputs` lines too
+unfoldable pub formals : Model → List Name
+formals m = flat_map (λ item. elim item.says [ inputs names ↦ names | outputs names ↦ names | clock names ↦ names | _ ↦ [] ]) m.items
 
 -- the cells of a model's own tables: rows times inputs, where no rows count as one row and no inputs as one input
 abbrev pub cell_count : Model → ℕ

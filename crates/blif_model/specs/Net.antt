@@ -23,11 +23,11 @@ unfoldable pub circuit_of : List Step → Circuit
 circuit_of steps =
     let nets = nets_of steps in
     let ids = map (net_id nets) in
-    let inputs = flat_map (λ s. elim s.act [ takes names ↦ unclocked steps names | _ ↦ [] ]) steps in
-    let outputs = distinct (flat_map (λ s. elim s.act [ gives names ↦ names | _ ↦ [] ]) steps) in
+    let ins = flat_map (λ s. elim s.act [ takes names ↦ unclocked steps names | _ ↦ [] ]) steps in
+    let outs = distinct (flat_map (λ s. elim s.act [ gives names ↦ names | _ ↦ [] ]) steps) in
     let table_nets = flat_map (λ s. elim s.act [ flat_table ins out rows ↦ out ∷ [] | _ ↦ [] ]) steps in
     let latch_nets = flat_map (λ s. elim s.act [ flat_latch l ↦ l.to ∷ [] | _ ↦ [] ]) steps in
-    let drivers = with_drivers Input inputs ++ with_drivers FromTable table_nets ++ with_drivers FromLatch latch_nets in
+    let driven = with_drivers Input ins ++ with_drivers FromTable table_nets ++ with_drivers FromLatch latch_nets in
     -- a row has a literal for each input; the plane is the output of the first row, and a table without rows has it true
     let lit = λ (b : ℕ). if b == byte "0" then Zero else if b == byte "1" then One else Any in
     let lits : List Name → List Lit = elim [ cells ∷ output ∷ _ ↦ map lit cells | _ ↦ [] ] in
@@ -36,7 +36,7 @@ circuit_of steps =
     let tables : List Table = filter_map (λ s. elim s.act [ flat_table ins out rows ↦ Some (table ins rows) | _ ↦ None ]) steps in
     let latch : LatchLine → Latch = λ l. record { from = net_id nets l.from; to = net_id nets l.to; start = l.start } in
     let latches : List Latch = filter_map (λ s. elim s.act [ flat_latch l ↦ Some (latch l) | _ ↦ None ]) steps in
-    record { names = nets; drivers = map (driver_of drivers) nets; tables = tables; latches = latches; inputs = ids inputs; outputs = ids outputs }
+    record { names = nets; drivers = map (driver_of driven) nets; tables = tables; latches = latches; inputs = ids ins; outputs = ids outs }
 
 -- the netlist of a file's bytes, or the line and the kind for which they are refused
 unfoldable pub netlist_of : Bytes → Result Circuit NetlistFault

@@ -18,12 +18,6 @@ unfoldable pub net_of : Scope → Name → Name
 net_of top name = name
 net_of (inside path bound) name = option_map_or (λ b. b.actual) (find (λ b. bytes_eq b.formal name) bound) (path ++ codes "." ++ name)
 
--- the scope of instance j
-abbrev pub scope_of : Scope → ℕ → List Binding → Scope
-scope_of scope j bindings =
-    let path : Name = elim scope [ top ↦ codes "u" ++ decimal j | inside path bound ↦ path ++ codes ".u" ++ decimal j ] in
-    inside path (map (λ b. record { formal = b.formal; actual = net_of scope b.actual }) bindings)
-
 -- ---- the steps of the walk
 
 -- what a line of the walk does with its nets
@@ -48,7 +42,7 @@ acts_of scope says rows =
       | outputs names ↦ port gives names ∷ []
       | clock names ↦ port clocks names ∷ []
       | table ins out ↦ flat_table (map net ins) (net out) rows ∷ []
-      | latch l ↦ flat_latch (record { from = net l.from; to = net l.to; edge = l.edge; control = option_map net l.control; start = l.start }) ∷ []
+      | latch l ↦ flat_latch (record l { from = net l.from; to = net l.to; control = option_map net l.control }) ∷ []
       | instance name bindings ↦ visits (map (λ b. net b.actual) bindings) ∷ []
       | _ ↦ []
     ]
@@ -58,7 +52,9 @@ unfoldable pub steps_from : (Scope → Name → List Step) → Scope → ℕ →
 steps_from enter scope j [] = []
 steps_from enter scope j (item ∷ items) =
     let own = map (λ act. record { line = item.line; act = act }) (acts_of scope item.says item.rows) in
-    let inner : List Step = elim item.says [ instance name bindings ↦ enter (scope_of scope j bindings) name | _ ↦ [] ] in
+    let path : Name = elim scope [ top ↦ codes "u" ++ decimal j | inside path bound ↦ path ++ codes ".u" ++ decimal j ] in
+    let bound = map (λ (b : Binding). record { formal = b.formal; actual = net_of scope b.actual }) in
+    let inner : List Step = elim item.says [ instance name bindings ↦ enter (inside path (bound bindings)) name | _ ↦ [] ] in
     let next : ℕ = elim item.says [ instance name bindings ↦ j + 1 | _ ↦ j ] in
     own ++ inner ++ steps_from enter scope next items
 
@@ -111,10 +107,8 @@ unclocked steps names = filter (λ name. not (is_clock steps name)) names
 unfoldable pub nets_of : List Step → List Name
 nets_of steps = unclocked steps (distinct (map (λ v. v.name) (visits_of steps)))
 
--- the nets that a line drives: inputs that are no clock names, the output of a table, and that of a latch
-abbrev pub driven_nets : List Step → Act → List Name
-driven_nets steps = elim [ takes names ↦ unclocked steps names | flat_table ins out rows ↦ out ∷ [] | flat_latch l ↦ l.to ∷ [] | _ ↦ [] ]
-
--- the nets that are driven, each as often as it is, in the order of the walk
+-- the nets that are driven, each as often as it is, in the order of the walk: inputs but clock names, and what tables and latches drive
 unfoldable pub drives_of : List Step → List Visit
-drives_of steps = flat_map (λ s. names_at s.line (driven_nets steps s.act)) steps
+drives_of steps =
+    let driven : Act → List Name = elim [ takes ns ↦ unclocked steps ns | flat_table _ o _ ↦ o ∷ [] | flat_latch l ↦ l.to ∷ [] | _ ↦ [] ] in
+    flat_map (λ s. names_at s.line (driven s.act)) steps

@@ -12,12 +12,17 @@ use Rattle.net_names.specs.Nets.{net_id}
 use Rattle.blif_text.specs.declared.NetlistFault.{NetlistFault}
 use Rattle.blif_model.specs.Models.{Item}
 use Rattle.blif_model.specs.Net.{circuit_of, lits_of, table_plane}
-use Rattle.blif_model.specs.Statement.{LatchLine, Statement, instance}
-use Rattle.blif_model.specs.Walk.{Act, takes, gives, clocks, visits, flat_table, flat_latch, Scope, top, inside, Step, acts_of, net_of, scope_of, unclocked}
+use Rattle.blif_model.specs.Statement.{Binding, LatchLine, Statement, instance}
+use Rattle.blif_model.specs.Walk.{Act, takes, gives, clocks, visits, flat_table, flat_latch, Scope, top, inside, Step, acts_of, net_of, unclocked}
 
 -- the path of instance j
 abbrev pub path_of : ℕ → Scope → Name
 path_of j = elim [ top ↦ codes "u" ++ decimal j | inside path bound ↦ path ++ codes ".u" ++ decimal j ]
+
+-- the scope of instance j
+abbrev pub scope_of : Scope → ℕ → List Binding → Scope
+scope_of scope j bindings =
+    inside (path_of j scope) (map (λ b. record { formal = b.formal; actual = net_of scope b.actual }) bindings)
 
 -- a line of ports means something of its own in the main model alone
 abbrev pub port : (List Name → Act) → List Name → Scope → Act
@@ -45,6 +50,10 @@ steps_of enter scope j item =
     map (λ act. record { line = item.line; act = act }) (acts_of scope item.says item.rows) ++ inner_steps enter scope j item.says
 
 -- ---- names of a line
+
+-- the nets that a line drives: inputs that are no clock names, the output of a table, and that of a latch
+abbrev pub driven_nets : List Step → Act → List Name
+driven_nets steps = elim [ takes names ↦ unclocked steps names | flat_table ins out rows ↦ out ∷ [] | flat_latch l ↦ l.to ∷ [] | _ ↦ [] ]
 
 -- the clock names that a line brings
 abbrev pub clocked : Act → List Name

@@ -8,8 +8,8 @@ use Rattle.fm_base.specs.Names.{Name}
 use Rattle.blif_model.specs.Statement.{Statement, inputs, outputs, clock, latch, instance}
 use Rattle.blif_model.specs.Models.{Item, Instance, Model, at_model, model_named, main_of, instances, sum_over_instances}
 use Rattle.blif_model.specs.ModelSteps.{instance_from}
-use Rattle.blif_model.specs.Walk.{Scope, top, inside, Step, acts_of, clock_names, net_of, scope_of, steps_from, enter, walk}
-use Rattle.blif_model.specs.WalkSteps.{clocked, inner_steps, next}
+use Rattle.blif_model.specs.Walk.{Scope, top, inside, Step, acts_of, clock_names, net_of, steps_from, enter, walk}
+use Rattle.blif_model.specs.WalkSteps.{scope_of, clocked, inner_steps, next}
 use Rattle.blif_reader.specs.Mentions.{count_of_mentions, mention_count, mentions_on}
 use Rattle.blif_model.proofs.Counts.{named_sum, named_at, named_more}
 

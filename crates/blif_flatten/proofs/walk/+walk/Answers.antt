@@ -4,7 +4,8 @@ use Rattle.std.proofs.lemmas.List.{length-drop, length-take}
 use Rattle.std.proofs.lemmas.Result.{IfOk-weaker}
 use Rattle.blif_model.specs.Meant.{bindings_of}
 use Rattle.blif_model.specs.Tokens.{texts_of}
-use Rattle.blif_model.specs.Walk.{enter, scope_of}
+use Rattle.blif_model.specs.Walk.{enter}
+use Rattle.blif_model.specs.WalkSteps.{scope_of}
 use Rattle.blif_flatten.specs.Seen.{scope_at}
 use Rattle.blif_flatten.proofs.Walking.{enter_none, enter_some, first_line, no_line, walked_none, walked_past, walked_then}
 use Rattle.blif_flatten.proofs.walk.+walk.Goals as goal
