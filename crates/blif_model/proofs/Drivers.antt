@@ -14,8 +14,8 @@ use Rattle.net_names.specs.Driven.{drives, name_count}
 use Rattle.net_names.proofs.Answers.{none_given}
 use Rattle.net_names.proofs.Driven.{drives-of-lines}
 use Rattle.net_names.proofs.Times.{one_of_both}
-use Rattle.blif_model.specs.Walk.{Step, Visit, is_clock, nets_of, visits_of, drives_of, Act, takes, flat_table, flat_latch, visited, names_at}
-use Rattle.blif_model.specs.WalkSteps.{driven_nets, taken, table_net, latch_net}
+use Rattle.blif_model.specs.Walk.{Step, Visit, nets_of, visits_of, drives_of, Act, takes, flat_table, flat_latch, visited}
+use Rattle.blif_model.specs.WalkSteps.{is_clock, names_at, driven_nets, taken, table_net, latch_net}
 use Rattle.blif_model.specs.WalkFault.{has_visit, two_drivers, undriven}
 use Rattle.blif_model.proofs.Nets.{nets-found}
 

@@ -2,7 +2,8 @@
 use Rattle.std.proofs.Common.{◌≡◌, false, not, ◌&&◌, List, map, ap, ◌∙◌}
 use Rattle.fm_base.specs.Names.{Name, is_one_of, has_repeat, distinct}
 use Rattle.fm_base.proofs.Distinct.{distinct-found, distinct-apart, filter-found, no_repeat_where}
-use Rattle.blif_model.specs.Walk.{Step, Visit, is_clock, unclocked, nets_of, visits_of}
+use Rattle.blif_model.specs.Walk.{Step, Visit, unclocked, nets_of, visits_of}
+use Rattle.blif_model.specs.WalkSteps.{is_clock}
 
 -- a visited name is a net where it is no clock name
 pub nets-found : (steps : List Step) (names : List Name) (name : Name)

@@ -11,8 +11,8 @@ use Rattle.fm_base.proofs.Distinct.{distinct-found, is_same, same_name}
 use Rattle.net_names.proofs.Answers.{none_given}
 use Rattle.net_names.proofs.Times.{one_of_both}
 use Rattle.blif_model.specs.LineFault.{at_line}
-use Rattle.blif_model.specs.Walk.{Act, gives, flat_table, flat_latch, Step, visited, visits_of, is_clock, nets_of}
-use Rattle.blif_model.specs.WalkSteps.{outputs_at, read}
+use Rattle.blif_model.specs.Walk.{Act, gives, flat_table, flat_latch, Step, visited, visits_of, nets_of}
+use Rattle.blif_model.specs.WalkSteps.{is_clock, outputs_at, read}
 use Rattle.blif_model.specs.WalkFault.{clock_read}
 use Rattle.blif_model.specs.Net.{output_names_of}
 use Rattle.blif_model.proofs.Nets.{nets-found}

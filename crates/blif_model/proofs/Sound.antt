@@ -17,8 +17,8 @@ use Rattle.net_names.proofs.Once.{driven-once}
 use Rattle.net_names.proofs.Brought.{all-brought, as-many, in-order}
 use Rattle.net_names.proofs.Sound.{is-net, is-table, netlist-of-names, size-of-drivers}
 use Rattle.blif_model.specs.LineFault.{is_row_of}
-use Rattle.blif_model.specs.Walk.{Act, flat_table, flat_latch, Step, Visit, nets_of, drives_of, visits_of, is_clock}
-use Rattle.blif_model.specs.WalkSteps.{table_net, latch_net, outputs_at, read, lit_of, table_of, latch_of}
+use Rattle.blif_model.specs.Walk.{Act, flat_table, flat_latch, Step, Visit, nets_of, drives_of, visits_of}
+use Rattle.blif_model.specs.WalkSteps.{is_clock, table_net, latch_net, outputs_at, read, lit_of, table_of, latch_of}
 use Rattle.blif_model.specs.WalkFault.{two_drivers, undriven, clock_read}
 use Rattle.blif_model.specs.Net.{lits_of, table_plane, input_names_of, table_names_of, latch_names_of, output_names_of, circuit_of}
 use Rattle.blif_model.proofs.Nets.{nets-apart, nets-found}

@@ -60,9 +60,8 @@ place_fault before says =
 -- the first faulty line, by its least kind; a file without a line that is read is faulty at line 1
 unfoldable pub line_fault : List Said → Option NetlistFault
 line_fault lines =
-    let least_kind = λ (before : List Said) (line : Said). option_or (place_fault before line.says) (given line.wide TooWide) in
     if list_any (λ line. elim line.says [ passed ↦ false | _ ↦ true ]) lines
-    then first_after (λ before line. option_map (at_line line.number) (least_kind before line)) [] lines
+    then first_after (λ before l. option_map (at_line l.number) (option_or (place_fault before l.says) (given l.wide TooWide))) [] lines
     else Some (at_line 1 NoModel)
 
 -- ---- shapes of private steps: where a line stands, and its kind

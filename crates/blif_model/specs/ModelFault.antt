@@ -24,7 +24,6 @@ model_faults models =
     let any_beside = λ (names others : List Name). list_any (λ name. not (is_one_of others name)) names in
     let cells = λ (m : Model). sum_by (λ i. elim i.says [ table ins out ↦ max 1 (length i.rows) * max 1 (length ins) | _ ↦ 0 ]) m.items in
     let total = λ (own : Model → ℕ). sum_over_instances own models 32 (main_of models) in
-    let net_total = length (nets_of (walk models)) in
     -- TwoModels: a `.model` line has the name of an earlier one
     first_after (λ before m. given (list_any (λ earlier. bytes_eq earlier.name m.name) before) (at_line m.line TwoModels)) [] models
     -- UnknownModel: a `.subckt` line names no model
@@ -38,8 +37,8 @@ model_faults models =
     -- TooDeep: the instance of a line of the main model has 32 more, one in the other, in it
     ∷ first_where (λ i. given (at_model models i.name (has_nest models 32) false) (at_line i.line TooDeep)) (instances (main_of models))
     -- TooLarge: the flattened main model has too many instances, cells (rows times inputs of each table, each at least 1) or nets
-    ∷ given (nat_lt (2 ^ 18) (total (λ m. length (instances m))) || nat_lt (2 ^ 24) (total cells) || nat_lt (2 ^ 18) net_total)
-    (at_line (main_of models).line TooLarge)
+    ∷ given (nat_lt (2 ^ 18) (total (λ m. length (instances m))) || nat_lt (2 ^ 24) (total cells)
+    || nat_lt (2 ^ 18) (length (nets_of (walk models)))) (at_line (main_of models).line TooLarge)
     ∷ []
 
 -- ---- shapes of private steps: the first of these faults, and each kind by itself

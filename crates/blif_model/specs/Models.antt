@@ -55,15 +55,12 @@ at_model models name value default = option_map_or value (find (λ m. bytes_eq m
 
 -- the `.subckt` lines of a model, in order
 unfoldable pub instances : Model → List Instance
-instances m = filter_map
-    (λ item. elim item.says [ instance name bindings ↦ Some (record { line = item.line; name = name; bindings = bindings }) | _ ↦ None ])
-    m.items
+instances m = filter_map (λ i. elim i.says [ instance n bs ↦ Some (record { line = i.line; name = n; bindings = bs }) | _ ↦ None ]) m.items
 
 -- the model has this name, or reaches the name by at most so many instances, one in the other
 unfoldable pub reaches : List Model → ℕ → Name → Model → Bool
 reaches models zero name m = bytes_eq m.name name
-reaches models (suc steps) name m = bytes_eq m.name name
-    || list_any (λ i. at_model models i.name (reaches models steps name) false) (instances m)
+reaches models (suc n) name m = bytes_eq m.name name || list_any (λ i. at_model models i.name (reaches models n name) false) (instances m)
 
 -- so many instances stand one in the other, from this model down
 unfoldable pub has_nest : List Model → ℕ → Model → Bool
@@ -74,9 +71,8 @@ has_nest models (suc depth) m = list_any (λ i. at_model models i.name (has_nest
 
 -- a number of each model, summed over the model and all instances in it down to this depth
 unfoldable pub sum_over_instances : (Model → ℕ) → List Model → ℕ → Model → ℕ
-sum_over_instances own models zero m = own m
-sum_over_instances own models (suc depth) m =
-    own m + sum_by (λ i. at_model models i.name (sum_over_instances own models depth) 0) (instances m)
+sum_over_instances f models zero m = f m
+sum_over_instances f models (suc depth) m = f m + sum_by (λ i. at_model models i.name (sum_over_instances f models depth) 0) (instances m)
 
 -- ---- shapes of private steps: the models of a file, one of a name, and what is told of a model
 

@@ -1,6 +1,6 @@
 -- The walk of the flattened main model: its lines in order, with net names, and at each `.subckt` line those of the instance.
 -- Source: BLIF of SIS; the names of nets in instances are this project's own.
-use Rattle.std.specs.Prelude.{ℕ, zero, suc, ◌+◌, Bool, not, List, [], ◌∷◌, ◌++◌, codes, bytes_eq, decimal, find, map, flat_map, filter}
+use Rattle.std.specs.Prelude.{ℕ, zero, suc, ◌+◌, not, List, [], ◌∷◌, ◌++◌, codes, bytes_eq, decimal, find, map, flat_map, filter}
 use Rattle.std.specs.Option.{option_map, option_map_or, option_to_list}
 use Rattle.blif_model.specs.Statement.{Binding, LatchLine, Statement, inputs, outputs, clock, table, latch, instance}
 use Rattle.blif_model.specs.Models.{Item, Model, at_model, main_of}
@@ -83,25 +83,17 @@ pub record Visit : Type 0 where
   pub name : Name
   pub line : ℕ
 
--- names that stand at one line
-abbrev pub names_at : ℕ → List Name → List Visit
-names_at line names = map (λ name. record { name = name; line = line }) names
-
 -- the visits of the walk
 unfoldable pub visits_of : List Step → List Visit
-visits_of steps = flat_map (λ s. names_at s.line (visited s.act)) steps
+visits_of steps = flat_map (λ s. map (λ name. record { name = name; line = s.line }) (visited s.act)) steps
 
 -- the clock names: those on the main model's `.clock` lines, and the nets of all controls
 unfoldable pub clock_names : List Step → List Name
 clock_names steps = flat_map (λ s. elim s.act [ clocks names ↦ names | flat_latch l ↦ option_to_list l.control | _ ↦ [] ]) steps
 
--- the name is a clock name
-abbrev pub is_clock : List Step → Name → Bool
-is_clock steps name = is_one_of (clock_names steps) name
-
 -- the names without the clock names
 abbrev pub unclocked : List Step → List Name → List Name
-unclocked steps names = filter (λ name. not (is_clock steps name)) names
+unclocked steps names = filter (λ name. not (is_one_of (clock_names steps) name)) names
 
 -- the nets in order of first visit
 unfoldable pub nets_of : List Step → List Name
@@ -111,4 +103,4 @@ nets_of steps = unclocked steps (distinct (map (λ v. v.name) (visits_of steps))
 unfoldable pub drives_of : List Step → List Visit
 drives_of steps =
     let driven : Act → List Name = elim [ takes ns ↦ unclocked steps ns | flat_table _ o _ ↦ o ∷ [] | flat_latch l ↦ l.to ∷ [] | _ ↦ [] ] in
-    flat_map (λ s. names_at s.line (driven s.act)) steps
+    flat_map (λ s. map (λ name. record { name = name; line = s.line }) (driven s.act)) steps

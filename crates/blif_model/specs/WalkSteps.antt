@@ -1,5 +1,5 @@
 -- Shapes of private steps: the walk item by item, what each line of it brings, and the netlist part by part.
-use Rattle.std.specs.Prelude.{ℕ, ◌+◌, ◌==◌, List, [], ◌∷◌, ◌++◌, map, Option, Some, None, codes, decimal, if◌then◌else◌, Result, Ok, Err}
+use Rattle.std.specs.Prelude.{ℕ, ◌+◌, ◌==◌, Bool, List, [], ◌∷◌, ◌++◌, map, Option, Some, None, codes, decimal, if◌then◌else◌, Result, Ok, Err}
 use Rattle.std.specs.Option.{option_map, option_to_list}
 use Rattle.std.specs.Str.{byte}
 use Rattle.circuit.specs.declared.parts.Lit.{Lit}
@@ -7,13 +7,13 @@ use Rattle.circuit.specs.declared.parts.Lit.TheVariants.{Zero, One, Any}
 use Rattle.circuit.specs.declared.parts.Table.{Table}
 use Rattle.circuit.specs.declared.parts.Latch.{Latch}
 use Rattle.circuit.specs.Circuit.{Circuit}
-use Rattle.fm_base.specs.Names.{Name}
+use Rattle.fm_base.specs.Names.{Name, is_one_of}
 use Rattle.net_names.specs.Nets.{net_id}
 use Rattle.blif_text.specs.declared.NetlistFault.{NetlistFault}
 use Rattle.blif_model.specs.Models.{Item}
 use Rattle.blif_model.specs.Net.{circuit_of, lits_of, table_plane}
 use Rattle.blif_model.specs.Statement.{Binding, LatchLine, Statement, instance}
-use Rattle.blif_model.specs.Walk.{Act, takes, gives, clocks, visits, flat_table, flat_latch, Scope, top, inside, Step, acts_of, net_of, unclocked}
+use Rattle.blif_model.specs.Walk.{Act, takes, gives, clocks, visits, flat_table, flat_latch, Scope, top, inside, Step, Visit, clock_names, acts_of, net_of, unclocked}
 
 -- the path of instance j
 abbrev pub path_of : ℕ → Scope → Name
@@ -50,6 +50,14 @@ steps_of enter scope j item =
     map (λ act. record { line = item.line; act = act }) (acts_of scope item.says item.rows) ++ inner_steps enter scope j item.says
 
 -- ---- names of a line
+
+-- names that stand at one line
+abbrev pub names_at : ℕ → List Name → List Visit
+names_at line names = map (λ name. record { name = name; line = line }) names
+
+-- the name is a clock name
+abbrev pub is_clock : List Step → Name → Bool
+is_clock steps name = is_one_of (clock_names steps) name
 
 -- the nets that a line drives: inputs that are no clock names, the output of a table, and that of a latch
 abbrev pub driven_nets : List Step → Act → List Name

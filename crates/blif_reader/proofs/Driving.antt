@@ -11,8 +11,8 @@ use Rattle.net_names.proofs.Times.{one_of_both}
 use Rattle.blif_text.specs.declared.NetlistKind.TheVariants.{TwoDrivers}
 use Rattle.blif_text.specs.declared.NetlistFault.{NetlistFault}
 use Rattle.blif_model.specs.LineFault.{at_line}
-use Rattle.blif_model.specs.WalkSteps.{driven_nets}
-use Rattle.blif_model.specs.Walk.{Step, Visit, clock_names, is_clock, names_at}
+use Rattle.blif_model.specs.WalkSteps.{is_clock, names_at, driven_nets}
+use Rattle.blif_model.specs.Walk.{Step, Visit, clock_names}
 use Rattle.blif_model.specs.WalkFault.{has_visit}
 use Rattle.blif_model.proofs.Drivers.{names_at-names, visit-found}
 use Rattle.blif_flatten.specs.declared.flat.FlatModel.{FlatModel}

@@ -13,7 +13,8 @@ use Rattle.blif_text.specs.declared.NetlistKind.{NetlistKind}
 use Rattle.blif_text.specs.declared.NetlistKind.TheVariants.{Undriven}
 use Rattle.blif_text.specs.declared.NetlistFault.{NetlistFault}
 use Rattle.blif_model.specs.LineFault.{at_line}
-use Rattle.blif_model.specs.Walk.{Step, Visit, names_at, visits_of, is_clock, clock_names, drives_of}
+use Rattle.blif_model.specs.Walk.{Step, Visit, visits_of, clock_names, drives_of}
+use Rattle.blif_model.specs.WalkSteps.{is_clock, names_at}
 use Rattle.blif_model.specs.WalkFault.{has_visit, undriven}
 use Rattle.blif_model.proofs.Drivers.{visit-found}
 use Rattle.blif_flatten.specs.declared.sorts.Sort.{Sort}

@@ -10,7 +10,8 @@ use Rattle.std.proofs.lemmas.Option.{get_or_from_slice_get, slice_get_within}
 use Rattle.fm_base.specs.Lists.{same_bit}
 use Rattle.fm_base.specs.Names.{Name}
 use Rattle.fm_base.proofs.Finding.{find-map}
-use Rattle.blif_model.specs.Walk.{Step, Visit, names_at}
+use Rattle.blif_model.specs.Walk.{Step, Visit}
+use Rattle.blif_model.specs.WalkSteps.{names_at}
 use Rattle.blif_flatten.specs.declared.flat.FlatModel.{FlatModel}
 use Rattle.blif_flatten.specs.declared.flat.NameId.{NameId}
 use Rattle.blif_flatten.specs.declared.flat.NumberedStep.{NumberedStep}

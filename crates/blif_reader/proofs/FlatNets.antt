@@ -10,8 +10,8 @@ use Rattle.fm_base.specs.Names.{Name, is_one_of, distinct}
 use Rattle.fm_base.proofs.Distinct.{same_name, is_same, filter-found, no_repeat_where}
 use Rattle.net_names.proofs.Few.{no_more}
 use Rattle.net_names.proofs.Times.{one_of_both}
-use Rattle.blif_model.specs.Walk.{Act, flat_latch, Step, Visit, visited, visits_of, clock_names, is_clock, unclocked, names_at, nets_of}
-use Rattle.blif_model.specs.WalkSteps.{clocked, control_of}
+use Rattle.blif_model.specs.Walk.{Act, flat_latch, Step, Visit, visited, visits_of, clock_names, unclocked, nets_of}
+use Rattle.blif_model.specs.WalkSteps.{is_clock, names_at, clocked, control_of}
 use Rattle.blif_model.proofs.Drivers.{names_at-names}
 use Rattle.blif_flatten.proofs.Marking.{names_apart}
 use Rattle.blif_flatten.specs.Flat.{all_names, mentioned}

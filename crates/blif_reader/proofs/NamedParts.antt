@@ -9,8 +9,8 @@ use Rattle.fm_base.specs.Names.{Name, distinct, is_one_of}
 use Rattle.fm_base.proofs.Distinct.{distinct-snoc}
 use Rattle.fm_base.proofs.Lists.{all_left}
 use Rattle.net_names.specs.Nets.{net_id}
-use Rattle.blif_model.specs.WalkSteps.{latch_of, table_of, taken}
-use Rattle.blif_model.specs.Walk.{Act, takes, Step, nets_of, unclocked, is_clock}
+use Rattle.blif_model.specs.WalkSteps.{is_clock, latch_of, table_of, taken}
+use Rattle.blif_model.specs.Walk.{Act, takes, Step, nets_of, unclocked}
 use Rattle.blif_flatten.specs.declared.flat.FlatModel.{FlatModel}
 use Rattle.blif_flatten.specs.declared.flat.NameId.{NameId}
 use Rattle.blif_flatten.specs.declared.flat.NumberedAct.{NumberedAct}

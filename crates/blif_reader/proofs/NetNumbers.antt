@@ -9,7 +9,8 @@ use Rattle.circuit.specs.declared.parts.NetId.{NetId}
 use Rattle.fm_base.specs.Names.{Name, is_one_of, has_repeat}
 use Rattle.net_names.specs.Nets.{net_id}
 use Rattle.net_names.proofs.Times.{place-at, place_none}
-use Rattle.blif_model.specs.Walk.{is_clock, nets_of}
+use Rattle.blif_model.specs.Walk.{nets_of}
+use Rattle.blif_model.specs.WalkSteps.{is_clock}
 use Rattle.blif_model.proofs.Nets.{nets-apart}
 use Rattle.blif_flatten.specs.declared.flat.FlatModel.{FlatModel}
 use Rattle.blif_flatten.specs.Flat.{all_names}

@@ -2,7 +2,8 @@
 use Rattle.std.specs.Prelude.{Bool, false, List, flat_map, slice_index_or}
 use Rattle.fm_base.specs.Lists.{same_bit}
 use Rattle.fm_base.specs.Names.{Name}
-use Rattle.blif_model.specs.Walk.{Step, Visit, names_at}
+use Rattle.blif_model.specs.Walk.{Step, Visit}
+use Rattle.blif_model.specs.WalkSteps.{names_at}
 use Rattle.blif_flatten.specs.declared.flat.NameId.{NameId}
 use Rattle.blif_flatten.specs.declared.sorts.Sort.{Sort}
 use Rattle.blif_flatten.specs.Flat.{name_at}

@@ -1,7 +1,8 @@
 -- TwoDrivers by numbers: what is driven is marked, as the clock names are from the start.
 use Rattle.std.specs.Prelude.{◌≡◌, Bool, true, false, not, ◌||◌, List, [], ◌∷◌, ◌++◌, filter, map, slice_index_or, slice_set}
 use Rattle.fm_base.specs.Names.{Name, is_one_of}
-use Rattle.blif_model.specs.Walk.{Step, Visit, clock_names, drives_of, is_clock}
+use Rattle.blif_model.specs.Walk.{Step, Visit, clock_names, drives_of}
+use Rattle.blif_model.specs.WalkSteps.{is_clock}
 use Rattle.blif_flatten.specs.declared.flat.FlatModel.{FlatModel}
 use Rattle.blif_flatten.specs.declared.flat.NameId.{NameId}
 use Rattle.blif_flatten.specs.declared.flat.NumberedAct.{NumberedAct}

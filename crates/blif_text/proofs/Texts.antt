@@ -3,7 +3,7 @@ use Rattle.std.proofs.Common.{◌≡◌, ℕ, ◌+◌, Bool, true, false, cond, 
 use Rattle.std.specs.Prelude.{filter, flat_map, nat_lt}
 use Rattle.std.specs.List.{slice_split, enumerate_from}
 use Rattle.std.proofs.lemmas.List.{append-nil, length-map, map-append}
-use Rattle.blif_text.specs.Lines.{Line, is_feed, is_joined, is_white, joined, lines_of, tokens_of}
+use Rattle.blif_text.specs.Lines.{Line, bare, is_feed, is_joined, is_white, joined, lines_of, tokens_of}
 use Rattle.blif_text.specs.Placed.{Piece, PlacedLine, has_bytes, has_tokens, inked, join, pieces, placed, placed_joined, placed_lines, placed_tokens, text_line}
 
 abbrev text_of : Piece → List ℕ
@@ -46,7 +46,7 @@ join_texts n own (line ∷ more) =
 
 joined_texts : (n place : ℕ) (texts : List (List ℕ))
     → map text_line (placed_joined (enumerate_from n (placed place texts))) ≡ joined (enumerate_from n texts)
-unfolding placed joined placed_joined
+unfolding placed joined placed_joined bare
 joined_texts n place [] = refl
 joined_texts n place (text ∷ texts) =
     by_cases (is_joined text) (placed_tokens (record { start = place; text = text })) _ _ _

@@ -21,18 +21,15 @@ is_white b = b == 32 || b == 9 || b == 13
 abbrev pub is_hash : ℕ → Bool
 is_hash b = b == byte "#"
 
--- a physical line without its comment, and then without the white space at its end
-unfoldable pub bare : Bytes → Bytes
-bare line = let text = before_first is_hash line in take (length text - suffix_len is_white text) text
-
--- the logical lines of numbered physical lines, whose tokens stand between white bytes; a backslash at a line's end joins the next one
+-- the logical lines of numbered physical lines, without comments, cut at white bytes; a backslash at a line's end joins the next one
 unfoldable pub joined : List (ℕ × Bytes) → List Line
 joined [] = []
 joined (first ∷ rest) =
-    let line = bare first.1 in
+    let text = before_first is_hash first.1 in
+    let line = take (length text - suffix_len is_white text) text in
     let joins = slice_index line (length line - 1) == byte "\\" in
-    let text = if joins then take (length line - 1) line else line in
-    let own = filter (λ token. nat_lt 0 (length token)) (slice_split is_white text) in
+    let inked = if joins then take (length line - 1) line else line in
+    let own = filter (λ token. nat_lt 0 (length token)) (slice_split is_white inked) in
     let more = joined rest in
     if joins then record { number = first.0; tokens = own ++ flat_map (λ next. next.tokens) (take 1 more) } ∷ drop 1 more
     else record { number = first.0; tokens = own } ∷ more
@@ -41,7 +38,11 @@ joined (first ∷ rest) =
 unfoldable pub lines_of : Bytes → List Line
 lines_of bytes = filter (λ line. nat_lt 0 (length line.tokens)) (joined (enumerate_from 1 (slice_split is_feed bytes)))
 
--- ---- shapes of private steps
+-- ---- shapes of private steps: what is told of one physical line
+
+-- a physical line without its comment, and then without the white space at its end
+unfoldable pub bare : Bytes → Bytes
+bare line = let text = before_first is_hash line in take (length text - suffix_len is_white text) text
 
 -- the last byte of the bare line is a backslash, so the next physical line is joined
 abbrev pub is_joined : Bytes → Bool

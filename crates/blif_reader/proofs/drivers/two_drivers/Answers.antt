@@ -3,7 +3,8 @@ use Rattle.std.proofs.lemmas.Grind.{common_steps}
 use Rattle.std.proofs.lemmas.List.{append-nil}
 use Rattle.fm_base.specs.Firsts.{first_after}
 use Rattle.fm_base.specs.Names.{Name, is_one_of}
-use Rattle.blif_model.specs.Walk.{clock_names, drives_of, is_clock}
+use Rattle.blif_model.specs.Walk.{clock_names, drives_of}
+use Rattle.blif_model.specs.WalkSteps.{is_clock}
 use Rattle.blif_model.specs.WalkFault.{two_drivers}
 use Rattle.blif_flatten.specs.Flattened.{flat_steps}
 use Rattle.blif_reader.specs.Passes.{settled}

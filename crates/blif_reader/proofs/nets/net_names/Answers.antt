@@ -1,6 +1,7 @@
 use Rattle.std.proofs.Common.{◌∙◌, ap, map, sym}
 use Rattle.std.proofs.lemmas.Result.{IfOk-weaker}
-use Rattle.blif_model.specs.Walk.{is_clock, unclocked}
+use Rattle.blif_model.specs.Walk.{unclocked}
+use Rattle.blif_model.specs.WalkSteps.{is_clock}
 use Rattle.blif_flatten.specs.Flattened.{flat_steps}
 use Rattle.blif_reader.proofs.FlatNets.{nets-named}
 use Rattle.blif_reader.proofs.nets.net_names.Goals as goal

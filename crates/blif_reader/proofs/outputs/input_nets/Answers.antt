@@ -3,7 +3,8 @@ use Rattle.std.proofs.lemmas.List.Elements.{All-filter}
 use Rattle.std.proofs.lemmas.Result.{IfOk-weaker}
 use Rattle.net_names.specs.Nets.{net_id}
 use Rattle.blif_model.specs.Net.{input_names_of}
-use Rattle.blif_model.specs.Walk.{is_clock, nets_of, unclocked}
+use Rattle.blif_model.specs.Walk.{nets_of, unclocked}
+use Rattle.blif_model.specs.WalkSteps.{is_clock}
 use Rattle.blif_flatten.specs.declared.flat.NameId.{NameId}
 use Rattle.blif_flatten.specs.Flattened.{flat_steps}
 use Rattle.blif_reader.specs.Numbers.{net_of_name}
