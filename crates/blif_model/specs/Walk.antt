@@ -71,12 +71,9 @@ walk models = steps_from (enter models 32) top 0 (main_of models).items
 
 -- the nets that a step visits, from left to right
 abbrev pub visited : Act → List Name
-visited (takes names) = names
-visited (gives names) = names
-visited (clocks names) = names
-visited (visits names) = names
-visited (flat_table ins out rows) = ins ++ out ∷ []
-visited (flat_latch l) = l.from ∷ l.to ∷ []
+visited act =
+    let ports : List Name = elim act [ takes names ↦ names | gives names ↦ names | clocks names ↦ names | visits names ↦ names | _ ↦ [] ] in
+    elim act [ flat_table ins out rows ↦ ins ++ out ∷ [] | flat_latch l ↦ l.from ∷ l.to ∷ [] | _ ↦ ports ]
 
 -- a name at a line of the walk
 pub record Visit : Type 0 where

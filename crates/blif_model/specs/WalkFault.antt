@@ -14,8 +14,7 @@ unfoldable pub walk_faults : List Step → List (Option NetlistFault)
 walk_faults steps =
     let is_clock = is_one_of (clock_names steps) in
     let types = λ (lines : List Step). flat_map (λ s. elim s.act [ flat_latch l ↦ option_to_list l.edge | _ ↦ [] ]) lines in
-    let has_two = λ (names : List Name). nat_lt 1 (length (distinct names)) in
-    let is_mixed = λ (lines : List Step). has_two (types lines) || has_two (clock_names lines) in
+    let is_mixed = λ (lines : List Step). nat_lt 1 (length (distinct (types lines))) || nat_lt 1 (length (distinct (clock_names lines))) in
     let inputs = flat_map (λ s. elim s.act [ takes names ↦ names | clocks names ↦ names | _ ↦ [] ]) steps in
     let controls : Act → List Name = elim [ flat_latch l ↦ option_to_list l.control | _ ↦ [] ] in
     let read : Act → List Name = elim [ flat_table ins out rows ↦ ins | flat_latch l ↦ l.from ∷ [] | gives names ↦ names | _ ↦ [] ] in
