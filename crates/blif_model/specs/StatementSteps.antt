@@ -1,9 +1,10 @@
 -- Shapes of private steps: what is asked of the tokens of a line, one by one.
-use Rattle.std.specs.Prelude.{Bool, ◌&&◌, ◌==◌, nat_lt, List, [], ◌∷◌, length, if◌then◌else◌, Option, Some, None, codes, bytes_eq, slice_index}
+use Rattle.std.specs.Prelude.{Bool, ◌&&◌, ◌==◌, nat_lt, List, [], ◌∷◌, length, map, if◌then◌else◌, Option, Some, None, codes, bytes_eq, slice_index}
+use Rattle.std.specs.List.{list_all}
 use Rattle.std.specs.Str.{byte}
 use Rattle.blif_text.specs.declared.NetlistKind.TheVariants.{BadToken, BadLatch, LevelLatch}
 use Rattle.fm_base.specs.Names.{Name, is_one_of}
-use Rattle.blif_model.specs.Statement.{Binding, Statement, model, latch, end, unnamed, wrong, binding_of}
+use Rattle.blif_model.specs.Statement.{Binding, Statement, model, instance, latch, end, unnamed, wrong, binding_of}
 
 -- `.model` has one name
 abbrev pub model_line : List Name → Statement
@@ -18,6 +19,13 @@ end_line _ = wrong BadToken
 -- both sides of a binding have a byte
 abbrev pub is_whole : Binding → Bool
 is_whole b = nat_lt 0 (length b.formal) && nat_lt 0 (length b.actual)
+
+-- a `.subckt` line
+abbrev pub instance_line : List Name → Statement
+instance_line [] = wrong BadToken
+instance_line (name ∷ tokens) =
+    let bindings = map binding_of tokens in
+    if list_all is_whole bindings then instance name bindings else wrong BadToken
 
 -- the token is such a binding
 abbrev pub is_binding : Name → Bool

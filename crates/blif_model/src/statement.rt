@@ -1,6 +1,7 @@
 // The directive of a line, found out from its tokens.
 ghost use Rattle.std.specs.Prelude.{◌≡◌, ◌∷◌, Some};
-ghost use Rattle.blif_model.specs.Statement.{directive_line, instance_line, statement_of};
+ghost use Rattle.blif_model.specs.Statement.{directive_line, statement_of};
+ghost use Rattle.blif_model.specs.StatementSteps.{instance_line};
 ghost use Rattle.blif_model.specs.Directed.{directed, stated};
 ghost use Rattle.blif_model.specs.Tokens.{texts_of};
 

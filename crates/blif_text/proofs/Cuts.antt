@@ -6,8 +6,7 @@ use Rattle.std.proofs.lemmas.Bool.{cond-true, cond-false}
 use Rattle.std.proofs.lemmas.List.{length-take}
 use Rattle.std.proofs.Math.Seq.{take-length}
 use Rattle.std.proofs.lemmas.List.Splits.{slice_split_first, slice_split-cons_no}
-use Rattle.blif_text.specs.Lines.{is_joined}
-use Rattle.blif_text.specs.Placed.{Piece, PlacedLine, pieces, placed, join, placed_joined, placed_tokens, has_tokens}
+use Rattle.blif_text.specs.Placed.{is_joined, Piece, PlacedLine, pieces, placed, join, placed_joined, placed_tokens, has_tokens}
 use Rattle.blif_text.specs.Left.{lines_left}
 
 pub split_whole : (p : ℕ → Bool) (xs : List ℕ) → position_or_len p xs ≡ length xs → slice_split p xs ≡ xs ∷ []

@@ -3,8 +3,8 @@ use Rattle.std.proofs.Common.{◌≡◌, ℕ, suc, ◌+◌, ◌-◌, append_asso
 use Rattle.std.specs.Prelude.{filter}
 use Rattle.std.specs.List.{slice_split, onto_first, AllByRecursion, before_first, suffix_len, position_or_len, enumerate_from}
 use Rattle.std.proofs.lemmas.List.{append-nil, drop-drop, take-append-drop}
-use Rattle.blif_text.specs.Lines.{is_feed, is_white, is_hash, bare, is_joined}
-use Rattle.blif_text.specs.Placed.{Piece, PlacedLine, pieces, placed, inked, has_bytes, placed_tokens, join, placed_joined, has_tokens, physical_lines, placed_lines}
+use Rattle.blif_text.specs.Lines.{is_feed, is_white, is_hash, bare}
+use Rattle.blif_text.specs.Placed.{is_joined, Piece, PlacedLine, pieces, placed, inked, has_bytes, placed_tokens, join, placed_joined, has_tokens, physical_lines, placed_lines}
 
 -- a text stands in the file from this place on
 abbrev pub Stands : List ℕ → Piece → Type 0

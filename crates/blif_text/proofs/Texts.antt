@@ -3,8 +3,8 @@ use Rattle.std.proofs.Common.{◌≡◌, ℕ, ◌+◌, Bool, true, false, cond, 
 use Rattle.std.specs.Prelude.{filter, flat_map, nat_lt}
 use Rattle.std.specs.List.{slice_split, enumerate_from}
 use Rattle.std.proofs.lemmas.List.{append-nil, length-map, map-append}
-use Rattle.blif_text.specs.Lines.{Line, bare, is_feed, is_joined, is_white, joined, lines_of, tokens_of}
-use Rattle.blif_text.specs.Placed.{Piece, PlacedLine, has_bytes, has_tokens, inked, join, pieces, placed, placed_joined, placed_lines, placed_tokens, text_line}
+use Rattle.blif_text.specs.Lines.{Line, bare, is_feed, is_white, joined, lines_of}
+use Rattle.blif_text.specs.Placed.{tokens_of, is_joined, Piece, PlacedLine, has_bytes, has_tokens, inked, join, pieces, placed, placed_joined, placed_lines, placed_tokens, text_line}
 
 abbrev text_of : Piece → List ℕ
 text_of piece = piece.text

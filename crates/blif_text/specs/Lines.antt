@@ -43,13 +43,3 @@ lines_of bytes = filter (λ line. nat_lt 0 (length line.tokens)) (joined (enumer
 -- a physical line without its comment, and then without the white space at its end
 unfoldable pub bare : Bytes → Bytes
 bare line = let text = before_first is_hash line in take (length text - suffix_len is_white text) text
-
--- the last byte of the bare line is a backslash, so the next physical line is joined
-abbrev pub is_joined : Bytes → Bool
-is_joined line = slice_index (bare line) (length (bare line) - 1) == byte "\\"
-
--- the tokens of a physical line
-abbrev pub tokens_of : Bytes → List Bytes
-tokens_of line =
-    let text = if is_joined line then take (length (bare line) - 1) (bare line) else bare line in
-    filter (λ token. nat_lt 0 (length token)) (slice_split is_white text)

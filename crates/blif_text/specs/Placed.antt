@@ -1,9 +1,20 @@
 -- The logical lines with the place of each token in the file, as they are read: shapes of private steps. What a file means cites the
 -- lines of `Lines` alone, and `proofs/Texts` shows that these are the same without the places.
-use Rattle.std.specs.Prelude.{ℕ, ◌+◌, ◌-◌, Bool, nat_lt, List, [], ◌∷◌, ◌++◌, if◌then◌else◌, length, take, filter, map}
+use Rattle.std.specs.Prelude.{ℕ, ◌+◌, ◌-◌, Bool, ◌==◌, nat_lt, List, [], ◌∷◌, ◌++◌, if◌then◌else◌, length, take, filter, map, slice_index}
 use Rattle.std.specs.List.{list_any, suffix_len, enumerate_from, slice_split}
+use Rattle.std.specs.Str.{byte}
 use Rattle.fm_base.specs.Names.{Bytes}
-use Rattle.blif_text.specs.Lines.{Line, is_feed, is_white, bare, is_joined}
+use Rattle.blif_text.specs.Lines.{Line, is_feed, is_white, bare}
+
+-- the last byte of the bare line is a backslash, so the next physical line is joined
+abbrev pub is_joined : Bytes → Bool
+is_joined line = slice_index (bare line) (length (bare line) - 1) == byte "\\"
+
+-- the tokens of a physical line
+abbrev pub tokens_of : Bytes → List Bytes
+tokens_of line =
+    let text = if is_joined line then take (length (bare line) - 1) (bare line) else bare line in
+    filter (λ token. nat_lt 0 (length token)) (slice_split is_white text)
 
 -- a piece of the file: the place of its first byte in the file, and its bytes
 pub record Piece : Type 0 where

@@ -1,7 +1,7 @@
 // What of a physical line counts.
 ghost use Rattle.std.specs.Prelude.{◌≡◌, ◌≤◌, length};
-ghost use Rattle.blif_text.specs.Lines.{bare, is_joined};
-ghost use Rattle.blif_text.specs.Placed.{inked, trimmed};
+ghost use Rattle.blif_text.specs.Lines.{bare};
+ghost use Rattle.blif_text.specs.Placed.{is_joined, inked, trimmed};
 
 use crate::places::{hash_place, is_white_byte};
 
