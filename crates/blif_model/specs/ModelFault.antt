@@ -38,8 +38,7 @@ model_faults models =
     ∷ first_where (λ i. given (at_model models i.name (has_nest models 32) false) (at_line i.line TooDeep)) (instances (main_of models))
     -- TooLarge: the flattened main model has too many instances, cells (rows times inputs of each table, each at least 1) or nets
     ∷ given (nat_lt (2 ^ 18) (total (λ m. length (instances m))) || nat_lt (2 ^ 24) (total cells)
-    || nat_lt (2 ^ 18) (length (nets_of (walk models)))) (at_line (main_of models).line TooLarge)
-    ∷ []
+    || nat_lt (2 ^ 18) (length (nets_of (walk models)))) (at_line (main_of models).line TooLarge) ∷ []
 
 -- ---- shapes of private steps: the first of these faults, and each kind by itself
 

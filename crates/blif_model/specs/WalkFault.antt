@@ -29,8 +29,7 @@ walk_faults steps =
     -- TwoDrivers: a net is driven that was driven before, or a clock name is driven
     ∷ first_after (λ before d. given (is_among before d.name || is_clock d.name) (at_line d.line TwoDrivers)) [] (drives_of steps)
     -- Undriven: a net is visited that has no driver
-    ∷ first_where (λ v. given (is_loose v.name) (at_line v.line (Undriven v.name))) (visits_of steps)
-    ∷ []
+    ∷ first_where (λ v. given (is_loose v.name) (at_line v.line (Undriven v.name))) (visits_of steps) ∷ []
 
 -- ---- shapes of private steps: the first of these faults, and each kind by itself
 
