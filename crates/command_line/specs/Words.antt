@@ -43,8 +43,7 @@ module _ (rows : List Row) where
   HasPlan level inputs result set = HasInputs inputs × HasSettings level set × (result ≡ entry (codes "result"))
       × (result ≢ inputs.netlist) × (result ≢ inputs.workload) × (result ≢ inputs.rates) × (result ≢ inputs.points)
 
-  -- the words of a command: its own word, and what those behind it say. The settings have ASIL D where no word tells it; and the names of
-  -- the two files of `merge` may be one, and neither is the result file's
+  -- a command's own word, and what those behind it say; the ASIL is D where none tells it, and the two files of `merge` may be one
   abbrev pub words_of : Command → Text × Type 0
   words_of command =
       let HasWorkers : ℕ → Type 0 = λ workers. HasNumber (codes "workers") 1 32 workers in
