@@ -10,7 +10,8 @@ use Rattle.command_text.specs.declared.status.Status.TheVariants as status
 
 -- an answer, whose refusal is told as a status
 abbrev pub or_refuse : {A E : Type 0} → (E → Status) → Result A E → Result A Status
-or_refuse told answer = elim answer [ Ok x ↦ Ok x | Err e ↦ Err (told e) ]
+or_refuse told (Ok x) = Ok x
+or_refuse told (Err e) = Err (told e)
 
 -- the netlist of the bytes of a file of this name, or the status of the refusal; a `.bench` file is one whose name ends so
 unfoldable pub netlist_in : Bytes → Bytes → Result Circuit Status
