@@ -48,8 +48,7 @@ module _ (rows : List Row) where
   words_of command =
       let HasWorkers : ℕ → Type 0 = λ workers. HasNumber (codes "workers") 1 32 workers in
       let IsPart : ℕ → ℕ → Type 0 = λ k m. HasNumber (codes "part") 0 1023 k × HasNumber (codes "of") 1 1024 m × (k < m) in
-      let AreSources : Text → Text → Text → Type 0 = λ result first second. (first ≡ entry (codes "first"))
-      × (second ≡ entry (codes "second")) × (result ≢ first) × (result ≢ second) in
+      let AreSources = λ (own one two : Text). (one ≡ entry (codes "first")) × (two ≡ entry (codes "second")) × (own ≢ one) × (own ≢ two) in
       elim command [
         | Classes netlist workload ↦ (codes "classes", (netlist ≡ entry (codes "netlist")) × (workload ≡ entry (codes "workload")))
         | Check inputs flips pulses ↦ (codes "check", HasInputs inputs × HasLists flips pulses)
