@@ -18,13 +18,19 @@ commands =
     let workers = within 1 32 (option (codes "workers") (codes "1")) in
     let asil = option (codes "asil") (codes "D") ∷ [] in
     let plan = inputs ++ place (codes "result") ∷ ftti ++ lists in
-    (codes "classes", map place (codes "netlist" ∷ codes "workload" ∷ [])) ∷ (codes "check", inputs ++ lists)
-    ∷ (codes "run", plan ++ workers ++ asil) ∷ (codes "resume", plan ++ workers ++ asil) ∷ (codes "audit", plan)
+    (codes "classes", map place (codes "netlist" ∷ codes "workload" ∷ []))
+    ∷ (codes "check", inputs ++ lists)
+    ∷ (codes "run", plan ++ workers ++ asil)
+    ∷ (codes "resume", plan ++ workers ++ asil)
+    ∷ (codes "audit", plan)
     ∷ (codes "gen", within 1 1000 (place (codes "stages")) ++ place (codes "result") ∷ workers)
     ∷ (codes "report", inputs ++ ftti ++ lists ++ asil)
     ∷ (codes "shard", plan ++ within 0 1023 (needed (codes "part")) ++ within 1 1024 (needed (codes "of")))
-    ∷ (codes "merge", plan ++ map place (codes "first" ∷ codes "second" ∷ [])) ∷ (codes "pairs", plan ++ workers)
-    ∷ (codes "parts", map place (codes "netlist" ∷ codes "rates" ∷ [])) ∷ (codes "faults", plan) ∷ (codes "progress", plan ++ asil)
+    ∷ (codes "merge", plan ++ map place (codes "first" ∷ codes "second" ∷ []))
+    ∷ (codes "pairs", plan ++ workers)
+    ∷ (codes "parts", map place (codes "netlist" ∷ codes "rates" ∷ []))
+    ∷ (codes "faults", plan)
+    ∷ (codes "progress", plan ++ asil)
     ∷ []
 
 -- the program, of which one command must be named
