@@ -6,7 +6,7 @@ use Rattle.circuit.specs.Names.{net_name}
 use Rattle.bench_reader.specs.declared.BenchKind.{BenchKind}
 use Rattle.bench_reader.specs.declared.BenchKind.TheVariants as bench
 use Rattle.blif_text.specs.declared.NetlistKind.{NetlistKind}
-use Rattle.blif_text.specs.declared.NetlistKind.TheVariants.{NoModel, BadToken, Directive, BadRow, MixedPlane, BadLatch, LevelLatch, TooWide, TwoModels, UnknownModel, BadFormal, Unbound, Recursive, TooDeep, TooLarge, TwoClocks, BadClock, ClockRead, TwoDrivers, Undriven}
+use Rattle.blif_text.specs.declared.NetlistKind.TheVariants as netlist
 use Rattle.workload.specs.declared.file.WorkloadKind.{WorkloadKind}
 use Rattle.workload.specs.declared.file.WorkloadKind.TheVariants as workload
 use Rattle.rate_table.specs.declared.RatesKind.{RatesKind}
@@ -27,39 +27,70 @@ use Rattle.command_text.specs.declared.status.WriteTo.TheVariants as to
 use Rattle.std.specs.Str.{byte}
 use Rattle.fm_base.specs.Names.{Bytes}
 
--- the word of a kind of refusal of a BLIF file, which is in one of these lines; the net's name follows Undriven
+-- the word of each kind of refusal of a BLIF file; behind Undriven stands the net's name
 abbrev pub netlist_kind : NetlistKind → Bytes
-netlist_kind kind = codes (elim kind [ NoModel ↦ "NoModel" | BadToken ↦ "BadToken" | Directive ↦ "Directive" | BadRow ↦ "BadRow" | _ ↦ "" ])
-    ++ codes (elim kind [ MixedPlane ↦ "MixedPlane" | BadLatch ↦ "BadLatch" | LevelLatch ↦ "LevelLatch" | TooWide ↦ "TooWide" | _ ↦ "" ])
-    ++ codes (elim kind [ TwoModels ↦ "TwoModels" | UnknownModel ↦ "UnknownModel" | BadFormal ↦ "BadFormal" | _ ↦ "" ])
-    ++ codes (elim kind [ Unbound ↦ "Unbound" | Recursive ↦ "Recursive" | TooDeep ↦ "TooDeep" | TooLarge ↦ "TooLarge" | _ ↦ "" ])
-    ++ codes (elim kind [ TwoClocks ↦ "TwoClocks" | BadClock ↦ "BadClock" | ClockRead ↦ "ClockRead" | TwoDrivers ↦ "TwoDrivers" | _ ↦ "" ])
-    ++ elim kind [ Undriven net ↦ codes "Undriven " ++ net | _ ↦ [] ]
+netlist_kind netlist.NoModel = codes "NoModel"
+netlist_kind netlist.BadToken = codes "BadToken"
+netlist_kind netlist.Directive = codes "Directive"
+netlist_kind netlist.BadRow = codes "BadRow"
+netlist_kind netlist.MixedPlane = codes "MixedPlane"
+netlist_kind netlist.BadLatch = codes "BadLatch"
+netlist_kind netlist.LevelLatch = codes "LevelLatch"
+netlist_kind netlist.TooWide = codes "TooWide"
+netlist_kind netlist.TwoModels = codes "TwoModels"
+netlist_kind netlist.UnknownModel = codes "UnknownModel"
+netlist_kind netlist.BadFormal = codes "BadFormal"
+netlist_kind netlist.Unbound = codes "Unbound"
+netlist_kind netlist.Recursive = codes "Recursive"
+netlist_kind netlist.TooDeep = codes "TooDeep"
+netlist_kind netlist.TooLarge = codes "TooLarge"
+netlist_kind netlist.TwoClocks = codes "TwoClocks"
+netlist_kind netlist.BadClock = codes "BadClock"
+netlist_kind netlist.ClockRead = codes "ClockRead"
+netlist_kind netlist.TwoDrivers = codes "TwoDrivers"
+netlist_kind (netlist.Undriven net) = codes "Undriven " ++ net
 
--- likewise of a `.bench` file
+-- the word of each kind of refusal of a `.bench` file, likewise
 abbrev pub bench_kind : BenchKind → Bytes
-bench_kind kind = codes (elim kind [ bench.BadLine ↦ "BadLine" | bench.BadGate ↦ "BadGate" | bench.BadCount ↦ "BadCount" | _ ↦ "" ])
-    ++ codes (elim kind [ bench.TooWide ↦ "TooWide" | bench.TooLarge ↦ "TooLarge" | bench.TwoDrivers ↦ "TwoDrivers" | _ ↦ "" ])
-    ++ elim kind [ bench.Undriven net ↦ codes "Undriven " ++ net | _ ↦ [] ]
+bench_kind bench.BadLine = codes "BadLine"
+bench_kind bench.BadGate = codes "BadGate"
+bench_kind bench.BadCount = codes "BadCount"
+bench_kind bench.TooWide = codes "TooWide"
+bench_kind bench.TooLarge = codes "TooLarge"
+bench_kind bench.TwoDrivers = codes "TwoDrivers"
+bench_kind (bench.Undriven net) = codes "Undriven " ++ net
 
--- of a workload
+-- the word of each kind of workload refusal
 abbrev pub workload_kind : WorkloadKind → Bytes
-workload_kind kind =
-    codes (elim kind [ workload.BadCsv ↦ "BadCsv" | workload.BadColumn ↦ "BadColumn" | workload.MissingInput ↦ "MissingInput" | _ ↦ "" ])
-    ++ codes (elim kind [ workload.SplitName ↦ "SplitName" | workload.BadKind ↦ "BadKind" | workload.BadBit ↦ "BadBit" | _ ↦ "" ])
-    ++ codes (elim kind [ workload.TooLarge ↦ "TooLarge" | workload.Empty ↦ "Empty" | _ ↦ "" ])
+workload_kind workload.BadCsv = codes "BadCsv"
+workload_kind workload.BadColumn = codes "BadColumn"
+workload_kind workload.MissingInput = codes "MissingInput"
+workload_kind workload.SplitName = codes "SplitName"
+workload_kind workload.BadKind = codes "BadKind"
+workload_kind workload.BadBit = codes "BadBit"
+workload_kind workload.TooLarge = codes "TooLarge"
+workload_kind workload.Empty = codes "Empty"
 
--- of rates
+-- the word of each kind of rates refusal
 abbrev pub rates_kind : RatesKind → Bytes
-rates_kind kind = codes (elim kind [ rates.BadCsv ↦ "BadCsv" | rates.BadPart ↦ "BadPart" | rates.BadRole ↦ "BadRole" | _ ↦ "" ])
-    ++ codes (elim kind [ rates.BadCovered ↦ "BadCovered" | rates.BadRate ↦ "BadRate" | rates.TwoMeanings ↦ "TwoMeanings" | _ ↦ "" ])
-    ++ codes (elim kind [ rates.TooLarge ↦ "TooLarge" | _ ↦ "" ])
+rates_kind rates.BadCsv = codes "BadCsv"
+rates_kind rates.BadPart = codes "BadPart"
+rates_kind rates.BadRole = codes "BadRole"
+rates_kind rates.BadCovered = codes "BadCovered"
+rates_kind rates.BadRate = codes "BadRate"
+rates_kind rates.TwoMeanings = codes "TwoMeanings"
+rates_kind rates.TooLarge = codes "TooLarge"
 
--- of points
+-- the word of each kind of points refusal
 abbrev pub points_kind : PointsKind → Bytes
-points_kind kind = codes (elim kind [ points.BadCsv ↦ "BadCsv" | points.BadKind ↦ "BadKind" | points.UnknownNet ↦ "UnknownNet" | _ ↦ "" ])
-    ++ codes (elim kind [ points.Twice ↦ "Twice" | points.TooLarge ↦ "TooLarge" | points.NoObserve ↦ "NoObserve" | _ ↦ "" ])
-    ++ codes (elim kind [ points.BadGoal ↦ "BadGoal" | points.BadInterval ↦ "BadInterval" | _ ↦ "" ])
+points_kind points.BadCsv = codes "BadCsv"
+points_kind points.BadKind = codes "BadKind"
+points_kind points.UnknownNet = codes "UnknownNet"
+points_kind points.Twice = codes "Twice"
+points_kind points.TooLarge = codes "TooLarge"
+points_kind points.NoObserve = codes "NoObserve"
+points_kind points.BadGoal = codes "BadGoal"
+points_kind points.BadInterval = codes "BadInterval"
 
 -- why a row of the result file is refused; the kept and the computed sums follow
 abbrev pub row_why : RowFault → List Bytes
