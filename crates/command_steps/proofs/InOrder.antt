@@ -1,4 +1,4 @@
--- The order of the checks, step by step.
+-- The order of the checks, step by step, of `classes` and of `parts`.
 use Rattle.std.proofs.Common.{◌≡◌, ◌∙◌, ap, sym, refl, subst, ℕ, List, [], inl, inr}
 use Rattle.std.specs.Prelude.{Option, Some, None, Result, Ok, Err, ◌⊎◌}
 use Rattle.fm_base.specs.Names.{Bytes}
@@ -9,7 +9,7 @@ use Rattle.circuit.specs.Circuit.{Circuit}
 use Rattle.circuit.specs.Loop.{HasNoLoop}
 use Rattle.workload.specs.declared.run.Run.{Run}
 use Rattle.alarm_points.specs.declared.Points.{Points}
-use Rattle.command_line.specs.Commands.{Classes}
+use Rattle.command_line.specs.Commands.{Classes, Parts}
 use Rattle.command_text.specs.declared.status.Status.{Status}
 use Rattle.command_text.specs.declared.status.Status.TheVariants as status
 use Rattle.command_text.specs.declared.status.Which.{Which}
@@ -19,16 +19,17 @@ use Rattle.command_text.specs.Refusals.{IsPlain}
 use Rattle.command_steps.specs.declared.input.Taken.{Taken}
 use Rattle.command_steps.specs.declared.netlist.Ordered.{Ordered}
 use Rattle.command_steps.specs.Files.{Files, FilesRead, all_read, by_file}
-use Rattle.command_steps.specs.FirstRefusal.{unless, netlist_step, classes_plan_of, first_refusal, refusal_in, IsLoopAnswer, ◌>>=◌, classes_plan}
-use Rattle.command_steps.specs.FileSteps.{workload_step, outputs_step, ReadFits}
+use Rattle.command_steps.specs.FirstRefusal.{unless, netlist_step, classes_plan_of, first_refusal, result_err, IsLoopAnswer, ◌>>=◌, classes_plan, rated_of}
+use Rattle.command_steps.specs.FileSteps.{workload_step, outputs_step, ReadFits, rates_step}
 use Rattle.campaign_plan.specs.Analysis.{Analysis}
 use Rattle.command_steps.specs.Held.{name_of}
 use Rattle.command_steps.specs.Checked.{NameFits, FaultsRose, Checked}
-use Rattle.command_steps.specs.Steps.{FaultRose, StepAs, TakenAs, NetlistAs, OrderedAs, OutputsAs, RefusedInOrder, ObservedAs}
+use Rattle.command_steps.specs.Steps.{FaultRose, StepAs, TakenAs, NetlistAs, OrderedAs, OutputsAs, RefusedInOrder, ObservedAs, RatedAs}
 use Rattle.command_steps.proofs.Keeping.{had_if_known}
-use Rattle.command_steps.proofs.Taken.{netlist_begin, netlist_next, outputs_plain, runs_plain}
+use Rattle.command_steps.proofs.Taken.{netlist_begin, netlist_next, outputs_plain, runs_plain, rates_plain}
 use Rattle.command_text.proofs.Refusals.{ok_same}
 use Rattle.fm_shelf.proofs.Counts.{rose_from}
+use Rattle.rate_table.specs.Table.{RateTable}
 
 -- ---- calls that only read, and what is behind them
 
@@ -77,40 +78,40 @@ held_is content held bytes has is = subst (λ c. HasIfKnown c bytes) is has
 -- ---- `classes`
 
 -- what was read of its two files
-abbrev reads_of : (netlist workload : Option Bytes) → FilesRead
-reads_of netlist workload = by_file netlist workload None None None None None
+abbrev observed_reads : (netlist workload : Option Bytes) → FilesRead
+observed_reads netlist workload = by_file netlist workload None None None None None
 
 abbrev after_outputs : Option Bytes → Circuit → Result Analysis Status
 after_outputs workload c = workload_step c workload >>= (λ runs. Ok (classes_plan c runs))
 
-abbrev after_netlist : Option Bytes → Circuit → Result Analysis Status
-after_netlist workload c = outputs_step c >>= after_outputs workload
+abbrev after_counted : Option Bytes → Circuit → Result Analysis Status
+after_counted workload c = outputs_step c >>= after_outputs workload
 
-classes_is : (n : Bytes) (walk : Option (List NetId)) (reads : FilesRead) → classes_plan_of n walk reads ≡ (netlist_step n walk (reads which.Netlist) >>= after_netlist (reads which.Workload))
+classes_is : (n : Bytes) (walk : Option (List NetId)) (reads : FilesRead) → classes_plan_of n walk reads ≡ (netlist_step n walk (reads which.Netlist) >>= after_counted (reads which.Workload))
 unfolding classes_plan_of workload_step
 classes_is n walk reads = refl
 
-first_is : (walk : Option (List NetId)) (n w : Bytes) (reads : FilesRead) → first_refusal walk (Classes n w) reads ≡ refusal_in (classes_plan_of n walk reads)
+observed_first : (walk : Option (List NetId)) (n w : Bytes) (reads : FilesRead) → first_refusal walk (Classes n w) reads ≡ result_err (classes_plan_of n walk reads)
 unfolding first_refusal
-first_is walk n w reads = refl
+observed_first walk n w reads = refl
 
 module _ (n w : Bytes) (before after : ShelfState) where
-  abbrev Answer : Status → Type 0
-  Answer ended = (ended ≡ status.Memory) ⊎ RefusedInOrder (Classes n w) before after ended
+  abbrev Observes : Status → Type 0
+  Observes ended = (ended ≡ status.Memory) ⊎ RefusedInOrder (Classes n w) before after ended
 
   -- the netlist was refused
-  pub classes_netlist : (ended : Status) → NetlistAs n before after (Err ended) → Answer ended
+  pub classes_netlist : (ended : Status) → NetlistAs n before after (Err ended) → Observes ended
   classes_netlist ended (inl memory) = inl memory
   classes_netlist ended (inr (got, walk, fits, loops, is, fault)) =
       let other = some_fit before after w in
-      let reads : FilesRead = reads_of got other.0 in
+      let reads : FilesRead = observed_reads got other.0 in
       inr (record {
         checked = record {
           reads = reads;
           fit = (fits, (other.1, tt));
           walk = walk;
           loops = loops;
-          first = first_is walk n w reads ∙ ap refusal_in (classes_is n walk reads ∙ ap (λ r. r >>= after_netlist other.0) is);
+          first = observed_first walk n w reads ∙ ap result_err (classes_is n walk reads ∙ ap (λ r. r >>= after_counted other.0) is);
         };
         fault = rose_of (name_of (Classes n w)) which.Netlist before after ended fault;
       })
@@ -120,27 +121,27 @@ module _ (n w : Bytes) (before after : ShelfState) where
     c = made.net
 
     -- the plan of this netlist and what comes of the outputs
-    after_net : (reads : FilesRead) → (reads which.Netlist) ≡ Some made.bytes → classes_plan_of n None reads ≡ after_netlist (reads which.Workload) c
-    after_net reads is = classes_is n None reads ∙ ap (λ r. r >>= after_netlist (reads which.Workload)) (ap (netlist_step n None) is ∙ net.1)
+    observed_net : (reads : FilesRead) → (reads which.Netlist) ≡ Some made.bytes → classes_plan_of n None reads ≡ after_counted (reads which.Workload) c
+    observed_net reads is = classes_is n None reads ∙ ap (λ r. r >>= after_counted (reads which.Workload)) (ap (netlist_step n None) is ∙ net.1)
 
     -- over this netlist and what was read of the workload, this is the first refusal, or there is none
-    by_reads : (got : Option Bytes) (refusal : Option Status) → NameFits before after w got → refusal_in (after_netlist got c) ≡ refusal
+    observed_by : (got : Option Bytes) (refusal : Option Status) → NameFits before after w got → result_err (after_counted got c) ≡ refusal
         → Checked (Classes n w) before after refusal
-    by_reads got refusal fits is = record {
-      reads = reads_of (Some made.bytes) got;
+    observed_by got refusal fits is = record {
+      reads = observed_reads (Some made.bytes) got;
       fit = (net.0, (fits, tt));
       walk = None;
       loops = loops_none n made.bytes c net.1 net.2;
-      first = first_is None n w (reads_of (Some made.bytes) got) ∙ ap refusal_in (after_net (reads_of (Some made.bytes) got) refl) ∙ is;
+      first = observed_first None n w (observed_reads (Some made.bytes) got) ∙ ap result_err (observed_net (observed_reads (Some made.bytes) got) refl) ∙ is;
     }
 
     -- there are too many outputs
-    pub classes_outputs : (ended : Status) → OutputsAs c (Err ended) → Answer ended × IsPlain ended
+    pub classes_outputs : (ended : Status) → OutputsAs c (Err ended) → Observes ended × IsPlain ended
     classes_outputs ended (inl memory) = (inl memory, outputs_plain c ended (inl memory))
     classes_outputs ended (inr (large, refused)) =
         let other = some_fit before after w in (
           inr (record {
-            checked = by_reads other.0 (Some ended) other.1 (ap (λ r. refusal_in (r >>= after_outputs other.0)) refused);
+            checked = observed_by other.0 (Some ended) other.1 (ap (λ r. result_err (r >>= after_outputs other.0)) refused);
             fault = λ which e. let bad : status.TooLarge what.Outputs ≡ status.ReadFault which = sym large ∙ e in cc bad;
           }),
           outputs_plain c ended (inr (large, refused)),
@@ -148,13 +149,13 @@ module _ (n w : Bytes) (before after : ShelfState) where
 
     module _ (points : Points) (outputs : OutputsAs c (Ok points)) (mid : ShelfState) (first : OnlyReadsAny before mid) where
       -- the workload was refused
-      pub classes_runs : (ended : Status) → StepAs which.Workload (workload_step c) w mid after (Err ended) → Answer ended × IsPlain ended
+      pub classes_runs : (ended : Status) → StepAs which.Workload (workload_step c) w mid after (Err ended) → Observes ended × IsPlain ended
       classes_runs ended refused = (by_step (step_since which.Workload (workload_step c) w after ended first refused), runs_plain c w mid after ended refused)
         where
-          by_step : StepAs which.Workload (workload_step c) w before after (Err ended) → Answer ended
+          by_step : StepAs which.Workload (workload_step c) w before after (Err ended) → Observes ended
           by_step (inl memory) = inl memory
           by_step (inr (got, fits, is, fault)) = inr (record {
-            checked = by_reads got (Some ended) fits (ap (λ r. refusal_in (r >>= after_outputs got)) outputs.2 ∙ ap (λ r. refusal_in (r >>= (λ runs. Ok (classes_plan c runs)))) is);
+            checked = observed_by got (Some ended) fits (ap (λ r. result_err (r >>= after_outputs got)) outputs.2 ∙ ap (λ r. result_err (r >>= (λ runs. Ok (classes_plan c runs)))) is);
             fault = rose_of (name_of (Classes n w)) which.Workload before after ended fault;
           })
 
@@ -164,12 +165,89 @@ module _ (n w : Bytes) (before after : ShelfState) where
       classes_made work (held, is) =
           let read = had_if_known w work.bytes first held in
           let files : Files = by_file made.bytes work.bytes [] [] [] [] [] in
-          let plan : after_netlist (Some work.bytes) c ≡ Ok (classes_plan c work.value) =
+          let plan : after_counted (Some work.bytes) c ≡ Ok (classes_plan c work.value) =
           ap (λ r. r >>= after_outputs (Some work.bytes)) outputs.2 ∙ ap (λ r. r >>= (λ runs. Ok (classes_plan c runs))) is in (
-            (files, (net.0, (read, tt)), after_net (all_read files) refl ∙ plan),
+            (files, (net.0, (read, tt)), observed_net (all_read files) refl ∙ plan),
             net.2,
             net.3,
             outputs.0,
             outputs.1,
-            by_reads (Some work.bytes) None read (ap refusal_in plan),
+            observed_by (Some work.bytes) None read (ap result_err plan),
           )
+
+-- ---- `parts`
+
+-- what was read of its two files
+abbrev rated_reads : (netlist rates : Option Bytes) → FilesRead
+rated_reads netlist rates = by_file netlist None rates None None None None
+
+abbrev after_netlist : Option Bytes → Circuit → Result (Circuit × RateTable) Status
+after_netlist rates c = rates_step rates >>= (λ table. Ok (c, table))
+
+rated_is : (n : Bytes) (walk : Option (List NetId)) (reads : FilesRead) → rated_of n walk reads ≡ (netlist_step n walk (reads which.Netlist) >>= after_netlist (reads which.Rates))
+unfolding rated_of rates_step
+rated_is n walk reads = refl
+
+rated_first : (walk : Option (List NetId)) (n r : Bytes) (reads : FilesRead) → first_refusal walk (Parts n r) reads ≡ result_err (rated_of n walk reads)
+unfolding first_refusal
+rated_first walk n r reads = refl
+
+module _ (n r : Bytes) (before after : ShelfState) where
+  abbrev Rates : Status → Type 0
+  Rates ended = (ended ≡ status.Memory) ⊎ RefusedInOrder (Parts n r) before after ended
+
+  -- the netlist was refused
+  pub rated_netlist : (ended : Status) → NetlistAs n before after (Err ended) → Rates ended
+  rated_netlist ended (inl memory) = inl memory
+  rated_netlist ended (inr (got, walk, fits, loops, is, fault)) =
+      let other = some_fit before after r in
+      let reads : FilesRead = rated_reads got other.0 in
+      inr (record {
+        checked = record {
+          reads = reads;
+          fit = (fits, (other.1, tt));
+          walk = walk;
+          loops = loops;
+          first = rated_first walk n r reads ∙ ap result_err (rated_is n walk reads ∙ ap (λ s. s >>= after_netlist other.0) is);
+        };
+        fault = rose_of (name_of (Parts n r)) which.Netlist before after ended fault;
+      })
+
+  module _ (made : Ordered) (net : OrderedAs n before after (Ok made)) (mid : ShelfState) (first : OnlyReadsAny before mid) where
+    -- the rates behind this netlist
+    after_net : (reads : FilesRead) → (reads which.Netlist) ≡ Some made.bytes → rated_of n None reads ≡ after_netlist (reads which.Rates) made.net
+    after_net reads is = rated_is n None reads ∙ ap (λ s. s >>= after_netlist (reads which.Rates)) (ap (netlist_step n None) is ∙ net.1)
+
+    -- over this netlist and what was read of the rates, this is the first refusal, or there is none
+    by_reads : (got : Option Bytes) (refusal : Option Status) → NameFits before after r got → result_err (after_netlist got made.net) ≡ refusal
+        → Checked (Parts n r) before after refusal
+    by_reads got refusal fits is = record {
+      reads = rated_reads (Some made.bytes) got;
+      fit = (net.0, (fits, tt));
+      walk = None;
+      loops = loops_none n made.bytes made.net net.1 net.2;
+      first = rated_first None n r (rated_reads (Some made.bytes) got) ∙ ap result_err (after_net (rated_reads (Some made.bytes) got) refl) ∙ is;
+    }
+
+    -- the rates were refused
+    pub rated_rates : (ended : Status) → StepAs which.Rates rates_step r mid after (Err ended) → Rates ended × IsPlain ended
+    rated_rates ended refused = (by_step (step_since which.Rates rates_step r after ended first refused), rates_plain r mid after ended refused)
+      where
+        by_step : StepAs which.Rates rates_step r before after (Err ended) → Rates ended
+        by_step (inl memory) = inl memory
+        by_step (inr (got, fits, is, fault)) = inr (record {
+          checked = by_reads got (Some ended) fits (ap (λ s. result_err {T = Circuit × RateTable} (s >>= (λ t. Ok (made.net, t)))) is);
+          fault = rose_of (name_of (Parts n r)) which.Rates before after ended fault;
+        })
+
+    -- nothing was refused
+    pub rated_made : (rates : Taken RateTable) → TakenAs which.Rates rates_step r mid after (Ok rates)
+        → RatedAs before after n r (Ok (record { ordered = made; rates = rates.value }))
+    rated_made rates (held, is) =
+        let read = had_if_known r rates.bytes first held in
+        let files : Files = by_file made.bytes [] rates.bytes [] [] [] [] in
+        let made_of : after_netlist (Some rates.bytes) made.net ≡ Ok (made.net, rates.value) = ap (λ s. s >>= (λ t. Ok (made.net, t))) is in (
+          (files, (net.0, (read, tt)), after_net (all_read files) refl ∙ made_of),
+          net.2,
+          by_reads (Some rates.bytes) None read (ap result_err made_of),
+        )

@@ -35,8 +35,8 @@ use Rattle.command_text.specs.declared.status.Which.{Which}
 use Rattle.command_text.specs.declared.status.Which.TheVariants as which
 use Rattle.command_text.specs.declared.status.What.TheVariants as what
 use Rattle.command_steps.specs.Files.{FilesRead, all_read, bytes_read, generated}
-use Rattle.command_steps.specs.FirstRefusal.{at_most, unless, read_as, rows_in, netlist_step, plan_of, classes_plan_of, rated_of, status_of_plan, status_of_back, own_header, audit_step, kept_of, audited_of, refusal_in, generated_settings, first_refusal, ◌>>=◌, status_of_merge, merged_of, status_of_pairs, paired_of}
-use Rattle.command_steps.specs.FileSteps.{is_wrong, disagreement, merge_step}
+use Rattle.command_steps.specs.FirstRefusal.{at_most, unless, read_as, rows_in, netlist_step, plan_of, classes_plan_of, rated_of, status_of_plan, status_of_back, own_header, kept_of, audited_of, result_err, generated_settings, first_refusal, ◌>>=◌, status_of_merge, merged_of, status_of_pairs, paired_of}
+use Rattle.command_steps.specs.FileSteps.{audit_step, is_wrong, disagreement, merge_step}
 
 -- ---- no check answers Usage
 
@@ -149,7 +149,7 @@ kept_spares name walk set reads =
     then_spares (plan_of name walk set reads) _ (plan_spares name walk set reads) (rows_spares which.Result set reads)
 
 audited_spares : (name : Bytes) (walk : Option (List NetId)) (set : Settings) (reads : FilesRead) → Spares (audited_of name walk set reads)
-unfolding audited_of
+unfolding audited_of audit_step
 audited_spares name walk set reads =
     then_spares (plan_of name walk set reads) _ (plan_spares name walk set reads)
     (λ p. then_spares (rows_in which.Result set reads p) _ (rows_spares which.Result set reads p) (λ k. audit_spares p k))
@@ -181,7 +181,7 @@ paired_spares netlist walk set reads =
     (λ p. then_spares (rows_in which.Result set reads p) _ (rows_spares which.Result set reads p)
     (λ k. pairs_spares k (pair_refusal p k.rows)))
 
-in_other : {A : Type 0} (r : Result A Status) → Spares r → refusal_in r ≢ Some status.Usage
+in_other : {A : Type 0} (r : Result A Status) → Spares r → result_err r ≢ Some status.Usage
 in_other (Ok x) spares e = cc
 in_other (Err ended) spares e = let same : ended ≡ status.Usage = cc in spares same
 

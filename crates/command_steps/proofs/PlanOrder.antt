@@ -31,7 +31,7 @@ use Rattle.command_steps.specs.declared.netlist.Ordered.{Ordered}
 use Rattle.command_steps.specs.declared.planned.Planned.{Planned}
 use Rattle.command_steps.specs.declared.planned.Tables.{Tables}
 use Rattle.command_steps.specs.Files.{Files, FilesRead, all_read, by_file}
-use Rattle.command_steps.specs.FirstRefusal.{unless, status_of_plan, netlist_step, plan_of, refusal_in, IsLoopAnswer, IsPlanOf, ◌>>=◌}
+use Rattle.command_steps.specs.FirstRefusal.{unless, status_of_plan, netlist_step, plan_of, result_err, IsLoopAnswer, IsPlanOf, ◌>>=◌}
 use Rattle.command_steps.specs.FileSteps.{workload_step, rates_step, points_step, plan_step, plan_for, InputsRead, files_with}
 use Rattle.command_steps.specs.Held.{name_with, name_of, files_of, AreRead, AreHeld}
 use Rattle.command_steps.specs.Steps.{StepAs, TakenAs, NetlistAs, OrderedAs, AnswersAs}
@@ -196,7 +196,7 @@ module _ (inputs : Inputs) (set : Settings) (before after : ShelfState) where
           fit = record { netlist = fits; workload = work.1; rates = rates.1; points = points.1 };
           walk = walk;
           loops = loops;
-          first = ap refusal_in (plan_is inputs.netlist walk set reads ∙ ap (λ r. r >>= after_net set reads) is);
+          first = ap result_err (plan_is inputs.netlist walk set reads ∙ ap (λ r. r >>= after_net set reads) is);
         };
         fault = λ result first second. rose_of (name_with inputs result first second) which.Netlist before after ended fault;
       })
@@ -225,7 +225,7 @@ module _ (inputs : Inputs) (set : Settings) (before after : ShelfState) where
               };
               walk = None;
               loops = loops;
-              first = ap refusal_in (with_net reads refl ∙ for_is ordered.net set reads ∙ sym (for_is ordered.net set r.reads) ∙ r.refused set);
+              first = ap result_err (with_net reads refl ∙ for_is ordered.net set reads ∙ sym (for_is ordered.net set r.reads) ∙ r.refused set);
             };
             fault = λ result one two own e. rose_since (name_with inputs result one two own) after first (r.fault result one two own e);
           }),
@@ -263,7 +263,7 @@ module _ (inputs : Inputs) (set : Settings) (before after : ShelfState) where
               fit = record { netlist = were_read.netlist; workload = were_read.workload; rates = were_read.rates; points = were_read.points };
               walk = None;
               loops = loops;
-              first = ap refusal_in (steps ∙ is);
+              first = ap result_err (steps ∙ is);
             };
             fault = λ result one two own e. absurd ((by_plan (plan_refusal (analysis_of ordered tables set)) (analysis_of ordered tables set) ended is).1 own e);
           })
@@ -301,5 +301,5 @@ plan_checked inputs set before after files p read plan loops = record {
   fit = record { netlist = read.netlist; workload = read.workload; rates = read.rates; points = read.points };
   walk = None;
   loops = loops;
-  first = ap refusal_in plan.plan;
+  first = ap result_err plan.plan;
 }

@@ -1,5 +1,5 @@
 -- Shapes of private steps over the files, which contracts of private functions and proofs name. Nothing public cites them.
-use Rattle.std.specs.Prelude.{◌≡◌, ◌⊎◌, ℕ, Bool, not, ◌&&◌, List, [], length, Option, Some, None, Result, option_map, if◌then◌else◌, nat_lt, ◌==◌}
+use Rattle.std.specs.Prelude.{◌≡◌, ◌⊎◌, ℕ, Bool, not, ◌&&◌, List, [], length, Option, Some, None, Result, option_map, if◌then◌else◌, nat_lt, ◌==◌, find}
 use Rattle.fm_shelf.specs.Content.{Content, Absent, HasIfKnown}
 use Rattle.fm_shelf.specs.Shelf.{ShelfState, CountRose}
 use Rattle.circuit.specs.Circuit.{Circuit}
@@ -12,6 +12,7 @@ use Rattle.alarm_points.specs.PointsFile.{points_of}
 use Rattle.campaign_plan.specs.declared.Outcome.{Outcome}
 use Rattle.campaign_plan.specs.declared.Settings.{Settings}
 use Rattle.campaign_plan.specs.Analysis.{Analysis}
+use Rattle.campaign_plan.specs.Batches.{true_planes}
 use Rattle.campaign_plan.specs.PlanFaults.{plan_refusal}
 use Rattle.result_file.specs.declared.KeptRows.{KeptRows}
 use Rattle.result_file.specs.declared.Row.{Row}
@@ -82,6 +83,10 @@ is_wrong planes row = not ((row.danger == (planes row.batch).danger) && (row.not
 -- the status of such a row
 abbrev pub disagreement : (ℕ → Outcome) → Row → Status
 disagreement planes row = status.Disagrees row.batch (record { danger = row.danger; noticed = row.noticed }) (planes row.batch)
+
+-- AUDIT: the first row that keeps other planes than those that its batch truly has
+unfoldable pub audit_step : Analysis → KeptRows → Result KeptRows Status
+audit_step p k = unless (option_map (disagreement (true_planes p)) (find (is_wrong (true_planes p)) k.rows)) k
 
 -- MERGE: the rows of both files, unless some batch stands in both with other planes
 abbrev pub merge_step : Analysis → (first second : KeptRows) → Result (List Row) Status

@@ -1,5 +1,6 @@
 -- The order of the checks. Each step gives what it reads, or the refusal; a line is reached only where no line above it refuses.
-use Rattle.std.specs.Prelude.{◌≡◌, ◌^◌, Bool, not, ◌&&◌, List, [], ◌∷◌, length, Option, Some, None, Result, Ok, Err, find, option_map, if◌then◌else◌, nat_lt, ◌==◌, true, false, codes}
+use Rattle.std.specs.Prelude.{◌≡◌, ◌^◌, Bool, not, ◌&&◌, List, [], ◌∷◌, length, Option, Some, None, Result, Ok, Err, find, option_map, unwrap_or, if◌then◌else◌, nat_lt, ◌==◌, true, false, codes}
+pub use Rattle.std.specs.Result.{result_err}
 use Rattle.circuit.specs.declared.parts.NetId.{NetId}
 use Rattle.circuit.specs.Circuit.{Circuit}
 use Rattle.circuit.specs.Loop.{HasNoLoop, AnswersLoops}
@@ -18,7 +19,7 @@ use Rattle.campaign_plan.specs.PlanFaults.{plan_refusal}
 use Rattle.campaign_plan.specs.Batches.{true_planes}
 use Rattle.result_file.specs.declared.KeptRows.{KeptRows}
 use Rattle.result_file.specs.declared.ResultRefusal.{ResultRefusal}
-use Rattle.result_file.specs.declared.ResultRefusal.TheVariants as back
+use Rattle.result_file.specs.declared.ResultRefusal.TheVariants.{Foreign, BadRow}
 use Rattle.result_file.specs.declared.Row.{Row}
 use Rattle.result_file.specs.ResultText.{own_digest, header_text}
 use Rattle.result_file.specs.KeptRows.{kept}
@@ -35,16 +36,9 @@ use Rattle.command_text.specs.declared.status.Which.TheVariants as which
 use Rattle.command_text.specs.declared.status.What.TheVariants as what
 use Rattle.command_text.specs.NetlistFile.{netlist_in, or_refuse}
 use Rattle.command_line.specs.Commands.{Command, Classes, Check, Run as RunCommand, Resume, Audit, Gen, Report, Shard, Merge, Pairs, Parts, Faults, Progress, settings_of}
-use Rattle.command_steps.specs.Files.{Files, FilesRead, all_read, bytes_read, generated}
+use Rattle.command_steps.specs.Files.{Files, FilesRead, all_read, generated}
 use Rattle.fm_base.specs.Names.{Bytes}
 use Rattle.metric_sums.specs.declared.Role.TheVariants.{Mission}
-
--- the plan of `classes`: all outputs observed, no alarm, no flips, no pulses, and for all nets one part of role mission that isn't covered
-abbrev pub classes_plan : Circuit → List Run → Analysis
-classes_plan c runs =
-    let all : Part = record { name = codes "all"; role = Mission; covered = false; permanent = 0; transient = 0 } in
-    let rates : RateTable = record { patterns = record { name = []; star = true; part = 0 } ∷ []; parts = all ∷ [] } in
-    record { circuit = c; runs = runs; rates = rates; points = all_outputs c; settings = settings_of [] [] }
 
 -- a step after another: it is reached where the other gave something
 infixl 10 ◌>>=◌
@@ -54,8 +48,7 @@ abbrev pub ◌>>=◌ : {A B : Type 0} → Result A Status → (A → Result B St
 
 -- the value, unless there is a refusal
 abbrev pub unless : {A : Type 0} → Option Status → A → Result A Status
-unless None x = Ok x
-unless (Some refusal) x = Err refusal
+unless refusal x = elim refusal [ None ↦ Ok x | Some why ↦ Err why ]
 
 -- a file that was read, of at most 2^26 bytes
 abbrev pub at_most : Which → Option Bytes → Result Bytes Status
@@ -82,8 +75,7 @@ status_of_plan (plan.MissingRate net name) = status.MissingRate net name
 status_of_plan (plan.IdleRate part permanent) = status.IdleRate part permanent
 status_of_plan plan.Memory = status.Memory
 
--- the plan of four files, where the netlist's has this name, or the first refusal: NETLIST, WORKLOAD, RATES, POINTS, and then TOO MANY
--- FAULTS, A MISSING RATE or AN IDLE RATE
+-- the plan of four files, or the first refusal: NETLIST of this name, WORKLOAD, RATES, POINTS; TOO MANY FAULTS, MISSING RATE, IDLE RATE
 unfoldable pub plan_of : Bytes → Option (List NetId) → Settings → FilesRead → Result Analysis Status
 plan_of netlist walk set reads = do
   c ← netlist_step netlist walk (reads which.Netlist)
@@ -93,13 +85,16 @@ plan_of netlist walk set reads = do
   let p : Analysis = record { circuit = c; runs = runs; rates = rates; points = points; settings = set }
   unless (option_map status_of_plan (plan_refusal p)) p
 
--- the plan of `classes`, or the first refusal: NETLIST, more than 1,024 outputs, WORKLOAD
+-- the plan of `classes`, or the first refusal: NETLIST, more than 1,024 outputs, WORKLOAD. All outputs are observed, there is no alarm, no
+-- flip and no pulse, and all nets have one part of role mission that isn't covered
 unfoldable pub classes_plan_of : Bytes → Option (List NetId) → FilesRead → Result Analysis Status
 classes_plan_of netlist walk reads = do
   c ← netlist_step netlist walk (reads which.Netlist)
   counted ← unless (if nat_lt 1024 (length c.outputs) then Some (status.TooLarge what.Outputs) else None) c
   runs ← read_as which.Workload status.Workload (workload_of counted) reads
-  Ok (classes_plan counted runs)
+  let all : Part = record { name = codes "all"; role = Mission; covered = false; permanent = 0; transient = 0 }
+  let rates : RateTable = record { patterns = record { name = []; star = true; part = 0 } ∷ []; parts = all ∷ [] }
+  Ok (record { circuit = counted; runs = runs; rates = rates; points = all_outputs counted; settings = settings_of [] [] })
 
 -- the netlist and the rates of `parts`, or the first refusal; a net that no pattern matches is none
 unfoldable pub rated_of : Bytes → Option (List NetId) → FilesRead → Result (Circuit × RateTable) Status
@@ -110,22 +105,13 @@ rated_of netlist walk reads = do
 
 -- the plan's own header over these files
 abbrev pub own_header : Settings → Files → Analysis → Bytes
-own_header set files p =
-    header_text (own_digest set (files which.Netlist) (files which.Workload) (files which.Rates) (files which.Points)) (batch_count p)
-
--- the status of a refusal of RESULT
-abbrev pub status_of_back : ResultRefusal → Status
-status_of_back (back.Foreign found own) = status.Foreign found own
-status_of_back (back.BadRow number why) = status.BadRow number why
+own_header set f p = header_text (own_digest set (f which.Netlist) (f which.Workload) (f which.Rates) (f which.Points)) (batch_count p)
 
 -- RESULT, or another result file: what is kept of it under the plan's own header
 abbrev pub rows_in : Which → Settings → FilesRead → Analysis → Result KeptRows Status
-rows_in file set reads p = read_as file status_of_back (kept (own_header set (bytes_read reads) p) p) reads
-
--- the refusal of steps, if they refuse
-abbrev pub refusal_in : {A : Type 0} → Result A Status → Option Status
-refusal_in (Ok x) = None
-refusal_in (Err refusal) = Some refusal
+rows_in file set reads p =
+    let told : ResultRefusal → Status = elim [ Foreign found own ↦ status.Foreign found own | BadRow row why ↦ status.BadRow row why ] in
+    read_as file told (kept (own_header set (λ it. unwrap_or (reads it) []) p) p) reads
 
 -- the rows that are kept of the result file, of which `resume` goes on and `faults` and `progress` tell
 unfoldable pub kept_of : Bytes → Option (List NetId) → Settings → FilesRead → Result KeptRows Status
@@ -133,24 +119,15 @@ kept_of netlist walk set reads = do
   p ← plan_of netlist walk set reads
   rows_in which.Result set reads p
 
--- AUDIT: the first row that keeps other planes than those that its batch truly has
-unfoldable pub audit_step : Analysis → KeptRows → Result KeptRows Status
-audit_step p k =
-    let planes : Row → Outcome = λ row. true_planes p row.batch in
-    let is_wrong : Row → Bool = λ row. not ((row.danger == (planes row).danger) && (row.noticed == (planes row).noticed)) in
-    let refusal : Row → Status = λ row. status.Disagrees row.batch (record { danger = row.danger; noticed = row.noticed }) (planes row) in
-    unless (option_map refusal (find is_wrong k.rows)) k
-
--- the rows that `audit` has found right
+-- the rows that `audit` has found right, or the refusal of the first that keeps other planes than those that its batch truly has
 unfoldable pub audited_of : Bytes → Option (List NetId) → Settings → FilesRead → Result KeptRows Status
 audited_of netlist walk set reads = do
   p ← plan_of netlist walk set reads
   k ← rows_in which.Result set reads p
-  audit_step p k
-
--- the status of a refusal to merge
-abbrev pub status_of_merge : MergeRefusal → Status
-status_of_merge (Differs batch first second) = status.Differs batch first second
+  let planes : Row → Outcome = λ row. true_planes p row.batch
+  let is_wrong : Row → Bool = λ row. not ((row.danger == (planes row).danger) && (row.noticed == (planes row).noticed))
+  let refusal : Row → Status = λ row. status.Disagrees row.batch (record { danger = row.danger; noticed = row.noticed }) (planes row)
+  unless (option_map refusal (find is_wrong k.rows)) k
 
 -- the rows that `merge` writes, of both files, unless some batch stands in both with other planes; FIRST is judged whole before SECOND
 unfoldable pub merged_of : Bytes → Option (List NetId) → Settings → FilesRead → Result (List Row) Status
@@ -158,19 +135,15 @@ merged_of netlist walk set reads = do
   p ← plan_of netlist walk set reads
   first ← rows_in which.First set reads p
   second ← rows_in which.Second set reads p
-  or_refuse status_of_merge (merged p first.rows second.rows)
-
--- the status of why there are no pairs
-abbrev pub status_of_pairs : PairRefusal → Status
-status_of_pairs (Incomplete have batches) = status.Incomplete have batches
-status_of_pairs TooMany = status.TooLarge what.Pairs
+  or_refuse {E = MergeRefusal} (elim [ Differs batch one two ↦ status.Differs batch one two ]) (merged p first.rows second.rows)
 
 -- the rows by which `pairs` pairs the faults: each batch has a row, and there aren't too many pairs
 unfoldable pub paired_of : Bytes → Option (List NetId) → Settings → FilesRead → Result KeptRows Status
 paired_of netlist walk set reads = do
   p ← plan_of netlist walk set reads
   k ← rows_in which.Result set reads p
-  unless (option_map status_of_pairs (pair_refusal p k.rows)) k
+  let told : PairRefusal → Status = elim [ Incomplete have batches ↦ status.Incomplete have batches | TooMany ↦ status.TooLarge what.Pairs ]
+  unless (option_map told (pair_refusal p k.rows)) k
 
 -- the settings of `gen`: flips in cycle 1, and no pulses
 abbrev pub generated_settings : Settings
@@ -178,26 +151,49 @@ generated_settings = settings_of (1 ∷ []) []
 
 -- the first refusal of a command, over what was read; the generated netlist has no name, and is written in BLIF
 unfoldable pub first_refusal : Option (List NetId) → Command → FilesRead → Option Status
-first_refusal walk (Classes netlist workload) reads = refusal_in (classes_plan_of netlist walk reads)
-first_refusal walk (Check inputs flips pulses) reads = refusal_in (plan_of inputs.netlist walk (settings_of flips pulses) reads)
-first_refusal walk (RunCommand inputs name set workers) reads = refusal_in (plan_of inputs.netlist walk set reads)
-first_refusal walk (Resume inputs name set workers) reads = refusal_in (kept_of inputs.netlist walk set reads)
-first_refusal walk (Audit inputs name set) reads = refusal_in (audited_of inputs.netlist walk set reads)
-first_refusal walk (Gen n name workers) reads = refusal_in (plan_of [] walk generated_settings (all_read (generated n)))
-first_refusal walk (Report inputs set) reads = refusal_in (plan_of inputs.netlist walk set reads)
-first_refusal walk (Shard inputs name set part parts) reads = refusal_in (plan_of inputs.netlist walk set reads)
-first_refusal walk (Merge inputs name first second set) reads = refusal_in (merged_of inputs.netlist walk set reads)
-first_refusal walk (Pairs inputs name set workers) reads = refusal_in (paired_of inputs.netlist walk set reads)
-first_refusal walk (Parts netlist rates) reads = refusal_in (rated_of netlist walk reads)
-first_refusal walk (Faults inputs name set) reads = refusal_in (kept_of inputs.netlist walk set reads)
-first_refusal walk (Progress inputs name set) reads = refusal_in (kept_of inputs.netlist walk set reads)
-
--- `walk` is what is answered of loops, where the file of this name was read and is a netlist
-abbrev pub IsLoopAnswer : Bytes → Option Bytes → Option (List NetId) → Type 0
-IsLoopAnswer netlist got walk =
-    (bytes : Bytes) (c : Circuit) → at_most which.Netlist got ≡ Ok bytes → netlist_in netlist bytes ≡ Ok c → AnswersLoops c walk
+first_refusal walk (Classes netlist workload) reads = result_err (classes_plan_of netlist walk reads)
+first_refusal walk (Check inputs flips pulses) reads = result_err (plan_of inputs.netlist walk (settings_of flips pulses) reads)
+first_refusal walk (RunCommand inputs name set workers) reads = result_err (plan_of inputs.netlist walk set reads)
+first_refusal walk (Resume inputs name set workers) reads = result_err (kept_of inputs.netlist walk set reads)
+first_refusal walk (Audit inputs name set) reads = result_err (audited_of inputs.netlist walk set reads)
+first_refusal walk (Gen n name workers) reads = result_err (plan_of [] walk generated_settings (all_read (generated n)))
+first_refusal walk (Report inputs set) reads = result_err (plan_of inputs.netlist walk set reads)
+first_refusal walk (Shard inputs name set part parts) reads = result_err (plan_of inputs.netlist walk set reads)
+first_refusal walk (Merge inputs name first second set) reads = result_err (merged_of inputs.netlist walk set reads)
+first_refusal walk (Pairs inputs name set workers) reads = result_err (paired_of inputs.netlist walk set reads)
+first_refusal walk (Parts netlist rates) reads = result_err (rated_of netlist walk reads)
+first_refusal walk (Faults inputs name set) reads = result_err (kept_of inputs.netlist walk set reads)
+first_refusal walk (Progress inputs name set) reads = result_err (kept_of inputs.netlist walk set reads)
 
 -- the plan of four files, in which no step refuses; the netlist's has this name
 pub record IsPlanOf (netlist : Bytes) (set : Settings) (files : Files) (p : Analysis) : Type 0 where
   pub plan : plan_of netlist None set (all_read files) ≡ Ok p
   pub no_loop : HasNoLoop p.circuit
+
+-- ---- private steps, which nothing public cites
+
+-- the plan of `classes`: all outputs observed, no alarm, no flips, no pulses, and for all nets one part of role mission that isn't covered
+abbrev pub classes_plan : Circuit → List Run → Analysis
+classes_plan c runs =
+    let all : Part = record { name = codes "all"; role = Mission; covered = false; permanent = 0; transient = 0 } in
+    let rates : RateTable = record { patterns = record { name = []; star = true; part = 0 } ∷ []; parts = all ∷ [] } in
+    record { circuit = c; runs = runs; rates = rates; points = all_outputs c; settings = settings_of [] [] }
+
+-- the status of a refusal of RESULT
+abbrev pub status_of_back : ResultRefusal → Status
+status_of_back (Foreign found own) = status.Foreign found own
+status_of_back (BadRow number why) = status.BadRow number why
+
+-- the status of a refusal to merge
+abbrev pub status_of_merge : MergeRefusal → Status
+status_of_merge (Differs batch first second) = status.Differs batch first second
+
+-- the status of why there are no pairs
+abbrev pub status_of_pairs : PairRefusal → Status
+status_of_pairs (Incomplete have batches) = status.Incomplete have batches
+status_of_pairs TooMany = status.TooLarge what.Pairs
+
+-- `walk` is what is answered of loops, where the file of this name was read and is a netlist
+abbrev pub IsLoopAnswer : Bytes → Option Bytes → Option (List NetId) → Type 0
+IsLoopAnswer netlist got walk =
+    (bytes : Bytes) (c : Circuit) → at_most which.Netlist got ≡ Ok bytes → netlist_in netlist bytes ≡ Ok c → AnswersLoops c walk

@@ -9,10 +9,6 @@ use Rattle.command_line.specs.Commands.{Command, Classes, Check, Run, Resume, Au
 use Rattle.command_steps.specs.Files.{Files, by_file, generated}
 use Rattle.fm_base.specs.Names.{Bytes}
 
--- no file has changed
-abbrev pub KeepsAll : (before after : ShelfState) → Type 0
-KeepsAll before after = after.content ≡ before.content
-
 -- the names of the four inputs, and of the other files
 abbrev pub name_with : Inputs → (result first second : Bytes) → Which → Bytes
 name_with inputs = by_file inputs.netlist inputs.workload inputs.rates inputs.points
@@ -57,3 +53,9 @@ AreRead shelf command files = ForEach (λ file. HasIfKnown (shelf.content (name_
 -- each file that a command reads is known to hold these bytes
 abbrev pub AreHeld : ShelfState → Command → Files → Type 0
 AreHeld shelf command files = ForEach (λ file. shelf.content (name_of command file) ≡ Held (files file)) (files_of command)
+
+-- ---- a private step, which nothing public cites
+
+-- no file has changed
+abbrev pub KeepsAll : (before after : ShelfState) → Type 0
+KeepsAll before after = after.content ≡ before.content

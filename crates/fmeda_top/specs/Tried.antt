@@ -20,8 +20,8 @@ use Rattle.command_text.specs.declared.status.Which.TheVariants as which
 use Rattle.fm_shelf.specs.Content.{HasIfKnown}
 use Rattle.fm_base.specs.Names.{Bytes}
 use Rattle.campaign_plan.specs.declared.Settings.{Settings}
-use Rattle.command_steps.specs.FirstRefusal.{IsPlanOf, audited_of, audit_step, own_header, paired_of}
-use Rattle.command_steps.specs.FileSteps.{pairs_step, InputsRead}
+use Rattle.command_steps.specs.FirstRefusal.{IsPlanOf, audited_of, own_header, paired_of}
+use Rattle.command_steps.specs.FileSteps.{audit_step, pairs_step, InputsRead}
 use Rattle.command_text.specs.Refusals.{status_of, HasItsNets}
 use Rattle.result_file.specs.declared.KeptRows.{KeptRows}
 use Rattle.result_file.specs.KeptRows.{kept, kept_entries}

@@ -1,9 +1,8 @@
 use Rattle.std.proofs.lemmas.Result.{err_from_is_err_and}
 use Rattle.command_text.specs.declared.status.Which.TheVariants as which
 use Rattle.command_steps.proofs.Keeping.{one_read, more_read}
-use Rattle.command_steps.proofs.BegunOrder.{rows_kept}
+use Rattle.command_steps.proofs.BegunOrder.{rows_kept, both_first, both_second, both_rows}
 use Rattle.command_steps.proofs.Distinct.{kept_distinct}
-use Rattle.command_steps.proofs.MergeOrder.{both_first, both_second, both_rows}
 use Rattle.command_steps.proofs.merged.read_both.Goals as goal
 
 pub returns-in_err-one-clause-read : goal.returns-in_err-one-clause-read

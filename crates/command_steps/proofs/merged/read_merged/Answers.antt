@@ -1,8 +1,7 @@
 use Rattle.std.proofs.lemmas.Result.{err_from_is_err_and}
 use Rattle.command_line.specs.Asks.{names_of}
 use Rattle.command_steps.proofs.Keeping.{then_read}
-use Rattle.command_steps.proofs.BegunOrder.{header_of}
-use Rattle.command_steps.proofs.MergeOrder.{merge_planned, merge_both, merge_made}
+use Rattle.command_steps.proofs.BegunOrder.{header_of, merge_planned, merge_both, merge_made}
 use Rattle.command_steps.proofs.merged.read_merged.Goals as goal
 
 pub returns-in_err-planned-clause-read : goal.returns-in_err-planned-clause-read

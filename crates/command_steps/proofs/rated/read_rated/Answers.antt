@@ -1,6 +1,6 @@
 use Rattle.std.proofs.lemmas.Result.{err_from_is_err_and}
 use Rattle.command_steps.proofs.Keeping.{one_read, more_read}
-use Rattle.command_steps.proofs.RatedOrder.{rated_netlist, rated_rates, rated_made}
+use Rattle.command_steps.proofs.InOrder.{rated_netlist, rated_rates, rated_made}
 use Rattle.command_steps.proofs.rated.read_rated.Goals as goal
 
 pub returns-in_err-ordered-clause-read : goal.returns-in_err-ordered-clause-read

@@ -3,7 +3,7 @@ use Rattle.std.proofs.lemmas.Result.{err_from_is_err_and}
 use Rattle.fmeda_report.proofs.Sending.{sends_as}
 use Rattle.command_text.specs.Texts.{audit_line, audit_text}
 use Rattle.fmeda_top.proofs.ClassText.{text_as}
-use Rattle.fmeda_top.proofs.AuditEnding.{audit_is}
+use Rattle.fmeda_top.proofs.KeptEnding.{audit_is}
 use Rattle.fmeda_top.proofs.audit.tell_audit.Goals as goal
 
 pub returns-in_err-check_rows : goal.returns-in_err-check_rows

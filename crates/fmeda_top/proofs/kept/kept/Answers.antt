@@ -4,8 +4,7 @@ use Rattle.command_steps.specs.FileSteps.{name_in}
 use Rattle.command_line.specs.Asks.{names_of}
 use Rattle.command_steps.specs.BegunSteps.{KeptRefused}
 use Rattle.fmeda_top.specs.Kept.{command_of}
-use Rattle.fmeda_top.proofs.Ending.{tried_ends}
-use Rattle.fmeda_top.proofs.Naming.{same_names}
+use Rattle.fmeda_top.proofs.Ending.{tried_ends, same_names}
 use Rattle.fmeda_top.proofs.KeptEnding.{kept_end, kept_names, kept_netlist, kept_refused}
 use Rattle.fmeda_top.proofs.kept.kept.Goals as goal
 

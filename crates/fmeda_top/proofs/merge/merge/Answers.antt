@@ -8,9 +8,8 @@ use Rattle.command_line.specs.Asks.{names_of}
 use Rattle.command_steps.specs.MergeSteps.{MergeRefused}
 use Rattle.command_text.specs.Texts.{merge_text}
 use Rattle.fmeda_top.specs.Written.{rows_file}
-use Rattle.fmeda_top.proofs.Ending.{tried_ends}
-use Rattle.fmeda_top.proofs.MergeEnding.{merge_none, merge_done, merge_left, merge_refused, sources_ended}
-use Rattle.fmeda_top.proofs.Naming.{same_names}
+use Rattle.fmeda_top.proofs.Ending.{tried_ends, same_names}
+use Rattle.fmeda_top.proofs.KeptEnding.{merge_none, merge_done, merge_left, merge_refused, sources_ended}
 use Rattle.fmeda_top.proofs.merge.merge.Goals as goal
 
 pub returns-in-Ok : goal.returns-in-Ok

@@ -3,9 +3,8 @@ use Rattle.fm_shelf.specs.Outside.{outside}
 use Rattle.command_line.specs.Commands.{Pairs}
 use Rattle.command_steps.specs.Steps.{RefusedInOrder}
 use Rattle.command_line.specs.Asks.{names_of}
-use Rattle.fmeda_top.proofs.Ending.{tried_ends}
-use Rattle.fmeda_top.proofs.Naming.{same_names}
-use Rattle.fmeda_top.proofs.PairsEnding.{pairs_end}
+use Rattle.fmeda_top.proofs.Ending.{tried_ends, same_names}
+use Rattle.fmeda_top.proofs.KeptEnding.{pairs_end}
 use Rattle.fmeda_top.proofs.pairs.pairs.Goals as goal
 
 pub returns-in-Ok : goal.returns-in-Ok

@@ -5,7 +5,7 @@ use Rattle.fmeda_report.specs.Rows.{planes_in}
 use Rattle.pair_campaign.specs.PairText.{pairs_text}
 use Rattle.command_text.specs.declared.status.Status.TheVariants as status
 use Rattle.fmeda_top.proofs.ClassText.{text_as}
-use Rattle.fmeda_top.proofs.PairsEnding.{chosen_are_faults, judged_text}
+use Rattle.fmeda_top.proofs.KeptEnding.{chosen_are_faults, judged_text}
 use Rattle.fmeda_top.proofs.pairs.tell_pairs.Goals as goal
 
 pub new-requires-clause-pairs : goal.new-requires-clause-pairs

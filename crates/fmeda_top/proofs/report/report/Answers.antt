@@ -3,9 +3,8 @@ use Rattle.fm_shelf.specs.Outside.{outside}
 use Rattle.command_line.specs.Commands.{Report}
 use Rattle.command_steps.specs.PlanSteps.{PlanRefused}
 use Rattle.command_line.specs.Asks.{names_of}
-use Rattle.fmeda_top.proofs.Ending.{tried_ends}
-use Rattle.fmeda_top.proofs.Naming.{same_names}
-use Rattle.fmeda_top.proofs.ReportEnding.{report_end, report_refused}
+use Rattle.fmeda_top.proofs.Ending.{tried_ends, same_names}
+use Rattle.fmeda_top.proofs.PlanEnding.{report_end, report_refused}
 use Rattle.fmeda_top.proofs.report.report.Goals as goal
 
 pub returns-in-Ok : goal.returns-in-Ok

@@ -1,7 +1,7 @@
 use Rattle.std.proofs.Common.{refl}
 use Rattle.std.proofs.lemmas.Result.{err_from_is_err_and}
 use Rattle.command_line.specs.Asks.{names_of}
-use Rattle.fmeda_top.proofs.ReportEnding.{report_told}
+use Rattle.fmeda_top.proofs.PlanEnding.{report_told}
 use Rattle.fmeda_top.proofs.report.try_report.Goals as goal
 
 pub returns-in_err-planned-clause-tried : goal.returns-in_err-planned-clause-tried

@@ -4,9 +4,8 @@ use Rattle.command_line.specs.Commands.{Shard}
 use Rattle.command_steps.specs.FirstRefusal.{own_header}
 use Rattle.command_steps.specs.PlanSteps.{PlanRefused, input_files}
 use Rattle.command_line.specs.Asks.{names_of}
-use Rattle.fmeda_top.proofs.Ending.{tried_ends}
-use Rattle.fmeda_top.proofs.Naming.{same_names}
-use Rattle.fmeda_top.proofs.ShardEnding.{part_ends, part_of, shard_none, shard_done, shard_left, shard_refused}
+use Rattle.fmeda_top.proofs.Ending.{tried_ends, same_names}
+use Rattle.fmeda_top.proofs.PlanEnding.{part_ends, part_of, shard_none, shard_done, shard_left, shard_refused}
 use Rattle.fmeda_top.proofs.shard.shard.Goals as goal
 
 pub returns-in-Ok : goal.returns-in-Ok
