@@ -85,16 +85,6 @@ netlist_spares name walk got =
     then_spares (at_most which.Netlist got) (λ whole. netlist_in name whole >>= (λ c. unless (option_map status.Loop walk) c)) (read_spares which.Netlist got)
     (λ whole. then_spares (netlist_in name whole) (λ c. unless (option_map status.Loop walk) c) (form_spares name whole) (loop_spares walk))
 
-workload_spares : (c : Circuit) (reads : FilesRead) → Spares (read_as which.Workload status.Workload (workload_of c) reads)
-workload_spares c reads =
-    file_spares which.Workload (reads which.Workload) status.Workload (workload_of c) (λ f e. let bad : status.Workload f ≡ status.Usage = e in cc bad)
-
-rates_spares : (reads : FilesRead) → Spares (read_as which.Rates status.Rates rates_of reads)
-rates_spares reads = file_spares which.Rates (reads which.Rates) status.Rates rates_of (λ f e. let bad : status.Rates f ≡ status.Usage = e in cc bad)
-
-points_spares : (c : Circuit) (reads : FilesRead) → Spares (read_as which.Points status.Points (points_of c) reads)
-points_spares c reads = file_spares which.Points (reads which.Points) status.Points (points_of c) (λ f e. let bad : status.Points f ≡ status.Usage = e in cc bad)
-
 refused_spares : (refusal : Option PlanRefusal) (p : Analysis) → Spares (unless (option_map status_of_plan refusal) p)
 refused_spares None p = tt
 refused_spares (Some plan.TooManyFaults) p = λ e. let bad : status.TooLarge what.Faults ≡ status.Usage = e in cc bad
@@ -106,9 +96,9 @@ plan_spares : (name : Bytes) (walk : Option (List NetId)) (set : Settings) (read
 unfolding plan_of
 plan_spares name walk set reads =
     then_spares (netlist_step name walk (reads which.Netlist)) _ (netlist_spares name walk (reads which.Netlist))
-    (λ c. then_spares (read_as which.Workload status.Workload (workload_of c) reads) _ (workload_spares c reads)
-    (λ runs. then_spares (read_as which.Rates status.Rates rates_of reads) _ (rates_spares reads)
-    (λ rates. then_spares (read_as which.Points status.Points (points_of c) reads) _ (points_spares c reads)
+    (λ c. then_spares (read_as which.Workload status.Workload (workload_of c) reads) _ (file_spares which.Workload (reads which.Workload) status.Workload (workload_of c) (λ f e. cc))
+    (λ runs. then_spares (read_as which.Rates status.Rates rates_of reads) _ (file_spares which.Rates (reads which.Rates) status.Rates rates_of (λ f e. cc))
+    (λ rates. then_spares (read_as which.Points status.Points (points_of c) reads) _ (file_spares which.Points (reads which.Points) status.Points (points_of c) (λ f e. cc))
     (λ points. let p : Analysis = record { circuit = c; runs = runs; rates = rates; points = points; settings = set } in refused_spares (plan_refusal p) p))))
 
 few_spares : (c : Circuit) (many : Bool) → Spares (unless (if many then Some (status.TooLarge what.Outputs) else None) c)
@@ -120,13 +110,13 @@ unfolding classes_plan_of
 classes_spares name walk reads =
     then_spares (netlist_step name walk (reads which.Netlist)) _ (netlist_spares name walk (reads which.Netlist))
     (λ c. then_spares (unless (if nat_lt 1024 (length c.outputs) then Some (status.TooLarge what.Outputs) else None) c) _ (few_spares c (nat_lt 1024 (length c.outputs)))
-    (λ counted. then_spares (read_as which.Workload status.Workload (workload_of counted) reads) _ (workload_spares counted reads) (λ runs. tt)))
+    (λ counted. then_spares (read_as which.Workload status.Workload (workload_of counted) reads) _ (file_spares which.Workload (reads which.Workload) status.Workload (workload_of counted) (λ f e. cc)) (λ runs. tt)))
 
 parts_spares : (name : Bytes) (walk : Option (List NetId)) (reads : FilesRead) → Spares (rated_of name walk reads)
 unfolding rated_of
 parts_spares name walk reads =
     then_spares (netlist_step name walk (reads which.Netlist)) _ (netlist_spares name walk (reads which.Netlist))
-    (λ c. then_spares (read_as which.Rates status.Rates rates_of reads) _ (rates_spares reads) (λ table. tt))
+    (λ c. then_spares (read_as which.Rates status.Rates rates_of reads) _ (file_spares which.Rates (reads which.Rates) status.Rates rates_of (λ f e. cc)) (λ table. tt))
 
 back_other : (why : ResultRefusal) → status_of_back why ≢ status.Usage
 back_other (back.Foreign found own) e = let bad : status.Foreign found own ≡ status.Usage = e in cc bad

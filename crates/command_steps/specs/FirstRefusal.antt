@@ -9,6 +9,7 @@ use Rattle.workload.specs.WorkloadFile.{workload_of}
 use Rattle.rate_table.specs.RatesFile.{rates_of}
 use Rattle.rate_table.specs.Table.{RateTable}
 use Rattle.rate_table.specs.declared.Part.{Part}
+use Rattle.alarm_points.specs.declared.Points.{Points}
 use Rattle.alarm_points.specs.PointsFile.{points_of, all_outputs}
 use Rattle.campaign_plan.specs.declared.Outcome.{Outcome}
 use Rattle.campaign_plan.specs.declared.Settings.{Settings}
@@ -85,8 +86,7 @@ plan_of netlist walk set reads = do
   let p : Analysis = record { circuit = c; runs = runs; rates = rates; points = points; settings = set }
   unless (option_map status_of_plan (plan_refusal p)) p
 
--- the plan of `classes`, or the first refusal: NETLIST, more than 1,024 outputs, WORKLOAD. All outputs are observed, there is no alarm, no
--- flip and no pulse, and all nets have one part of role mission that isn't covered
+-- the plan of `classes`, or the first refusal: NETLIST, more than 1,024 outputs, WORKLOAD; one goal has all outputs, one part all nets
 unfoldable pub classes_plan_of : Bytes → Option (List NetId) → FilesRead → Result Analysis Status
 classes_plan_of netlist walk reads = do
   c ← netlist_step netlist walk (reads which.Netlist)
@@ -94,7 +94,8 @@ classes_plan_of netlist walk reads = do
   runs ← read_as which.Workload status.Workload (workload_of counted) reads
   let all : Part = record { name = codes "all"; role = Mission; covered = false; permanent = 0; transient = 0 }
   let rates : RateTable = record { patterns = record { name = []; star = true; part = 0 } ∷ []; parts = all ∷ [] }
-  Ok (record { circuit = counted; runs = runs; rates = rates; points = all_outputs counted; settings = settings_of [] [] })
+  let points : Points = record { goals = record { name = []; ftti = None; observe = counted.outputs } ∷ []; alarm = [] }
+  Ok (record { circuit = counted; runs = runs; rates = rates; points = points; settings = settings_of [] [] })
 
 -- the netlist and the rates of `parts`, or the first refusal; a net that no pattern matches is none
 unfoldable pub rated_of : Bytes → Option (List NetId) → FilesRead → Result (Circuit × RateTable) Status

@@ -1,6 +1,6 @@
 -- How a command ends that reads result files: `faults` and `progress`, `audit`, `pairs`, `resume` and `merge`.
-use Rattle.std.proofs.Common.{◌≡◌, ◌∙◌, ap, sym, refl, subst, List, Ok, Err, inl, [], ap₂, ℕ, length, Result, inr, ◌+◌, ◌<◌, Bool, true, false, not, ◌∷◌, map, arith, suc}
-use Rattle.std.specs.Prelude.{Option, None, Result, ◌⊎◌, Some, find, option_map, ◌==◌, Contains}
+use Rattle.std.proofs.Common.{◌≡◌, ◌∙◌, ap, sym, refl, subst, List, Ok, Err, inl, [], ap₂, ℕ, length, Result, inr, ◌+◌, ◌<◌, Bool, true, false, not, ◌∷◌, map, arith, suc, ◌++◌, take, get_or, append_assoc, append-nil}
+use Rattle.std.specs.Prelude.{Option, None, Result, ◌⊎◌, Some, find, option_map, ◌==◌, Contains, flat_map}
 use Rattle.fm_base.specs.Names.{Bytes}
 use Rattle.fm_shelf.specs.Shelf.{ShelfState, CountRose, OnlyReadsAny}
 use Rattle.fm_shelf.specs.Sink.{SinkState, Wrote}
@@ -43,7 +43,7 @@ use Rattle.result_file.specs.declared.Row.{Row}
 use Rattle.command_text.specs.declared.status.Status.TheVariants as status
 use Rattle.command_text.specs.declared.refused.Refused.TheVariants.{By, Looped}
 use Rattle.command_text.specs.Simulated.{Simulated, planes_simulated}
-use Rattle.command_text.specs.Texts.{audit_line, audit_text, merge_text}
+use Rattle.command_text.specs.Texts.{audit_line, audit_text, merge_text, merge_line}
 use Rattle.command_steps.proofs.Taken.{why, told_given}
 use Rattle.std.specs.List.{list_any}
 use Rattle.std.proofs.lemmas.Bool.Decides.{nat_tests}
@@ -67,16 +67,19 @@ use Rattle.campaign_run.specs.Reported.{ResumedAs}
 use Rattle.campaign_run.specs.Ran.{IsReported, IsTruncatedResult, Campaign}
 use Rattle.campaign_run.specs.Stopped.{StoppedAreTakenUp}
 use Rattle.fmeda_top.specs.Campaigns.{resumed_of, EndSaid, HasEnded}
-use Rattle.std.proofs.lemmas.List.{take_all}
+use Rattle.std.proofs.lemmas.List.{take_all, take_more}
 use Rattle.campaign_run.specs.declared.run.End.{End}
-use Rattle.result_file.specs.ResultText.{result_rows, result_text}
+use Rattle.result_file.specs.ResultText.{result_rows, result_text, row_text}
 use Rattle.result_file.proofs.WrittenBack.{length-result_rows}
 use Rattle.result_merge.specs.Merged.{first_other, merged, merged_entries, merged_unless}
 use Rattle.result_merge.specs.PlanLaws.{MergesAreLawful}
 use Rattle.campaign_run.specs.Outside.{KeepsOthers}
 use Rattle.command_steps.specs.declared.merged.Merged.{Merged as Read}
 use Rattle.command_steps.specs.MergeSteps.{MergeRefused, MergedAs, BothRead}
-use Rattle.fmeda_top.specs.Written.{rows_file}
+use Rattle.fmeda_top.specs.Written.{rows_file, WritesAs}
+use Rattle.std.specs.Result.{is_err}
+use Rattle.std.proofs.lemmas.List.Concat.{flat_map-append}
+use Rattle.fm_shelf.specs.declared.shelf.Failed.{Failed}
 
 -- a command is one over the rows that are kept: its checks, its files, and what it is for
 pub record IsOfKept (command : Command) (text : Analysis → List Entry → Bytes) (inputs : Inputs) (name : Bytes) (set : Settings) : Type 0 where
@@ -631,3 +634,22 @@ pub sources_ended : (inputs : Inputs) (result first second : Bytes) (set : Setti
 sources_ended inputs result first second set made rest before mid after out file reads checked done left how ended has said netlist workload rates points same one two =
     file_ends (Merge inputs result first second set) result made rest before mid after out file reads
     (same_names file (name_with inputs result first second) netlist workload rates points same one two) refl checked done left how ended has said
+
+-- ---- the bytes of a result file, row by row
+
+-- one row more
+pub next_row : (own : Bytes) (rows : List Row) (i : ℕ) (d : Row) → i < length rows → rows_file own (take i rows) ++ row_text (get_or rows i d) ≡ rows_file own (take (i + 1) rows)
+next_row own rows i d lt =
+    append_assoc own (flat_map row_text (take i rows)) (row_text (get_or rows i d))
+    ∙ ap (λ text. own ++ text) (ap (λ last. flat_map row_text (take i rows) ++ last) (sym (append-nil (row_text (get_or rows i d))))
+    ∙ sym (flat_map-append row_text (take i rows) (get_or rows i d ∷ [])) ∙ ap (flat_map row_text) (sym (take_more rows i d lt)))
+
+-- a file that was written anew
+pub written : (name text : Bytes) (before after : ShelfState) (r : Result (Unit {0}) Failed) → WritesAs name text before after r → is_err r ≡ false
+    → HasIfKnown (after.content name) text
+written name text before after (Ok v) writes e = writes
+written name text before after (Err x) writes e = absurd (cc)
+
+pub merge_is : (rows : ℕ) (p : Analysis) → merge_line rows (batch_count p) ≡ merge_text rows p
+unfolding merge_text
+merge_is rows p = refl

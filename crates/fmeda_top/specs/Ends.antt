@@ -1,6 +1,6 @@
 -- What a call of the program has done when it ends. Each promise is of the bytes that it read: what its files held, where that is known.
 use Rattle.std.specs.Prelude.{◌≡◌, ◌⊎◌, List, [], length, take, Option, Some, None, Ok, MatchOption}
-use Rattle.fm_shelf.specs.Content.{Content, Held, HasIfKnown, bytes_of}
+use Rattle.fm_shelf.specs.Content.{Content, Held, HasIfKnown, IsIfKnown, bytes_of}
 use Rattle.fm_shelf.specs.Shelf.{ShelfState}
 use Rattle.fm_shelf.specs.Sink.{Wrote, WroteOrFailed}
 use Rattle.fm_shelf.specs.Outside.{Outside}
@@ -33,8 +33,8 @@ use Rattle.command_steps.specs.FirstRefusal.{IsPlanOf, classes_plan_of, rated_of
 use Rattle.fm_base.specs.Names.{Bytes}
 use Rattle.campaign_run.specs.Outside.{KeepsOthers}
 use Rattle.campaign_run.specs.Found.{checkpointed_or_true}
-use Rattle.campaign_run.specs.Reported.{HasReported, ResumedAs}
-use Rattle.campaign_run.specs.Left.{IsPrefixOf, LeftPrefix, BeginsAs}
+use Rattle.campaign_run.specs.Reported.{BeginsWith, HasReported, ResumedAs}
+use Rattle.campaign_run.specs.Left.{IsPrefixOf, LeftPrefix}
 use Rattle.command_steps.specs.Held.{name_of, AreRead}
 use Rattle.command_text.specs.NetlistFile.{netlist_in}
 
@@ -86,8 +86,8 @@ HasMade command files before after =
           (entries : List Entry) × HasPart p (true_planes p) part parts entries
           × HasIfKnown (after.shelf.content name) (result_text own p entries) × IsOut (shard_line part parts (length entries)))
       | Merge inputs name _ _ set ↦ OfMerged inputs.netlist set files (λ p own one two both.
-          -- MERGING: the file holds the union of both files' rows, with sums from scratch; and where both have true planes, it is such a file
-          -- as a campaign leaves that was stopped, so that `resume` reports the campaign
+          -- MERGING: the file holds the union of both files' rows, with sums from scratch; and where both have true planes, it is such a
+          -- file as a campaign leaves that was stopped, so that `resume` reports the campaign
           HasIfKnown (after.shelf.content name) (result_text own p both) × IsOut (merge_text (length both) p)
           × (AreTrue p one → AreTrue p two → LeftPrefix own p (true_planes p) (Held (result_text own p both))))
       | Pairs inputs _ set _ ↦ OfPlan inputs.netlist set files (λ p own.
@@ -111,7 +111,7 @@ DoneAs command before after =
 abbrev pub MayLeave : Command → Files → (before after : Content) → Type 0
 MayLeave (Run inputs _ set _) files before after = OfPlan inputs.netlist set files (λ p own. LeftPrefix own p (true_planes p) after)
 MayLeave (Resume inputs _ set _) files before after = OfKept inputs.netlist set files (λ p own k.
-    LeftPrefix own p (checkpointed_or_true p k) after × BeginsAs after (take k.whole (bytes_of before)))
+    LeftPrefix own p (checkpointed_or_true p k) after × IsIfKnown after (λ bytes. BeginsWith bytes (take k.whole (bytes_of before))))
 MayLeave (Gen _ _ _) files before after = OfPlan [] generated_settings files (λ p own. LeftPrefix own p (true_planes p) after)
 MayLeave (Shard inputs _ set _ _) files before after = OfPlan inputs.netlist set files (λ p own. LeftPrefix own p (true_planes p) after)
 MayLeave (Merge inputs _ _ _ set) files before after =

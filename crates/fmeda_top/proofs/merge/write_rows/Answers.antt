@@ -4,7 +4,7 @@ use Rattle.fm_shelf.specs.Content.{HasIfKnown}
 use Rattle.fm_shelf.specs.Sink.{with_more}
 use Rattle.command_text.specs.Texts.{merge_line, merge_text}
 use Rattle.fmeda_top.specs.Written.{rows_file}
-use Rattle.fmeda_top.proofs.RowsFile.{merge_is, written}
+use Rattle.fmeda_top.proofs.KeptEnding.{merge_is, written}
 use Rattle.fmeda_top.proofs.merge.write_rows.Goals as goal
 
 pub returns-in-Ok-write_merge : goal.returns-in-Ok-write_merge

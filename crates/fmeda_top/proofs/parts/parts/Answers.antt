@@ -2,8 +2,7 @@ use Rattle.std.proofs.Common.{refl}
 use Rattle.fm_shelf.specs.Outside.{outside}
 use Rattle.command_line.specs.Commands.{Parts}
 use Rattle.command_steps.specs.Steps.{RefusedInOrder}
-use Rattle.fmeda_top.proofs.Ending.{tried_ends, same_names}
-use Rattle.fmeda_top.proofs.PartsEnding.{parts_end}
+use Rattle.fmeda_top.proofs.Ending.{tried_ends, same_names, parts_end}
 use Rattle.fmeda_top.proofs.parts.parts.Goals as goal
 
 pub returns-in-Ok : goal.returns-in-Ok

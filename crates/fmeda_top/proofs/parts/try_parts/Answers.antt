@@ -1,6 +1,6 @@
 use Rattle.std.proofs.Common.{refl}
 use Rattle.std.proofs.lemmas.Result.{err_from_is_err_and}
-use Rattle.fmeda_top.proofs.PartsEnding.{parts_tried}
+use Rattle.fmeda_top.proofs.Ending.{parts_tried}
 use Rattle.fmeda_top.proofs.parts.try_parts.Goals as goal
 
 pub returns-in_err-rated-clause-tried : goal.returns-in_err-rated-clause-tried
