@@ -166,11 +166,6 @@ first_refusal walk (Parts netlist rates) reads = result_err (rated_of netlist wa
 first_refusal walk (Faults inputs name set) reads = result_err (kept_of inputs.netlist walk set reads)
 first_refusal walk (Progress inputs name set) reads = result_err (kept_of inputs.netlist walk set reads)
 
--- the plan of four files, in which no step refuses; the netlist's has this name
-pub record IsPlanOf (netlist : Bytes) (set : Settings) (files : Files) (p : Analysis) : Type 0 where
-  pub plan : plan_of netlist None set (all_read files) ≡ Ok p
-  pub no_loop : HasNoLoop p.circuit
-
 -- ---- private steps, which nothing public cites
 
 -- the plan of `classes`: all outputs observed, no alarm, no flips, no pulses, and for all nets one part of role mission that isn't covered
@@ -198,3 +193,8 @@ status_of_pairs TooMany = status.TooLarge what.Pairs
 abbrev pub IsLoopAnswer : Bytes → Option Bytes → Option (List NetId) → Type 0
 IsLoopAnswer netlist got walk =
     (bytes : Bytes) (c : Circuit) → at_most which.Netlist got ≡ Ok bytes → netlist_in netlist bytes ≡ Ok c → AnswersLoops c walk
+
+-- the plan of four files, in which no step refuses; the netlist's has this name
+pub record IsPlanOf (netlist : Bytes) (set : Settings) (files : Files) (p : Analysis) : Type 0 where
+  pub plan : plan_of netlist None set (all_read files) ≡ Ok p
+  pub no_loop : HasNoLoop p.circuit

@@ -140,7 +140,7 @@ module _ (command : Command) (text : Analysis → List Entry → Bytes) (inputs 
       → CommandEnds command ended before after
   text_written before after ended keeps (p, k, (files, read, held, (plan, kept)), checked, told) =
       text_ends command ended before after (text p (kept_entries k)) (checked_of before.shelf after.shelf checked) told
-      (λ out is. own.done before (outside after.shelf out) keeps files read held (p, plan, (k, kept, is)))
+      (λ out is. own.done before (outside after.shelf out) keeps files read held (p, plan.plan, plan.no_loop, (k, kept, is)))
 
 module _ (own : KeptText) (inputs : Inputs) (name : Bytes) (set : Settings) where
   -- how either command ends
@@ -414,7 +414,7 @@ module _ (inputs : Inputs) (name : Bytes) (set : Settings) (before after : Shelf
       -- a campaign that is reported is what `resume` has done
       pub resume_done : StoppedAreTakenUp → DoesWhenReported (Resume inputs name set workers) resumed (outside before start) mid after
       resume_done law = λ out keeps is.
-          (keeps, (files, each_read begun.0.0 (begun.1.held, tt), (p, the_plan, (made.kept, kept_is, record { resumed = resumed_as out is; stopped = truly law out is }))))
+          (keeps, (files, each_read begun.0.0 (begun.1.held, tt), (p, the_plan.plan, the_plan.no_loop, (made.kept, kept_is, record { resumed = resumed_as out is; stopped = truly law out is }))))
 
       -- what is left after a fault of the result file
       pub resume_left : LeavesWhenStopped (Resume inputs name set workers) resumed before mid after
@@ -424,7 +424,7 @@ module _ (inputs : Inputs) (name : Bytes) (set : Settings) (before after : Shelf
               → (after.content name ≡ before.content name) ⊎ MayLeave (Resume inputs name set workers) files (before.content name) (after.content name)
           by_left (inl same) = inl same
           by_left (inr (part, begins)) =
-              inr (p, the_plan, (made.kept, kept_is, (subst (λ o. LeftPrefix o p planes (after.content name)) begun.1.own part, begins)))
+              inr (p, the_plan.plan, the_plan.no_loop, (made.kept, kept_is, (subst (λ o. LeftPrefix o p planes (after.content name)) begun.1.own part, begins)))
 
 -- ---- how each ends
 
@@ -442,7 +442,7 @@ module _ (inputs : Inputs) (name : Bytes) (set : Settings) where
       → CommandEnds (Audit inputs name set) ended before after
   audit_end before after ended keeps (p, k, (files, read, held, (plan, audited)), checked, text) =
       text_ends (Audit inputs name set) ended before after (audit_text (length k.rows) p) checked text
-      (λ out is. (keeps, (files, each_read read (held, tt), (p, plan, (k, audited, is)))))
+      (λ out is. (keeps, (files, each_read read (held, tt), (p, plan.plan, plan.no_loop, (k, audited, is)))))
 
   module _ (workers : ℕ) where
     -- refused before the pairs were chosen
@@ -458,7 +458,7 @@ module _ (inputs : Inputs) (name : Bytes) (set : Settings) where
         → CommandEnds (Pairs inputs name set workers) ended before after
     pairs_end law before after ended keeps (p, k, (files, read, held, (plan, paired)), hold, checked, text) =
         text_ends (Pairs inputs name set workers) ended before after (pairs_text p (planes_in k.rows)) checked text
-        (λ out is. (keeps, (files, each_read read (held, tt), (p, plan, (k, paired, is, (law p).truly k.rows hold)))))
+        (λ out is. (keeps, (files, each_read read (held, tt), (p, plan.plan, plan.no_loop, (k, paired, is, (law p).truly k.rows hold)))))
 
     pub resume_refused : (before after : ShelfState) (ended : Status) → KeptRefused inputs name set before after ended
         → RefusedInOrder (Resume inputs name set workers) before after ended
@@ -557,7 +557,8 @@ module _ (inputs : Inputs) (name first second : Bytes) (set : Settings) where
         → IsSo pm (own_header set six_files pm) (kept_entries both.first) (kept_entries both.second) entries → OfMerged inputs.netlist set six_files IsSo
     with_batches IsSo is = (
       pm,
-      merge_plan,
+      merge_plan.plan,
+      merge_plan.no_loop,
       (
         both.first,
         both.second,

@@ -29,7 +29,7 @@ use Rattle.command_text.specs.RefusalLines.{refusal_line}
 use Rattle.command_line.specs.Commands.{Command, Classes, Check, Run, Resume, Audit, Gen, Report, settings_of, Shard, Merge, Pairs, Parts, Faults, Progress}
 use Rattle.command_steps.specs.Files.{Files, all_read, generated}
 use Rattle.command_text.specs.Texts.{classes_text, check_text, audit_text, shard_line, merge_text}
-use Rattle.command_steps.specs.FirstRefusal.{IsPlanOf, classes_plan_of, rated_of, audited_of, own_header, generated_settings, merged_of, paired_of}
+use Rattle.command_steps.specs.FirstRefusal.{plan_of, classes_plan_of, rated_of, audited_of, own_header, generated_settings, merged_of, paired_of}
 use Rattle.fm_base.specs.Names.{Bytes}
 use Rattle.campaign_run.specs.Outside.{KeepsOthers}
 use Rattle.campaign_run.specs.Found.{checkpointed_or_true}
@@ -44,9 +44,10 @@ result_of command =
     let own : Option Bytes = Some (name_of command which.Result) in
     elim command [ Run _ _ _ _ ↦ own | Resume _ _ _ _ ↦ own | Gen _ _ _ ↦ own | Shard _ _ _ _ _ ↦ own | Merge _ _ _ _ _ ↦ own | _ ↦ None ]
 
--- there is the plan of these files, the netlist's of this name, and this is so of the plan and its own header
+-- there is the plan of these files, the netlist's of this name, in which no step refuses; and this is so of the plan and its own header
 abbrev pub OfPlan : (netlist : Bytes) → Settings → Files → (Analysis → (own : Bytes) → Type 0) → Type 0
-OfPlan netlist set files IsSo = (p : Analysis) × IsPlanOf netlist set files p × IsSo p (own_header set files p)
+OfPlan netlist set files IsSo =
+    (p : Analysis) × (plan_of netlist None set (all_read files) ≡ Ok p) × HasNoLoop p.circuit × IsSo p (own_header set files p)
 
 -- and of what is kept of the result file
 abbrev pub OfKept : (netlist : Bytes) → Settings → Files → (Analysis → (own : Bytes) → KeptRows → Type 0) → Type 0
