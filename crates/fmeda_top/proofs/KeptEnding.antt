@@ -33,7 +33,7 @@ use Rattle.fmeda_top.specs.declared.kept.KeptText.TheVariants.{FaultTable, Bound
 use Rattle.fmeda_top.specs.Promises.{CommandEnds}
 use Rattle.fmeda_top.specs.Ends.{DoneAs, netlist_known, OfKept, MayLeave, FaultAs, OfMerged}
 use Rattle.fmeda_top.specs.Kept.{command_of, kept_text}
-use Rattle.fmeda_top.specs.Tried.{AreKeptOf, KeptTextAs, TextAs, ChecksAs, AreAudited, AuditAs, AuditTold, ChoosesAs, ArePaired, PairsAs, PairsTold, RefusedBy}
+use Rattle.fmeda_top.specs.Tried.{KeptTextAs, TextAs, ChecksAs, AuditAs, AuditTold, ChoosesAs, PairsAs, PairsTold, RefusedBy}
 use Rattle.fmeda_top.proofs.Ending.{text_ends, DoesWhenReported, LeavesWhenStopped, left_since, reported_since, file_ends, same_names}
 use Rattle.command_steps.proofs.Each.{each_fit, each_read, read_with}
 use Rattle.fm_shelf.specs.Content.{HasIfKnown, Held, Content}
@@ -55,7 +55,7 @@ use Rattle.fmeda_report.specs.Report.{Planes, report, true_report}
 use Rattle.fmeda_report.specs.Rows.{HoldEachOnce, planes_in}
 use Rattle.pair_list.specs.declared.pairs.PairRefusal.{PairRefusal}
 use Rattle.pair_list.specs.declared.pairs.PairRefusal.TheVariants.{Incomplete, TooMany}
-use Rattle.pair_list.specs.Chosen.{Chosen, AreFaults, chosen, has_row, pair_refusal, pairs_by_rows, pairs_unless}
+use Rattle.pair_list.specs.Chosen.{Chosen, AreFaults, chosen, has_row, pair_refusal}
 use Rattle.pair_campaign.specs.PairPlanes.{pair_planes}
 use Rattle.pair_campaign.specs.PairText.{pairs_text, text_by_planes}
 use Rattle.pair_campaign.specs.Laws.{AllPairsAreTold}
@@ -191,22 +191,6 @@ unfolding audit_step
 audit_plain p k ended e = row_refusal (true_planes p) (find (is_wrong (true_planes p)) k.rows) k ended e
 
 -- ---- the pairs by the rows
-
-pub chosen_ok : (p : Analysis) (k : KeptRows) (c : Chosen) → pairs_by_rows p k.rows ≡ Ok c → ChoosesAs p k (Ok c)
-chosen_ok p k c is = by_why (pair_refusal p k.rows) refl is
-  where
-    by_why : (o : Option PairRefusal) → pair_refusal p k.rows ≡ o → pairs_unless o p k.rows ≡ Ok c → ChoosesAs p k (Ok c)
-    by_why (Some refusal) e h = absurd (cc)
-    by_why None e h = (ap (λ o. unless (option_map status_of_pairs o) k) e, cc)
-
-pub chosen_err : (p : Analysis) (k : KeptRows) (refusal : PairRefusal) → pairs_by_rows p k.rows ≡ Err refusal → ChoosesAs p k (Err (status_of_pairs refusal))
-chosen_err p k refusal is = by_why (pair_refusal p k.rows) refl is
-  where
-    by_why : (o : Option PairRefusal) → pair_refusal p k.rows ≡ o → pairs_unless o p k.rows ≡ Err refusal → ChoosesAs p k (Err (status_of_pairs refusal))
-    by_why (Some other) e h =
-        let same : other ≡ refusal = cc in
-        inr (ap (λ o. unless (option_map status_of_pairs o) k) (e ∙ ap (λ r. Some r) same))
-    by_why None e h = absurd (cc)
 
 -- those that pair are faults of the plan
 pub chosen_are_faults : (p : Analysis) (planes : Planes) (c : Chosen) → c ≡ chosen p planes → AreFaults p c
