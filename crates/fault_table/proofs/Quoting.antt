@@ -1,16 +1,19 @@
 -- Pieces of a field, and the field that they make; fields of a row, and the row.
-use Rattle.std.proofs.Common.{◌≡◌, ◌∙◌, ap, sym, refl, ℕ, Bool, true, false, List, [], ◌∷◌, ◌++◌, Bor, map}
+use Rattle.std.proofs.Common.{◌≡◌, ◌∙◌, ap, sym, refl, ℕ, ◌%◌, Bool, true, false, List, [], ◌∷◌, ◌++◌, Bor, map}
 use Rattle.std.specs.Prelude.{◌||◌}
 use Rattle.std.specs.List.{flat_map, list_any, join_with_byte}
 use Rattle.std.proofs.lemmas.List.{append-nil}
 use Rattle.std.proofs.lemmas.Grind.{flat_map-append}
 use Rattle.std.proofs.lemmas.List.Folds.{list_any-append}
 use Rattle.fm_base.specs.Names.{Bytes}
+use Rattle.fm_base.specs.Planes.{bit}
 use Rattle.fault_list.specs.Faults.{fault_name}
+use Rattle.fault_list.proofs.Numbers.{lane_back}
 use Rattle.campaign_plan.specs.declared.Outcome.{Outcome}
 use Rattle.campaign_plan.specs.Analysis.{Analysis, fault_numbered}
+use Rattle.campaign_plan.specs.Batches.{class_with}
 use Rattle.fault_table.specs.Csv.{csv_field}
-use Rattle.fault_table.specs.Steps.{between_quotes, calls_for_quotes, further_fields}
+use Rattle.fault_table.specs.Steps.{between_quotes, calls_for_quotes, fields_by, further_fields}
 use Rattle.fault_table.specs.FaultTable.{fault_row}
 
 -- the bytes of pieces
@@ -75,4 +78,11 @@ joined first (next ∷ fields) = ap (λ t. csv_field first ++ (44 ∷ t)) (joine
 pub row_is : (p : Analysis) (planes : Outcome) (i : ℕ)
     → (csv_field (fault_name p.circuit (fault_numbered p i)) ++ flat_map after_comma (further_fields p planes i)) ++ 10 ∷ [] ≡ fault_row p planes i
 unfolding fault_row
-row_is p planes i = ap (λ t. t ++ 10 ∷ []) (sym (joined (fault_name p.circuit (fault_numbered p i)) (further_fields p planes i)))
+row_is p planes i =
+    ap (λ t. t ++ 10 ∷ []) (sym (joined (fault_name p.circuit (fault_numbered p i)) (further_fields p planes i)))
+    ∙ ap row_with (sym (lane_back i))
+  where
+    -- the row, where the class is that of fault n with these bits
+    row_with : ℕ → Bytes
+    row_with = λ n. join_with_byte 44 (map csv_field (fault_name p.circuit (fault_numbered p i)
+        ∷ fields_by p planes i (class_with p n (bit planes.danger (i % 64)) (bit planes.noticed (i % 64))))) ++ 10 ∷ []

@@ -21,7 +21,9 @@ IfPresent (Held bytes) P = P bytes
 
 -- where anything is known of it, the file is there, and the fact holds of its bytes
 abbrev pub IsIfKnown : Content → (List ℕ → Type 0) → Type 0
-IsIfKnown content P = elim content [ Unknown ↦ Unit {0} | Absent ↦ ⊥ | Held bytes ↦ P bytes ]
+IsIfKnown Unknown P = Unit {0}
+IsIfKnown Absent P = ⊥
+IsIfKnown (Held bytes) P = P bytes
 
 -- where anything is known of it, the file has these bytes
 abbrev pub HasIfKnown : Content → List ℕ → Type 0
@@ -29,7 +31,9 @@ HasIfKnown content bytes = IsIfKnown content (λ held. held ≡ bytes)
 
 -- the bytes that an append goes on from: an absent file counts as empty
 abbrev pub bytes_of : Content → List ℕ
-bytes_of = elim [ Held bytes ↦ bytes | _ ↦ [] ]
+bytes_of Unknown = []
+bytes_of Absent = []
+bytes_of (Held bytes) = bytes
 
 -- the greatest length of a file that is read: 2^26 bytes
 abbrev pub greatest : ℕ

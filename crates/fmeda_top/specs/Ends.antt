@@ -101,6 +101,10 @@ HasMade command files before after =
       | Progress inputs _ set ↦ OfKept inputs.netlist set files (λ p own k. IsOut (progress p (kept_entries k)))
     ]
 
+-- the netlist of a command, as far as it is known: the generated one, or that of its file
+abbrev pub netlist_known : Command → ShelfState → Content
+netlist_known command shelf = elim command [ Gen n _ _ ↦ Held (generated n which.Netlist) | other ↦ shelf.content (name_of other which.Netlist) ]
+
 -- WHAT A COMMAND HAS DONE that ended Done: other files stay, and of its files bytes were read of which it has made this
 abbrev pub DoneAs : Command → (before after : Outside) → Type 0
 DoneAs command before after =
@@ -137,7 +141,3 @@ pub record RefusedAs (names : Which → Bytes) (netlist : Content) (ended : Stat
 -- the status is a refusal that leaves RESULT alone: no Done, and no fault of writing
 abbrev pub IsRefusal : Status → Type 0
 IsRefusal ended = elim ended [ status.Done ↦ ⊥ | status.WriteFault _ ↦ ⊥ | _ ↦ Unit {0} ]
-
--- the netlist of a command, as far as it is known: the generated one, or that of its file
-abbrev pub netlist_known : Command → ShelfState → Content
-netlist_known command shelf = elim command [ Gen n _ _ ↦ Held (generated n which.Netlist) | other ↦ shelf.content (name_of other which.Netlist) ]
