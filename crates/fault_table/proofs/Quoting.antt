@@ -1,5 +1,5 @@
 -- Pieces of a field, and the field that they make; fields of a row, and the row.
-use Rattle.std.proofs.Common.{◌≡◌, ◌∙◌, ap, sym, refl, ℕ, ◌%◌, Bool, true, false, List, [], ◌∷◌, ◌++◌, Bor, map}
+use Rattle.std.proofs.Common.{◌≡◌, ◌∙◌, ap, ap₂, sym, refl, ℕ, ◌%◌, Bool, true, false, List, [], ◌∷◌, ◌++◌, Bor, map}
 use Rattle.std.specs.Prelude.{◌||◌}
 use Rattle.std.specs.List.{flat_map, list_any, join_with_byte}
 use Rattle.std.proofs.lemmas.List.{append-nil}
@@ -73,6 +73,10 @@ next_field field = after_comma field.now
 joined : (first : Bytes) (fields : List Bytes) → join_with_byte 44 (map csv_field (first ∷ fields)) ≡ csv_field first ++ flat_map after_comma fields
 joined first [] = sym (append-nil (csv_field first))
 joined first (next ∷ fields) = ap (λ t. csv_field first ++ (44 ∷ t)) (joined next fields)
+
+-- fields are the same where the first is, and the others are
+pub next_same : {a b : Bytes} {xs ys : List Bytes} → a ≡ b → xs ≡ ys → (a ∷ xs) ≡ (b ∷ ys)
+next_same e es = ap₂ (λ field fields. field ∷ fields) e es
 
 -- a row, from its first field, the fields with a comma before each, and the line feed
 pub row_is : (p : Analysis) (planes : Outcome) (i : ℕ)

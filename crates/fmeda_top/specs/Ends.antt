@@ -103,7 +103,8 @@ HasMade command files before after =
 
 -- the netlist of a command, as far as it is known: the generated one, or that of its file
 abbrev pub netlist_known : Command → ShelfState → Content
-netlist_known command shelf = elim command [ Gen n _ _ ↦ Held (generated n which.Netlist) | other ↦ shelf.content (name_of other which.Netlist) ]
+netlist_known command shelf =
+    elim command [ Gen n _ _ ↦ Held (generated n which.Netlist) | other ↦ shelf.content (name_of other which.Netlist) ]
 
 -- WHAT A COMMAND HAS DONE that ended Done: other files stay, and of its files bytes were read of which it has made this
 abbrev pub DoneAs : Command → (before after : Outside) → Type 0

@@ -36,7 +36,8 @@ pub record EndsInOrder (command : Command) (ended : Status) (before after : Outs
       → CountRose (before.shelf.read_faults (name_of command file)) (after.shelf.read_faults (name_of command file))
 
 -- WHAT IS PROMISED OF A COMMAND: why it ended so, where memory may run out at any time; what it has done at Done; its line after a refusal,
--- by the netlist as far as it is known; and what is left after a fault of RESULT, and of `out`: all is as at Done, but for a part of the text
+-- by the netlist as far as it is known; and what is left after a fault of RESULT, and of `out`, where all is as at Done but for a part of
+-- the text
 pub record CommandEnds (command : Command) (ended : Status) (before after : Outside) : Type 0 where
   pub cause : EndsInOrder command ended before after ⊎ (ended ≡ status.Memory)
   pub done : ended ≡ status.Done → DoneAs command before after
