@@ -6,6 +6,7 @@ use Rattle.fm_shelf.specs.Shelf.{ShelfState, CountRose, OnlyReadsAny}
 use Rattle.fm_shelf.specs.Sink.{SinkState, Wrote}
 use Rattle.fm_shelf.specs.Outside.{Outside, outside}
 use Rattle.circuit.specs.declared.parts.NetId.{NetId}
+use Rattle.metric_sums.specs.declared.Class.TheVariants.{Latent, Detected}
 use Rattle.campaign_plan.specs.declared.Settings.{Settings}
 use Rattle.campaign_plan.specs.Analysis.{Analysis, all_faults, batch_count}
 use Rattle.campaign_plan.specs.Batches.{AreDistinct, Entry, true_planes, batches, AreTrue}
@@ -195,7 +196,7 @@ audit_plain p k ended e = row_refusal (true_planes p) (find (is_wrong (true_plan
 -- those that pair are faults of the plan
 pub chosen_are_faults : (p : Analysis) (planes : Planes) (c : Chosen) → c ≡ chosen p planes → AreFaults p c
 chosen_are_faults p planes c is =
-    subst (AreFaults p) (sym is) (record { latent = under p planes _; detected = under p planes _ })
+    subst (AreFaults p) (sym is) (record { latent = under p planes Latent; detected = under p planes Detected })
 
 -- ---- each batch has a row
 
