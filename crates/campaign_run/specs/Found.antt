@@ -1,8 +1,8 @@
 -- The planes that a campaign finds its batches to have.
-use Rattle.std.specs.Prelude.{◌≡◌, ◌==◌, ◌<◌, ℕ, List, All, Contains, find, unwrap_or, option_map}
+use Rattle.std.specs.Prelude.{◌≡◌, ◌==◌, ℕ, List, All, find, unwrap_or, option_map}
 use Rattle.campaign_plan.specs.declared.Outcome.{Outcome}
-use Rattle.campaign_plan.specs.Analysis.{Analysis, batch_count}
-use Rattle.campaign_plan.specs.Batches.{Entry, AreDistinct, batches, true_planes}
+use Rattle.campaign_plan.specs.Analysis.{Analysis}
+use Rattle.campaign_plan.specs.Batches.{Entry, AreDistinct, HasEach, true_planes}
 use Rattle.result_file.specs.declared.KeptRows.{KeptRows}
 use Rattle.result_file.specs.KeptRows.{kept_entries}
 
@@ -15,8 +15,6 @@ pub record IsPart (p : Analysis) (planes : ℕ → Outcome) (entries : List Entr
   pub distinct : AreDistinct p entries
   pub have : All (λ entry. entry.1 ≡ planes entry.0) entries
 
--- ---- a shape of private steps, which the promise on the program doesn't cite
-
 -- each batch of the plan once, with the planes that `planes` gives
 abbrev pub IsWhole : Analysis → (ℕ → Outcome) → List Entry → Type 0
-IsWhole p planes entries = IsPart p planes entries × ((batch : ℕ) → batch < batch_count p → Contains (batches entries) batch)
+IsWhole p planes entries = IsPart p planes entries × HasEach p entries

@@ -1,22 +1,22 @@
 -- What a campaign has done when it is reported.
-use Rattle.std.specs.Prelude.{◌≡◌, ◌<◌, ℕ, List, length, take, Contains, Ok}
+use Rattle.std.specs.Prelude.{◌≡◌, ℕ, List, length, take, Ok}
 use Rattle.fm_shelf.specs.Content.{HasIfKnown}
 use Rattle.fm_shelf.specs.Sink.{Wrote}
 use Rattle.fm_shelf.specs.Outside.{Outside}
 use Rattle.campaign_plan.specs.declared.Outcome.{Outcome}
-use Rattle.campaign_plan.specs.Analysis.{Analysis, batch_count}
-use Rattle.campaign_plan.specs.Batches.{Entry, batches}
+use Rattle.campaign_plan.specs.Analysis.{Analysis}
+use Rattle.campaign_plan.specs.Batches.{Entry}
 use Rattle.result_file.specs.declared.KeptRows.{KeptRows}
 use Rattle.result_file.specs.ResultText.{result_text}
 use Rattle.result_file.specs.KeptRows.{kept, kept_entries}
 use Rattle.fm_base.specs.Names.{Bytes}
-use Rattle.campaign_run.specs.Found.{IsPart}
+use Rattle.campaign_run.specs.Found.{IsWhole}
 
 -- WHAT IS PROMISED OF A CAMPAIGN: the text of one thread that takes the faults in order was written; the result file has each batch once
 pub record HasReported (own text : Bytes) (p : Analysis) (planes : ℕ → Outcome) (name : Bytes) (before after : Outside) : Type 0 where
   pub wrote : Wrote before.out after.out text
   pub entries : List Entry
-  pub whole : IsPart p planes entries × ((batch : ℕ) → batch < batch_count p → Contains (batches entries) batch)
+  pub whole : IsWhole p planes entries
   pub result : HasIfKnown (after.shelf.content name) (result_text own p entries)
 
 -- a campaign that was resumed on a file of these bytes: it is reported, and its rows begin with those that were kept
