@@ -44,7 +44,7 @@ use Rattle.result_file.specs.declared.Row.{Row}
 use Rattle.command_text.specs.declared.status.Status.TheVariants as status
 use Rattle.command_text.specs.declared.refused.Refused.TheVariants.{By, Looped}
 use Rattle.command_text.specs.Simulated.{Simulated, planes_simulated}
-use Rattle.command_text.specs.Texts.{audit_line, audit_text, merge_text, merge_line}
+use Rattle.command_text.specs.Texts.{audit_line, merge_line}
 use Rattle.command_steps.proofs.Taken.{why, told_given}
 use Rattle.std.specs.List.{list_any}
 use Rattle.std.proofs.lemmas.Bool.Decides.{nat_tests}
@@ -160,10 +160,6 @@ module _ (own : KeptText) (inputs : Inputs) (name : Bytes) (set : Settings) wher
   kept_netlist = (is_of_kept own inputs name set).netlist
 
 -- ---- `audit`
-
-pub audit_is : (rows : ℕ) (p : Analysis) → audit_line rows (batch_count p) ≡ audit_text rows p
-unfolding audit_text
-audit_is rows p = refl
 
 -- what is simulated of a plan
 abbrev simulated : Analysis → Simulated
@@ -426,7 +422,7 @@ module _ (inputs : Inputs) (name : Bytes) (set : Settings) where
   pub audit_end : (before after : Outside) (ended : Status) → KeepsAll before.shelf after.shelf → AuditAs before after inputs name set (Ok ended)
       → CommandEnds (Audit inputs name set) ended before after
   audit_end before after ended keeps (p, k, (files, read, held, (plan, audited)), checked, text) =
-      text_ends (Audit inputs name set) ended before after (audit_text (length k.rows) p) checked text
+      text_ends (Audit inputs name set) ended before after (audit_line (length k.rows) (batch_count p)) checked text
       (λ out is. (keeps, (files, each_read read (held, tt), (p, plan.plan, plan.no_loop, (k, audited, is)))))
 
   module _ (workers : ℕ) where
@@ -585,7 +581,7 @@ module _ (inputs : Inputs) (name first second : Bytes) (set : Settings) where
 
     -- what `merge` has done
     pub merge_done : MergesAreLawful → (out : SinkState) → KeepsOthers before.shelf after name
-        → HasIfKnown (after.content name) (rows_file made.own made.rows) × Wrote before.out out (merge_text (length made.rows) pm)
+        → HasIfKnown (after.content name) (rows_file made.own made.rows) × Wrote before.out out (merge_line (length made.rows) (batch_count pm))
         → DoneAs merge_command before (outside after out)
     merge_done laws out keeps (has, wrote) = (
       keeps,
@@ -593,10 +589,10 @@ module _ (inputs : Inputs) (name first second : Bytes) (set : Settings) where
         six_files,
         are_read,
         with_batches
-            (λ q own first_of second_of both_of. HasIfKnown (after.content name) (result_text own q both_of) × Wrote before.out out (merge_text (length both_of) q)
+            (λ q own first_of second_of both_of. HasIfKnown (after.content name) (result_text own q both_of) × Wrote before.out out (merge_line (length both_of) (batch_count q))
             × (AreTrue q first_of → AreTrue q second_of → LeftPrefix own q (true_planes q) (Held (result_text own q both_of)))) (
               subst (HasIfKnown (after.content name)) file_is has,
-              subst (λ rows. Wrote before.out out (merge_text rows pm)) many wrote,
+              subst (λ rows. Wrote before.out out (merge_line rows (batch_count pm))) many wrote,
               merge_stopped laws,
             ),
       ),
@@ -635,7 +631,3 @@ pub written : (name text : Bytes) (before after : ShelfState) (r : Result (Unit 
     → HasIfKnown (after.content name) text
 written name text before after (Ok v) writes e = writes
 written name text before after (Err x) writes e = absurd (cc)
-
-pub merge_is : (rows : ℕ) (p : Analysis) → merge_line rows (batch_count p) ≡ merge_text rows p
-unfolding merge_text
-merge_is rows p = refl

@@ -7,7 +7,7 @@ use Rattle.fm_shelf.specs.Outside.{Outside}
 use Rattle.circuit.specs.Loop.{HasNoLoop}
 use Rattle.circuit.specs.Circuit.{Circuit}
 use Rattle.campaign_plan.specs.declared.Settings.{Settings}
-use Rattle.campaign_plan.specs.Analysis.{Analysis}
+use Rattle.campaign_plan.specs.Analysis.{Analysis, batch_count}
 use Rattle.campaign_plan.specs.Batches.{Entry, AreTrue, true_planes}
 use Rattle.result_file.specs.declared.KeptRows.{KeptRows}
 use Rattle.rate_table.specs.Table.{RateTable}
@@ -28,7 +28,7 @@ use Rattle.command_text.specs.declared.status.Which.TheVariants as which
 use Rattle.command_text.specs.RefusalLines.{refusal_line}
 use Rattle.command_line.specs.Commands.{Command, Classes, Check, Run, Resume, Audit, Gen, Report, settings_of, Shard, Merge, Pairs, Parts, Faults, Progress}
 use Rattle.command_steps.specs.Files.{Files, all_read, generated}
-use Rattle.command_text.specs.Texts.{classes_text, check_text, audit_text, shard_line, merge_text}
+use Rattle.command_text.specs.Texts.{classes_text, check_text, audit_line, shard_line, merge_line}
 use Rattle.command_steps.specs.FirstRefusal.{plan_of, classes_plan_of, rated_of, audited_of, own_header, generated_settings, merged_of, paired_of}
 use Rattle.fm_base.specs.Names.{Bytes}
 use Rattle.campaign_run.specs.Outside.{KeepsOthers}
@@ -78,7 +78,7 @@ HasMade command files before after =
           HasReported own (true_report p) p (true_planes p) name before after)
       | Resume inputs name set _ ↦ OfKept inputs.netlist set files (λ p own k. Resumed own p k (files which.Result) name before after)
       | Audit inputs _ set ↦ OfPlan inputs.netlist set files (λ p own.
-          (k : KeptRows) × (audited_of inputs.netlist None set (all_read files) ≡ Ok k) × IsOut (audit_text (length k.rows) p))
+          (k : KeptRows) × (audited_of inputs.netlist None set (all_read files) ≡ Ok k) × IsOut (audit_line (length k.rows) (batch_count p)))
       | Gen n name _ ↦ OfPlan [] generated_settings files (λ p own.
           HasReported own (summary n p (true_planes p)) p (true_planes p) name before after)
       | Report inputs set ↦ OfPlan inputs.netlist set files (λ p own. IsOut (true_report p))
@@ -89,7 +89,7 @@ HasMade command files before after =
       | Merge inputs name _ _ set ↦ OfMerged inputs.netlist set files (λ p own one two both.
           -- MERGING: the file holds the union of both files' rows, with sums from scratch; and where both have true planes, it is such a
           -- file as a campaign leaves that was stopped, so that `resume` reports the campaign
-          HasIfKnown (after.shelf.content name) (result_text own p both) × IsOut (merge_text (length both) p)
+          HasIfKnown (after.shelf.content name) (result_text own p both) × IsOut (merge_line (length both) (batch_count p))
           × (AreTrue p one → AreTrue p two → LeftPrefix own p (true_planes p) (Held (result_text own p both))))
       | Pairs inputs _ set _ ↦ OfPlan inputs.netlist set files (λ p own.
           -- PAIRING: the text is that of the pairs by the kept planes; where these are true, it is that of the true planes

@@ -6,7 +6,7 @@ use Rattle.fm_shelf.specs.Shelf.{ShelfState}
 use Rattle.fm_shelf.specs.Sink.{SinkState, Wrote, WrotePrefix}
 use Rattle.fm_shelf.specs.Outside.{Outside}
 use Rattle.command_line.specs.Commands.{Classes, Inputs, Audit, Pairs, Parts}
-use Rattle.campaign_plan.specs.Analysis.{Analysis}
+use Rattle.campaign_plan.specs.Analysis.{Analysis, batch_count}
 use Rattle.campaign_plan.specs.Batches.{Entry}
 use Rattle.command_text.specs.declared.status.Status.{Status}
 use Rattle.command_text.specs.declared.status.Status.TheVariants as status
@@ -14,7 +14,7 @@ use Rattle.command_text.specs.declared.refused.Refused.{Refused}
 use Rattle.command_text.specs.declared.refused.Refused.TheVariants.{By, Looped}
 use Rattle.command_steps.specs.Files.{Files, all_read}
 use Rattle.command_steps.specs.Checked.{Checked}
-use Rattle.command_text.specs.Texts.{classes_text, audit_text}
+use Rattle.command_text.specs.Texts.{classes_text, audit_line}
 use Rattle.command_text.specs.declared.status.WriteTo.TheVariants as to
 use Rattle.command_text.specs.declared.status.Which.TheVariants as which
 use Rattle.fm_shelf.specs.Content.{HasIfKnown}
@@ -70,7 +70,7 @@ ChecksAs p k (Err (Looped walk net)) = ⊥
 
 -- the rows of what is kept were told to agree: the line went out, or a prefix of it; or the first that doesn't is refused, and nothing went out
 abbrev pub AuditTold : Analysis → KeptRows → (before after : SinkState) → Result Status Refused → Type 0
-AuditTold p k before after (Ok ended) = (audit_step p k ≡ Ok k) × TextAs before after (audit_text (length k.rows) p) (Ok ended)
+AuditTold p k before after (Ok ended) = (audit_step p k ≡ Ok k) × TextAs before after (audit_line (length k.rows) (batch_count p)) (Ok ended)
 AuditTold p k before after (Err refused) = ChecksAs p k (Err refused) × (after ≡ before)
 
 -- this is so of the bytes that were read of the four inputs and of the result file
@@ -86,7 +86,7 @@ AreAudited shelf inputs name set p k =
 abbrev pub AuditAs : (before after : Outside) → Inputs → Bytes → Settings → Result Status Refused → Type 0
 AuditAs before after inputs name set (Ok ended) =
     (p : Analysis) × (k : KeptRows) × AreAudited before.shelf inputs name set p k × Checked (Audit inputs name set) before.shelf after.shelf None
-    × TextAs before.out after.out (audit_text (length k.rows) p) (Ok ended)
+    × TextAs before.out after.out (audit_line (length k.rows) (batch_count p)) (Ok ended)
 AuditAs before after inputs name set (Err refused) =
     RefusedBy inputs.netlist before after refused (RefusedInOrder (Audit inputs name set) before.shelf after.shelf)
 

@@ -3,12 +3,13 @@ ghost use Rattle.std.specs.Prelude.{◌≡◌, ◌++◌, ◌⊎◌, IfOk, flat_m
 ghost use Rattle.fm_shelf.specs.Content.{HasIfKnown};
 ghost use Rattle.fm_shelf.specs.Sink.{Wrote};
 ghost use Rattle.fm_shelf.specs.Outside.{outside};
+ghost use Rattle.campaign_plan.specs.Analysis.{batch_count};
 ghost use Rattle.campaign_plan.specs.Kept.{AreSettings};
 ghost use Rattle.result_file.specs.ResultText.{row_text};
 ghost use Rattle.campaign_run.specs.Left.{IsPrefixOf};
 ghost use Rattle.command_line.specs.Commands.{Merge};
 ghost use Rattle.command_line.specs.Asks.{names_of};
-ghost use Rattle.command_text.specs.Texts.{merge_text};
+ghost use Rattle.command_text.specs.Texts.{merge_line};
 ghost use Rattle.fmeda_top.specs.Campaigns.{HasEnded};
 ghost use Rattle.fmeda_top.specs.Promises.{CommandEnds};
 ghost use Rattle.fmeda_top.specs.Written.{IsWrittenAnew, rows_file};
@@ -58,7 +59,7 @@ fn write_rows<F: Shelf, O: Sink>(
 ) -> End
     ensures { HasEnded result
         (λ after. HasIfKnown (after.shelf.content rows.now) (rows_file merged.now.own merged.now.rows)
-        × Wrote (O.seen out.old) after.out (merge_text (length merged.now.rows) merged.now.planned.plan))
+        × Wrote (O.seen out.old) after.out (merge_line (length merged.now.rows) (batch_count merged.now.planned.plan)))
         (((F.seen shelf.new).content rows.now ≡ (F.seen shelf.old).content rows.now)
         ⊎ IsPrefixOf ((F.seen shelf.new).content rows.now) (rows_file merged.now.own merged.now.rows))
         rows.now (outside (F.seen shelf.old) (O.seen out.old)) (outside (F.seen shelf.new) (O.seen out.new)) }

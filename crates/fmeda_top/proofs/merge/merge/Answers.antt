@@ -3,10 +3,11 @@ use Rattle.fm_shelf.specs.Content.{HasIfKnown}
 use Rattle.fm_shelf.specs.Sink.{Wrote}
 use Rattle.fm_shelf.specs.Outside.{outside}
 use Rattle.campaign_run.specs.Left.{IsPrefixOf}
+use Rattle.campaign_plan.specs.Analysis.{batch_count}
 use Rattle.command_line.specs.Commands.{Merge}
 use Rattle.command_line.specs.Asks.{names_of}
 use Rattle.command_steps.specs.MergeSteps.{MergeRefused}
-use Rattle.command_text.specs.Texts.{merge_text}
+use Rattle.command_text.specs.Texts.{merge_line}
 use Rattle.fmeda_top.specs.Written.{rows_file}
 use Rattle.fmeda_top.proofs.Ending.{tried_ends, same_names}
 use Rattle.fmeda_top.proofs.KeptEnding.{merge_none, merge_done, merge_left, merge_refused, sources_ended}
@@ -23,7 +24,7 @@ returns-in-Ok g c =
     let after = outside (g.F.Shelf.seen c.write_rows-end.new.shelf) (g.O.Sink.seen c.write_rows-end.new.out) in
     let file = rows_file made.own made.rows in
     sources_ended (names_of c.args.inputs.now) c.args.rows.now c.args.first.now c.args.second.now c.args.settings
-    (λ now. HasIfKnown (now.shelf.content name) file × Wrote before.out now.out (merge_text (length made.rows) made.planned.plan))
+    (λ now. HasIfKnown (now.shelf.content name) file × Wrote before.out now.out (merge_line (length made.rows) (batch_count made.planned.plan)))
     ((after.shelf.content name ≡ mid.content name) ⊎ IsPrefixOf (after.shelf.content name) file) before mid after (g.O.Sink.seen c.say_end.new.out) _ reads
     (merge_none (names_of c.args.inputs.now) c.args.rows.now c.args.first.now c.args.second.now c.args.settings before after.shelf made read)
     (merge_done (names_of c.args.inputs.now) c.args.rows.now c.args.first.now c.args.second.now c.args.settings before after.shelf made read c.merges_are_lawful.ensures)
