@@ -1,7 +1,7 @@
 -- Words that are stored, lane by lane, and what is noted of them.
 use Rattle.std.proofs.Common.{◌≡◌, ◌≢◌, inl, inr, ℕ, zero, suc, ◌+◌, ◌<◌, ◌≤◌, ◌==◌, Bool, true, false, cond, List, [], ◌∷◌, ◌++◌, length, set, refl, ap, sym, subst, ◌∙◌, arith}
 use Rattle.std.proofs.lemmas.Bool.{cases_eq, cases_lt, eq-eqb, false_from_ne_true, ne_eqb, true≢false}
-use Rattle.std.proofs.lemmas.List.{map-set, get_or-set_same, get_or-set_other, get_or_past}
+use Rattle.std.proofs.lemmas.List.{map-set, get_or-set_same, get_or-set_other}
 use Rattle.circuit.specs.Value.{bit_at}
 use Rattle.fanout.specs.Readers.{IsReadAt, Ordered}
 use Rattle.lane_kernel.specs.Gates.{plane}
@@ -83,14 +83,6 @@ module _ {W : Type 0} (lanes : ℕ) (bit : W → ℕ → Bool) where
       elim (cases_eq p n) [
         | inl here ↦ ap (bit_at (plane bit k (set words n v))) here ∙ at_set_same bit k words n v within ∙ none_in k lt
         | inr other ↦ at_set_other bit k words n p v other ∙ same p (sym (taken_other old new n p is other) ∙ none) k lt
-      ]
-
-  -- a set with all places leaves none out
-  pub same_whole : (set : Places) (words : List W) → ((p : ℕ) → p < length words → has set p ≡ true) → AreSameOff lanes bit set words
-  same_whole set words all n none k lt =
-      elim (cases_lt n (length words)) [
-        | inl less ↦ absurd (true≢false (sym (all n less) ∙ none))
-        | inr past ↦ get_or_past (plane bit k words) n false (omega (arith, past, length_plane bit k words))
       ]
 
   -- where one word is stored, the places that don't read its net are as they were

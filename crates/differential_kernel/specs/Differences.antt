@@ -5,6 +5,7 @@ use Rattle.lane_kernel.specs.Bits.{either}
 use Rattle.lane_kernel.specs.Gates.{plane}
 use Rattle.fanout.specs.Readers.{IsReadAt, Ordered}
 use Rattle.place_set.specs.Places.{Places, has, value_in}
+use Rattle.differential_kernel.specs.declared.nets.NetDifferences.{NetDifferences}
 
 -- nothing differs at this place, in any lane
 abbrev pub IsSame : {W : Type 0} → ℕ → (W → ℕ → Bool) → List W → ℕ → Type 0
@@ -18,6 +19,10 @@ AreSameOff lanes bit set words = (n : ℕ) → has set n ≡ false → IsSame la
 pub record IsNoted {W : Type 0} (lanes : ℕ) (bit : W → ℕ → Bool) (o : Ordered) (from : ℕ) (words : List W) (touched marks : Places) : Type 0 where
   pub nets : AreSameOff lanes bit touched words
   pub places : (place n : ℕ) → from ≤ place → IsReadAt o n place → has marks place ≡ false → IsSame lanes bit words n
+
+-- so it is noted of the nets of a kernel
+abbrev pub AreNoted : {W : Type 0} → ℕ → (W → ℕ → Bool) → Ordered → ℕ → NetDifferences W → Type 0
+AreNoted lanes bit o from nets = IsNoted lanes bit o from nets.words.items nets.touched nets.marks
 
 -- what is in the set stays in it
 abbrev pub Grows : Places → Places → Type 0

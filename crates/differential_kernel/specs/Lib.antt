@@ -2,4 +2,5 @@ pub mod Forces
 pub mod Differences
 pub mod Walk
 pub mod Places
+pub mod Parts
 pub mod Kernel

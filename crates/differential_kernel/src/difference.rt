@@ -1,16 +1,17 @@
 // One net's difference: read, forced and stored.
-ghost use Rattle.std.specs.Prelude.{◌≡◌, ◌<◌, ◌≤◌, ℕ, true, false, All, Contains, IfOk, length, slice_index_or, slice_set};
+ghost use Rattle.std.specs.Prelude.{◌≡◌, ◌<◌, ℕ, true, false, All, Contains, IfOk, length, slice_index_or, slice_set};
 ghost use Rattle.circuit.specs.Value.{bit_at};
-ghost use Rattle.fanout.specs.Readers.{IsReadAt};
 ghost use Rattle.lane_kernel.specs.Bits.{either};
 ghost use Rattle.lane_kernel.specs.Gates.{plane};
 ghost use Rattle.place_set.specs.Places.{has, value_in};
 ghost use Rattle.differential_kernel.specs.declared.force.Force.{Force as ForceValue};
-ghost use Rattle.differential_kernel.specs.Differences.{Grows, IsNoted, IsSame, read_in};
+ghost use Rattle.differential_kernel.specs.Differences.{AreNoted, Grows, IsSame, read_in};
 ghost use Rattle.differential_kernel.specs.Forces.{AreIdleOff, force_value};
+ghost use Rattle.differential_kernel.specs.Parts.{AreNetsOf};
 
-use crate::force::{Force, forced_word};
+use crate::force::{Force, Forces, forced_word};
 use crate::lane_word::LaneWord;
+use crate::nets::NetDifferences;
 use circuit::parts::NetId;
 use fanout::Fanout;
 use lane_kernel::Word;
@@ -63,21 +64,15 @@ pub fn forced_difference<W: Word>(row: &[u64], forces: &[Force<W>], net: u32, ow
     forced_word(&forces[net as usize], own).xor(golden_word(row, net))
 }
 
-/// The same, where the forces of the nets outside a set leave each net as it is; of these no force is read.
-pub fn named_difference<W: Word>(
-    named: &PlaceSet,
-    row: &[u64],
-    forces: &[Force<W>],
-    net: u32,
-    own: W,
-) -> W
-    requires net { net < length forces.now }
-    requires idle { AreIdleOff W.lanes W.lane_bit named.now forces.now }
+/// The same, where the forces on nets that aren't named leave each net as it is; of these no force is read.
+pub fn named_difference<W: Word>(row: &[u64], forces: &Forces<W>, net: u32, own: W) -> W
+    requires net { net < length forces.now.by_net.items }
+    requires idle { AreIdleOff W.lanes W.lane_bit forces.now.named forces.now.by_net.items }
     ensures { (k : ℕ) (d : ForceValue W) → k < W.lanes
-        → W.lane_bit result k ≡ either (force_value W.lane_bit k (slice_index_or forces.now net d) (W.lane_bit own k)) (value_in row.now net) }
+        → W.lane_bit result k ≡ either (force_value W.lane_bit k (slice_index_or forces.now.by_net.items net d) (W.lane_bit own k)) (value_in row.now net) }
 {
-    if named.has(net as usize) {
-        forced_difference(row, forces, net, own)
+    if forces.named.has(net as usize) {
+        forced_difference(row, &forces.by_net, net, own)
     } else {
         own.xor(golden_word(row, net))
     }
@@ -103,28 +98,17 @@ fn mark_all(places: &[u32], marks: &mut PlaceSet)
 }
 
 /// Sets what a net differs in, and notes it where it differs in some lane.
-pub fn store<W: LaneWord>(
-    net: NetId,
-    word: W,
-    fanout: &Fanout,
-    words: &mut [W],
-    touched: &mut PlaceSet,
-    marks: &mut PlaceSet,
-)
-    requires net { net.0 < length words.old }
-    requires nets { length words.old ≡ length fanout.now.circuit.drivers }
-    requires touched { touched.old.bound ≡ length words.old }
-    requires places { (n place : ℕ) → IsReadAt fanout.now n place → place < marks.old.bound }
-    ensures word { words.new ≡ slice_set words.old net.0 word }
-    ensures noted { (from : ℕ) → IsNoted W.lanes W.lane_bit fanout.now from words.old touched.old marks.old
-        → IsNoted W.lanes W.lane_bit fanout.now from words.new touched.new marks.new }
-    ensures touched_bound { touched.new.bound ≡ touched.old.bound }
-    ensures bound { marks.new.bound ≡ marks.old.bound }
-    ensures kept { Grows marks.old marks.new }
+pub fn store<W: LaneWord>(net: NetId, word: W, fanout: &Fanout, nets: &mut NetDifferences<W>)
+    requires net { net.0 < length fanout.now.circuit.drivers }
+    requires nets { AreNetsOf fanout.now nets.old }
+    ensures nets { AreNetsOf fanout.now nets.new }
+    ensures word { nets.new.words.items ≡ slice_set nets.old.words.items net.0 word }
+    ensures noted { (from : ℕ) → AreNoted W.lanes W.lane_bit fanout.now from nets.old → AreNoted W.lanes W.lane_bit fanout.now from nets.new }
+    ensures kept { Grows nets.old.marks nets.new.marks }
 {
-    words[net.0 as usize] = word;
+    nets.words[net.0 as usize] = word;
     if !word.is_none() {
-        touched.put(net.0 as usize);
-        mark_all(fanout.readers(net), marks);
+        nets.touched.put(net.0 as usize);
+        mark_all(fanout.readers(net), &mut nets.marks);
     }
 }

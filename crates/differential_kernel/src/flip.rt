@@ -9,9 +9,9 @@ ghost use Rattle.differential_kernel.specs.Differences.{AreSameOff};
 ghost use Rattle.differential_kernel.specs.Forces.{has_acts};
 
 use crate::difference::word_at;
+use crate::latches::LatchDifferences;
 use circuit::parts::Fault;
 use lane_kernel::Word;
-use place_set::PlaceSet;
 
 fn is_flipped(faults: &[Option<Fault>], latch: u32, cycle: u32) -> bool
     ensures { result ≡ has_flip (somes faults.now) latch cycle }
@@ -27,20 +27,21 @@ fn is_flipped(faults: &[Option<Fault>], latch: u32, cycle: u32) -> bool
 }
 
 // Inverts the bit of a lane in the word of a latch, which joins those that may differ.
-fn turn<W: Word>(latch: u32, lane: u32, raw: &mut [W], live: &mut PlaceSet)
+fn turn<W: Word>(latch: u32, lane: u32, latches: &mut LatchDifferences<W>)
     requires lane { lane < W.lanes }
-    requires latches { live.old.bound ≡ length raw.old }
-    ensures own { (l : ℕ) → l < length raw.old
-        → bit_at (plane W.lane_bit lane raw.new) l ≡ inverted (latch == l) (bit_at (plane W.lane_bit lane raw.old) l) }
-    ensures others { (k : ℕ) → k < W.lanes → k ≢ lane → plane W.lane_bit k raw.new ≡ plane W.lane_bit k raw.old }
-    ensures latches { live.new.bound ≡ live.old.bound }
-    ensures same { AreSameOff W.lanes W.lane_bit live.old raw.old → AreSameOff W.lanes W.lane_bit live.new raw.new }
+    requires bound { latches.old.live.bound ≡ length latches.old.raw.items }
+    ensures own { (l : ℕ) → l < length latches.old.raw.items
+        → bit_at (plane W.lane_bit lane latches.new.raw.items) l ≡ inverted (latch == l) (bit_at (plane W.lane_bit lane latches.old.raw.items) l) }
+    ensures others { (k : ℕ) → k < W.lanes → k ≢ lane → plane W.lane_bit k latches.new.raw.items ≡ plane W.lane_bit k latches.old.raw.items }
+    ensures raw { length latches.new.raw.items ≡ length latches.old.raw.items }
+    ensures live { latches.new.live.bound ≡ latches.old.live.bound }
+    ensures held { AreSameOff W.lanes W.lane_bit latches.old.live latches.old.raw.items → AreSameOff W.lanes W.lane_bit latches.new.live latches.new.raw.items }
 {
     let at = latch as usize;
-    if at < raw.len() {
-        let word = word_at(raw, at);
-        raw[at] = word.put(lane, !word.get(lane));
-        live.put(at);
+    if at < latches.raw.len() {
+        let word = word_at(&latches.raw, at);
+        latches.raw[at] = word.put(lane, !word.get(lane));
+        latches.live.put(at);
     }
 }
 
@@ -50,21 +51,21 @@ fn flip_one<W: Word>(
     rest: &[Option<Fault>],
     cycle: u32,
     lane: u32,
-    raw: &mut [W],
-    live: &mut PlaceSet,
+    latches: &mut LatchDifferences<W>,
 )
     requires lane { lane < W.lanes }
-    requires latches { live.old.bound ≡ length raw.old }
-    ensures own { (l : ℕ) → l < length raw.old
-        → inverted (has_flip (somes rest.now) l cycle) (bit_at (plane W.lane_bit lane raw.new) l)
-        ≡ inverted (has_flip (somes (fault ∷ rest.now)) l cycle) (bit_at (plane W.lane_bit lane raw.old) l) }
-    ensures others { (k : ℕ) → k < W.lanes → k ≢ lane → plane W.lane_bit k raw.new ≡ plane W.lane_bit k raw.old }
-    ensures latches { live.new.bound ≡ live.old.bound }
-    ensures same { AreSameOff W.lanes W.lane_bit live.old raw.old → AreSameOff W.lanes W.lane_bit live.new raw.new }
+    requires bound { latches.old.live.bound ≡ length latches.old.raw.items }
+    ensures own { (l : ℕ) → l < length latches.old.raw.items
+        → inverted (has_flip (somes rest.now) l cycle) (bit_at (plane W.lane_bit lane latches.new.raw.items) l)
+        ≡ inverted (has_flip (somes (fault ∷ rest.now)) l cycle) (bit_at (plane W.lane_bit lane latches.old.raw.items) l) }
+    ensures others { (k : ℕ) → k < W.lanes → k ≢ lane → plane W.lane_bit k latches.new.raw.items ≡ plane W.lane_bit k latches.old.raw.items }
+    ensures raw { length latches.new.raw.items ≡ length latches.old.raw.items }
+    ensures live { latches.new.live.bound ≡ latches.old.live.bound }
+    ensures held { AreSameOff W.lanes W.lane_bit latches.old.live latches.old.raw.items → AreSameOff W.lanes W.lane_bit latches.new.live latches.new.raw.items }
 {
     if let Some(Fault::Flip(latch, c)) = fault {
         if c == cycle && !is_flipped(rest, latch, cycle) {
-            turn(latch, lane, raw, live);
+            turn(latch, lane, latches);
         }
     }
 }
@@ -74,31 +75,32 @@ fn flip_lane<W: Word>(
     faults: &[Option<Fault>],
     cycle: u32,
     lane: u32,
-    raw: &mut [W],
-    live: &mut PlaceSet,
+    latches: &mut LatchDifferences<W>,
 )
     requires lane { lane < W.lanes }
-    requires latches { live.old.bound ≡ length raw.old }
-    ensures own { (l : ℕ) → l < length raw.old
-        → bit_at (plane W.lane_bit lane raw.new) l ≡ inverted (has_flip (somes faults.now) l cycle) (bit_at (plane W.lane_bit lane raw.old) l) }
-    ensures others { (k : ℕ) → k < W.lanes → k ≢ lane → plane W.lane_bit k raw.new ≡ plane W.lane_bit k raw.old }
-    ensures latches { live.new.bound ≡ live.old.bound }
-    ensures same { AreSameOff W.lanes W.lane_bit live.old raw.old → AreSameOff W.lanes W.lane_bit live.new raw.new }
+    requires bound { latches.old.live.bound ≡ length latches.old.raw.items }
+    ensures own { (l : ℕ) → l < length latches.old.raw.items
+        → bit_at (plane W.lane_bit lane latches.new.raw.items) l ≡ inverted (has_flip (somes faults.now) l cycle) (bit_at (plane W.lane_bit lane latches.old.raw.items) l) }
+    ensures others { (k : ℕ) → k < W.lanes → k ≢ lane → plane W.lane_bit k latches.new.raw.items ≡ plane W.lane_bit k latches.old.raw.items }
+    ensures raw { length latches.new.raw.items ≡ length latches.old.raw.items }
+    ensures live { latches.new.live.bound ≡ latches.old.live.bound }
+    ensures held { AreSameOff W.lanes W.lane_bit latches.old.live latches.old.raw.items → AreSameOff W.lanes W.lane_bit latches.new.live latches.new.raw.items }
 {
     for (i, fault) in faults.iter().enumerate() {
-        flip_one(*fault, &faults[i + 1..], cycle, lane, raw, live);
+        flip_one(*fault, &faults[i + 1..], cycle, lane, latches);
     }
 }
 
-fn flip_all<W: Word>(loads: &[[Option<Fault>; 2]], cycle: u32, raw: &mut [W], live: &mut PlaceSet)
+fn flip_all<W: Word>(loads: &[[Option<Fault>; 2]], cycle: u32, latches: &mut LatchDifferences<W>)
     requires lanes { length loads.now ≡ W.lanes }
-    requires latches { live.old.bound ≡ length raw.old }
-    ensures flipped { (k : ℕ) → k < W.lanes → plane W.lane_bit k raw.new ≡ flipped (loaded_faults loads.now k) cycle (plane W.lane_bit k raw.old) }
-    ensures latches { live.new.bound ≡ live.old.bound }
-    ensures same { AreSameOff W.lanes W.lane_bit live.old raw.old → AreSameOff W.lanes W.lane_bit live.new raw.new }
+    requires bound { latches.old.live.bound ≡ length latches.old.raw.items }
+    ensures flipped { (k : ℕ) → k < W.lanes → plane W.lane_bit k latches.new.raw.items ≡ flipped (loaded_faults loads.now k) cycle (plane W.lane_bit k latches.old.raw.items) }
+    ensures raw { length latches.new.raw.items ≡ length latches.old.raw.items }
+    ensures live { latches.new.live.bound ≡ latches.old.live.bound }
+    ensures held { AreSameOff W.lanes W.lane_bit latches.old.live latches.old.raw.items → AreSameOff W.lanes W.lane_bit latches.new.live latches.new.raw.items }
 {
     for lane in 0..W::count() {
-        flip_lane(&loads[lane as usize], cycle, lane, raw, live);
+        flip_lane(&loads[lane as usize], cycle, lane, latches);
     }
 }
 
@@ -107,18 +109,19 @@ pub fn flip<W: Word>(
     loads: &[[Option<Fault>; 2]],
     acting: bool,
     cycle: u32,
-    raw: &mut [W],
-    live: &mut PlaceSet,
+    latches: &mut LatchDifferences<W>,
 )
     requires lanes { length loads.now ≡ W.lanes }
     requires acting { acting ≡ has_acts loads.now cycle }
-    requires latches { live.old.bound ≡ length raw.old }
-    requires same { AreSameOff W.lanes W.lane_bit live.old raw.old }
-    ensures flipped { (k : ℕ) → k < W.lanes → plane W.lane_bit k raw.new ≡ flipped (loaded_faults loads.now k) cycle (plane W.lane_bit k raw.old) }
-    ensures latches { live.new.bound ≡ live.old.bound }
-    ensures same { AreSameOff W.lanes W.lane_bit live.new raw.new }
+    requires bound { latches.old.live.bound ≡ length latches.old.raw.items }
+    requires held { AreSameOff W.lanes W.lane_bit latches.old.live latches.old.raw.items }
+    ensures flipped { (k : ℕ) → k < W.lanes
+        → plane W.lane_bit k latches.new.raw.items ≡ flipped (loaded_faults loads.now k) cycle (plane W.lane_bit k latches.old.raw.items) }
+    ensures raw { length latches.new.raw.items ≡ length latches.old.raw.items }
+    ensures live { latches.new.live.bound ≡ latches.old.live.bound }
+    ensures held { AreSameOff W.lanes W.lane_bit latches.new.live latches.new.raw.items }
 {
     if acting {
-        flip_all(loads, cycle, raw, live);
+        flip_all(loads, cycle, latches);
     }
 }

@@ -1,5 +1,5 @@
 // What faults do to a net, lane by lane.
-ghost use Rattle.std.specs.Prelude.{◌≡◌, ◌≢◌, ◌<◌, ℕ, Bool, IfOk, length, slice_index_or};
+ghost use Rattle.std.specs.Prelude.{◌≡◌, ◌≢◌, ◌<◌, ◌^◌, ℕ, Bool, IfOk, length, slice_index_or};
 ghost use Rattle.circuit.specs.Effects.{affected, forced, has_pulse};
 ghost use Rattle.differential_kernel.specs.declared.force.Force.{Force};
 ghost use Rattle.lane_kernel.specs.Loads.{somes};
@@ -8,6 +8,7 @@ ghost use Rattle.differential_kernel.specs.Forces.{AreAllIdle, force_value};
 use circuit::meaning::turned;
 use circuit::parts::{Fault, NetId};
 use lane_kernel::Word;
+use place_set::PlaceSet;
 use std::alloc::{AllocError, Global};
 
 /// What a net's own word becomes: `base`, with its own bit added without carry where `slope` is set.
@@ -27,8 +28,8 @@ pub fn idle<W: Word>() -> Force<W>
     }
 }
 
-/// Forces that leave the words of so many nets as they are.
-pub fn idle_forces<W: Word>(alloc: Global, nets: usize) -> Result<Vec<Force<W>>, AllocError>
+// Forces that leave the words of so many nets as they are.
+fn idle_forces<W: Word>(alloc: Global, nets: usize) -> Result<Vec<Force<W>>, AllocError>
     ensures count { IfOk result (λ forces. length forces.items ≡ nets) }
     ensures idle { IfOk result (λ forces. AreAllIdle W.lanes W.lane_bit forces.items) }
 {
@@ -37,6 +38,27 @@ pub fn idle_forces<W: Word>(alloc: Global, nets: usize) -> Result<Vec<Force<W>>,
         forces.push(idle())?;
     }
     Ok(forces)
+}
+
+/// The force on each net. Those that aren't in `named` leave their nets as they are.
+#[derive(Drop)]
+pub struct Forces<W> {
+    pub named: PlaceSet,
+    pub by_net: Vec<Force<W>>,
+}
+
+impl<W: Word> Forces<W> {
+    /// The forces on so many nets, which leave all of them as they are.
+    pub fn new(alloc: Global, nets: usize) -> Result<Self, AllocError>
+        requires { nets < 2 ^ 32 }
+        ensures named { IfOk result (λ forces. forces.named.bound ≡ nets) }
+        ensures each { IfOk result (λ forces. length forces.by_net.items ≡ nets) }
+        ensures idle { IfOk result (λ forces. AreAllIdle W.lanes W.lane_bit forces.by_net.items) }
+    {
+        let named = PlaceSet::new(alloc, nets as u32)?;
+        let by_net = idle_forces(alloc, nets)?;
+        Ok(Forces { named, by_net })
+    }
 }
 
 /// The word that is read of a net with this own word.

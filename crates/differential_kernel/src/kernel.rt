@@ -2,7 +2,6 @@
 ghost use Rattle.std.specs.Prelude.{◌≡◌, ◌<◌, ◌≤◌, ◌+◌, ◌⊎◌, ◌++◌, ◌∷◌, [], ℕ, Bool, true, false, List, Option, IfOk, length, slice_index_or};
 ghost use Rattle.circuit.specs.declared.parts.Fault.{Fault as FaultValue};
 ghost use Rattle.circuit.specs.Order.{IsOrder};
-ghost use Rattle.circuit.specs.Sound.{IsNetlist};
 ghost use Rattle.circuit.specs.Value.{bit_at};
 ghost use Rattle.golden_difference.specs.Beside.{AreBeside, DoNothing, IsGoldenRow, IsOver};
 ghost use Rattle.golden_difference.specs.Lanes.{IsMadeFor, KeepsLoads};
@@ -11,23 +10,24 @@ ghost use Rattle.lane_kernel.specs.Loads.{loaded_faults};
 ghost use Rattle.place_set.specs.Places.{has};
 ghost use Rattle.differential_kernel.specs.Differences.{IsSame, read_in};
 ghost use Rattle.differential_kernel.specs.Kernel.{IsDifferenceKernel, difference_bank, lanes_of};
-ghost use Rattle.differential_kernel.specs.Places.{AreTablePlaces};
 
 use crate::arm::place;
 use crate::cycle::advance;
-use crate::difference::{same_words, value_word, word_at};
+use crate::difference::{value_word, word_at};
 use crate::drop::{keep_lanes, unload};
 use crate::flip::flip;
-use crate::force::{Force, idle_forces};
+use crate::force::Forces;
+use crate::golden_cycle::GoldenCycle;
 use crate::lane_word::LaneWord;
+use crate::latches::LatchDifferences;
+use crate::nets::NetDifferences;
 use crate::note::{has_some_stuck, prepare};
+use crate::program::Program;
 use crate::sources::clear;
 use circuit::netlist::Netlist;
 use circuit::parts::{Fault, NetId};
 use fanout::Fanout;
 use fm_base::Steps;
-use lane_kernel::gate::{Gate, Masks};
-use lane_kernel::program::{make_gates, make_ops};
 use netlist_levels::Order;
 use place_set::PlaceSet;
 use std::alloc::{AllocError, Global};
@@ -42,51 +42,24 @@ const MOST_CYCLES: u32 = 65536;
 pub struct Kernel<W> {
     circuit: Snapshot<Netlist>,
     order: Snapshot<Order>,
-    // The place of each net's table.
-    places: Vec<Option<u32>>,
-    // The table of each place in the order.
-    gates: Vec<Gate>,
-    ops: Vec<Masks<W>>,
+    program: Program<W>,
     loads: Vec<[Option<Fault>; 2]>,
     // The faults that are in force: none in lanes that were dropped.
     in_force: Vec<[Option<Fault>; 2]>,
     // Whether all that was loaded is in force.
     whole: bool,
-    // Whether the nets of the faults are in `named`, and the cycles in which flips and pulses act in `acts`.
+    // Whether the nets of the faults are named, and the cycles in which flips and pulses act are in `acts`.
     noted: bool,
-    named: PlaceSet,
     acts: PlaceSet,
     // Whether one of them is stuck-at, where they are noted.
     stuck: bool,
-    forces: Vec<Force<W>>,
+    forces: Forces<W>,
     stale: bool,
     cycle: u32,
     // The number of cycles to come that are run by all tables.
     sweeps: u32,
-    // What the latches differ in; those that differ are in `live`.
-    raw: Vec<W>,
-    live: PlaceSet,
-    // What the nets differ in; those that differ are in `touched`.
-    words: Vec<W>,
-    touched: PlaceSet,
-    marks: PlaceSet,
-}
-
-// The place of the table of each net.
-fn places_of(
-    alloc: Global,
-    netlist: &Netlist,
-    order: &[NetId],
-) -> Result<Vec<Option<u32>>, AllocError>
-    requires { IsOrder netlist.now order.now }
-    ensures places { IfOk result (λ places. AreTablePlaces netlist.now order.now places.items) }
-    ensures sound { IsNetlist netlist.now }
-{
-    let mut places = vec![in alloc; None; netlist.nets()]?;
-    for (place, net) in order.iter().enumerate() {
-        places[net.0 as usize] = Some(place as u32);
-    }
-    Ok(places)
+    latches: LatchDifferences<W>,
+    nets: NetDifferences<W>,
 }
 
 // Whether a set has no place from a place on.
@@ -106,44 +79,32 @@ impl<W: LaneWord> Kernel<W> {
         ensures kernel { IfOk result (λ s. IsDifferenceKernel W.lanes W.lane_bit s) }
         ensures made { IfOk result (λ s. IsMadeFor netlist.now order.now (lanes_of s)) }
     {
-        let nets = netlist.nets();
-        let latches = netlist.latches().len();
-        let tables = order.nets().len();
-        let places = places_of(alloc, netlist, order.nets())?;
-        let gates = make_gates(alloc, netlist, order.nets())?;
-        let ops = make_ops(alloc)?;
+        let net_count = netlist.nets();
+        let latch_count = netlist.latches().len();
+        let table_count = order.nets().len();
+        let program = Program::new(alloc, netlist, order.nets())?;
         let loads = vec![in alloc; [None, None]; W::count() as usize]?;
         let in_force = vec![in alloc; [None, None]; W::count() as usize]?;
-        let named = PlaceSet::new(alloc, nets as u32)?;
         let acts = PlaceSet::new(alloc, MOST_CYCLES)?;
-        let forces = idle_forces(alloc, nets)?;
-        let raw = same_words(alloc, latches)?;
-        let live = PlaceSet::new(alloc, latches as u32)?;
-        let words = same_words(alloc, nets)?;
-        let touched = PlaceSet::new(alloc, nets as u32)?;
-        let marks = PlaceSet::new(alloc, (tables + latches) as u32)?;
+        let forces = Forces::new(alloc, net_count)?;
+        let latches = LatchDifferences::new(alloc, latch_count)?;
+        let nets = NetDifferences::new(alloc, net_count, table_count + latch_count)?;
         Ok(Kernel {
             circuit: Snapshot::of(netlist),
             order: Snapshot::of(order),
-            places,
-            gates,
-            ops,
+            program,
             loads,
             in_force,
             whole: false,
             noted: false,
-            named,
             acts,
             stuck: false,
             forces,
             stale: true,
             cycle: 0,
             sweeps: 0,
-            raw,
-            live,
-            words,
-            touched,
-            marks,
+            latches,
+            nets,
         })
     }
 
@@ -168,7 +129,7 @@ impl<W: LaneWord> Kernel<W> {
         ensures kernel { IsDifferenceKernel W.lanes W.lane_bit self.new }
         ensures keeps { KeepsLoads (lanes_of self.old) (lanes_of self.new) }
         ensures in_force { self.new.in_force.items ≡ self.new.loads.items }
-        ensures raw { self.new.raw.items ≡ self.old.raw.items }
+        ensures raw { self.new.latches.raw.items ≡ self.old.latches.raw.items }
         ensures cycle { self.new.cycle ≡ self.old.cycle }
     {
         if !self.whole {
@@ -188,7 +149,7 @@ impl<W: LaneWord> Kernel<W> {
         ensures start { AreBeside W.lanes W.lane_bit [] (difference_bank self.new) }
     {
         self.take_loads();
-        clear(&mut self.live, &mut self.raw);
+        clear(&mut self.latches.live, &mut self.latches.raw);
         self.cycle = 0;
         self.sweeps = 0;
     }
@@ -204,8 +165,8 @@ impl<W: LaneWord> Kernel<W> {
         ensures beside { (vectors : List (List Bool)) → AreBeside W.lanes W.lane_bit vectors (difference_bank self.old) → AreBeside W.lanes W.lane_bit vectors (difference_bank self.new) }
     {
         unload(out, &mut self.in_force);
-        keep_lanes(out, &self.live, &mut self.raw);
-        keep_lanes(out, &self.touched, &mut self.words);
+        keep_lanes(out, &self.latches.live, &mut self.latches.raw);
+        keep_lanes(out, &self.nets.touched, &mut self.nets.words);
         self.noted = false;
         self.whole = false;
     }
@@ -238,7 +199,6 @@ impl<W: LaneWord> Kernel<W> {
             self.noted,
             self.stale,
             self.cycle,
-            &mut self.named,
             &mut self.acts,
             &mut self.forces,
         );
@@ -247,24 +207,20 @@ impl<W: LaneWord> Kernel<W> {
             &self.in_force,
             self.acts.has(self.cycle as usize),
             self.cycle,
-            &mut self.raw,
-            &mut self.live,
+            &mut self.latches,
         );
-        advance(
+        let golden = GoldenCycle {
             netlist,
-            order.nets(),
-            &self.places,
-            &self.gates,
-            &self.ops,
-            &self.named,
-            row,
-            &self.forces,
+            order: order.nets(),
             fanout,
-            &mut self.raw,
-            &mut self.live,
-            &mut self.words,
-            &mut self.touched,
-            &mut self.marks,
+            row,
+        };
+        advance(
+            &golden,
+            &self.program,
+            &self.forces,
+            &mut self.latches,
+            &mut self.nets,
             &mut self.sweeps,
             steps,
         );
@@ -286,28 +242,28 @@ impl<W: LaneWord> Kernel<W> {
         ensures { (vectors : List (List Bool)) (k : ℕ) → result ≡ true → AreBeside W.lanes W.lane_bit vectors (difference_bank self.now) → k < W.lanes
             → IsOver self.now.circuit.value (loaded_faults self.now.in_force.items k) vectors 65536 }
     {
-        self.is_calm() && is_empty_from(&self.live, 0)
+        self.is_calm() && is_empty_from(&self.latches.live, 0)
     }
 
     /// The values of a net in the last cycle, where `row` has the golden ones.
     pub fn net(&self, net: NetId, row: &[u64]) -> W
-        ensures { (k : ℕ) → k < W.lanes → W.lane_bit result k ≡ read_in W.lane_bit k row.now self.now.words.items net.0 }
+        ensures { (k : ℕ) → k < W.lanes → W.lane_bit result k ≡ read_in W.lane_bit k row.now self.now.nets.words.items net.0 }
     {
-        value_word(row, &self.words, net.0)
+        value_word(row, &self.nets.words, net.0)
     }
 
     /// Whether a net doesn't differ in any lane in the last cycle; it may not differ where the answer is no.
     pub fn is_same(&self, net: NetId) -> bool
         requires { IsDifferenceKernel W.lanes W.lane_bit self.now }
-        ensures { result ≡ true → IsSame W.lanes W.lane_bit self.now.words.items net.0 }
+        ensures { result ≡ true → IsSame W.lanes W.lane_bit self.now.nets.words.items net.0 }
     {
-        !self.touched.has(net.0 as usize)
+        !self.nets.touched.has(net.0 as usize)
     }
 
     /// What a net differs in in the last cycle.
     pub fn differs(&self, net: NetId) -> W
-        ensures { (k : ℕ) → k < W.lanes → W.lane_bit result k ≡ bit_at (plane W.lane_bit k self.now.words.items) net.0 }
+        ensures { (k : ℕ) → k < W.lanes → W.lane_bit result k ≡ bit_at (plane W.lane_bit k self.now.nets.words.items) net.0 }
     {
-        word_at(&self.words, net.0 as usize)
+        word_at(&self.nets.words, net.0 as usize)
     }
 }

@@ -8,23 +8,24 @@ ghost use Rattle.differential_kernel.specs.Differences.{IsEmptySet};
 ghost use Rattle.differential_kernel.specs.Forces.{AreActs, AreAllIdle, AreArmed, AreIdle, AreIdleOff, AreNamed, AreSteady, acts, has_acts, has_stuck};
 
 use crate::arm::arm_for;
-use crate::force::{Force, idle};
+use crate::force::{Forces, idle};
 use circuit::parts::{Fault, NetId};
 use lane_kernel::Word;
 use place_set::PlaceSet;
 
-/// Leaves all nets as they are, where only those in the set were changed, and takes them out of it.
-pub fn forget_all<W: Word>(set: &mut PlaceSet, forces: &mut [Force<W>])
-    requires bound { set.old.bound ≡ length forces.old }
-    requires idle { AreIdleOff W.lanes W.lane_bit set.old forces.old }
-    ensures bound { set.new.bound ≡ set.old.bound }
-    ensures none { IsEmptySet set.new }
-    ensures idle { AreAllIdle W.lanes W.lane_bit forces.new }
+/// Leaves all nets as they are, where only those that are named were changed, and names none.
+pub fn forget_all<W: Word>(forces: &mut Forces<W>)
+    requires bound { forces.old.named.bound ≡ length forces.old.by_net.items }
+    requires idle { AreIdleOff W.lanes W.lane_bit forces.old.named forces.old.by_net.items }
+    ensures bound { forces.new.named.bound ≡ forces.old.named.bound }
+    ensures each { length forces.new.by_net.items ≡ length forces.old.by_net.items }
+    ensures none { IsEmptySet forces.new.named }
+    ensures idle { AreAllIdle W.lanes W.lane_bit forces.new.by_net.items }
 {
     let mut from = 0;
-    'nets: while let Some(n) = set.next_from(from) {
-        forces[n] = idle();
-        set.remove(n);
+    'nets: while let Some(n) = forces.named.next_from(from) {
+        forces.by_net[n] = idle();
+        forces.named.remove(n);
         from = n + 1;
     }
 }
@@ -150,26 +151,26 @@ pub fn has_some_stuck(loads: &[[Option<Fault>; 2]], noted: bool, before: bool) -
 fn renew<W: Word>(
     loads: &[[Option<Fault>; 2]],
     noted: bool,
-    set: &mut PlaceSet,
     cycles: &mut PlaceSet,
-    forces: &mut [Force<W>],
+    forces: &mut Forces<W>,
 )
-    requires bound { set.old.bound ≡ length forces.old }
-    requires off { AreIdleOff W.lanes W.lane_bit set.old forces.old }
-    requires named { noted ≡ true → AreNamed loads.now (length forces.old) set.old }
-    requires idle { noted ≡ true → AreIdle W.lanes W.lane_bit loads.now forces.old }
+    requires bound { forces.old.named.bound ≡ length forces.old.by_net.items }
+    requires off { AreIdleOff W.lanes W.lane_bit forces.old.named forces.old.by_net.items }
+    requires named { noted ≡ true → AreNamed loads.now (length forces.old.by_net.items) forces.old.named }
+    requires idle { noted ≡ true → AreIdle W.lanes W.lane_bit loads.now forces.old.by_net.items }
     requires few { cycles.old.bound ≤ 65536 }
     requires acts { noted ≡ true → AreActs loads.now cycles.old }
-    ensures bound { set.new.bound ≡ set.old.bound }
+    ensures bound { forces.new.named.bound ≡ forces.old.named.bound }
+    ensures each { length forces.new.by_net.items ≡ length forces.old.by_net.items }
     ensures cycles { cycles.new.bound ≡ cycles.old.bound }
-    ensures named { AreNamed loads.now (length forces.old) set.new }
-    ensures idle { AreIdle W.lanes W.lane_bit loads.now forces.new }
+    ensures named { AreNamed loads.now (length forces.old.by_net.items) forces.new.named }
+    ensures idle { AreIdle W.lanes W.lane_bit loads.now forces.new.by_net.items }
     ensures acts { AreActs loads.now cycles.new }
-    ensures same { noted ≡ true → forces.new ≡ forces.old }
+    ensures same { noted ≡ true → forces.new.by_net.items ≡ forces.old.by_net.items }
 {
     if !noted {
-        forget_all(set, forces);
-        note_all(loads, set);
+        forget_all(forces);
+        note_all(loads, &mut forces.named);
         note_cycles(loads, cycles);
     }
 }
@@ -180,34 +181,34 @@ pub fn prepare<W: Word>(
     noted: bool,
     stale: bool,
     cycle: u32,
-    set: &mut PlaceSet,
     cycles: &mut PlaceSet,
-    forces: &mut [Force<W>],
+    forces: &mut Forces<W>,
 ) -> bool
     requires lanes { length loads.now ≡ W.lanes }
     requires cycle { cycle < cycles.old.bound }
     requires few { cycles.old.bound ≤ 65536 }
-    requires bound { set.old.bound ≡ length forces.old }
-    requires off { AreIdleOff W.lanes W.lane_bit set.old forces.old }
-    requires named { noted ≡ true → AreNamed loads.now (length forces.old) set.old }
-    requires idle { noted ≡ true → AreIdle W.lanes W.lane_bit loads.now forces.old }
-    requires steady { noted ≡ true → stale ≡ false → AreSteady W.lanes W.lane_bit loads.now forces.old }
+    requires bound { forces.old.named.bound ≡ length forces.old.by_net.items }
+    requires off { AreIdleOff W.lanes W.lane_bit forces.old.named forces.old.by_net.items }
+    requires named { noted ≡ true → AreNamed loads.now (length forces.old.by_net.items) forces.old.named }
+    requires idle { noted ≡ true → AreIdle W.lanes W.lane_bit loads.now forces.old.by_net.items }
+    requires steady { noted ≡ true → stale ≡ false → AreSteady W.lanes W.lane_bit loads.now forces.old.by_net.items }
     requires acts { noted ≡ true → AreActs loads.now cycles.old }
-    ensures bound { set.new.bound ≡ set.old.bound }
+    ensures bound { forces.new.named.bound ≡ forces.old.named.bound }
+    ensures each { length forces.new.by_net.items ≡ length forces.old.by_net.items }
     ensures cycles { cycles.new.bound ≡ cycles.old.bound }
     ensures acts { AreActs loads.now cycles.new }
-    ensures named { AreNamed loads.now (length forces.old) set.new }
-    ensures idle { AreIdle W.lanes W.lane_bit loads.now forces.new }
-    ensures off { AreIdleOff W.lanes W.lane_bit set.new forces.new }
-    ensures armed { AreArmed W.lanes W.lane_bit loads.now cycle forces.new }
-    ensures steady { result ≡ false → AreSteady W.lanes W.lane_bit loads.now forces.new }
+    ensures named { AreNamed loads.now (length forces.old.by_net.items) forces.new.named }
+    ensures idle { AreIdle W.lanes W.lane_bit loads.now forces.new.by_net.items }
+    ensures off { AreIdleOff W.lanes W.lane_bit forces.new.named forces.new.by_net.items }
+    ensures armed { AreArmed W.lanes W.lane_bit loads.now cycle forces.new.by_net.items }
+    ensures steady { result ≡ false → AreSteady W.lanes W.lane_bit loads.now forces.new.by_net.items }
 {
-    renew(loads, noted, set, cycles, forces);
+    renew(loads, noted, cycles, forces);
     arm_for(
         loads,
         cycles.has(cycle as usize),
         stale || !noted,
         cycle,
-        forces,
+        &mut forces.by_net,
     )
 }

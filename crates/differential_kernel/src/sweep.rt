@@ -6,22 +6,24 @@ ghost use Rattle.circuit.specs.Value.{Cycle, bit_at, driven, driver_at, net_valu
 ghost use Rattle.golden_difference.proofs.Walked.{Walked};
 ghost use Rattle.golden_difference.specs.Beside.{latched};
 ghost use Rattle.lane_kernel.specs.Bits.{either};
-ghost use Rattle.lane_kernel.specs.Gates.{AreOps, IsGate, IsProgram, latch_at, plane};
+ghost use Rattle.lane_kernel.specs.Gates.{AreOps, IsGate, latch_at, plane};
 ghost use Rattle.place_set.specs.Places.{value_in};
 ghost use Rattle.differential_kernel.specs.declared.force.Force.{Force as ForceValue};
 ghost use Rattle.differential_kernel.specs.Differences.{IsSame, read_in};
 ghost use Rattle.differential_kernel.specs.Forces.{AreIdleOff, force_value};
+ghost use Rattle.differential_kernel.specs.Parts.{AreForcesOf, IsProgramOf};
 ghost use Rattle.differential_kernel.specs.Walk.{AreForces, IsPair};
 
 use crate::difference::{forced_difference, named_difference, set_word, value_word, word_at};
-use crate::force::Force;
+use crate::force::{Force, Forces};
+use crate::golden_cycle::GoldenCycle;
+use crate::program::Program;
 use crate::table::own_word;
 use circuit::netlist::Netlist;
 use circuit::parts::NetId;
 use fm_base::Steps;
 use lane_kernel::Word;
 use lane_kernel::gate::{Gate, Masks};
-use place_set::PlaceSet;
 use std::sync::ledger::Ledger;
 
 /// Takes away all that differs.
@@ -69,88 +71,75 @@ fn force_source<W: Word>(
 
 /// So for each net in the set of those that are forced; all other nets are left as they are.
 pub fn force_sources<W: Word>(
-    named: &PlaceSet,
     places: &[Option<u32>],
     row: &[u64],
-    forces: &[Force<W>],
+    forces: &Forces<W>,
     words: &mut [W],
 )
-    requires named { named.now.bound ≡ length words.old }
+    requires named { forces.now.named.bound ≡ length words.old }
     requires few { length words.old < 2 ^ 32 }
     requires each_place { length places.now ≡ length words.old }
-    requires forces { length forces.now ≡ length words.old }
-    requires idle { AreIdleOff W.lanes W.lane_bit named.now forces.now }
+    requires forces { length forces.now.by_net.items ≡ length words.old }
+    requires idle { AreIdleOff W.lanes W.lane_bit forces.now.named forces.now.by_net.items }
     ensures { (k n : ℕ) (d : ForceValue W) → k < W.lanes → n < length words.old → slice_index_or places.now n None ≡ None
-        → bit_at (plane W.lane_bit k words.new) n ≡ either (force_value W.lane_bit k (slice_index_or forces.now n d) (read_in W.lane_bit k row.now words.old n)) (value_in row.now n) }
+        → bit_at (plane W.lane_bit k words.new) n
+        ≡ either (force_value W.lane_bit k (slice_index_or forces.now.by_net.items n d) (read_in W.lane_bit k row.now words.old n)) (value_in row.now n) }
 {
     let mut from = 0;
-    'nets: while let Some(n) = named.next_from(from) {
-        force_source(NetId(n as u32), places[n], row, forces, words);
+    'nets: while let Some(n) = forces.named.next_from(from) {
+        force_source(NetId(n as u32), places[n], row, &forces.by_net, words);
         from = n + 1;
     }
 }
 
 // Evaluates the table of a net, and sets what the net differs in.
 fn settle<W: Word>(
-    netlist: &Netlist,
+    cycle: &GoldenCycle<'_>,
     net: NetId,
     gate: &Gate,
     ops: &[Masks<W>],
-    named: &PlaceSet,
-    row: &[u64],
-    forces: &[Force<W>],
+    forces: &Forces<W>,
     words: &mut [W],
 )
     requires net { net.0 < length words.old }
-    requires ops { AreOps W.lanes W.lane_bit ops.now }
-    requires gate { IsGate netlist.now gate.now }
+    requires gate { IsGate cycle.now.netlist.now gate.now }
     requires to { gate.now.to ≡ net.0 }
-    requires idle { AreIdleOff W.lanes W.lane_bit named.now forces.now }
-    requires forces { length forces.now ≡ length words.old }
+    requires ops { AreOps W.lanes W.lane_bit ops.now }
+    requires forces { length forces.now.by_net.items ≡ length words.old }
+    requires idle { AreIdleOff W.lanes W.lane_bit forces.now.named forces.now.by_net.items }
     ensures value { (k : ℕ) (d : ForceValue W) (state inputs : List Bool) → k < W.lanes
         → bit_at (plane W.lane_bit k words.new) net.0
-        ≡ either (force_value W.lane_bit k (slice_index_or forces.now net.0 d) (driven state inputs (table_gives netlist.now (read_in W.lane_bit k row.now words.old)) (driver_at netlist.now net.0))) (value_in row.now net.0) }
+        ≡ either (force_value W.lane_bit k (slice_index_or forces.now.by_net.items net.0 d)
+        (driven state inputs (table_gives cycle.now.netlist.now (read_in W.lane_bit k cycle.now.row.now words.old)) (driver_at cycle.now.netlist.now net.0)))
+        (value_in cycle.now.row.now net.0) }
     ensures others { (k n : ℕ) → n ≢ net.0 → bit_at (plane W.lane_bit k words.new) n ≡ bit_at (plane W.lane_bit k words.old) n }
 {
-    let own = own_word(netlist, gate, ops, row, words);
-    set_word(net, named_difference(named, row, forces, net.0, own), words);
+    let own = own_word(cycle.netlist, gate, ops, cycle.row, words);
+    set_word(net, named_difference(cycle.row, forces, net.0, own), words);
 }
 
 /// Evaluates all tables, in the order's sequence, with one step for each.
 pub fn sweep<W: Word, L: Ledger>(
-    netlist: &Netlist,
-    order: &[NetId],
-    gates: &[Gate],
-    ops: &[Masks<W>],
-    named: &PlaceSet,
-    row: &[u64],
-    forces: &[Force<W>],
+    cycle: &GoldenCycle<'_>,
+    program: &Program<W>,
+    forces: &Forces<W>,
     words: &mut [W],
     steps: &mut Steps<L>,
 )
-    requires sound { IsNetlist netlist.now }
-    requires order { IsOrder netlist.now order.now }
-    requires program { IsProgram netlist.now order.now gates.now }
-    requires ops { AreOps W.lanes W.lane_bit ops.now }
-    requires idle { AreIdleOff W.lanes W.lane_bit named.now forces.now }
-    requires forces { length forces.now ≡ length netlist.now.drivers }
-    requires nets { length words.old ≡ length netlist.now.drivers }
-    ensures values { (k : ℕ) (x golden : Cycle) → k < W.lanes → IsPair netlist.now row.now x golden → AreForces W.lane_bit k forces.now x
-        → Walked x (read_in W.lane_bit k row.now words.old) [] 0
-        → (n : ℕ) → n < length netlist.now.drivers → read_in W.lane_bit k row.now words.new n ≡ net_value x n }
-    ensures cost { steps.new ≡ steps.old + length order.now }
+    requires sound { IsNetlist cycle.now.netlist.now }
+    requires order { IsOrder cycle.now.netlist.now cycle.now.order.now }
+    requires program { IsProgramOf W.lanes W.lane_bit cycle.now.netlist.now cycle.now.order.now program.now }
+    requires forces { AreForcesOf W.lanes W.lane_bit cycle.now.netlist.now forces.now }
+    requires nets { length words.old ≡ length cycle.now.netlist.now.drivers }
+    ensures values { (k : ℕ) (x golden : Cycle) → k < W.lanes → IsPair cycle.now.netlist.now cycle.now.row.now x golden → AreForces W.lane_bit k forces.now.by_net.items x
+        → Walked x (read_in W.lane_bit k cycle.now.row.now words.old) [] 0
+        → (n : ℕ) → n < length cycle.now.netlist.now.drivers → read_in W.lane_bit k cycle.now.row.now words.new n ≡ net_value x n }
+    ensures cost { steps.new ≡ steps.old + length cycle.now.order.now }
 {
-    for place in 0..order.len() {
-        settle(
-            netlist,
-            order[place],
-            &gates[place],
-            ops,
-            named,
-            row,
-            forces,
-            words,
-        );
+    let gates = program.gates.as_slice();
+    let ops = program.ops.as_slice();
+    for place in 0..cycle.order.len() {
+        settle(cycle, cycle.order[place], &gates[place], ops, forces, words);
         steps.tick();
     }
 }

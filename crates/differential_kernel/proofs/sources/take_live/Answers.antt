@@ -1,6 +1,8 @@
 use Rattle.std.proofs.Common.{◌≡◌, inl, inr, ◌<◌, ◌≤◌, ◌+◌, ℕ, false, List, length, set, get_or, refl, ap, sym, ◌∙◌, subst, arith}
 use Rattle.std.proofs.lemmas.Bool.{cases_eq}
+use Rattle.std.proofs.lemmas.List.{length-set}
 use Rattle.circuit.specs.declared.parts.Latch.{Latch}
+use Rattle.circuit.specs.Circuit.{Circuit}
 use Rattle.circuit.specs.Value.{bit_at, driver_at}
 use Rattle.golden_difference.specs.Beside.{latched}
 use Rattle.lane_kernel.specs.Gates.{latch_at, plane}
@@ -11,61 +13,61 @@ use Rattle.differential_kernel.proofs.sources.take_live.Goals as goal
 
 pub latches-init : goal.latches-init
 latches-init g c = record {
-  latches = refl;
-  touched = refl;
-  marks = refl;
+  latches = c.requires.latches;
+  nets = c.requires.nets;
   none = λ n lt. absurd (omega arith);
   held = c.requires.held;
   rest = λ k n lt le. refl;
-  values = λ k n lt within. c.requires.same n k lt ∙ sym (latched_none (bit_at (plane g.W.Word.lane_bit k c.args.raw.now)) (driver_at c.args.netlist.now n));
+  values = λ k n lt within. c.requires.same n k lt ∙ sym (latched_none (bit_at (plane g.W.Word.lane_bit k c.args.latches.now.raw.items)) (driver_at c.args.cycle.now.netlist.now n));
   noted = c.requires.noted;
 }
 
 pub store-requires-clause-net : goal.store-requires-clause-net
 store-requires-clause-net g c =
-    let sound = c.latches-latches.ensures.sound in
+    let sound = c.latches-ends.ensures.sound in
     let none : Latch = record { from = record { 0 = 0 }; to = record { 0 = 0 }; start = false } in
-    let within : c.in-Some.l < length c.args.netlist.now.latches = omega (arith, c.in-Some.ensures.1, c.latches.invariant.latches, c.requires.latches, c.requires.raw) in
-    let inside = latches_inside c.args.netlist.now sound c.in-Some.l none within in
-    omega (arith, ap (λ (ls : List Latch). (get_or ls c.in-Some.l none).to.0) c.latches-latches.ensures.value, inside, c.latches.auto.words, c.requires.nets)
-
-pub store-requires-clause-places : goal.store-requires-clause-places
-store-requires-clause-places g c = λ n place reads. omega (arith, c.requires.places n place reads, c.latches.invariant.marks)
+    let within : c.in-Some.l < length c.args.cycle.now.netlist.now.latches = omega (arith, c.in-Some.ensures.1, c.latches.invariant.latches.live) in
+    let inside = latches_inside c.args.cycle.now.netlist.now sound c.in-Some.l none within in
+    omega (arith, ap (λ (ls : List Latch). (get_or ls c.in-Some.l none).to.0) c.latches-ends.ensures.value, inside, ap (λ (m : Circuit). length m.drivers) c.requires.fanout)
 
 pub latches-preserved : goal.latches-preserved
 latches-preserved g c =
     let bit = g.W.Word.lane_bit in
-    let sound = c.latches-latches.ensures.sound in
+    let sound = c.latches-ends.ensures.sound in
     let q = c.in-Some.l in
     let found = c.in-Some.ensures in
     let none : Latch = record { from = record { 0 = 0 }; to = record { 0 = 0 }; start = false } in
-    let within : q < length c.args.netlist.now.latches = omega (arith, found.1, c.latches.invariant.latches, c.requires.latches, c.requires.raw) in
-    let inside : q < length c.latches.raw = omega (arith, within, c.requires.raw, c.latches.auto.raw) in
-    let latch : get_or c.latches-latches.result.now q none ≡ latch_at c.args.netlist.now.latches q = ap (λ (ls : List Latch). get_or ls q none) c.latches-latches.ensures.value in
-    let net : (latch_at c.args.netlist.now.latches q).to.0 < length c.args.words.now = omega (arith, latches_inside c.args.netlist.now sound q none within, c.requires.nets) in
-    let stored : c.store.new.words ≡ set c.latches.words (latch_at c.args.netlist.now.latches q).to.0 c.word_at-word.result =
-    c.store.ensures.word ∙ ap (λ (l : Latch). set c.latches.words l.to.0 c.word_at-word.result) latch in
-    let none_between : (k i : ℕ) → k < g.W.Word.lanes → c.latches.from ≤ i → i < q → bit_at (plane bit k c.args.raw.now) i ≡ false =
+    let within : q < length c.args.cycle.now.netlist.now.latches = omega (arith, found.1, c.latches.invariant.latches.live) in
+    let inside : q < length c.latches.latches.raw.items = omega (arith, within, c.latches.invariant.latches.raw) in
+    let drivers : length c.args.cycle.now.fanout.now.circuit.drivers ≡ length c.args.cycle.now.netlist.now.drivers = ap (λ (m : Circuit). length m.drivers) c.requires.fanout in
+    let latch : get_or c.latches-ends.result.now q none ≡ latch_at c.args.cycle.now.netlist.now.latches q = ap (λ (ls : List Latch). get_or ls q none) c.latches-ends.ensures.value in
+    let net : (latch_at c.args.cycle.now.netlist.now.latches q).to.0 < length c.latches.nets.words.items =
+    omega (arith, latches_inside c.args.cycle.now.netlist.now sound q none within, c.latches.invariant.nets.words, drivers) in
+    let stored : c.store.new.nets.words.items ≡ set c.latches.nets.words.items (latch_at c.args.cycle.now.netlist.now.latches q).to.0 c.word_at-word.result =
+    c.store.ensures.word ∙ ap (λ (l : Latch). set c.latches.nets.words.items l.to.0 c.word_at-word.result) latch in
+    let none_between : (k i : ℕ) → k < g.W.Word.lanes → c.latches.from ≤ i → i < q → bit_at (plane bit k c.args.latches.now.raw.items) i ≡ false =
     λ k i lt le less. sym (c.latches.invariant.rest k i lt le) ∙ c.latches.invariant.held i (found.3 i le less) k lt in
     record {
-      latches = c.remove.ensures.bound ∙ c.latches.invariant.latches;
-      touched = c.store.ensures.touched_bound ∙ c.latches.invariant.touched;
-      marks = c.store.ensures.bound ∙ c.latches.invariant.marks;
-      none = none_taken c.latches.live c.remove.new.self c.latches.from q c.remove.ensures.has c.latches.invariant.none found.3;
-      held = same_taken g.W.Word.lanes bit c.latches.live c.remove.new.self c.latches.raw q c.all.result inside c.remove.ensures.has c.all.ensures c.latches.invariant.held;
-      rest = λ k n lt le. at_set_other bit k c.latches.raw q n c.all.result (omega (arith, le)) ∙ c.latches.invariant.rest k n lt (omega (arith, le, found.0));
-      values = λ k n lt of_net. ap (λ words. bit_at (plane bit k words) n) stored ∙ elim (cases_eq n (latch_at c.args.netlist.now.latches q).to.0) [
+      latches = record {
+        raw = length-set c.latches.latches.raw.items q c.all.result ∙ c.latches.invariant.latches.raw;
+        live = c.remove.ensures.bound ∙ c.latches.invariant.latches.live;
+      };
+      nets = c.store.ensures.nets;
+      none = none_taken c.latches.latches.live c.remove.new.self c.latches.from q c.remove.ensures.has c.latches.invariant.none found.3;
+      held = same_taken g.W.Word.lanes bit c.latches.latches.live c.remove.new.self c.latches.latches.raw.items q c.all.result inside c.remove.ensures.has c.all.ensures c.latches.invariant.held;
+      rest = λ k n lt le. at_set_other bit k c.latches.latches.raw.items q n c.all.result (omega (arith, le)) ∙ c.latches.invariant.rest k n lt (omega (arith, le, found.0));
+      values = λ k n lt of_net. ap (λ words. bit_at (plane bit k words) n) stored ∙ elim (cases_eq n (latch_at c.args.cycle.now.netlist.now.latches q).to.0) [
         | inl same ↦
             subst
-            (λ m. bit_at (plane bit k (set c.latches.words (latch_at c.args.netlist.now.latches q).to.0 c.word_at-word.result)) m
-            ≡ latched (held_below (q + 1) (bit_at (plane bit k c.args.raw.now))) (driver_at c.args.netlist.now m)) (sym same)
-            (at_set_same bit k c.latches.words (latch_at c.args.netlist.now.latches q).to.0 c.word_at-word.result (omega (arith, net, c.latches.auto.words))
-            ∙ c.word_at-word.ensures k lt ∙ c.latches.invariant.rest k q lt found.0
-            ∙ sym (latched_here c.args.netlist.now sound (bit_at (plane bit k c.args.raw.now)) q (latches_driven c.args.netlist.now sound q within)))
+            (λ m. bit_at (plane bit k (set c.latches.nets.words.items (latch_at c.args.cycle.now.netlist.now.latches q).to.0 c.word_at-word.result)) m
+            ≡ latched (held_below (q + 1) (bit_at (plane bit k c.args.latches.now.raw.items))) (driver_at c.args.cycle.now.netlist.now m)) (sym same)
+            (at_set_same bit k c.latches.nets.words.items (latch_at c.args.cycle.now.netlist.now.latches q).to.0 c.word_at-word.result net
+            ∙ c.word_at-word.ensures k lt ∙ ap (λ words. bit_at (plane bit k words) q) c.deref.ensures.value ∙ c.latches.invariant.rest k q lt found.0
+            ∙ sym (latched_here c.args.cycle.now.netlist.now sound (bit_at (plane bit k c.args.latches.now.raw.items)) q (latches_driven c.args.cycle.now.netlist.now sound q within)))
         | inr other ↦
-            at_set_other bit k c.latches.words (latch_at c.args.netlist.now.latches q).to.0 n c.word_at-word.result other
+            at_set_other bit k c.latches.nets.words.items (latch_at c.args.cycle.now.netlist.now.latches q).to.0 n c.word_at-word.result other
             ∙ c.latches.invariant.values k n lt of_net
-            ∙ latched_more c.args.netlist.now sound (bit_at (plane bit k c.args.raw.now)) c.latches.from q found.0 (λ i le less. none_between k i lt le less) n of_net other
+            ∙ latched_more c.args.cycle.now.netlist.now sound (bit_at (plane bit k c.args.latches.now.raw.items)) c.latches.from q found.0 (λ i le less. none_between k i lt le less) n of_net other
       ];
       noted = c.store.ensures.noted 0 c.latches.invariant.noted;
     }
@@ -73,5 +75,5 @@ latches-preserved g c =
 pub returns-clause-values : goal.returns-clause-values
 returns-clause-values g c = λ k n lt within.
     c.latches.invariant.values k n lt within
-    ∙ latched_all c.latches.from (bit_at (plane g.W.Word.lane_bit k c.args.raw.now)) (driver_at c.args.netlist.now n)
+    ∙ latched_all c.latches.from (bit_at (plane g.W.Word.lane_bit k c.args.latches.now.raw.items)) (driver_at c.args.cycle.now.netlist.now n)
     (λ i le. sym (c.latches.invariant.rest k i lt le) ∙ c.latches.invariant.held i (c.in_default.ensures i le) k lt)

@@ -19,7 +19,7 @@ nets-preserved g c =
     let lanes = g.W.Word.lanes in
     let q = c.in-Some.n in
     let found = c.in-Some.ensures in
-    let forces = c.args.forces.now in
+    let forces = c.args.forces.now.by_net.items in
     let row = c.args.row.now in
     let first = c.args.words.now in
     let size = c.force_source.auto.words in
@@ -33,6 +33,7 @@ nets-preserved g c =
         | inl same ↦
             subst (λ m. bit_at (plane bit k c.force_source.new.words) m ≡ forced_in bit k row forces d first m) (sym same)
             (c.force_source.ensures.source k d (ap (λ m. get_or c.args.places.now m None) (sym same) ∙ none) lt
+            ∙ ap (λ each. forced_in bit k row each d c.nets.words q) c.deref.ensures.value
             ∙ forced_same bit k row forces d c.nets.words first q (here k lt))
         | inr other ↦ c.force_source.ensures.others k n other ∙ elim (cases_lt n c.nets.from) [
           | inl less ↦ c.nets.invariant.source k n d lt (omega (arith, within, size)) less none
@@ -48,6 +49,6 @@ returns g c = λ k n d lt within none.
       | inr most ↦
           c.nets.invariant.ahead k n lt most
           ∙ sym
-          (forced_idle g.W.Word.lanes g.W.Word.lane_bit k c.args.row.now c.args.forces.now d c.args.words.now n lt
+          (forced_idle g.W.Word.lanes g.W.Word.lane_bit k c.args.row.now c.args.forces.now.by_net.items d c.args.words.now n lt
           (c.requires.idle n (omega (arith, within, c.requires.forces)) (c.in_default.ensures n most)))
     ]

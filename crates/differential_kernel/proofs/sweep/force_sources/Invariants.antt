@@ -7,12 +7,12 @@ use Rattle.differential_kernel.proofs.Forcing.{forced_in}
 use Rattle.differential_kernel.proofs.sweep.force_sources.Given as goal
 
 abbrev pub decreases-nets : goal.decreases-nets
-decreases-nets g l = l.named.bound - l.from
+decreases-nets g l = l.forces.named.bound - l.from
 
 -- the nets so far are forced, and the others are as they were
 abbrev pub invariant-nets : goal.invariant-nets
 invariant-nets g l = record {
   ahead : (k n : ℕ) → k < g.W.Word.lanes → l.from ≤ n → bit_at (plane g.W.Word.lane_bit k l.words) n ≡ bit_at (plane g.W.Word.lane_bit k l.initial.words) n;
   source : (k n : ℕ) (d : Force g.row.W.Denot) → k < g.W.Word.lanes → n < length l.words → n < l.from → get_or l.places n None ≡ None
-      → bit_at (plane g.W.Word.lane_bit k l.words) n ≡ forced_in g.W.Word.lane_bit k l.row l.forces d l.initial.words n;
+      → bit_at (plane g.W.Word.lane_bit k l.words) n ≡ forced_in g.W.Word.lane_bit k l.row l.forces.by_net.items d l.initial.words n;
 }

@@ -1,9 +1,11 @@
-use Rattle.std.proofs.Common.{◌≡◌, ◌<◌, List, length, take, sym, subst, arith}
+use Rattle.std.proofs.Common.{◌≡◌, ◌<◌, List, length, take, ap, sym, subst, ◌∙◌, arith}
 use Rattle.std.proofs.lemmas.List.{take_all}
 use Rattle.circuit.specs.declared.parts.NetId.{NetId}
 use Rattle.circuit.specs.Circuit.{Circuit}
 use Rattle.circuit.specs.Order.{IsOrder, net_at}
 use Rattle.golden_difference.proofs.Walked.{Walked, walked_all}
+use Rattle.lane_kernel.specs.declared.gate.Gate.{Gate}
+use Rattle.lane_kernel.specs.Gates.{IsGate, gate_at}
 use Rattle.differential_kernel.specs.declared.force.Force.{Force}
 use Rattle.differential_kernel.specs.Differences.{read_in}
 use Rattle.differential_kernel.proofs.Walking.{evaluated, some_force}
@@ -14,29 +16,29 @@ settle-requires-clause-net g c = omega (arith, c.requires.order.nets c.loop-plac
 
 pub settle-requires-clause-gate : goal.settle-requires-clause-gate
 settle-requires-clause-gate g c =
-    let lt : c.loop-place.place < length c.args.gates.now = omega (arith, c.loop-place-test.true, c.requires.program.count) in
-    c.requires.program.gates_are c.loop-place.place lt
+    let lt : c.loop-place.place < length c.args.program.now.gates.items = omega (arith, c.loop-place-test.true, c.requires.program.gates.count) in
+    subst (λ (gates : List Gate). IsGate c.args.cycle.now.netlist.now (gate_at gates c.loop-place.place)) (sym c.as_slice-gates.ensures.value) (c.requires.program.gates.gates_are c.loop-place.place lt)
 
 pub settle-requires-clause-to : goal.settle-requires-clause-to
 settle-requires-clause-to g c =
-    let lt : c.loop-place.place < length c.args.gates.now = omega (arith, c.loop-place-test.true, c.requires.program.count) in
-    c.requires.program.nets c.loop-place.place lt
+    let lt : c.loop-place.place < length c.args.program.now.gates.items = omega (arith, c.loop-place-test.true, c.requires.program.gates.count) in
+    ap (λ (gates : List Gate). (gate_at gates c.loop-place.place).to) c.as_slice-gates.ensures.value ∙ c.requires.program.gates.nets c.loop-place.place lt
 
 pub loop-place-preserved : goal.loop-place-preserved
 loop-place-preserved g c =
     let lanes = g.W.Word.lanes in
     let bit = g.W.Word.lane_bit in
-    let circuit = c.args.netlist.now in
-    let order = c.args.order.now in
-    let row = c.args.row.now in
-    let forces = c.args.forces.now in
+    let circuit = c.args.cycle.now.netlist.now in
+    let order = c.args.cycle.now.order.now in
+    let row = c.args.cycle.now.row.now in
+    let forces = c.args.forces.now.by_net.items in
     let p = c.loop-place.place in
     let within : p < length order = c.loop-place-test.true in
-    let inside : (net_at order p).0 < length forces = omega (arith, c.requires.order.nets p (record { 0 = 0 }) within, c.requires.forces) in
+    let inside : (net_at order p).0 < length forces = omega (arith, c.requires.order.nets p (record { 0 = 0 }) within, c.requires.forces.each) in
     record {
       values = λ k x golden lt pair are first.
           let d : Force g.row.W.Denot = some_force forces (net_at order p).0 inside in
-          evaluated lanes bit k lt circuit order c.requires.sound c.requires.order row forces c.requires.forces x golden pair are d c.loop-place.words c.settle.new.words p within
+          evaluated lanes bit k lt circuit order c.requires.sound c.requires.order row forces c.requires.forces.each x golden pair are d c.loop-place.words c.settle.new.words p within
           (λ state inputs. c.settle.ensures.value k d state inputs lt) (λ n other. c.settle.ensures.others k n other)
           (c.loop-place.invariant.values k x golden lt pair are first);
       cost = omega (arith, c.tick.ensures, c.loop-place.invariant.cost);
@@ -45,8 +47,8 @@ loop-place-preserved g c =
 pub returns-clause-values : goal.returns-clause-values
 returns-clause-values g c = λ k x golden lt pair are first n net.
     let bit = g.W.Word.lane_bit in
-    let order = c.args.order.now in
-    let row = c.args.row.now in
+    let order = c.args.cycle.now.order.now in
+    let row = c.args.cycle.now.row.now in
     let words = c.loop-place.words in
     let end : c.loop-place.place ≡ length order = omega (arith, c.loop-place-test.false, c.loop-place.auto.place-end) in
     walked_all x (read_in bit k row words) order (subst (λ (m : Circuit). IsOrder m order) (sym pair.circuit) c.requires.order)

@@ -8,8 +8,8 @@ use Rattle.differential_kernel.proofs.sweep.sweep.Given as goal
 -- the nets of the places so far are read with their values
 abbrev pub invariant-loop-place : goal.invariant-loop-place
 invariant-loop-place g l = record {
-  values : (k : ℕ) (x golden : Cycle) → k < g.W.Word.lanes → IsPair l.netlist l.row x golden → AreForces g.W.Word.lane_bit k l.forces x
-      → Walked x (read_in g.W.Word.lane_bit k l.row l.initial.words) [] 0
-      → Walked x (read_in g.W.Word.lane_bit k l.row l.words) (take l.place l.order) l.place;
+  values : (k : ℕ) (x golden : Cycle) → k < g.W.Word.lanes → IsPair l.cycle.netlist.now l.cycle.row.now x golden → AreForces g.W.Word.lane_bit k l.forces.by_net.items x
+      → Walked x (read_in g.W.Word.lane_bit k l.cycle.row.now l.initial.words) [] 0
+      → Walked x (read_in g.W.Word.lane_bit k l.cycle.row.now l.words) (take l.place l.cycle.order.now) l.place;
   cost : l.steps ≡ l.initial.steps + l.place;
 }

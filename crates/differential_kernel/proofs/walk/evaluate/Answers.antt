@@ -1,4 +1,5 @@
-use Rattle.std.proofs.Common.{get_or, ap, ◌∙◌, arith}
+use Rattle.std.proofs.Common.{length, get_or, ap, ◌∙◌, arith}
+use Rattle.circuit.specs.Circuit.{Circuit}
 use Rattle.circuit.specs.Value.{bit_at, driven, driver_at, table_gives}
 use Rattle.lane_kernel.specs.Bits.{either}
 use Rattle.lane_kernel.specs.Gates.{plane}
@@ -11,12 +12,13 @@ use Rattle.differential_kernel.proofs.walk.evaluate.Goals as goal
 pub returns-clause-value : goal.returns-clause-value
 returns-clause-value g c = λ k d state inputs lt.
     ap (λ words. bit_at (plane g.W.Word.lane_bit k words) c.args.net.0) c.store.ensures.word
-    ∙ at_set_same g.W.Word.lane_bit k c.args.words.now c.args.net.0 c.named_difference-word.result (omega (arith, c.requires.gate.inside.to, c.requires.to, c.requires.nets))
+    ∙ at_set_same g.W.Word.lane_bit k c.args.nets.now.words.items c.args.net.0 c.named_difference-word.result (omega (arith, c.requires.gate.inside.to, c.requires.to, c.requires.nets.words, ap (λ (m : Circuit). length m.drivers) c.requires.fanout))
     ∙ c.named_difference-word.ensures k d lt
-    ∙ ap (λ b. either (force_value g.W.Word.lane_bit k (get_or c.args.forces.now c.args.net.0 d) b) (value_in c.args.row.now c.args.net.0)) (c.own_word-own.ensures k state inputs lt
-    ∙ ap (λ n. driven state inputs (table_gives c.args.netlist.now (read_in g.W.Word.lane_bit k c.args.row.now c.args.words.now)) (driver_at c.args.netlist.now n)) c.requires.to)
+    ∙ ap (λ b. either (force_value g.W.Word.lane_bit k (get_or c.args.forces.now.by_net.items c.args.net.0 d) b) (value_in c.args.cycle.now.row.now c.args.net.0)) (c.own_word-own.ensures k state inputs lt
+    ∙ ap (λ words. driven state inputs (table_gives c.args.cycle.now.netlist.now (read_in g.W.Word.lane_bit k c.args.cycle.now.row.now words)) (driver_at c.args.cycle.now.netlist.now c.args.gate.now.to)) c.deref.ensures.value
+    ∙ ap (λ n. driven state inputs (table_gives c.args.cycle.now.netlist.now (read_in g.W.Word.lane_bit k c.args.cycle.now.row.now c.args.nets.now.words.items)) (driver_at c.args.cycle.now.netlist.now n)) c.requires.to)
 
 pub returns-clause-others : goal.returns-clause-others
 returns-clause-others g c = λ k n other.
     ap (λ words. bit_at (plane g.W.Word.lane_bit k words) n) c.store.ensures.word
-    ∙ at_set_other g.W.Word.lane_bit k c.args.words.now c.args.net.0 n c.named_difference-word.result other
+    ∙ at_set_other g.W.Word.lane_bit k c.args.nets.now.words.items c.args.net.0 n c.named_difference-word.result other

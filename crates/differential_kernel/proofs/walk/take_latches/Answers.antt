@@ -1,5 +1,6 @@
 use Rattle.std.proofs.Common.{◌≡◌, inl, inr, ◌<◌, ◌+◌, ◌-◌, false, List, length, get_or, set, ap, sym, ◌∙◌, subst, arith}
 use Rattle.std.proofs.lemmas.Bool.{cases_eq, cases_lt}
+use Rattle.std.proofs.lemmas.List.{length-set}
 use Rattle.circuit.specs.declared.parts.Latch.{Latch}
 use Rattle.circuit.specs.Value.{bit_at}
 use Rattle.lane_kernel.specs.Gates.{latch_at, plane}
@@ -10,24 +11,30 @@ pub latches-preserved : goal.latches-preserved
 latches-preserved g c =
     let lanes = g.W.Word.lanes in
     let bit = g.W.Word.lane_bit in
-    let tables = c.args.tables in
+    let tables = length c.args.cycle.now.order.now in
     let p = c.in-Some.place in
     let at = p - tables in
     let found = c.in-Some.ensures in
     let none : Latch = record { from = record { 0 = 0 }; to = record { 0 = 0 }; start = false } in
     let up : tables + at ≡ p = omega (arith, found.0, c.latches.invariant.least) in
-    let inside : at < length c.latches.raw = omega (arith, up, found.1, c.latches.invariant.bound, c.requires.places, c.latches.auto.raw) in
+    let inside : at < length c.latches.latches.raw.items = omega (arith, up, found.1, c.latches.invariant.places, c.latches.invariant.latches.raw) in
     record {
       least = omega (arith, up);
-      latches = c.put.ensures.bound ∙ c.latches.invariant.latches;
-      bound = c.remove.ensures.bound ∙ c.latches.invariant.bound;
-      held = same_put lanes bit c.latches.live c.put.new.self c.latches.raw at c.word_at.result c.put.ensures.has c.latches.invariant.held;
+      latches = record {
+        raw = length-set c.latches.latches.raw.items at c.word_at.result ∙ c.latches.invariant.latches.raw;
+        live = c.put.ensures.bound ∙ c.latches.invariant.latches.live;
+      };
+      words = c.latches.invariant.words;
+      touched = c.latches.invariant.touched;
+      places = c.remove.ensures.bound ∙ c.latches.invariant.places;
+      held = same_put lanes bit c.latches.latches.live c.put.new.self c.latches.latches.raw.items at c.word_at.result c.put.ensures.has c.latches.invariant.held;
       values = λ k i lt below within. elim (cases_eq i at) [
         | inl same ↦
-            subst (λ j. bit_at (plane bit k (set c.latches.raw at c.word_at.result)) j ≡ bit_at (plane bit k c.args.words.now) (latch_at c.args.netlist.now.latches j).from.0) (sym same)
-            (at_set_same bit k c.latches.raw at c.word_at.result inside ∙ c.word_at.ensures k lt
-            ∙ ap (λ (ls : List Latch). bit_at (plane bit k c.args.words.now) (get_or ls at none).from.0) c.latches-latches.ensures.value)
-        | inr other ↦ at_set_other bit k c.latches.raw at i c.word_at.result other ∙ elim (cases_lt (tables + i) c.latches.from) [
+            subst (λ j. bit_at (plane bit k (set c.latches.latches.raw.items at c.word_at.result)) j ≡ bit_at (plane bit k c.args.nets.now.words.items) (latch_at c.args.cycle.now.netlist.now.latches j).from.0) (sym same)
+            (at_set_same bit k c.latches.latches.raw.items at c.word_at.result inside ∙ c.word_at.ensures k lt
+            ∙ ap (λ words. bit_at (plane bit k words) (get_or c.latches-ends.result.now at none).from.0) (c.deref.ensures.value ∙ c.latches.invariant.words)
+            ∙ ap (λ (ls : List Latch). bit_at (plane bit k c.args.nets.now.words.items) (get_or ls at none).from.0) c.latches-ends.ensures.value)
+        | inr other ↦ at_set_other bit k c.latches.latches.raw.items at i c.word_at.result other ∙ elim (cases_lt (tables + i) c.latches.from) [
           | inl less ↦ c.latches.invariant.values k i lt less within
           | inr most ↦
               (let before : tables + i < p = omega (arith, up, other, below) in
@@ -35,15 +42,15 @@ latches-preserved g c =
               ∙ sym (c.requires.noted i within (sym (c.latches.invariant.ahead (tables + i) most) ∙ found.3 (tables + i) most before) k lt))
         ]
       ];
-      rest = λ i le k lt. at_set_other bit k c.latches.raw at i c.word_at.result (omega (arith, up, le)) ∙ c.latches.invariant.rest i (omega (arith, le, found.0)) k lt;
-      ahead = λ q le. taken_other c.latches.marks c.remove.new.self p q c.remove.ensures.has (omega (arith, le)) ∙ c.latches.invariant.ahead q (omega (arith, le, found.0));
+      rest = λ i le k lt. at_set_other bit k c.latches.latches.raw.items at i c.word_at.result (omega (arith, up, le)) ∙ c.latches.invariant.rest i (omega (arith, le, found.0)) k lt;
+      ahead = λ q le. taken_other c.latches.nets.marks c.remove.new.self p q c.remove.ensures.has (omega (arith, le)) ∙ c.latches.invariant.ahead q (omega (arith, le, found.0));
     }
 
 pub returns-clause-values : goal.returns-clause-values
 returns-clause-values g c = λ k i lt within.
-    elim (cases_lt (c.args.tables + i) c.latches.from) [
+    elim (cases_lt (length c.args.cycle.now.order.now + i) c.latches.from) [
       | inl less ↦ c.latches.invariant.values k i lt less within
       | inr most ↦
           c.latches.invariant.rest i most k lt
-          ∙ sym (c.requires.noted i within (sym (c.latches.invariant.ahead (c.args.tables + i) most) ∙ c.in_default.ensures (c.args.tables + i) most) k lt)
+          ∙ sym (c.requires.noted i within (sym (c.latches.invariant.ahead (length c.args.cycle.now.order.now + i) most) ∙ c.in_default.ensures (length c.args.cycle.now.order.now + i) most) k lt)
     ]

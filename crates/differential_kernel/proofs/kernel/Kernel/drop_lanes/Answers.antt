@@ -1,4 +1,4 @@
-use Rattle.std.proofs.Common.{◌≡◌, inl, inr, ◌+◌, ◌&&◌, not, List, length, refl, ap, sym, ◌∙◌, arith}
+use Rattle.std.proofs.Common.{◌≡◌, inl, inr, ◌&&◌, not, List, length, refl, ap, ◌∙◌, arith}
 use Rattle.std.specs.Prelude.{Option}
 use Rattle.std.proofs.lemmas.Bool.{cases_Bool, false≢true}
 use Rattle.std.proofs.lemmas.Grind.{common_steps}
@@ -21,18 +21,16 @@ returns-clause-kernel g c =
     let bit = g.W.Word.lane_bit in
     let out = c.args.out in
     let loads : (with_items s.in_force c.unload.new.loads).items ≡ c.unload.new.loads = grind (arith, common_steps) in
-    let raw : (with_items s.raw c.keep_lanes.new.words).items ≡ c.keep_lanes.new.words = grind (arith, common_steps) in
-    let words : (with_items s.words c.keep_lanes-2.new.words).items ≡ c.keep_lanes-2.new.words = grind (arith, common_steps) in
-    let latches : length (with_items s.raw c.keep_lanes.new.words).items ≡ length s.raw.items =
+    let raw : (with_items s.latches.raw c.keep_lanes.new.words).items ≡ c.keep_lanes.new.words = grind (arith, common_steps) in
+    let words : (with_items s.nets.words c.keep_lanes-2.new.words).items ≡ c.keep_lanes-2.new.words = grind (arith, common_steps) in
+    let latches : length (with_items s.latches.raw c.keep_lanes.new.words).items ≡ length s.latches.raw.items =
     ap (λ (ws : List g.row.W.Denot). length ws) raw ∙ c.keep_lanes.auto.words ∙ ap (λ (ws : List g.row.W.Denot). length ws) c.deref_mut-2.ensures.value in
-    let nets : length (with_items s.words c.keep_lanes-2.new.words).items ≡ length s.words.items =
+    let nets : length (with_items s.nets.words c.keep_lanes-2.new.words).items ≡ length s.nets.words.items =
     ap (λ (ws : List g.row.W.Denot). length ws) words ∙ c.keep_lanes-2.auto.words ∙ ap (λ (ws : List g.row.W.Denot). length ws) c.deref_mut-3.ensures.value in
     record {
       sound = kept.sound;
       ordered = kept.ordered;
-      places = kept.places;
       program = kept.program;
-      ops = kept.ops;
       given = kept.given;
       whole = λ whole. absurd (false≢true whole);
       loads =
@@ -41,17 +39,12 @@ returns-clause-kernel g c =
       acts_bound = kept.acts_bound;
       acts = λ noted. absurd (false≢true noted);
       stuck = λ noted. absurd (false≢true noted);
-      named_bound = kept.named_bound;
       forces = kept.forces;
-      off = kept.off;
       named = λ noted. absurd (false≢true noted);
       idle = λ noted. absurd (false≢true noted);
       steady = λ noted. absurd (false≢true noted);
-      raw = latches ∙ kept.raw;
-      words = nets ∙ kept.words;
-      live_bound = kept.live_bound ∙ sym latches;
-      touched_bound = kept.touched_bound ∙ sym nets;
-      marks_bound = kept.marks_bound ∙ ap (λ n. length s.order.value + n) (sym latches);
+      latches = record { raw = latches ∙ kept.latches.raw; live = kept.latches.live };
+      nets = record { words = nets ∙ kept.nets.words; touched = kept.nets.touched; marks = kept.nets.marks };
       held = λ n none k lt.
           ap (λ ws. bit_at (plane bit k ws) n) raw ∙ c.keep_lanes.ensures k n lt
           ∙ ap (λ b. not (bit out k) && b) (ap (λ ws. bit_at (plane bit k ws) n) c.deref_mut-2.ensures.value ∙ kept.held n none k lt) ∙ none_kept (bit out k);
@@ -84,12 +77,12 @@ returns-clause-beside g c = λ vectors beside k lt.
     let old : Moment = lane_of bit k (difference_bank s) in
     let new : Moment = record {
       cycle = s.cycle;
-      raw = plane bit k (with_items s.raw c.keep_lanes.new.words).items;
-      values = plane bit k (with_items s.words c.keep_lanes-2.new.words).items;
+      raw = plane bit k (with_items s.latches.raw c.keep_lanes.new.words).items;
+      values = plane bit k (with_items s.nets.words c.keep_lanes-2.new.words).items;
     } in
     let loads : (with_items s.in_force c.unload.new.loads).items ≡ c.unload.new.loads = grind (arith, common_steps) in
-    let raw : (with_items s.raw c.keep_lanes.new.words).items ≡ c.keep_lanes.new.words = grind (arith, common_steps) in
-    let words : (with_items s.words c.keep_lanes-2.new.words).items ≡ c.keep_lanes-2.new.words = grind (arith, common_steps) in
+    let raw : (with_items s.latches.raw c.keep_lanes.new.words).items ≡ c.keep_lanes.new.words = grind (arith, common_steps) in
+    let words : (with_items s.nets.words c.keep_lanes-2.new.words).items ≡ c.keep_lanes-2.new.words = grind (arith, common_steps) in
     elim (cases_Bool (bit out k)) as (λ _. IsBeside circuit faults vectors new) [
       | inl is ↦
           beside_dropped circuit faults vectors new

@@ -10,11 +10,11 @@ use Rattle.differential_kernel.proofs.kernel.Kernel.start.Goals as goal
 
 pub returns-clause-start : goal.returns-clause-start
 returns-clause-start g c = λ k lt.
-    let raw : (with_items c.take_loads.new.self.raw c.clear.new.words).items ≡ c.clear.new.words = grind (arith, common_steps) in
+    let raw : (with_items c.take_loads.new.self.latches.raw c.clear.new.words).items ≡ c.clear.new.words = grind (arith, common_steps) in
     let moment : Moment = record {
       cycle = 0;
-      raw = plane g.W.Word.lane_bit k (with_items c.take_loads.new.self.raw c.clear.new.words).items;
-      values = plane g.W.Word.lane_bit k c.take_loads.new.self.words.items;
+      raw = plane g.W.Word.lane_bit k (with_items c.take_loads.new.self.latches.raw c.clear.new.words).items;
+      values = plane g.W.Word.lane_bit k c.take_loads.new.self.nets.words.items;
     } in
     beside_none c.take_loads.new.self.circuit.value (loaded_faults c.take_loads.new.self.in_force.items k) moment refl
     (λ l within. ap (λ ws. bit_at (plane g.W.Word.lane_bit k ws) l) raw ∙ c.clear.ensures.same l k lt)

@@ -1,7 +1,7 @@
 use Rattle.std.proofs.Common.{◌≡◌, ◌<◌, ℕ, length, get_or}
 use Rattle.std.specs.Prelude.{None, Some}
 use Rattle.circuit.specs.Order.{net_at}
-use Rattle.differential_kernel.proofs.kernel.places_of.Given as goal
+use Rattle.differential_kernel.proofs.program.places_of.Given as goal
 
 abbrev pub invariant-loop-place : goal.invariant-loop-place
 invariant-loop-place l = record {

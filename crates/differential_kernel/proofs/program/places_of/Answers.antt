@@ -5,7 +5,7 @@ use Rattle.std.proofs.lemmas.List.{get_or-set_other, get_or-set_same, length-set
 use Rattle.circuit.specs.Order.{net_at}
 use Rattle.circuit.proofs.FewTables.{few_tables}
 use Rattle.golden_difference.proofs.Apart.{order_apart}
-use Rattle.differential_kernel.proofs.kernel.places_of.Goals as goal
+use Rattle.differential_kernel.proofs.program.places_of.Goals as goal
 
 pub overflow_cast-place : goal.overflow_cast-place
 overflow_cast-place c =

@@ -1,0 +1,27 @@
+use Rattle.std.proofs.Common.{ap₂, subst, sym, ◌∙◌, arith}
+use Rattle.circuit.specs.Value.{bit_at}
+use Rattle.golden_difference.proofs.Exclusive.{either_again}
+use Rattle.lane_kernel.specs.Bits.{either}
+use Rattle.lane_kernel.specs.Gates.{plane}
+use Rattle.place_set.specs.Places.{value_in}
+use Rattle.differential_kernel.specs.Places.{AreTablePlaces}
+use Rattle.differential_kernel.proofs.Begun.{begun}
+use Rattle.differential_kernel.proofs.cycle.sweep_all.Goals as goal
+
+pub returns-clause-values : goal.returns-clause-values
+returns-clause-values g c = λ k x golden lt pair are holds n net.
+    let lanes = g.W.Word.lanes in
+    let bit = g.W.Word.lane_bit in
+    let circuit = c.args.cycle.now.netlist.now in
+    let order = c.args.cycle.now.order.now in
+    let row = c.args.cycle.now.row.now in
+    let places : AreTablePlaces circuit order c.deref.result.now = subst (AreTablePlaces circuit order) (sym c.deref.ensures.value) c.requires.program.places in
+    sym (either_again (value_in row n) (bit_at (plane bit k c.sweep.new.words) n))
+    ∙ ap₂ either
+    (c.sweep.ensures.values k x golden lt pair are
+    (begun lanes bit k lt circuit order c.show_latches.ensures.sound c.requires.order c.deref.result.now places row c.args.forces.now.by_net.items c.requires.forces.each x golden pair are
+    (bit_at (plane bit k c.args.raw.now)) c.show_latches.new.words c.force_sources.new.words holds
+    (λ m within. c.show_latches.ensures.values k m lt within)
+    (λ m d within none. c.force_sources.ensures k m d lt (omega (arith, within, c.show_latches.auto.words, c.blank.auto.words, c.requires.nets)) none))
+    n net)
+    (pair.values n net)

@@ -1,0 +1,35 @@
+-- The parts of a kernel, as they fit a netlist and an order of its tables.
+use Rattle.std.specs.Prelude.{◌≡◌, ℕ, ◌+◌, Bool, List, length}
+use Rattle.circuit.specs.declared.parts.NetId.{NetId}
+use Rattle.circuit.specs.Circuit.{Circuit}
+use Rattle.fanout.specs.Readers.{Ordered}
+use Rattle.lane_kernel.specs.Gates.{AreOps, IsProgram}
+use Rattle.differential_kernel.specs.declared.force.Forces.{Forces}
+use Rattle.differential_kernel.specs.declared.latches.LatchDifferences.{LatchDifferences}
+use Rattle.differential_kernel.specs.declared.nets.NetDifferences.{NetDifferences}
+use Rattle.differential_kernel.specs.declared.program.Program.{Program}
+use Rattle.differential_kernel.specs.Forces.{AreIdleOff}
+use Rattle.differential_kernel.specs.Places.{AreTablePlaces}
+
+-- each net has the place of its table, each place its table, and each operation its masks
+pub record IsProgramOf {W : Type 0} (lanes : ℕ) (bit : W → ℕ → Bool) (c : Circuit) (order : List NetId) (program : Program W) : Type 0 where
+  pub places : AreTablePlaces c order program.places.items
+  pub gates : IsProgram c order program.gates.items
+  pub ops : AreOps lanes bit program.ops.items
+
+-- each net has its force, and those that aren't named are left as they are
+pub record AreForcesOf {W : Type 0} (lanes : ℕ) (bit : W → ℕ → Bool) (c : Circuit) (forces : Forces W) : Type 0 where
+  pub named : forces.named.bound ≡ length c.drivers
+  pub each : length forces.by_net.items ≡ length c.drivers
+  pub idle : AreIdleOff lanes bit forces.named forces.by_net.items
+
+-- each latch has its word
+pub record AreLatchesOf {W : Type 0} (c : Circuit) (latches : LatchDifferences W) : Type 0 where
+  pub raw : length latches.raw.items ≡ length c.latches
+  pub live : latches.live.bound ≡ length c.latches
+
+-- each net has its word, and each place of a table or a latch may be marked
+pub record AreNetsOf {W : Type 0} (o : Ordered) (nets : NetDifferences W) : Type 0 where
+  pub words : length nets.words.items ≡ length o.circuit.drivers
+  pub touched : nets.touched.bound ≡ length o.circuit.drivers
+  pub marks : nets.marks.bound ≡ length o.order + length o.circuit.latches
