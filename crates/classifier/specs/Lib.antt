@@ -1,3 +1,4 @@
+pub mod Testbench
 pub mod Load
 pub mod Seen
 pub mod Planes

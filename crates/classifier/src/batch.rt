@@ -6,7 +6,6 @@ ghost use Rattle.workload.specs.declared.run.Run.{Run};
 ghost use Rattle.workload.specs.Runs.{all_cycles};
 ghost use Rattle.alarm_points.specs.declared.Points.{Points as PointsValue};
 ghost use Rattle.alarm_points.specs.FourWatches.{AreFourMadeFor};
-ghost use Rattle.alarm_points.specs.PointsKept.{ArePointsFor};
 ghost use Rattle.alarm_points.specs.Watch.{AreMadeFor};
 ghost use Rattle.campaign_plan.specs.Batches.{outcome_of};
 ghost use Rattle.golden_difference.specs.Lanes.{IsMadeFor};
@@ -15,19 +14,15 @@ ghost use Rattle.classifier.specs.Batch.{alone_in, batch_at, fault_in_lane, outc
 ghost use Rattle.classifier.specs.Planes.{HasPlanes, outcome_at};
 
 use crate::outcome::{NOTHING, loaded_outcome, loaded_quad};
-use alarm_points::Points;
+use crate::testbench::Testbench;
 use alarm_points::windows::Windows;
 use alarm_points::windows4::Windows4;
 use campaign_plan::Outcome;
-use circuit::netlist::Netlist;
 use circuit::parts::Fault;
 use differential_kernel::{DifferentialLanes, DifferentialLanes4};
 use fault_list::FaultList;
 use fm_base::Steps;
-use golden_run::Golden;
-use netlist_levels::Order;
 use std::sync::ledger::Ledger;
-use workload::run::Workload;
 
 const LANES: u32 = 64;
 
@@ -75,29 +70,23 @@ fn of_batch(faults: &FaultList, batch: Option<u32>, loaded: Outcome) -> Outcome
 /// as are all of a batch behind the last. What lanes and windows held before is no matter. It takes no memory, and at most
 /// one step for each table and cycle.
 pub fn batch_outcome<L: Ledger>(
-    net: &Netlist,
-    order: &Order,
+    bench: &Testbench<'_>,
     faults: &FaultList,
     batch: u32,
-    work: &Workload,
-    points: &Points,
-    golden: &Golden,
     lanes: &mut DifferentialLanes,
     windows: &mut Windows,
     steps: &mut Steps<L>,
 ) -> Outcome
-    requires golden { golden.now ≡ record { circuit = net.now; order = order.now; runs = work.now } }
-    requires points { ArePointsFor net.now points.now }
-    requires lanes { IsMadeFor net.now order.now lanes.old }
-    requires windows { AreMadeFor points.now windows.old }
-    ensures outcome { result ≡ outcome_of net.now points.now windows.old.ftti work.now faults.now batch }
-    ensures lanes { IsMadeFor net.now order.now lanes.new }
-    ensures windows { AreMadeFor points.now windows.new }
+    requires lanes { IsMadeFor bench.now.circuit bench.now.order lanes.old }
+    requires windows { AreMadeFor bench.now.points windows.old }
+    ensures outcome { result ≡ outcome_of bench.now.circuit bench.now.points windows.old.ftti bench.now.runs faults.now batch }
+    ensures lanes { IsMadeFor bench.now.circuit bench.now.order lanes.new }
+    ensures windows { AreMadeFor bench.now.points windows.new }
     ensures ftti { windows.new.ftti ≡ windows.old.ftti }
-    ensures cost { steps.new ≤ steps.old + all_cycles work.now * length net.now.tables }
+    ensures cost { steps.new ≤ steps.old + all_cycles bench.now.runs * length bench.now.circuit.tables }
 {
     lanes.load(&loads_of(faults, Some(batch)));
-    let loaded = loaded_outcome(net, order, work, points, golden, lanes, windows, steps);
+    let loaded = loaded_outcome(bench, lanes, windows, steps);
     of_batch(faults, Some(batch), loaded)
 }
 
@@ -128,29 +117,23 @@ fn of_batches(faults: &FaultList, batches: &[Option<u32>; 4], outcomes: &mut [Ou
 /// are 0 where there is no batch. What lanes and windows held before is no matter. It takes no memory, and at most one step for
 /// each table and cycle, for all four words together.
 pub fn quad_outcomes<L: Ledger>(
-    net: &Netlist,
-    order: &Order,
+    bench: &Testbench<'_>,
     faults: &FaultList,
     batches: &[Option<u32>; 4],
-    work: &Workload,
-    points: &Points,
-    golden: &Golden,
     lanes: &mut DifferentialLanes4,
     windows: &mut Windows4,
     steps: &mut Steps<L>,
 ) -> [Outcome; 4]
-    requires golden { golden.now ≡ record { circuit = net.now; order = order.now; runs = work.now } }
-    requires points { ArePointsFor net.now points.now }
-    requires lanes { IsMadeFor net.now order.now lanes.old }
-    requires windows { AreFourMadeFor points.now windows.old }
-    ensures outcomes { result ≡ map (outcome_for net.now points.now windows.old.ftti work.now faults.now) batches.now }
-    ensures lanes { IsMadeFor net.now order.now lanes.new }
-    ensures windows { AreFourMadeFor points.now windows.new }
+    requires lanes { IsMadeFor bench.now.circuit bench.now.order lanes.old }
+    requires windows { AreFourMadeFor bench.now.points windows.old }
+    ensures outcomes { result ≡ map (outcome_for bench.now.circuit bench.now.points windows.old.ftti bench.now.runs faults.now) batches.now }
+    ensures lanes { IsMadeFor bench.now.circuit bench.now.order lanes.new }
+    ensures windows { AreFourMadeFor bench.now.points windows.new }
     ensures ftti { windows.new.ftti ≡ windows.old.ftti }
-    ensures cost { steps.new ≤ steps.old + all_cycles work.now * length net.now.tables }
+    ensures cost { steps.new ≤ steps.old + all_cycles bench.now.runs * length bench.now.circuit.tables }
 {
     load_words(faults, batches, lanes);
-    let mut outcomes = loaded_quad(net, order, work, points, golden, lanes, windows, steps);
+    let mut outcomes = loaded_quad(bench, lanes, windows, steps);
     of_batches(faults, batches, &mut outcomes);
     outcomes
 }

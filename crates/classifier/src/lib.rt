@@ -7,8 +7,10 @@ mod outcome;
 mod points;
 mod run;
 mod see;
+mod testbench;
 mod words;
 
 pub use batch::{batch_outcome, quad_outcomes};
 pub use outcome::{loaded_outcome, loaded_outcomes, loaded_quad};
+pub use testbench::Testbench;
 pub use words::LaneWords;

@@ -6,7 +6,6 @@ ghost use Rattle.workload.specs.declared.run.Run.{Run};
 ghost use Rattle.workload.specs.Runs.{all_cycles};
 ghost use Rattle.alarm_points.specs.declared.Points.{Points as PointsValue};
 ghost use Rattle.alarm_points.specs.Watch.{AreMadeFor};
-ghost use Rattle.alarm_points.specs.PointsKept.{ArePointsFor};
 ghost use Rattle.campaign_plan.specs.Danger.{is_dangerous_in, is_noticed_in};
 ghost use Rattle.fm_base.specs.Planes.{bit};
 ghost use Rattle.golden_difference.specs.Lanes.{IsMadeFor};
@@ -18,19 +17,16 @@ ghost use Rattle.classifier.specs.Seen.{AreUndecided, HaveAllSeenRun, HaveSeenRu
 
 use crate::points::either_lanes;
 use crate::run::watch_run;
+use crate::testbench::Testbench;
 use crate::words::LaneWords;
-use alarm_points::Points;
 use alarm_points::windows::Windows;
 use alarm_points::windows4::Windows4;
 use campaign_plan::Outcome;
-use circuit::netlist::Netlist;
 use differential_kernel::{DifferentialLanes, DifferentialLanes4};
 use fm_base::Steps;
-use golden_run::Golden;
-use netlist_levels::Order;
 use std::slice::from_mut;
 use std::sync::ledger::Ledger;
-use workload::run::{Kind, Workload};
+use workload::run::Kind;
 
 const MOST_WORDS: usize = 4;
 
@@ -87,37 +83,31 @@ fn add_run(kind: Kind, windows: &[Windows], noticed: &[u64], outcomes: &mut [Out
 
 // Simulates all runs in all lanes, and adds what each shows in each word; `outcomes` are all 0 before.
 fn judge_runs<B: LaneWords, L: Ledger>(
-    net: &Netlist,
-    order: &Order,
-    work: &Workload,
-    points: &Points,
-    golden: &Golden,
+    bench: &Testbench<'_>,
     lanes: &mut B,
     windows: &mut [Windows],
     noticed: &mut [u64],
     outcomes: &mut [Outcome],
     steps: &mut Steps<L>,
 )
-    requires golden { golden.now ≡ record { circuit = net.now; order = order.now; runs = work.now } }
-    requires points { ArePointsFor net.now points.now }
-    requires made { IsLoadFor net.now order.now (B.load lanes.old) }
+    requires made { IsLoadFor bench.now.circuit bench.now.order (B.load lanes.old) }
     requires windows { length windows.old ≡ B.words }
-    requires windows_made { AreAllMadeFor points.now windows.old }
+    requires windows_made { AreAllMadeFor bench.now.points windows.old }
     requires noticed { length noticed.old ≡ B.words }
     requires outcomes { length outcomes.old ≡ B.words }
     requires nothing { (word : ℕ) → word < B.words → outcome_at outcomes.old word ≡ record { danger = 0; noticed = 0 } }
     ensures load { B.load lanes.new ≡ B.load lanes.old }
-    ensures windows_made { AreAllMadeFor points.now windows.new }
+    ensures windows_made { AreAllMadeFor bench.now.points windows.new }
     ensures ftti { KeepSettings windows.old windows.new }
     ensures planes { (word : ℕ) → word < B.words
-        → HasPlanes net.now points.now (windows_at windows.old word).ftti work.now (lane_faults (B.load lanes.old) word) (outcome_at outcomes.new word) }
-    ensures cost { steps.new ≤ steps.old + all_cycles work.now * length net.now.tables }
+        → HasPlanes bench.now.circuit bench.now.points (windows_at windows.old word).ftti bench.now.runs (lane_faults (B.load lanes.old) word) (outcome_at outcomes.new word) }
+    ensures cost { steps.new ≤ steps.old + all_cycles bench.now.runs * length bench.now.circuit.tables }
 {
-    for run in 0..work.runs() {
+    for run in 0..bench.runs() {
         watch_run(
-            net, order, work, points, golden, run, lanes, windows, noticed, outcomes, steps,
+            bench, run, lanes, windows, noticed, outcomes, steps,
         );
-        add_run(work.kind(run), windows, noticed, outcomes);
+        add_run(bench.kind(run), windows, noticed, outcomes);
     }
 }
 
@@ -135,38 +125,28 @@ fn forget(outcomes: &mut [Outcome])
 /// the fault tolerant time intervals. What lanes, windows and outcomes held before is no matter. It takes no memory, and at most
 /// one step for each table and cycle, for all words together.
 pub fn loaded_outcomes<B: LaneWords, L: Ledger>(
-    net: &Netlist,
-    order: &Order,
-    work: &Workload,
-    points: &Points,
-    golden: &Golden,
+    bench: &Testbench<'_>,
     lanes: &mut B,
     windows: &mut [Windows],
     outcomes: &mut [Outcome],
     steps: &mut Steps<L>,
 )
-    requires golden { golden.now ≡ record { circuit = net.now; order = order.now; runs = work.now } }
-    requires points { ArePointsFor net.now points.now }
-    requires lanes { IsLoadFor net.now order.now (B.load lanes.old) }
+    requires lanes { IsLoadFor bench.now.circuit bench.now.order (B.load lanes.old) }
     requires count { length windows.old ≡ B.words }
-    requires windows { AreAllMadeFor points.now windows.old }
+    requires windows { AreAllMadeFor bench.now.points windows.old }
     requires outcomes { length outcomes.old ≡ B.words }
     ensures outcomes { (word : ℕ) → word < B.words
-        → outcome_at outcomes.new word ≡ planes_of net.now points.now (windows_at windows.old word).ftti work.now (lane_faults (B.load lanes.old) word) }
+        → outcome_at outcomes.new word ≡ planes_of bench.now.circuit bench.now.points (windows_at windows.old word).ftti bench.now.runs (lane_faults (B.load lanes.old) word) }
     ensures loads { B.load lanes.new ≡ B.load lanes.old }
-    ensures windows { AreAllMadeFor points.now windows.new }
+    ensures windows { AreAllMadeFor bench.now.points windows.new }
     ensures ftti { KeepSettings windows.old windows.new }
-    ensures cost { steps.new ≤ steps.old + all_cycles work.now * length net.now.tables }
+    ensures cost { steps.new ≤ steps.old + all_cycles bench.now.runs * length bench.now.circuit.tables }
 {
     let mut noticed = [0; MOST_WORDS];
     let words = B::count() as usize;
     forget(outcomes);
     judge_runs(
-        net,
-        order,
-        work,
-        points,
-        golden,
+        bench,
         lanes,
         windows,
         &mut noticed[..words],
@@ -179,33 +159,23 @@ pub fn loaded_outcomes<B: LaneWords, L: Ledger>(
 /// k of each is that of the faults of lane k together. `windows` has the fault tolerant time intervals. What lanes and windows
 /// held of earlier runs is no matter. It takes no memory, and at most one step for each table and cycle.
 pub fn loaded_outcome<L: Ledger>(
-    net: &Netlist,
-    order: &Order,
-    work: &Workload,
-    points: &Points,
-    golden: &Golden,
+    bench: &Testbench<'_>,
     lanes: &mut DifferentialLanes,
     windows: &mut Windows,
     steps: &mut Steps<L>,
 ) -> Outcome
-    requires golden { golden.now ≡ record { circuit = net.now; order = order.now; runs = work.now } }
-    requires points { ArePointsFor net.now points.now }
-    requires lanes { IsMadeFor net.now order.now lanes.old }
-    requires windows { AreMadeFor points.now windows.old }
-    ensures outcome { result ≡ planes_of net.now points.now windows.old.ftti work.now (loaded_faults lanes.old.loads) }
-    ensures lanes { IsMadeFor net.now order.now lanes.new }
+    requires lanes { IsMadeFor bench.now.circuit bench.now.order lanes.old }
+    requires windows { AreMadeFor bench.now.points windows.old }
+    ensures outcome { result ≡ planes_of bench.now.circuit bench.now.points windows.old.ftti bench.now.runs (loaded_faults lanes.old.loads) }
+    ensures lanes { IsMadeFor bench.now.circuit bench.now.order lanes.new }
     ensures loads { lanes.new.loads ≡ lanes.old.loads }
-    ensures windows { AreMadeFor points.now windows.new }
+    ensures windows { AreMadeFor bench.now.points windows.new }
     ensures ftti { windows.new.ftti ≡ windows.old.ftti }
-    ensures cost { steps.new ≤ steps.old + all_cycles work.now * length net.now.tables }
+    ensures cost { steps.new ≤ steps.old + all_cycles bench.now.runs * length bench.now.circuit.tables }
 {
     let mut outcomes = [NOTHING];
     loaded_outcomes(
-        net,
-        order,
-        work,
-        points,
-        golden,
+        bench,
         lanes,
         from_mut(windows),
         &mut outcomes,
@@ -219,34 +189,24 @@ pub fn loaded_outcome<L: Ledger>(
 /// lanes and windows held of earlier runs is no matter. It takes no memory, and at most one step for each table and cycle, for all four
 /// words together.
 pub fn loaded_quad<L: Ledger>(
-    net: &Netlist,
-    order: &Order,
-    work: &Workload,
-    points: &Points,
-    golden: &Golden,
+    bench: &Testbench<'_>,
     lanes: &mut DifferentialLanes4,
     windows: &mut Windows4,
     steps: &mut Steps<L>,
 ) -> [Outcome; 4]
-    requires golden { golden.now ≡ record { circuit = net.now; order = order.now; runs = work.now } }
-    requires points { ArePointsFor net.now points.now }
-    requires lanes { IsMadeFor net.now order.now lanes.old }
-    requires windows { AreFourMadeFor points.now windows.old }
+    requires lanes { IsMadeFor bench.now.circuit bench.now.order lanes.old }
+    requires windows { AreFourMadeFor bench.now.points windows.old }
     ensures outcomes { (word : ℕ) → word < 4
-        → outcome_at result word ≡ planes_of net.now points.now windows.old.ftti work.now (lane_faults (load_of lanes.old) word) }
-    ensures lanes { IsMadeFor net.now order.now lanes.new }
+        → outcome_at result word ≡ planes_of bench.now.circuit bench.now.points windows.old.ftti bench.now.runs (lane_faults (load_of lanes.old) word) }
+    ensures lanes { IsMadeFor bench.now.circuit bench.now.order lanes.new }
     ensures loads { lanes.new.loads ≡ lanes.old.loads }
-    ensures windows { AreFourMadeFor points.now windows.new }
+    ensures windows { AreFourMadeFor bench.now.points windows.new }
     ensures ftti { windows.new.ftti ≡ windows.old.ftti }
-    ensures cost { steps.new ≤ steps.old + all_cycles work.now * length net.now.tables }
+    ensures cost { steps.new ≤ steps.old + all_cycles bench.now.runs * length bench.now.circuit.tables }
 {
     let mut outcomes = [NOTHING; 4];
     loaded_outcomes(
-        net,
-        order,
-        work,
-        points,
-        golden,
+        bench,
         lanes,
         windows.words(),
         &mut outcomes,

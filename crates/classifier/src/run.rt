@@ -13,16 +13,14 @@ ghost use Rattle.alarm_points.specs.FourWatches.{AreAllMadeFor};
 ghost use Rattle.classifier.specs.Seen.{AreAllFollowed, AreUndecided, HaveAllSeen, HaveAllSeenRun, KeepSettings, is_decided};
 
 use crate::see::see_cycle;
+use crate::testbench::Testbench;
 use crate::words::LaneWords;
 use alarm_points::Points;
 use alarm_points::windows::Windows;
 use campaign_plan::Outcome;
-use circuit::netlist::Netlist;
 use fm_base::Steps;
-use golden_run::Golden;
-use netlist_levels::Order;
 use std::sync::ledger::Ledger;
-use workload::run::{Kind, Workload};
+use workload::run::Kind;
 
 // Forgets what was seen of earlier runs.
 fn start_windows(points: &Points, windows: &mut [Windows], noticed: &mut [u64])
@@ -95,11 +93,7 @@ fn see_words<B: LaneWords>(
 
 // Simulates the next cycle of a run, and shows it to the windows of each word.
 fn run_cycle<B: LaneWords, L: Ledger>(
-    net: &Netlist,
-    order: &Order,
-    work: &Workload,
-    points: &Points,
-    golden: &Golden,
+    bench: &Testbench<'_>,
     run: u32,
     t: u32,
     lanes: &mut B,
@@ -107,31 +101,29 @@ fn run_cycle<B: LaneWords, L: Ledger>(
     noticed: &mut [u64],
     steps: &mut Steps<L>,
 )
-    requires golden { golden.now ≡ record { circuit = net.now; order = order.now; runs = work.now } }
-    requires points { ArePointsFor net.now points.now }
-    requires run { run < length work.now }
-    requires cycle { t < cycles_of (run_at work.now run) }
+    requires run { run < length bench.now.runs }
+    requires cycle { t < cycles_of (run_at bench.now.runs run) }
     requires few { t < 65536 }
-    requires made { IsLoadFor net.now order.now (B.load lanes.old) }
+    requires made { IsLoadFor bench.now.circuit bench.now.order (B.load lanes.old) }
     requires cycles { B.cycles lanes.old ≡ t }
-    requires after { B.IsAfter lanes.old (take t (run_at work.now run).vectors) }
+    requires after { B.IsAfter lanes.old (take t (run_at bench.now.runs run).vectors) }
     requires windows { length windows.old ≡ B.words }
     requires noticed { length noticed.old ≡ B.words }
-    requires windows_made { AreAllMadeFor points.now windows.old }
+    requires windows_made { AreAllMadeFor bench.now.points windows.old }
     ensures load { B.load lanes.new ≡ B.load lanes.old }
     ensures cycles { B.cycles lanes.new ≡ t + 1 }
-    ensures windows_made { AreAllMadeFor points.now windows.new }
+    ensures windows_made { AreAllMadeFor bench.now.points windows.new }
     ensures seen { (faults : List (List (Option Fault))) → AreAllFollowed B.words faults (B.in_force lanes.old) noticed.old
-        → HaveAllSeen net.now points.now (run_at work.now run) faults t windows.old noticed.old
-        → B.IsAfter lanes.new (take (t + 1) (run_at work.now run).vectors)
+        → HaveAllSeen bench.now.circuit bench.now.points (run_at bench.now.runs run) faults t windows.old noticed.old
+        → B.IsAfter lanes.new (take (t + 1) (run_at bench.now.runs run).vectors)
         × AreAllFollowed B.words faults (B.in_force lanes.new) noticed.new
-        × HaveAllSeen net.now points.now (run_at work.now run) faults (t + 1) windows.new noticed.new }
+        × HaveAllSeen bench.now.circuit bench.now.points (run_at bench.now.runs run) faults (t + 1) windows.new noticed.new }
     ensures ftti { KeepSettings windows.old windows.new }
-    ensures cost { steps.new ≤ steps.old + length net.now.tables }
+    ensures cost { steps.new ≤ steps.old + length bench.now.circuit.tables }
 {
-    let row = golden.row(run, t);
-    lanes.advance(net, order, golden.fanout(), row, steps);
-    see_words(points, work.kind(run), row, lanes, windows, noticed);
+    let row = bench.row(run, t);
+    bench.advance(row, lanes, steps);
+    see_words(bench.points(), bench.kind(run), row, lanes, windows, noticed);
 }
 
 // The lanes that earlier runs have decided for a run of this kind.
@@ -173,11 +165,7 @@ fn goes_on<B: LaneWords>(lanes: &B, t: u32, cycles: u32) -> bool
 /// it is noticed. The run is left where it is over in all lanes. It takes at most one step for each table and cycle. What lanes,
 /// windows and `noticed` held before is no matter.
 pub fn watch_run<B: LaneWords, L: Ledger>(
-    net: &Netlist,
-    order: &Order,
-    work: &Workload,
-    points: &Points,
-    golden: &Golden,
+    bench: &Testbench<'_>,
     run: u32,
     lanes: &mut B,
     windows: &mut [Windows],
@@ -185,29 +173,25 @@ pub fn watch_run<B: LaneWords, L: Ledger>(
     outcomes: &[Outcome],
     steps: &mut Steps<L>,
 )
-    requires golden { golden.now ≡ record { circuit = net.now; order = order.now; runs = work.now } }
-    requires points { ArePointsFor net.now points.now }
-    requires run { run < length work.now }
+    requires run { run < length bench.now.runs }
     requires outcomes { length outcomes.now ≡ B.words }
-    requires made { IsLoadFor net.now order.now (B.load lanes.old) }
+    requires made { IsLoadFor bench.now.circuit bench.now.order (B.load lanes.old) }
     requires windows { length windows.old ≡ B.words }
     requires noticed { length noticed.old ≡ B.words }
-    requires windows_made { AreAllMadeFor points.now windows.old }
+    requires windows_made { AreAllMadeFor bench.now.points windows.old }
     ensures load { B.load lanes.new ≡ B.load lanes.old }
     ensures seen { (faults : List (List (Option Fault)))
-        × AreUndecided (run_at work.now run).kind B.words (B.load lanes.old) outcomes.now faults
-        × HaveAllSeenRun net.now points.now (run_at work.now run) faults windows.new noticed.new }
+        × AreUndecided (run_at bench.now.runs run).kind B.words (B.load lanes.old) outcomes.now faults
+        × HaveAllSeenRun bench.now.circuit bench.now.points (run_at bench.now.runs run) faults windows.new noticed.new }
     ensures ftti { KeepSettings windows.old windows.new }
-    ensures cost { steps.new ≤ steps.old + cycles_of (run_at work.now run) * length net.now.tables }
+    ensures cost { steps.new ≤ steps.old + cycles_of (run_at bench.now.runs run) * length bench.now.circuit.tables }
 {
     lanes.restart();
-    start_windows(points, windows, noticed);
-    drop_decided(work.kind(run), outcomes, lanes);
+    start_windows(bench.points(), windows, noticed);
+    drop_decided(bench.kind(run), outcomes, lanes);
     let mut t = 0;
-    'clock: while goes_on(lanes, t, work.cycles(run)) {
-        run_cycle(
-            net, order, work, points, golden, run, t, lanes, windows, noticed, steps,
-        );
+    'clock: while goes_on(lanes, t, bench.cycles(run)) {
+        run_cycle(bench, run, t, lanes, windows, noticed, steps);
         t += 1;
     }
 }

@@ -7,9 +7,9 @@ use Rattle.classifier.proofs.batch.batch_outcome.Goals as goal
 
 pub returns-clause-outcome : goal.returns-clause-outcome
 returns-clause-outcome g c =
-    let net = c.args.net.now in
-    let points = c.args.points.now in
-    let runs = c.args.work.now in
+    let net = c.args.bench.now.circuit in
+    let points = c.args.bench.now.points in
+    let runs = c.args.bench.now.runs in
     let ftti = c.args.windows.now.ftti in
     let lanes = loaded_faults c.load.new.self.loads in
     c.of_batch.ensures net points ftti runs lanes (λ k lane. c.load.ensures.loads k lane ∙ c.loads_of.ensures k lane)

@@ -10,9 +10,9 @@ use Rattle.classifier.proofs.batch.quad_outcomes.Goals as goal
 
 pub returns-clause-outcomes : goal.returns-clause-outcomes
 returns-clause-outcomes g c =
-    let net = c.args.net.now in
-    let points = c.args.points.now in
-    let runs = c.args.work.now in
+    let net = c.args.bench.now.circuit in
+    let points = c.args.bench.now.points in
+    let runs = c.args.bench.now.runs in
     let ftti = c.args.windows.now.ftti in
     let batches = c.args.batches.now in
     let lanes = load_of c.load_words.new.lanes in

@@ -27,8 +27,8 @@ cost_more start before now all own tables more b m n =
 
 pub loop-run-init : goal.loop-run-init
 loop-run-init g c =
-    let net = c.args.net.now in
-    let points = c.args.points.now in
+    let net = c.args.bench.now.circuit in
+    let points = c.args.bench.now.points in
     let none : c.args.steps.now ≤ c.args.steps.now + 0 * length net.tables = omega arith in
     record {
       load = refl;
@@ -43,9 +43,9 @@ loop-run-init g c =
 
 pub loop-run-preserved : goal.loop-run-preserved
 loop-run-preserved g c =
-    let net = c.args.net.now in
-    let points = c.args.points.now in
-    let runs = c.args.work.now in
+    let net = c.args.bench.now.circuit in
+    let points = c.args.bench.now.points in
+    let runs = c.args.bench.now.runs in
     let n = c.loop-run.run in
     let run = run_at runs n in
     let inv = c.loop-run.invariant in
@@ -53,7 +53,7 @@ loop-run-preserved g c =
     let before = g.B.LaneWords.load c.loop-run.lanes in
     let load = g.B.LaneWords.load c.args.lanes.now in
     let outcomes = c.add_run.new.outcomes in
-    let within : n < length runs = omega (arith, c.runs-run-end.ensures.count) in
+    let within : n < length runs = omega (arith, c.runs-run-end.ensures) in
     let none : Run = record { kind = Mission; vectors = [] } in
     record {
       load = watched.load ∙ inv.load;

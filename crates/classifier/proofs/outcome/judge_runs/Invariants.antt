@@ -10,10 +10,10 @@ use Rattle.classifier.proofs.outcome.judge_runs.Given as goal
 abbrev pub invariant-loop-run : goal.invariant-loop-run
 invariant-loop-run g l = record {
   load : g.B.LaneWords.load l.lanes ≡ g.B.LaneWords.load l.initial.lanes;
-  made : AreAllMadeFor l.points l.windows;
+  made : AreAllMadeFor l.bench.points l.windows;
   ftti : KeepSettings l.initial.windows l.windows;
   planes : (word : ℕ) → word < g.B.LaneWords.words
-      → HasPlanes l.net l.points (windows_at l.initial.windows word).ftti (take l.run l.work) (lane_faults (g.B.LaneWords.load l.initial.lanes) word)
+      → HasPlanes l.bench.circuit l.bench.points (windows_at l.initial.windows word).ftti (take l.run l.bench.runs) (lane_faults (g.B.LaneWords.load l.initial.lanes) word)
       (outcome_at l.outcomes word);
-  cost : l.steps ≤ l.initial.steps + all_cycles (take l.run l.work) * length l.net.tables;
+  cost : l.steps ≤ l.initial.steps + all_cycles (take l.run l.bench.runs) * length l.bench.circuit.tables;
 }

@@ -9,9 +9,9 @@ use Rattle.classifier.proofs.outcome.loaded_outcome.Goals as goal
 
 pub returns-clause-outcome : goal.returns-clause-outcome
 returns-clause-outcome g c =
-    let net = c.args.net.now in
-    let points = c.args.points.now in
-    let runs = c.args.work.now in
+    let net = c.args.bench.now.circuit in
+    let points = c.args.bench.now.points in
+    let runs = c.args.bench.now.runs in
     let loads = c.args.lanes.now.loads in
     let first : 0 < 1 = omega arith in
     let same : (windows_at c.from_mut.result.now 0).ftti ≡ c.args.windows.now.ftti = ap (λ (ws : List Watches). (windows_at ws 0).ftti) c.from_mut.ensures.value in

@@ -12,5 +12,5 @@ judge_runs-requires-clause-nothing g c = λ word lt.
 
 pub returns-clause-outcomes : goal.returns-clause-outcomes
 returns-clause-outcomes g c = λ word lt.
-    planes_are c.args.net.now c.args.points.now (windows_at c.args.windows.now word).ftti c.args.work.now
+    planes_are c.args.bench.now.circuit c.args.bench.now.points (windows_at c.args.windows.now word).ftti c.args.bench.now.runs
     (lane_faults (g.B.LaneWords.load c.args.lanes.now) word) (outcome_at c.judge_runs.new.outcomes word) (c.judge_runs.ensures.planes word lt)

@@ -10,4 +10,4 @@ returns-clause-outcomes g c = λ word lt.
     let same : (windows_at c.words.result.now word).ftti ≡ c.args.windows.now.ftti =
     ap (λ (ws : List Watches). (windows_at ws word).ftti) c.words.ensures.value ∙ c.requires.windows.same word lt in
     c.loaded_outcomes.ensures.outcomes word lt
-    ∙ ap (λ ftti. planes_of c.args.net.now c.args.points.now ftti c.args.work.now (lane_faults (load_of c.args.lanes.now) word)) same
+    ∙ ap (λ ftti. planes_of c.args.bench.now.circuit c.args.bench.now.points ftti c.args.bench.now.runs (lane_faults (load_of c.args.lanes.now) word)) same

@@ -6,27 +6,24 @@ use Rattle.circuit.specs.Circuit.{Circuit}
 use Rattle.circuit.specs.Trace.{trace, vector_at}
 use Rattle.circuit.proofs.Cycles.{trace_taken}
 use Rattle.workload.specs.Runs.{run_at}
+use Rattle.alarm_points.specs.declared.Points.{Points}
+use Rattle.alarm_points.specs.FourWatches.{AreAllMadeFor}
 use Rattle.alarm_points.specs.PointsKept.{ArePointsFor}
-use Rattle.fanout.specs.Readers.{Ordered}
 use Rattle.golden_difference.specs.Beside.{IsGoldenRow}
-use Rattle.golden_run.specs.Recording.{Recording}
 use Rattle.classifier.specs.Load.{Load}
 use Rattle.classifier.specs.Seen.{AreAllFollowed, HaveAllSeen}
 use Rattle.classifier.proofs.run.run_cycle.Goals as goal
 
-pub advance-requires-clause-fanout : goal.advance-requires-clause-fanout
-advance-requires-clause-fanout g c =
-    c.fanout.ensures ∙ ap (λ (r : Recording). let o : Ordered = record { circuit = r.circuit; order = r.order } in o) c.requires.golden
-
 pub see_words-requires-clause-points : goal.see_words-requires-clause-points
 see_words-requires-clause-points g c =
-    subst (λ (m : Circuit). ArePointsFor m c.args.points.now) (sym (ap (λ (l : Load). l.circuit) c.advance.ensures.keeps ∙ c.requires.made.circuit)) c.requires.points
+    subst (λ (ps : Points). ArePointsFor (g.B.LaneWords.load c.advance.new.lanes).circuit ps) (sym c.points.ensures.points)
+    (subst (λ (m : Circuit). ArePointsFor m c.args.bench.now.points) (sym (ap (λ (l : Load). l.circuit) c.advance.ensures.keeps ∙ c.requires.made.circuit)) c.points.ensures.fit)
 
 pub returns : goal.returns
 returns g c =
-    let net = c.args.net.now in
-    let points = c.args.points.now in
-    let run = run_at c.args.work.now c.args.run in
+    let net = c.args.bench.now.circuit in
+    let points = c.args.bench.now.points in
+    let run = run_at c.args.bench.now.runs c.args.run in
     let t = c.args.t in
     let row = c.row-row.result.now in
     let lt = c.requires.cycle in
@@ -35,28 +32,31 @@ returns g c =
     let words = g.B.LaneWords.words in
     let windows = c.args.windows.now in
     let noticed = c.args.noticed.now in
-    let golden : IsGoldenRow net run.vectors t row =
-    subst (λ (r : Recording). IsGoldenRow r.circuit (run_at r.runs c.args.run).vectors t row) c.requires.golden c.row-row.ensures in
+    let golden : IsGoldenRow net run.vectors t row = c.row-row.ensures in
+    let shown = c.points.result.now in
+    let same : shown ≡ points = c.points.ensures.points in
     let size : length (take t run.vectors) ≡ t = length-take-le t run.vectors (omega (arith, lt)) in
     let joined : take t run.vectors ++ vector_at run.vectors t ∷ [] ≡ take (t + 1) run.vectors = sym (take_more run.vectors t [] lt) in
     let here : IsGoldenRow net (take t run.vectors ++ vector_at run.vectors t ∷ []) (length (take t run.vectors)) row =
     λ n within. golden n within ∙ sym (trace_taken net [] run.vectors t n lt) ∙ ap₂ (λ (vs : List (List Bool)) m. trace net [] vs m n) (sym joined) (sym size) in
-    let after : g.B.LaneWords.IsAfter c.advance.new.self (take (t + 1) run.vectors) =
-    subst (λ (vs : List (List Bool)). g.B.LaneWords.IsAfter c.advance.new.self vs) joined (c.advance.ensures.step (take t run.vectors) (vector_at run.vectors t) c.requires.after here) in
+    let after : g.B.LaneWords.IsAfter c.advance.new.lanes (take (t + 1) run.vectors) =
+    subst (λ (vs : List (List Bool)). g.B.LaneWords.IsAfter c.advance.new.lanes vs) joined (c.advance.ensures.step (take t run.vectors) (vector_at run.vectors t) c.requires.after here) in
     record {
       load = c.see_words.ensures.load ∙ keeps;
       cycles = c.see_words.ensures.cycles ∙ c.advance.ensures.cycles ∙ ap (λ n. n + 1) c.requires.cycles;
-      windows_made = c.see_words.ensures.made;
+      windows_made = subst (λ (ps : Points). AreAllMadeFor ps c.see_words.new.windows) same c.see_words.ensures.made;
       seen = λ faults followed seen.
           let all = c.see_words.ensures.seen run faults t (sym c.kind.ensures) lt after
           (subst (λ (l : Load). IsGoldenRow l.circuit run.vectors t row) (sym keeps) (subst (λ (m : Circuit). IsGoldenRow m run.vectors t row) (sym made) golden))
           (subst (λ (fs : List (List (Option Fault))). AreAllFollowed words faults fs noticed) (sym c.advance.ensures.in_force) followed)
-          (subst (λ (l : Load). HaveAllSeen l.circuit points run faults t windows noticed) (sym keeps)
-          (subst (λ (m : Circuit). HaveAllSeen m points run faults t windows noticed) (sym made) seen)) in (
+          (subst (λ (l : Load). HaveAllSeen l.circuit shown run faults t windows noticed) (sym keeps)
+          (subst (λ (m : Circuit). HaveAllSeen m shown run faults t windows noticed) (sym made)
+          (subst (λ (ps : Points). HaveAllSeen net ps run faults t windows noticed) (sym same) seen))) in (
             all.0,
             all.1,
-            subst (λ (m : Circuit). HaveAllSeen m points run faults (t + 1) c.see_words.new.windows c.see_words.new.noticed) made
-                (subst (λ (l : Load). HaveAllSeen l.circuit points run faults (t + 1) c.see_words.new.windows c.see_words.new.noticed) keeps all.2),
+            subst (λ (ps : Points). HaveAllSeen net ps run faults (t + 1) c.see_words.new.windows c.see_words.new.noticed) same
+                (subst (λ (m : Circuit). HaveAllSeen m shown run faults (t + 1) c.see_words.new.windows c.see_words.new.noticed) made
+                (subst (λ (l : Load). HaveAllSeen l.circuit shown run faults (t + 1) c.see_words.new.windows c.see_words.new.noticed) keeps all.2)),
           );
       ftti = c.see_words.ensures.ftti;
       cost = c.advance.ensures.cost;

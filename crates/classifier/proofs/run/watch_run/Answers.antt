@@ -7,10 +7,11 @@ use Rattle.circuit.specs.Circuit.{Circuit}
 use Rattle.golden_difference.specs.Beside.{trace_differs}
 use Rattle.circuit.specs.declared.parts.Fault.{Fault}
 use Rattle.workload.specs.Runs.{all_cycles, cycles_of, run_at}
+use Rattle.alarm_points.specs.declared.Points.{Points}
 use Rattle.alarm_points.specs.FourWatches.{windows_at}
 use Rattle.classifier.specs.Load.{Load, in_lane, lane_faults}
 use Rattle.classifier.specs.Planes.{outcome_at}
-use Rattle.classifier.specs.Seen.{HaveSeen, is_decided, noticed_at}
+use Rattle.classifier.specs.Seen.{HaveAllSeen, HaveSeen, is_decided, noticed_at}
 use Rattle.classifier.proofs.Stillness.{over_still}
 use Rattle.classifier.proofs.run.watch_run.Goals as goal
 
@@ -23,7 +24,12 @@ cost_more start before now t tables b n =
 
 pub clock-init : goal.clock-init
 clock-init g c =
-    let none = c.start_windows.ensures.seen c.args.net.now (run_at c.args.work.now c.args.run) (g.B.LaneWords.in_force c.drop_decided.new.lanes) in
+    let net = c.args.bench.now.circuit in
+    let run = run_at c.args.bench.now.runs c.args.run in
+    let faults = g.B.LaneWords.in_force c.drop_decided.new.lanes in
+    let none =
+    subst (λ (ps : Points). HaveAllSeen net ps run faults 0 c.start_windows.new.windows c.start_windows.new.noticed) c.points.ensures.points
+    (c.start_windows.ensures.seen net run faults) in
     record {
       load = refl;
       cycles = c.drop_decided.ensures.cycles ∙ c.restart.ensures.cycles;
@@ -50,19 +56,19 @@ clock-preserved g c =
       followed = all.1;
       ftti = λ word. ran.ftti word ∙ inv.ftti word;
       within = omega (arith, c.goes_on.ensures.more c.clock-test.true, c.cycles.ensures.count);
-      cost = cost_more c.args.steps.now c.clock.steps c.run_cycle.new.steps c.clock.t (length c.args.net.now.tables) inv.cost ran.cost;
+      cost = cost_more c.args.steps.now c.clock.steps c.run_cycle.new.steps c.clock.t (length c.args.bench.now.circuit.tables) inv.cost ran.cost;
     }
 
 pub returns-clause-seen : goal.returns-clause-seen
 returns-clause-seen g c =
     let inv = c.clock.invariant in
-    let net = c.args.net.now in
-    let points = c.args.points.now in
-    let run = run_at c.args.work.now c.args.run in
+    let net = c.args.bench.now.circuit in
+    let points = c.args.bench.now.points in
+    let run = run_at c.args.bench.now.runs c.args.run in
     let t = c.clock.t in
     let load = g.B.LaneWords.load c.args.lanes.now in
     let faults = g.B.LaneWords.in_force c.drop_decided.new.lanes in
-    let least : cycles_of run ≤ all_cycles c.args.work.now = get_or-le-sum_by cycles_of c.args.work.now c.args.run (run_at [] 0) c.requires.run in
+    let least : cycles_of run ≤ all_cycles c.args.bench.now.runs = get_or-le-sum_by cycles_of c.args.bench.now.runs c.args.run (run_at [] 0) c.requires.run in
     let few : cycles_of run ≤ 65536 = omega (arith, least, c.cycles.ensures.sound.few) in
     let same : (g.B.LaneWords.load c.clock.lanes).circuit ≡ net =
     ap (λ (l : Load). l.circuit) (inv.load ∙ c.drop_decided.ensures.load ∙ c.restart.ensures.keeps) ∙ c.requires.made.circuit in (
@@ -78,7 +84,7 @@ returns-clause-seen g c =
             within = inv.within;
             seen = own;
             still = λ k u lane none from late.
-                over_still net points run (in_lane faults word k) u c.requires.points
+                over_still net points run (in_lane faults word k) u c.points.ensures.fit
                 (λ n within.
                 let vectors = run.vectors in
                 let follows : in_lane (g.B.LaneWords.in_force c.clock.lanes) word k ≡ in_lane faults word k = inv.followed word in_words k lane (own.noticed_is k lane ∙ none) in
