@@ -3,13 +3,14 @@ ghost use Rattle.campaign_plan.specs.Analysis.{batch_count};
 ghost use Rattle.claim_counter.specs.Crews.{MayDraw, IsDone};
 ghost use Rattle.campaign_workers.specs.Rounds.{drawn_in, numbers_in, true_planes_in, Owes};
 ghost use Rattle.campaign_workers.specs.Truth.{HasTrueEntries};
-ghost use Rattle.classifier.specs.Tools.{golden_of, AreToolsFor};
+ghost use Rattle.classifier.specs.Tools.{golden_of, AreToolsFor, IsTestbenchFor};
 
 use crate::outcome::{entry_with, simulated_planes};
 use crate::round::{Round, draw_round};
 use alarm_points::windows4::Windows4;
 use campaign_board::{Origin, Posted, Seat, Shared};
 use campaign_plan::{Outcome, Plan};
+use classifier::Testbench;
 use differential_kernel::DifferentialLanes4;
 use fm_shelf::shelf::Shelf;
 use golden_run::Golden;
@@ -71,30 +72,28 @@ fn post_round<R: Wait, F: Shelf + Drop, N: Origin>(
 fn finish_round<R: Wait, F: Shelf + Drop, N: Origin>(
     rt: &R,
     plan: &Plan,
-    order: &Order,
-    golden: &Golden,
+    bench: &Testbench<'_>,
     shared: &Shared<F, N>,
     round: &Round,
     worker: &mut Worker<F, N>,
 ) -> Result<(), BoardFailed>
     requires owes { Owes shared.now N.start worker.old.seat (drawn_in round.now.batches) }
-    requires golden { golden.now ≡ golden_of plan.now order.now }
-    requires tools { AreToolsFor plan.now order.now worker.old.lanes worker.old.windows }
+    requires bench { IsTestbenchFor plan.now bench.now }
+    requires tools { AreToolsFor plan.now bench.now.order worker.old.lanes worker.old.windows }
     requires entries { HasTrueEntries plan.now N.start × (length N.start.entries ≡ batch_count plan.now) }
     ensures owes { OnOk result (Owes shared.now N.start worker.new.seat []) }
     ensures posts { OnOk result (worker.new.seat.view.posts ≡ worker.old.seat.view.posts ++ numbers_in N.start round.now.batches) }
     ensures nones { OnOk result (worker.new.seat.view.nones ≡ worker.old.seat.view.nones) }
     ensures stopped { OnErr result (IsDone shared.now worker.new.seat) }
     ensures share { worker.new.seat.view.share ≡ worker.old.seat.view.share }
-    ensures tools { AreToolsFor plan.now order.now worker.new.lanes worker.new.windows }
+    ensures tools { AreToolsFor plan.now bench.now.order worker.new.lanes worker.new.windows }
 {
     if round.is_empty() {
         return Ok(());
     }
     let planes = simulated_planes(
         plan,
-        order,
-        golden,
+        bench,
         &round.batches,
         &mut worker.lanes,
         &mut worker.windows,
@@ -120,9 +119,10 @@ pub(crate) fn work<R: Wait, F: Shelf + Drop, N: Origin, G: Gate>(
     ensures done { IsDone shared.now worker.new.seat }
     ensures share { worker.new.seat.view.share ≡ worker.old.seat.view.share }
 {
+    let bench = Testbench::of_plan(plan, order, golden);
     for _ in rt.forever() {
         let round = draw_round(shared, gate, worker.number, &mut worker.seat);
-        if let Err(BoardFailed) = finish_round(rt, plan, order, golden, shared, &round, worker) {
+        if let Err(BoardFailed) = finish_round(rt, plan, &bench, shared, &round, worker) {
             return;
         }
         if round.last {

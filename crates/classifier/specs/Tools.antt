@@ -5,10 +5,17 @@ use Rattle.alarm_points.specs.FourWatches.{AreFourMadeFor, FourWatches}
 use Rattle.golden_difference.specs.Lanes.{IsMadeFor, Lanes}
 use Rattle.golden_run.specs.Recording.{Recording}
 use Rattle.campaign_plan.specs.Analysis.{Analysis}
+use Rattle.classifier.specs.Testbench.{Testbench}
 
 -- the golden run of a plan, by an order of its tables
 abbrev pub golden_of : Analysis → List NetId → Recording
 golden_of p order = record { circuit = p.circuit; order = order; runs = p.runs }
+
+-- a testbench of a plan, by some order of its tables
+pub record IsTestbenchFor (p : Analysis) (bench : Testbench) : Type 0 where
+  pub circuit : bench.circuit ≡ p.circuit
+  pub runs : bench.runs ≡ p.runs
+  pub points : bench.points ≡ p.points
 
 -- four words of lanes and of windows for a plan, by an order of its tables
 pub record AreToolsFor (p : Analysis) (order : List NetId) (lanes : Lanes (List ℕ)) (windows : FourWatches) : Type 0 where

@@ -5,9 +5,11 @@ ghost use Rattle.workload.specs.RunsKept.{AreRuns};
 ghost use Rattle.alarm_points.specs.PointsKept.{ArePointsFor};
 ghost use Rattle.golden_difference.specs.Beside.{IsGoldenRow};
 ghost use Rattle.classifier.specs.Load.{IsLoadFor};
+ghost use Rattle.classifier.specs.Tools.{IsTestbenchFor, golden_of};
 
 use crate::words::LaneWords;
 use alarm_points::Points;
+use campaign_plan::Plan;
 use circuit::netlist::Netlist;
 use fm_base::Steps;
 use golden_run::Golden;
@@ -59,6 +61,15 @@ impl<'a> Testbench<'a> {
             points,
             golden,
         }
+    }
+
+    /// The testbench of a plan, with its golden run by an order of its tables.
+    pub fn of_plan(plan: &'a Plan, order: &'a Order, golden: &'a Golden) -> Self
+        requires { golden.now ≡ golden_of plan.now order.now }
+        ensures plan { IsTestbenchFor plan.now result }
+        ensures order { result.order ≡ order.now }
+    {
+        Testbench::new(plan.net(), order, plan.work(), plan.points(), golden)
     }
 
     /// The number of runs.

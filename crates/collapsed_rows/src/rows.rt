@@ -10,6 +10,7 @@ ghost use Rattle.collapsed_rows.specs.TrueRows.{true_entries};
 
 use alarm_points::windows4::Windows4;
 use campaign_plan::{Outcome, Plan};
+use classifier::Testbench;
 use collapse_map::Collapse;
 use differential_kernel::DifferentialLanes4;
 use fault_collapse::{OutcomeList, collapsed_quads};
@@ -38,12 +39,12 @@ fn simulated_outcomes<L: Ledger>(
 {
     let mut lanes = DifferentialLanes4::new(alloc, plan.net(), order)?;
     let mut windows = Windows4::new(alloc, plan.points(), plan.settings().ftti)?;
+    let bench = Testbench::of_plan(plan, order, golden);
     collapsed_quads(
         alloc,
         plan,
-        order,
+        &bench,
         collapse,
-        golden,
         &mut lanes,
         &mut windows,
         steps,

@@ -5,6 +5,7 @@ ghost use Rattle.alarm_points.specs.FourWatches.{AreAllMadeFor, AreFourMadeFor};
 ghost use Rattle.alarm_points.specs.Watch.{AreMadeFor};
 ghost use Rattle.classifier.specs.Load.{IsLoadFor};
 ghost use Rattle.classifier.specs.Seen.{KeepSettings};
+ghost use Rattle.classifier.specs.Tools.{IsTestbenchFor};
 ghost use Rattle.golden_difference.specs.Lanes.{IsMadeFor};
 ghost use Rattle.fault_collapse.specs.Chosen.{HaveInterval};
 ghost use Rattle.fault_collapse.specs.Outcomes.{all_planes, collapsed_of, most_steps, most_steps_by};
@@ -15,12 +16,10 @@ use crate::spread::spread;
 use alarm_points::windows::Windows;
 use alarm_points::windows4::Windows4;
 use campaign_plan::{Outcome, Plan};
-use classifier::LaneWords;
+use classifier::{LaneWords, Testbench};
 use collapse_map::Collapse;
 use differential_kernel::{DifferentialLanes, DifferentialLanes4};
 use fm_base::{Seq, Steps};
-use golden_run::Golden;
-use netlist_levels::Order;
 use std::alloc::{AllocError, Global};
 use std::slice::from_mut;
 use std::sync::ledger::Ledger;
@@ -40,22 +39,21 @@ pub type OutcomeList = Seq<Outcome>;
 fn outcomes_by<B: LaneWords, L: Ledger>(
     alloc: Global,
     plan: &Plan,
-    order: &Order,
+    bench: &Testbench<'_>,
     collapse: &Collapse,
-    golden: &Golden,
     lanes: &mut B,
     windows: &mut [Windows],
     steps: &mut Steps<L>,
 ) -> Result<OutcomeList, AllocError>
-    requires order { IsOrder plan.now.circuit order.now }
+    requires bench { IsTestbenchFor plan.now bench.now }
+    requires order { IsOrder plan.now.circuit bench.now.order }
     requires collapse { collapse.now ≡ collapsed_of plan.now }
-    requires golden { golden.now ≡ record { circuit = plan.now.circuit; order = order.now; runs = plan.now.runs } }
-    requires lanes { IsLoadFor plan.now.circuit order.now (B.load lanes.old) }
+    requires lanes { IsLoadFor plan.now.circuit bench.now.order (B.load lanes.old) }
     requires count { length windows.old ≡ B.words }
     requires windows { AreAllMadeFor plan.now.points windows.old }
     requires ftti { HaveInterval plan.now.settings.ftti windows.old }
     ensures outcomes { IfOk result (λ list. list ≡ all_planes plan.now) }
-    ensures lanes { IsLoadFor plan.now.circuit order.now (B.load lanes.new) }
+    ensures lanes { IsLoadFor plan.now.circuit bench.now.order (B.load lanes.new) }
     ensures windows { AreAllMadeFor plan.now.points windows.new }
     ensures ftti { KeepSettings windows.old windows.new }
     ensures cost { steps.new ≤ steps.old + most_steps_by (64 * B.words) plan.now }
@@ -68,10 +66,8 @@ fn outcomes_by<B: LaneWords, L: Ledger>(
     let mut list = vec![in alloc; NOTHING; plan.batches() as usize]?;
     simulate(
         plan,
-        order,
-        golden,
+        bench,
         &chosen.numbers,
-        rounds,
         &mut found,
         lanes,
         windows,
@@ -88,21 +84,20 @@ fn outcomes_by<B: LaneWords, L: Ledger>(
 pub fn collapsed_outcomes<L: Ledger>(
     alloc: Global,
     plan: &Plan,
-    order: &Order,
+    bench: &Testbench<'_>,
     collapse: &Collapse,
-    golden: &Golden,
     lanes: &mut DifferentialLanes,
     windows: &mut Windows,
     steps: &mut Steps<L>,
 ) -> Result<OutcomeList, AllocError>
-    requires order { IsOrder plan.now.circuit order.now }
+    requires bench { IsTestbenchFor plan.now bench.now }
+    requires order { IsOrder plan.now.circuit bench.now.order }
     requires collapse { collapse.now ≡ collapsed_of plan.now }
-    requires golden { golden.now ≡ record { circuit = plan.now.circuit; order = order.now; runs = plan.now.runs } }
-    requires lanes { IsMadeFor plan.now.circuit order.now lanes.old }
+    requires lanes { IsMadeFor plan.now.circuit bench.now.order lanes.old }
     requires windows { AreMadeFor plan.now.points windows.old }
     requires ftti { windows.old.ftti ≡ plan.now.settings.ftti }
     ensures outcomes { IfOk result (λ list. list ≡ all_planes plan.now) }
-    ensures lanes { IsMadeFor plan.now.circuit order.now lanes.new }
+    ensures lanes { IsMadeFor plan.now.circuit bench.now.order lanes.new }
     ensures windows { AreMadeFor plan.now.points windows.new }
     ensures ftti { windows.new.ftti ≡ windows.old.ftti }
     ensures cost { steps.new ≤ steps.old + most_steps plan.now }
@@ -110,9 +105,8 @@ pub fn collapsed_outcomes<L: Ledger>(
     outcomes_by(
         alloc,
         plan,
-        order,
+        bench,
         collapse,
-        golden,
         lanes,
         from_mut(windows),
         steps,
@@ -124,21 +118,20 @@ pub fn collapsed_outcomes<L: Ledger>(
 pub fn collapsed_quads<L: Ledger>(
     alloc: Global,
     plan: &Plan,
-    order: &Order,
+    bench: &Testbench<'_>,
     collapse: &Collapse,
-    golden: &Golden,
     lanes: &mut DifferentialLanes4,
     windows: &mut Windows4,
     steps: &mut Steps<L>,
 ) -> Result<OutcomeList, AllocError>
-    requires order { IsOrder plan.now.circuit order.now }
+    requires bench { IsTestbenchFor plan.now bench.now }
+    requires order { IsOrder plan.now.circuit bench.now.order }
     requires collapse { collapse.now ≡ collapsed_of plan.now }
-    requires golden { golden.now ≡ record { circuit = plan.now.circuit; order = order.now; runs = plan.now.runs } }
-    requires lanes { IsMadeFor plan.now.circuit order.now lanes.old }
+    requires lanes { IsMadeFor plan.now.circuit bench.now.order lanes.old }
     requires windows { AreFourMadeFor plan.now.points windows.old }
     requires ftti { windows.old.ftti ≡ plan.now.settings.ftti }
     ensures outcomes { IfOk result (λ list. list ≡ all_planes plan.now) }
-    ensures lanes { IsMadeFor plan.now.circuit order.now lanes.new }
+    ensures lanes { IsMadeFor plan.now.circuit bench.now.order lanes.new }
     ensures windows { AreFourMadeFor plan.now.points windows.new }
     ensures ftti { windows.new.ftti ≡ windows.old.ftti }
     ensures cost { steps.new ≤ steps.old + most_steps_by 256 plan.now }
@@ -146,9 +139,8 @@ pub fn collapsed_quads<L: Ledger>(
     outcomes_by(
         alloc,
         plan,
-        order,
+        bench,
         collapse,
-        golden,
         lanes,
         windows.words(),
         steps,

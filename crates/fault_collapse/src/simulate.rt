@@ -1,9 +1,10 @@
 // The simulation of chosen faults, 64 in each word of the lanes, each alone in its lane.
-ghost use Rattle.std.specs.Prelude.{◌≡◌, ◌+◌, ◌*◌, ◌<◌, ◌≤◌, ◌^◌, ℕ, All, length};
+ghost use Rattle.std.specs.Prelude.{◌≡◌, ◌+◌, ◌*◌, ◌/◌, ◌%◌, ◌<◌, ◌≤◌, ◌^◌, ℕ, All, length};
 ghost use Rattle.alarm_points.specs.FourWatches.{AreAllMadeFor};
 ghost use Rattle.campaign_plan.specs.Analysis.{all_faults};
 ghost use Rattle.classifier.specs.Load.{IsLoadFor, lane_faults};
 ghost use Rattle.classifier.specs.Seen.{KeepSettings};
+ghost use Rattle.classifier.specs.Tools.{IsTestbenchFor};
 ghost use Rattle.lane_kernel.specs.Loads.{loaded_faults};
 ghost use Rattle.workload.specs.Runs.{all_cycles};
 ghost use Rattle.fault_collapse.specs.Chosen.{AreSimulated, HaveInterval, chosen_at, faults_in};
@@ -11,11 +12,9 @@ ghost use Rattle.fault_collapse.specs.Chosen.{AreSimulated, HaveInterval, chosen
 use alarm_points::windows::Windows;
 use campaign_plan::{Outcome, Plan};
 use circuit::parts::Fault;
-use classifier::{LaneWords, loaded_outcomes};
+use classifier::{LaneWords, Testbench, loaded_outcomes};
 use fault_list::FaultList;
 use fm_base::Steps;
-use golden_run::Golden;
-use netlist_levels::Order;
 use std::sync::ledger::Ledger;
 
 const LANES: usize = 64;
@@ -61,39 +60,33 @@ fn load_groups<B: LaneWords>(faults: &FaultList, numbers: &[u32], first: usize, 
 /// have words. It takes no memory, and at most one step for each round, table and cycle.
 pub(crate) fn simulate<B: LaneWords, L: Ledger>(
     plan: &Plan,
-    order: &Order,
-    golden: &Golden,
+    bench: &Testbench<'_>,
     numbers: &[u32],
-    rounds: usize,
     found: &mut [Outcome],
     lanes: &mut B,
     windows: &mut [Windows],
     steps: &mut Steps<L>,
 )
-    requires golden { golden.now ≡ record { circuit = plan.now.circuit; order = order.now; runs = plan.now.runs } }
+    requires bench { IsTestbenchFor plan.now bench.now }
     requires numbers { All (λ number. number < length (all_faults plan.now)) numbers.now }
     requires few { length found.old < 2 ^ 32 }
-    requires rounds { length found.old ≡ rounds * B.words }
-    requires lanes { IsLoadFor plan.now.circuit order.now (B.load lanes.old) }
+    requires rounds { length found.old % B.words ≡ 0 }
+    requires lanes { IsLoadFor plan.now.circuit bench.now.order (B.load lanes.old) }
     requires count { length windows.old ≡ B.words }
     requires windows { AreAllMadeFor plan.now.points windows.old }
     requires ftti { HaveInterval plan.now.settings.ftti windows.old }
     ensures found { AreSimulated plan.now numbers.now found.new }
-    ensures lanes { IsLoadFor plan.now.circuit order.now (B.load lanes.new) }
+    ensures lanes { IsLoadFor plan.now.circuit bench.now.order (B.load lanes.new) }
     ensures windows { AreAllMadeFor plan.now.points windows.new }
     ensures ftti { KeepSettings windows.old windows.new }
-    ensures cost { steps.new ≤ steps.old + rounds * (all_cycles plan.now.runs * length plan.now.circuit.tables) }
+    ensures cost { steps.new ≤ steps.old + length found.old / B.words * (all_cycles plan.now.runs * length plan.now.circuit.tables) }
 {
     let words = B::count() as usize;
-    for round in 0..rounds {
+    for round in 0..found.len() / words {
         let first = round * words;
         load_groups(plan.faults(), numbers, first, lanes);
         loaded_outcomes(
-            plan.net(),
-            order,
-            plan.work(),
-            plan.points(),
-            golden,
+            bench,
             lanes,
             windows,
             &mut found[first..first + words],

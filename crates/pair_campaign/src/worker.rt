@@ -8,12 +8,14 @@ ghost use Rattle.classifier.specs.Planes.{outcome_at, planes_of};
 ghost use Rattle.pair_list.specs.Chosen.{AreFaults, pair_count};
 ghost use Rattle.pair_campaign.specs.PairPlanes.{pair_plane};
 ghost use Rattle.pair_campaign.specs.Work.{IsEquippedFor, HasJudged, ShowPlanes, ShowsPlane};
-ghost use Rattle.classifier.specs.Tools.{golden_of, AreToolsFor};
+ghost use Rattle.classifier.specs.Tools.{golden_of, AreToolsFor, IsTestbenchFor};
+ghost use Rattle.golden_difference.specs.Lanes.{IsMadeFor};
+ghost use Rattle.alarm_points.specs.FourWatches.{AreFourMadeFor};
 
 use crate::load::{load_planes, planes_for, used_lanes};
 use alarm_points::windows4::Windows4;
 use campaign_plan::{Outcome, Plan};
-use classifier::loaded_quad;
+use classifier::{Testbench, loaded_quad};
 use differential_kernel::DifferentialLanes4;
 use fm_base::Steps;
 use golden_run::Golden;
@@ -54,53 +56,43 @@ impl PairWorker {
 
 // What the faults in the lanes are found to be, those of each lane together. The steps are counted in a ledger of their own.
 fn counted_outcomes<L: Ledger>(
-    plan: &Plan,
-    order: &Order,
-    golden: &Golden,
+    bench: &Testbench<'_>,
     lanes: &mut DifferentialLanes4,
     windows: &mut Windows4,
     blank: Blank,
 ) -> [Outcome; 4]
     requires blank { (blank.name ≡ L.name) × (blank.parts ≡ L.parts) × (0 < blank.parts) }
-    requires golden { golden.now ≡ golden_of plan.now order.now }
-    requires tools { AreToolsFor plan.now order.now lanes.old windows.old }
+    requires lanes { IsMadeFor bench.now.circuit bench.now.order lanes.old }
+    requires windows { AreFourMadeFor bench.now.points windows.old }
     ensures outcomes { (word : ℕ) → word < 4
-        → outcome_at result word ≡ planes_of plan.now.circuit plan.now.points plan.now.settings.ftti plan.now.runs (lane_faults (load_of lanes.old) word) }
-    ensures tools { AreToolsFor plan.now order.now lanes.new windows.new }
+        → outcome_at result word ≡ planes_of bench.now.circuit bench.now.points windows.old.ftti bench.now.runs (lane_faults (load_of lanes.old) word) }
+    ensures lanes { IsMadeFor bench.now.circuit bench.now.order lanes.new }
+    ensures windows { AreFourMadeFor bench.now.points windows.new }
+    ensures ftti { windows.new.ftti ≡ windows.old.ftti }
 {
     let mut steps: Steps<L> = Steps::fresh(blank);
-    loaded_quad(
-        plan.net(),
-        order,
-        plan.work(),
-        plan.points(),
-        golden,
-        lanes,
-        windows,
-        &mut steps,
-    )
+    loaded_quad(bench, lanes, windows, &mut steps)
 }
 
 // What the pairs of four planes are found to be, in each word those of one plane: of the first, and of each `apart` further.
 fn outcomes_of(
     plan: &Plan,
-    order: &Order,
-    golden: &Golden,
+    bench: &Testbench<'_>,
     pairs: &Pairs,
     first: u32,
     apart: u32,
     lanes: &mut DifferentialLanes4,
     windows: &mut Windows4,
 ) -> [Outcome; 4]
-    requires golden { golden.now ≡ golden_of plan.now order.now }
+    requires bench { IsTestbenchFor plan.now bench.now }
     requires pairs { AreFaults plan.now pairs.now }
     requires few { first + 4 * apart < 2 ^ 32 }
-    requires tools { AreToolsFor plan.now order.now lanes.old windows.old }
+    requires tools { AreToolsFor plan.now bench.now.order lanes.old windows.old }
     ensures shown { ShowPlanes plan.now pairs.now first apart result }
-    ensures tools { AreToolsFor plan.now order.now lanes.new windows.new }
+    ensures tools { AreToolsFor plan.now bench.now.order lanes.new windows.new }
 {
     load_planes(plan, pairs, first, apart, lanes);
-    counted_outcomes::<Brand>(plan, order, golden, lanes, windows, Blank::new(1))
+    counted_outcomes::<Brand>(bench, lanes, windows, Blank::new(1))
 }
 
 // Puts a plane to its place, where there is such a plane.
@@ -154,13 +146,13 @@ pub(crate) fn work(
     requires equipped { IsEquippedFor plan.now order.now (batches_for (pair_count pairs.now)) worker.old }
     ensures { HasJudged plan.now pairs.now workers number worker.new.planes.items }
 {
+    let bench = Testbench::of_plan(plan, order, golden);
     let stride = WORDS * workers;
     for round in 0..planes_for(pairs).div_ceil(stride) {
         let first = round * stride + number;
         let found = outcomes_of(
             plan,
-            order,
-            golden,
+            &bench,
             pairs,
             first,
             workers,

@@ -1,6 +1,7 @@
-use Rattle.std.proofs.Common.{◌≡◌, ◌<◌, ◌≤◌, ◌+◌, ◌*◌, ◌∙◌, ℕ, List, length, map, ap, ap₂, sym, subst, arith}
+use Rattle.std.proofs.Common.{◌≡◌, ◌<◌, ◌≤◌, ◌+◌, ◌*◌, ◌/◌, ◌%◌, ◌∙◌, ℕ, List, length, map, ap, ap₂, sym, subst, arith}
 use Rattle.std.specs.Int.{div_ceil}
 use Rattle.std.specs.List.{All}
+use Rattle.std.proofs.Math.Nat.{mul-div_cancel, mul-mod_left}
 use Rattle.std.proofs.lemmas.Grind.{common_steps}
 use Rattle.workload.specs.Runs.{all_cycles}
 use Rattle.campaign_plan.specs.declared.Outcome.{Outcome}
@@ -35,6 +36,13 @@ simulate-requires-clause-few g c =
     let hold = (rounds_hold n count some).1 in
     omega (arith, hold, whole, most, faults, listed, c.len-count.ensures.few, c.count-words.ensures.few, c.count-words.ensures.count, c.deref_mut.ensures.len, c.in_ok-found.ensures.len)
 
+pub simulate-requires-clause-rounds : goal.simulate-requires-clause-rounds
+simulate-requires-clause-rounds g c =
+    let rounds : ℕ = c.div_ceil-rounds.result in
+    let words : ℕ = g.B.LaneWords.words in
+    let long : length c.deref_mut.result.now ≡ rounds * c.count-words.result = omega (arith, c.deref_mut.ensures.len, c.in_ok-found.ensures.len) in
+    ap (λ n. n % words) (long ∙ ap (λ w. rounds * w) c.count-words.ensures.count) ∙ mul-mod_left rounds words
+
 pub spread-requires-clause-lanes : goal.spread-requires-clause-lanes
 spread-requires-clause-lanes g c =
     let p : Analysis = c.args.plan.now in
@@ -51,7 +59,7 @@ spread-requires-clause-lanes g c =
     let room : length numbers ≤ 64 * length found = omega (arith, hold, whole, c.simulate.auto.found, c.deref_mut.ensures.len, c.in_ok-found.ensures.len) in
     let back : c.deref-3.result.now ≡ found = grind (arith, common_steps) in
     let simulated : AreSimulated p numbers found = subst (λ (xs : List ℕ). AreSimulated p xs found) c.deref.ensures.value c.simulate.ensures.found in
-    let lanes : HaveLanes (collapsed_of p) places found = has_lane p c.args.order.now c.faults.ensures.plan c.requires.order numbers places found chosen room simulated in
+    let lanes : HaveLanes (collapsed_of p) places found = has_lane p c.args.bench.now.order c.faults.ensures.plan c.requires.order numbers places found chosen room simulated in
     subst (λ (x : Collapsed). HaveLanes x c.deref-2.result.now c.deref-3.result.now) (sym c.requires.collapse)
     (subst (λ (ps : List ℕ). HaveLanes (collapsed_of p) ps c.deref-3.result.now) (sym c.deref-2.ensures.value)
     (subst (λ (fs : List Outcome). HaveLanes (collapsed_of p) places fs) (sym back) lanes))
@@ -79,7 +87,7 @@ returns-clause-outcomes g c =
     ∙ ap (λ n. map (planes_shown c.args.collapse.now c.deref-2.result.now c.deref-3.result.now) (below n)) batches
     ∙ ap (λ (x : Collapsed). map (planes_shown x c.deref-2.result.now c.deref-3.result.now) (below (batch_count p))) c.requires.collapse
     ∙ ap₂ (λ (ps : List ℕ) (fs : List Outcome). map (planes_shown (collapsed_of p) ps fs) (below (batch_count p))) c.deref-2.ensures.value back
-    ∙ all_true p c.args.order.now c.faults.ensures.plan c.requires.order numbers places found chosen room simulated (batch_count p)
+    ∙ all_true p c.args.bench.now.order c.faults.ensures.plan c.requires.order numbers places found chosen room simulated (batch_count p)
 
 pub returns-clause-cost : goal.returns-clause-cost
 returns-clause-cost g c =
@@ -91,6 +99,11 @@ returns-clause-cost g c =
     let reps : rep_count c.args.collapse.now ≡ rep_count (collapsed_of p) = ap rep_count c.requires.collapse in
     let rounds : c.div_ceil-rounds.result ≡ div_ceil (rep_count (collapsed_of p)) (64 * g.B.LaneWords.words) =
     c.div_ceil-rounds.ensures ∙ ap₂ (λ m w. div_ceil m (64 * w)) (len ∙ counted ∙ reps) c.count-words.ensures.count in
-    let spent : c.simulate.new.steps ≤ c.args.steps.now + div_ceil (rep_count (collapsed_of p)) (64 * g.B.LaneWords.words) * each =
-    subst (λ r. c.simulate.new.steps ≤ c.args.steps.now + r * each) rounds c.simulate.ensures.cost in
+    let words : ℕ = g.B.LaneWords.words in
+    let some : 0 < words = omega (arith, c.count-words.ensures.some) in
+    let long : length c.deref_mut.result.now ≡ c.div_ceil-rounds.result * c.count-words.result = omega (arith, c.deref_mut.ensures.len, c.in_ok-found.ensures.len) in
+    let shared : length c.deref_mut.result.now / words ≡ c.div_ceil-rounds.result =
+    ap (λ n. n / words) (long ∙ ap (λ w. c.div_ceil-rounds.result * w) c.count-words.ensures.count) ∙ mul-div_cancel c.div_ceil-rounds.result some in
+    let spent : c.simulate.new.steps ≤ c.args.steps.now + div_ceil (rep_count (collapsed_of p)) (64 * words) * each =
+    subst (λ r. c.simulate.new.steps ≤ c.args.steps.now + r * each) (shared ∙ rounds) c.simulate.ensures.cost in
     omega (arith, spent)

@@ -11,7 +11,7 @@ use Rattle.fault_collapse.proofs.simulate.simulate.Given as goal
 abbrev pub invariant-loop-round : goal.invariant-loop-round
 invariant-loop-round g l = record {
   simulated : (group : ℕ) → group < l.round * g.B.LaneWords.words → outcome_at l.found group ≡ group_planes l.plan l.numbers group;
-  lanes : IsLoadFor l.plan.circuit l.order (g.B.LaneWords.load l.lanes);
+  lanes : IsLoadFor l.plan.circuit l.bench.order (g.B.LaneWords.load l.lanes);
   windows : AreAllMadeFor l.plan.points l.windows;
   ftti : KeepSettings l.initial.windows l.windows;
   cost : l.steps ≤ l.initial.steps + l.round * (all_cycles l.plan.runs * length l.plan.circuit.tables);
