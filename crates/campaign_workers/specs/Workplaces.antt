@@ -1,9 +1,7 @@
 -- What a worker of a crew works with, and what the crew was made for.
-use Rattle.std.specs.Prelude.{◌≡◌, ℕ, ◌<◌, [], true, false, List, length, map, All}
+use Rattle.std.specs.Prelude.{◌≡◌, ◌<◌, [], true, false, List, length, map, All}
 use Rattle.circuit.specs.declared.parts.NetId.{NetId}
 use Rattle.circuit.specs.Order.{IsOrder}
-use Rattle.alarm_points.specs.FourWatches.{FourWatches, AreFourMadeFor}
-use Rattle.golden_difference.specs.Lanes.{IsMadeFor, Lanes}
 use Rattle.golden_run.specs.Recording.{Recording}
 use Rattle.campaign_plan.specs.Analysis.{Analysis}
 use Rattle.classifier.specs.Tools.{golden_of, AreToolsFor}

@@ -5,15 +5,15 @@ ghost use Rattle.claim_counter.specs.Seats.{IsOf};
 ghost use Rattle.claim_counter.specs.Crews.{MayDraw, IsDone, shares_of};
 ghost use Rattle.campaign_workers.specs.Truth.{HasTrueEntries};
 ghost use Rattle.campaign_workers.specs.Workplaces.{seats_of};
-ghost use Rattle.classifier.specs.Tools.{golden_of, AreToolsFor};
+ghost use Rattle.classifier.specs.Tools.{AreToolsFor, IsTestbenchFor};
 ghost use Rattle.campaign_workers.specs.Finish.{IsFinished};
 
 use crate::crew::{Crew, Workshop};
 use crate::worker::{Worker, work};
 use campaign_board::{Board, Origin, Seat, Shared};
 use campaign_plan::Plan;
+use classifier::Testbench;
 use fm_shelf::shelf::Shelf;
-use golden_run::Golden;
 use netlist_levels::Order;
 use std::sync::Wait;
 use std::thread;
@@ -35,14 +35,13 @@ fn work_all<
 >(
     rt: &R,
     plan: &Plan,
-    order: &Order,
-    golden: &Golden,
+    bench: &Testbench<'_>,
     shared: &Shared<F, N>,
     gate: &G,
     workers: &mut [Worker<F, N>],
 )
-    requires ready { All (λ w. MayDraw shared.now w.seat × AreToolsFor plan.now order.now w.lanes w.windows) workers.old }
-    requires golden { golden.now ≡ golden_of plan.now order.now }
+    requires ready { All (λ w. MayDraw shared.now w.seat × AreToolsFor plan.now bench.now.order w.lanes w.windows) workers.old }
+    requires bench { IsTestbenchFor plan.now bench.now }
     requires entries { HasTrueEntries plan.now N.start × (length N.start.entries ≡ batch_count plan.now) }
     ensures done { All (λ w. IsDone shared.now w.seat) workers.new }
     ensures shares { shares_of (seats_of workers.new) ≡ shares_of (seats_of workers.old) }
@@ -52,9 +51,9 @@ fn work_all<
         workers,
         32,
         &|_, worker: &mut Worker<F, N>|
-            requires { MayDraw shared.now worker.now.seat × AreToolsFor plan.now order.now worker.now.lanes worker.now.windows × (golden.now ≡ golden_of plan.now order.now) × HasTrueEntries plan.now N.start × (length N.start.entries ≡ batch_count plan.now) }
+            requires { MayDraw shared.now worker.now.seat × AreToolsFor plan.now bench.now.order worker.now.lanes worker.now.windows × IsTestbenchFor plan.now bench.now × HasTrueEntries plan.now N.start × (length N.start.entries ≡ batch_count plan.now) }
             ensures { IsDone shared.entry.now worker.exit.now.seat × (worker.exit.now.seat.view.share ≡ worker.entry.now.seat.view.share) }
-        { work(rt, plan, order, golden, shared, gate, worker) },
+        { work(rt, plan, bench, shared, gate, worker) },
     );
 }
 
@@ -102,15 +101,8 @@ pub fn campaign<
         ..
     } = workshop;
     shared.put(&mut first, board);
-    work_all(
-        rt,
-        plan,
-        order,
-        &golden,
-        &shared,
-        gate,
-        workers.as_mut_slice(),
-    );
+    let bench = Testbench::of_plan(plan, order, &golden);
+    work_all(rt, plan, &bench, &shared, gate, workers.as_mut_slice());
     Finished {
         board: board_of_all(shared, first, workers),
     }

@@ -3,7 +3,7 @@ ghost use Rattle.campaign_plan.specs.Analysis.{batch_count};
 ghost use Rattle.claim_counter.specs.Crews.{MayDraw, IsDone};
 ghost use Rattle.campaign_workers.specs.Rounds.{drawn_in, numbers_in, true_planes_in, Owes};
 ghost use Rattle.campaign_workers.specs.Truth.{HasTrueEntries};
-ghost use Rattle.classifier.specs.Tools.{golden_of, AreToolsFor, IsTestbenchFor};
+ghost use Rattle.classifier.specs.Tools.{AreToolsFor, IsTestbenchFor};
 
 use crate::outcome::{entry_with, simulated_planes};
 use crate::round::{Round, draw_round};
@@ -13,8 +13,6 @@ use campaign_plan::{Outcome, Plan};
 use classifier::Testbench;
 use differential_kernel::DifferentialLanes4;
 use fm_shelf::shelf::Shelf;
-use golden_run::Golden;
-use netlist_levels::Order;
 use std::sync::Wait;
 use worker_gate::Gate;
 
@@ -106,23 +104,21 @@ fn finish_round<R: Wait, F: Shelf + Drop, N: Origin>(
 pub(crate) fn work<R: Wait, F: Shelf + Drop, N: Origin, G: Gate>(
     rt: &R,
     plan: &Plan,
-    order: &Order,
-    golden: &Golden,
+    bench: &Testbench<'_>,
     shared: &Shared<F, N>,
     gate: &G,
     worker: &mut Worker<F, N>,
 )
     requires ready { MayDraw shared.now worker.old.seat }
-    requires golden { golden.now ≡ golden_of plan.now order.now }
-    requires tools { AreToolsFor plan.now order.now worker.old.lanes worker.old.windows }
+    requires bench { IsTestbenchFor plan.now bench.now }
+    requires tools { AreToolsFor plan.now bench.now.order worker.old.lanes worker.old.windows }
     requires entries { HasTrueEntries plan.now N.start × (length N.start.entries ≡ batch_count plan.now) }
     ensures done { IsDone shared.now worker.new.seat }
     ensures share { worker.new.seat.view.share ≡ worker.old.seat.view.share }
 {
-    let bench = Testbench::of_plan(plan, order, golden);
     for _ in rt.forever() {
         let round = draw_round(shared, gate, worker.number, &mut worker.seat);
-        if let Err(BoardFailed) = finish_round(rt, plan, &bench, shared, &round, worker) {
+        if let Err(BoardFailed) = finish_round(rt, plan, bench, shared, &round, worker) {
             return;
         }
         if round.last {

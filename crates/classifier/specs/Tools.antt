@@ -1,4 +1,4 @@
--- What a worker of a campaign simulates with: a golden run, lanes and windows, made for one plan.
+-- What a worker of a campaign simulates with, made for one plan: a golden run and a testbench with it, lanes and windows.
 use Rattle.std.specs.Prelude.{◌≡◌, ℕ, List}
 use Rattle.circuit.specs.declared.parts.NetId.{NetId}
 use Rattle.alarm_points.specs.FourWatches.{AreFourMadeFor, FourWatches}

@@ -104,9 +104,7 @@ fn judge_runs<B: LaneWords, L: Ledger>(
     ensures cost { steps.new ≤ steps.old + all_cycles bench.now.runs * length bench.now.circuit.tables }
 {
     for run in 0..bench.runs() {
-        watch_run(
-            bench, run, lanes, windows, noticed, outcomes, steps,
-        );
+        watch_run(bench, run, lanes, windows, noticed, outcomes, steps);
         add_run(bench.kind(run), windows, noticed, outcomes);
     }
 }
@@ -174,13 +172,7 @@ pub fn loaded_outcome<L: Ledger>(
     ensures cost { steps.new ≤ steps.old + all_cycles bench.now.runs * length bench.now.circuit.tables }
 {
     let mut outcomes = [NOTHING];
-    loaded_outcomes(
-        bench,
-        lanes,
-        from_mut(windows),
-        &mut outcomes,
-        steps,
-    );
+    loaded_outcomes(bench, lanes, from_mut(windows), &mut outcomes, steps);
     outcomes[0]
 }
 
@@ -205,12 +197,6 @@ pub fn loaded_quad<L: Ledger>(
     ensures cost { steps.new ≤ steps.old + all_cycles bench.now.runs * length bench.now.circuit.tables }
 {
     let mut outcomes = [NOTHING; 4];
-    loaded_outcomes(
-        bench,
-        lanes,
-        windows.words(),
-        &mut outcomes,
-        steps,
-    );
+    loaded_outcomes(bench, lanes, windows.words(), &mut outcomes, steps);
     outcomes
 }

@@ -123,7 +123,14 @@ fn run_cycle<B: LaneWords, L: Ledger>(
 {
     let row = bench.row(run, t);
     bench.advance(row, lanes, steps);
-    see_words(bench.points(), bench.kind(run), row, lanes, windows, noticed);
+    see_words(
+        bench.points(),
+        bench.kind(run),
+        row,
+        lanes,
+        windows,
+        noticed,
+    );
 }
 
 // The lanes that earlier runs have decided for a run of this kind.

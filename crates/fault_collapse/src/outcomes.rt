@@ -136,13 +136,5 @@ pub fn collapsed_quads<L: Ledger>(
     ensures ftti { windows.new.ftti ≡ windows.old.ftti }
     ensures cost { steps.new ≤ steps.old + most_steps_by 256 plan.now }
 {
-    outcomes_by(
-        alloc,
-        plan,
-        bench,
-        collapse,
-        lanes,
-        windows.words(),
-        steps,
-    )
+    outcomes_by(alloc, plan, bench, collapse, lanes, windows.words(), steps)
 }

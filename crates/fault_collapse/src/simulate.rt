@@ -57,7 +57,7 @@ fn load_groups<B: LaneWords>(faults: &FaultList, numbers: &[u32], first: usize, 
 }
 
 /// The planes of each group of 64 of the faults of these numbers, one after the other; in each round as many groups as the lanes
-/// have words. It takes no memory, and at most one step for each round, table and cycle.
+/// have words. `found` has room for whole rounds. It takes no memory, and at most one step for each round, table and cycle.
 pub(crate) fn simulate<B: LaneWords, L: Ledger>(
     plan: &Plan,
     bench: &Testbench<'_>,

@@ -5,13 +5,13 @@ ghost use Rattle.pair_list.specs.Chosen.{AreFaults, pair_count};
 ghost use Rattle.pair_campaign.specs.declared.worker.PairWorker.{PairWorker as Worker};
 ghost use Rattle.pair_campaign.specs.PairPlanes.{pair_planes};
 ghost use Rattle.pair_campaign.specs.Work.{HasJudged, IsEquippedFor};
-ghost use Rattle.classifier.specs.Tools.{golden_of};
+ghost use Rattle.classifier.specs.Tools.{IsTestbenchFor};
 
 use crate::crew::{PairCrew, PairPlanes};
 use crate::worker::{PairWorker, work};
 use campaign_plan::Plan;
+use classifier::Testbench;
 use fm_base::Seq;
-use golden_run::Golden;
 use netlist_levels::Order;
 use pair_list::Pairs;
 use std::sync::Wait;
@@ -22,15 +22,14 @@ use std::thread::Threads;
 fn work_all<R: Threads + Sync>(
     rt: &R,
     plan: &Plan,
-    order: &Order,
-    golden: &Golden,
+    bench: &Testbench<'_>,
     pairs: &Pairs,
     workers: &mut [PairWorker],
 )
-    requires golden { golden.now ≡ golden_of plan.now order.now }
+    requires bench { IsTestbenchFor plan.now bench.now }
     requires pairs { AreFaults plan.now pairs.now }
     requires few { length workers.old ≤ 32 }
-    requires equipped { All (IsEquippedFor plan.now order.now (batches_for (pair_count pairs.now))) workers.old }
+    requires equipped { All (IsEquippedFor plan.now bench.now.order (batches_for (pair_count pairs.now))) workers.old }
     ensures { (w : ℕ) (d : Worker) → w < length workers.old → HasJudged plan.now pairs.now (length workers.old) w (slice_index_or workers.new w d).planes.items }
 {
     let count = workers.len();
@@ -39,19 +38,9 @@ fn work_all<R: Threads + Sync>(
         workers,
         32,
         &|number, worker: &mut PairWorker|
-            requires { IsEquippedFor plan.now order.now (batches_for (pair_count pairs.now)) worker.now × (golden.now ≡ golden_of plan.now order.now) × AreFaults plan.now pairs.now × (number < count) × (count ≤ 32) }
+            requires { IsEquippedFor plan.now bench.now.order (batches_for (pair_count pairs.now)) worker.now × IsTestbenchFor plan.now bench.now × AreFaults plan.now pairs.now × (number < count) × (count ≤ 32) }
             ensures { HasJudged plan.entry.now pairs.entry.now count number worker.exit.now.planes.items }
-        {
-            work(
-                plan,
-                order,
-                golden,
-                pairs,
-                number as u32,
-                count as u32,
-                worker,
-            )
-        },
+        { work(plan, bench, pairs, number as u32, count as u32, worker) },
     );
 }
 
@@ -71,21 +60,20 @@ fn put_together(workers: &[PairWorker], planes: &mut [u64])
 fn judge_all<R: Threads + Sync>(
     rt: &R,
     plan: &Plan,
-    order: &Order,
-    golden: &Golden,
+    bench: &Testbench<'_>,
     pairs: &Pairs,
     workers: &mut [PairWorker],
     planes: &mut [u64],
 )
-    requires golden { golden.now ≡ golden_of plan.now order.now }
+    requires bench { IsTestbenchFor plan.now bench.now }
     requires pairs { AreFaults plan.now pairs.now }
     requires some { 0 < length workers.old }
     requires few { length workers.old ≤ 32 }
-    requires equipped { All (IsEquippedFor plan.now order.now (batches_for (pair_count pairs.now))) workers.old }
+    requires equipped { All (IsEquippedFor plan.now bench.now.order (batches_for (pair_count pairs.now))) workers.old }
     requires room { length planes.old ≡ batches_for (pair_count pairs.now) }
     ensures { planes.new ≡ pair_planes plan.now pairs.now }
 {
-    work_all(rt, plan, order, golden, pairs, workers);
+    work_all(rt, plan, bench, pairs, workers);
     put_together(workers, planes);
 }
 
@@ -107,11 +95,11 @@ pub fn judge<R: Threads + Wait + Sync>(
         mut planes,
         ..
     } = crew;
+    let bench = Testbench::of_plan(plan, order, &golden);
     judge_all(
         rt,
         plan,
-        order,
-        &golden,
+        &bench,
         pairs,
         workers.as_mut_slice(),
         planes.as_mut_slice(),

@@ -2,15 +2,15 @@
 ghost use Rattle.std.specs.Prelude.{◌≡◌, ◌+◌, ◌*◌, ◌<◌, ◌≤◌, ◌^◌, ℕ, IfOk, length, slice_index};
 ghost use Rattle.circuit.specs.Order.{IsOrder};
 ghost use Rattle.fault_list.specs.Faults.{batches_for};
+ghost use Rattle.alarm_points.specs.FourWatches.{AreFourMadeFor};
+ghost use Rattle.golden_difference.specs.Lanes.{IsMadeFor};
 ghost use Rattle.campaign_plan.specs.Analysis.{Analysis};
 ghost use Rattle.classifier.specs.Load.{lane_faults, load_of};
 ghost use Rattle.classifier.specs.Planes.{outcome_at, planes_of};
 ghost use Rattle.pair_list.specs.Chosen.{AreFaults, pair_count};
 ghost use Rattle.pair_campaign.specs.PairPlanes.{pair_plane};
 ghost use Rattle.pair_campaign.specs.Work.{IsEquippedFor, HasJudged, ShowPlanes, ShowsPlane};
-ghost use Rattle.classifier.specs.Tools.{golden_of, AreToolsFor, IsTestbenchFor};
-ghost use Rattle.golden_difference.specs.Lanes.{IsMadeFor};
-ghost use Rattle.alarm_points.specs.FourWatches.{AreFourMadeFor};
+ghost use Rattle.classifier.specs.Tools.{AreToolsFor, IsTestbenchFor};
 
 use crate::load::{load_planes, planes_for, used_lanes};
 use alarm_points::windows4::Windows4;
@@ -18,7 +18,6 @@ use campaign_plan::{Outcome, Plan};
 use classifier::{Testbench, loaded_quad};
 use differential_kernel::DifferentialLanes4;
 use fm_base::Steps;
-use golden_run::Golden;
 use netlist_levels::Order;
 use pair_list::Pairs;
 use std::alloc::{AllocError, Global};
@@ -132,27 +131,25 @@ fn keep_planes(pairs: &Pairs, first: u32, apart: u32, found: &[Outcome; 4], work
 /// Judges the planes of one of so many workers, four at once: each whose number leaves the worker's as its remainder.
 pub(crate) fn work(
     plan: &Plan,
-    order: &Order,
-    golden: &Golden,
+    bench: &Testbench<'_>,
     pairs: &Pairs,
     number: u32,
     workers: u32,
     worker: &mut PairWorker,
 )
-    requires golden { golden.now ≡ golden_of plan.now order.now }
+    requires bench { IsTestbenchFor plan.now bench.now }
     requires pairs { AreFaults plan.now pairs.now }
     requires number { number < workers }
     requires few { workers ≤ 32 }
-    requires equipped { IsEquippedFor plan.now order.now (batches_for (pair_count pairs.now)) worker.old }
+    requires equipped { IsEquippedFor plan.now bench.now.order (batches_for (pair_count pairs.now)) worker.old }
     ensures { HasJudged plan.now pairs.now workers number worker.new.planes.items }
 {
-    let bench = Testbench::of_plan(plan, order, golden);
     let stride = WORDS * workers;
     for round in 0..planes_for(pairs).div_ceil(stride) {
         let first = round * stride + number;
         let found = outcomes_of(
             plan,
-            &bench,
+            bench,
             pairs,
             first,
             workers,

@@ -1,6 +1,4 @@
-use Rattle.std.proofs.Common.{◌<◌, ◌∙◌, List, subst, arith}
-use Rattle.circuit.specs.declared.parts.NetId.{NetId}
-use Rattle.classifier.specs.Tools.{AreToolsFor}
+use Rattle.std.proofs.Common.{◌<◌, ◌∙◌, arith}
 use Rattle.campaign_workers.proofs.Owing.{ready_again, done_at_look}
 use Rattle.campaign_workers.proofs.worker.work.Goals as goal
 
@@ -15,8 +13,6 @@ loop-preserved g c =
     let finished = c.in_default.ensures in
     record {
       ready = ready_again c.args.shared.now g.N.Origin.start c.finish_round.new.worker.seat finished.owes (finished.nones ∙ c.draw_round-round.ensures.more c.if-round.false);
-      tools =
-          subst (λ (order : List NetId). AreToolsFor c.args.plan.now order c.finish_round.new.worker.lanes c.finish_round.new.worker.windows) c.of_plan-bench.ensures.order
-          finished.tools;
+      tools = finished.tools;
       share = finished.share ∙ c.draw_round-round.ensures.share ∙ c.loop.invariant.share;
     }

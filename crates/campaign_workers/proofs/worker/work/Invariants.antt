@@ -6,6 +6,6 @@ use Rattle.campaign_workers.proofs.worker.work.Given as goal
 abbrev pub invariant-loop : goal.invariant-loop
 invariant-loop g l = record {
   ready : MayDraw l.shared l.worker.seat;
-  tools : AreToolsFor l.plan l.order l.worker.lanes l.worker.windows;
+  tools : AreToolsFor l.plan l.bench.order l.worker.lanes l.worker.windows;
   share : l.worker.seat.view.share ≡ l.initial.worker.seat.view.share;
 }

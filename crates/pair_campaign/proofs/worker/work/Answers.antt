@@ -3,7 +3,6 @@ use Rattle.std.specs.Prelude.{slice_index}
 use Rattle.std.specs.Int.{div_ceil}
 use Rattle.std.proofs.Math.Nat.{add-mul}
 use Rattle.std.proofs.lemmas.Bool.{cases_lt}
-use Rattle.circuit.specs.declared.parts.NetId.{NetId}
 use Rattle.alarm_points.specs.FourWatches.{FourWatches}
 use Rattle.campaign_plan.specs.Analysis.{Analysis}
 use Rattle.fault_list.specs.Faults.{batches_for}
@@ -53,9 +52,8 @@ loop-round-preserved c =
     record {
       equipped = record {
         tools =
-            subst (λ (lanes : Lanes (List ℕ)). AreToolsFor p c.args.order.now lanes c.keep_planes.new.worker.windows) (sym kept.lanes)
-            (subst (λ (windows : FourWatches). AreToolsFor p c.args.order.now c.outcomes_of-found.new.lanes windows) (sym kept.windows)
-            (subst (λ (order : List NetId). AreToolsFor p order c.outcomes_of-found.new.lanes c.outcomes_of-found.new.windows) c.of_plan-bench.ensures.order c.outcomes_of-found.ensures.tools));
+            subst (λ (lanes : Lanes (List ℕ)). AreToolsFor p c.args.bench.now.order lanes c.keep_planes.new.worker.windows) (sym kept.lanes)
+            (subst (λ (windows : FourWatches). AreToolsFor p c.args.bench.now.order c.outcomes_of-found.new.lanes windows) (sym kept.windows) c.outcomes_of-found.ensures.tools);
         room = kept.room;
       };
       own = λ q lt mine early.
