@@ -203,12 +203,8 @@ impl<W: LaneWord> Kernel<W> {
             &mut self.forces,
         );
         self.noted = true;
-        flip(
-            &self.in_force,
-            self.acts.has(self.cycle as usize),
-            self.cycle,
-            &mut self.latches,
-        );
+        let acting = self.acts.has(self.cycle as usize);
+        flip(&self.in_force, acting, self.cycle, &mut self.latches);
         let golden = GoldenCycle {
             netlist,
             order: order.nets(),
