@@ -12,7 +12,7 @@ use crate::run::{End, Ran, Text};
 use campaign_board::{Board, Origin};
 use campaign_plan::Plan;
 use fm_shelf::shelf::{Failed, Shelf, Sink};
-use fmeda_report::{ReportSpace, write_report, write_summary};
+use fmeda_report::{ReportSpace, write_report_of_rows, write_summary};
 use result_file::Row;
 
 // Writes the text for the planes that these rows give.
@@ -28,7 +28,7 @@ fn write_text<O: Sink>(
     ensures { Sends (O.seen out.old) (O.seen out.new) (text_for text plan.now (planes_in rows.now)) result }
 {
     match text {
-        Text::Report => write_report(plan, rows, space, out),
+        Text::Report => write_report_of_rows(plan, rows, space, out),
         Text::Summary(stages) => write_summary(stages, plan, rows, space, out),
     }
 }

@@ -2,6 +2,7 @@ pub mod Views
 pub mod WindowCounts
 pub mod PointBits
 pub mod EachWord
+pub mod Kept
 pub mod PlaneBits
 pub mod Ends
 pub mod RunByRun

@@ -1,7 +1,7 @@
 -- What the bits of a difference say of a point.
 use Rattle.std.proofs.Common.{◌≡◌, ◌&&◌, Bool, true, false, not, refl}
 use Rattle.fm_base.specs.Lists.{same_bit}
-use Rattle.lane_kernel.specs.Bits.{either}
+use Rattle.lane_words.specs.Bits.{either}
 
 pub differs_where : (v g : Bool) → either v g ≡ not (same_bit v g)
 differs_where true g = refl

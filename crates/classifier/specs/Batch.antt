@@ -5,7 +5,7 @@ use Rattle.circuit.specs.Circuit.{Circuit}
 use Rattle.workload.specs.declared.run.Run.{Run}
 use Rattle.alarm_points.specs.declared.Points.{Points}
 use Rattle.fault_list.specs.Faults.{fault_at, fault_number, is_used}
-use Rattle.lane_kernel.specs.Loads.{somes}
+use Rattle.lane_words.specs.Loads.{somes}
 use Rattle.campaign_plan.specs.declared.Outcome.{Outcome}
 use Rattle.campaign_plan.specs.Batches.{outcome_of}
 

@@ -1,10 +1,10 @@
 -- What lanes were made for, and loaded with.
-use Rattle.std.specs.Prelude.{◌≡◌, ℕ, ◌+◌, ◌*◌, List, Option}
+use Rattle.std.specs.Prelude.{ℕ, ◌+◌, ◌*◌, List, Option}
 use Rattle.circuit.specs.declared.parts.Fault.{Fault}
 use Rattle.circuit.specs.declared.parts.NetId.{NetId}
 use Rattle.circuit.specs.Circuit.{Circuit}
 use Rattle.golden_difference.specs.Lanes.{Lanes}
-use Rattle.lane_kernel.specs.Loads.{loaded_faults}
+use Rattle.lane_words.specs.Loads.{loaded_faults}
 
 -- the circuit, the order of its tables, and the faults of each lane, one word of 64 lanes behind the other
 pub record Load : Type 0 where
@@ -23,8 +23,3 @@ in_lane faults word lane = loaded_faults faults (word * 64 + lane)
 -- those that it was loaded with
 abbrev pub lane_faults : Load → ℕ → ℕ → List Fault
 lane_faults load word lane = in_lane load.faults word lane
-
--- they were made for this circuit and this order of its tables
-pub record IsLoadFor (c : Circuit) (nets : List NetId) (load : Load) : Type 0 where
-  pub circuit : load.circuit ≡ c
-  pub order : load.order ≡ nets

@@ -9,7 +9,7 @@ ghost use Rattle.alarm_points.specs.FourWatches.{AreFourMadeFor};
 ghost use Rattle.alarm_points.specs.Watch.{AreMadeFor};
 ghost use Rattle.campaign_plan.specs.Batches.{outcome_of};
 ghost use Rattle.golden_difference.specs.Lanes.{IsMadeFor};
-ghost use Rattle.lane_kernel.specs.Loads.{loaded_faults};
+ghost use Rattle.lane_words.specs.Loads.{loaded_faults};
 ghost use Rattle.classifier.specs.Batch.{alone_in, batch_at, fault_in_lane, outcome_for};
 ghost use Rattle.classifier.specs.Planes.{HasPlanes, outcome_at};
 
@@ -85,7 +85,7 @@ pub fn batch_outcome<L: Ledger>(
     ensures ftti { windows.new.ftti ≡ windows.old.ftti }
     ensures cost { steps.new ≤ steps.old + all_cycles bench.now.runs * length bench.now.circuit.tables }
 {
-    lanes.load(&loads_of(faults, Some(batch)));
+    lanes.load(0, &loads_of(faults, Some(batch)));
     let loaded = loaded_outcome(bench, lanes, windows, steps);
     of_batch(faults, Some(batch), loaded)
 }

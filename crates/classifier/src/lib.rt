@@ -8,9 +8,8 @@ mod points;
 mod run;
 mod see;
 mod testbench;
-mod words;
 
 pub use batch::{batch_outcome, quad_outcomes};
 pub use outcome::{loaded_outcome, loaded_outcomes, loaded_quad};
+pub use points::{differing, differs_at};
 pub use testbench::Testbench;
-pub use words::LaneWords;

@@ -9,8 +9,8 @@ ghost use Rattle.alarm_points.specs.Watch.{AreMadeFor};
 ghost use Rattle.campaign_plan.specs.Danger.{is_dangerous_in, is_noticed_in};
 ghost use Rattle.fm_base.specs.Planes.{bit};
 ghost use Rattle.golden_difference.specs.Lanes.{IsMadeFor};
-ghost use Rattle.lane_kernel.specs.Loads.{loaded_faults};
-ghost use Rattle.classifier.specs.Load.{IsLoadFor, Load, lane_faults, load_of};
+ghost use Rattle.lane_words.specs.Loads.{loaded_faults};
+ghost use Rattle.classifier.specs.Load.{Load, lane_faults, load_of};
 ghost use Rattle.classifier.specs.Planes.{HasPlanes, outcome_at, planes_of};
 ghost use Rattle.alarm_points.specs.FourWatches.{AreAllMadeFor, AreFourMadeFor, windows_at};
 ghost use Rattle.classifier.specs.Seen.{AreUndecided, HaveAllSeenRun, HaveSeenRun, KeepSettings};
@@ -18,12 +18,12 @@ ghost use Rattle.classifier.specs.Seen.{AreUndecided, HaveAllSeenRun, HaveSeenRu
 use crate::points::either_lanes;
 use crate::run::watch_run;
 use crate::testbench::Testbench;
-use crate::words::LaneWords;
 use alarm_points::windows::Windows;
 use alarm_points::windows4::Windows4;
 use campaign_plan::Outcome;
 use differential_kernel::{DifferentialLanes, DifferentialLanes4};
 use fm_base::Steps;
+use lane_words::Word;
 use std::slice::from_mut;
 use std::sync::ledger::Ledger;
 use workload::run::Kind;
@@ -82,25 +82,25 @@ fn add_run(kind: Kind, windows: &[Windows], noticed: &[u64], outcomes: &mut [Out
 }
 
 // Simulates all runs in all lanes, and adds what each shows in each word; `outcomes` are all 0 before.
-fn judge_runs<B: LaneWords, L: Ledger>(
+fn judge_runs<W: Word, L: Ledger>(
     bench: &Testbench<'_>,
-    lanes: &mut B,
+    lanes: &mut DifferentialLanes<W>,
     windows: &mut [Windows],
     noticed: &mut [u64],
     outcomes: &mut [Outcome],
     steps: &mut Steps<L>,
 )
-    requires made { IsLoadFor bench.now.circuit bench.now.order (B.load lanes.old) }
-    requires windows { length windows.old ≡ B.words }
+    requires made { IsMadeFor bench.now.circuit bench.now.order lanes.old }
+    requires windows { length windows.old ≡ W.words }
     requires windows_made { AreAllMadeFor bench.now.points windows.old }
-    requires noticed { length noticed.old ≡ B.words }
-    requires outcomes { length outcomes.old ≡ B.words }
-    requires nothing { (word : ℕ) → word < B.words → outcome_at outcomes.old word ≡ record { danger = 0; noticed = 0 } }
-    ensures load { B.load lanes.new ≡ B.load lanes.old }
+    requires noticed { length noticed.old ≡ W.words }
+    requires outcomes { length outcomes.old ≡ W.words }
+    requires nothing { (word : ℕ) → word < W.words → outcome_at outcomes.old word ≡ record { danger = 0; noticed = 0 } }
+    ensures load { load_of lanes.new ≡ load_of lanes.old }
     ensures windows_made { AreAllMadeFor bench.now.points windows.new }
     ensures ftti { KeepSettings windows.old windows.new }
-    ensures planes { (word : ℕ) → word < B.words
-        → HasPlanes bench.now.circuit bench.now.points (windows_at windows.old word).ftti bench.now.runs (lane_faults (B.load lanes.old) word) (outcome_at outcomes.new word) }
+    ensures planes { (word : ℕ) → word < W.words
+        → HasPlanes bench.now.circuit bench.now.points (windows_at windows.old word).ftti bench.now.runs (lane_faults (load_of lanes.old) word) (outcome_at outcomes.new word) }
     ensures cost { steps.new ≤ steps.old + all_cycles bench.now.runs * length bench.now.circuit.tables }
 {
     for run in 0..bench.runs() {
@@ -122,26 +122,26 @@ fn forget(outcomes: &mut [Outcome])
 /// into `outcomes`: bit k of word w's is that of the faults of lane 64w + k together. `windows` are those of each word, and have
 /// the fault tolerant time intervals. What lanes, windows and outcomes held before is no matter. It takes no memory, and at most
 /// one step for each table and cycle, for all words together.
-pub fn loaded_outcomes<B: LaneWords, L: Ledger>(
+pub fn loaded_outcomes<W: Word, L: Ledger>(
     bench: &Testbench<'_>,
-    lanes: &mut B,
+    lanes: &mut DifferentialLanes<W>,
     windows: &mut [Windows],
     outcomes: &mut [Outcome],
     steps: &mut Steps<L>,
 )
-    requires lanes { IsLoadFor bench.now.circuit bench.now.order (B.load lanes.old) }
-    requires count { length windows.old ≡ B.words }
+    requires lanes { IsMadeFor bench.now.circuit bench.now.order lanes.old }
+    requires count { length windows.old ≡ W.words }
     requires windows { AreAllMadeFor bench.now.points windows.old }
-    requires outcomes { length outcomes.old ≡ B.words }
-    ensures outcomes { (word : ℕ) → word < B.words
-        → outcome_at outcomes.new word ≡ planes_of bench.now.circuit bench.now.points (windows_at windows.old word).ftti bench.now.runs (lane_faults (B.load lanes.old) word) }
-    ensures loads { B.load lanes.new ≡ B.load lanes.old }
+    requires outcomes { length outcomes.old ≡ W.words }
+    ensures outcomes { (word : ℕ) → word < W.words
+        → outcome_at outcomes.new word ≡ planes_of bench.now.circuit bench.now.points (windows_at windows.old word).ftti bench.now.runs (lane_faults (load_of lanes.old) word) }
+    ensures loads { load_of lanes.new ≡ load_of lanes.old }
     ensures windows { AreAllMadeFor bench.now.points windows.new }
     ensures ftti { KeepSettings windows.old windows.new }
     ensures cost { steps.new ≤ steps.old + all_cycles bench.now.runs * length bench.now.circuit.tables }
 {
     let mut noticed = [0; MOST_WORDS];
-    let words = B::count() as usize;
+    let words = W::words() as usize;
     forget(outcomes);
     judge_runs(
         bench,

@@ -7,13 +7,15 @@ ghost use Rattle.workload.specs.Runs.{cycles_of};
 ghost use Rattle.campaign_plan.specs.Danger.{golden as golden_value, with_faults};
 ghost use Rattle.fm_base.specs.Lists.{same_bit};
 ghost use Rattle.fm_base.specs.Planes.{bit};
-ghost use Rattle.golden_difference.specs.Beside.{IsGoldenRow};
-ghost use Rattle.lane_kernel.specs.Bits.{either};
+ghost use Rattle.golden_difference.specs.Beside.{IsGoldenRow, AreBeside};
+ghost use Rattle.lane_words.specs.Bits.{either};
 ghost use Rattle.classifier.specs.Load.{in_lane};
+ghost use Rattle.golden_difference.specs.Lanes.{bank_of};
 
 use crate::noise::{Noise, SILENT};
-use crate::words::LaneWords;
 use circuit::parts::NetId;
+use differential_kernel::DifferentialLanes;
+use lane_words::Word;
 use place_set::value_in_words;
 
 // The lanes of a plane where the golden value is 0.
@@ -37,22 +39,22 @@ pub fn either_lanes(a: u64, b: u64) -> u64
     a | b
 }
 
-// The lanes of a word in which a net differs from the golden run, in the last cycle of a run so far.
-fn differs_at<B: LaneWords>(lanes: &B, word: u32, net: NetId) -> u64
-    requires { word < B.words }
-    ensures { (run : Run) (t k : ℕ) → t < cycles_of run → B.IsAfter lanes.now (take (t + 1) run.vectors) → k < 64 → IsNet (B.load lanes.now).circuit net
-        → bit result k ≡ either (with_faults (B.load lanes.now).circuit (in_lane (B.in_force lanes.now) word k) run t net) (golden_value (B.load lanes.now).circuit run t net) }
+/// The lanes of a word in which a net differs from the golden run, in the last cycle of a run so far.
+pub fn differs_at<W: Word>(lanes: &DifferentialLanes<W>, word: u32, net: NetId) -> u64
+    requires { word < W.words }
+    ensures { (run : Run) (t k : ℕ) → t < cycles_of run → AreBeside W.lanes W.lane_bit (take (t + 1) run.vectors) (bank_of lanes.now) → k < 64 → IsNet lanes.now.circuit net
+        → bit result k ≡ either (with_faults lanes.now.circuit (in_lane lanes.now.in_force word k) run t net) (golden_value lanes.now.circuit run t net) }
 {
     lanes.differs(net, word)
 }
 
 /// The lanes in which some of these nets differs from the golden run in the last cycle.
-pub fn differing<B: LaneWords>(lanes: &B, word: u32, nets: &[NetId]) -> u64
-    requires word { word < B.words }
-    requires nets { All (IsNet (B.load lanes.now).circuit) nets.now }
-    ensures { (run : Run) (t k : ℕ) → t < cycles_of run → B.IsAfter lanes.now (take (t + 1) run.vectors) → k < 64
-        → bit result k ≡ list_any (λ net. not (same_bit (with_faults (B.load lanes.now).circuit (in_lane (B.in_force lanes.now) word k) run t net)
-        (golden_value (B.load lanes.now).circuit run t net))) nets.now }
+pub fn differing<W: Word>(lanes: &DifferentialLanes<W>, word: u32, nets: &[NetId]) -> u64
+    requires word { word < W.words }
+    requires nets { All (IsNet lanes.now.circuit) nets.now }
+    ensures { (run : Run) (t k : ℕ) → t < cycles_of run → AreBeside W.lanes W.lane_bit (take (t + 1) run.vectors) (bank_of lanes.now) → k < 64
+        → bit result k ≡ list_any (λ net. not (same_bit (with_faults lanes.now.circuit (in_lane lanes.now.in_force word k) run t net)
+        (golden_value lanes.now.circuit run t net))) nets.now }
 {
     let mut differ = 0;
     for net in nets {
@@ -74,17 +76,22 @@ fn louder(before: Noise, differs: u64, golden: bool) -> Noise
 
 /// The lanes in which some of these alarms is 1 in the last cycle, and 0 in the golden run; and those in which some is 0, and 1
 /// in the golden run. `row` has the golden values of this cycle.
-pub fn noise_in<B: LaneWords>(lanes: &B, word: u32, row: &[u64], nets: &[NetId]) -> Noise
-    requires word { word < B.words }
-    requires nets { All (IsNet (B.load lanes.now).circuit) nets.now }
-    ensures raised { (run : Run) (t k : ℕ) → t < cycles_of run → B.IsAfter lanes.now (take (t + 1) run.vectors)
-        → IsGoldenRow (B.load lanes.now).circuit run.vectors t row.now → k < 64
-        → bit result.raised k ≡ list_any (λ net. with_faults (B.load lanes.now).circuit (in_lane (B.in_force lanes.now) word k) run t net
-        && not (golden_value (B.load lanes.now).circuit run t net)) nets.now }
-    ensures silenced { (run : Run) (t k : ℕ) → t < cycles_of run → B.IsAfter lanes.now (take (t + 1) run.vectors)
-        → IsGoldenRow (B.load lanes.now).circuit run.vectors t row.now → k < 64
-        → bit result.silenced k ≡ list_any (λ net. not (with_faults (B.load lanes.now).circuit (in_lane (B.in_force lanes.now) word k) run t net)
-        && golden_value (B.load lanes.now).circuit run t net) nets.now }
+pub fn noise_in<W: Word>(
+    lanes: &DifferentialLanes<W>,
+    word: u32,
+    row: &[u64],
+    nets: &[NetId],
+) -> Noise
+    requires word { word < W.words }
+    requires nets { All (IsNet lanes.now.circuit) nets.now }
+    ensures raised { (run : Run) (t k : ℕ) → t < cycles_of run → AreBeside W.lanes W.lane_bit (take (t + 1) run.vectors) (bank_of lanes.now)
+        → IsGoldenRow lanes.now.circuit run.vectors t row.now → k < 64
+        → bit result.raised k ≡ list_any (λ net. with_faults lanes.now.circuit (in_lane lanes.now.in_force word k) run t net
+        && not (golden_value lanes.now.circuit run t net)) nets.now }
+    ensures silenced { (run : Run) (t k : ℕ) → t < cycles_of run → AreBeside W.lanes W.lane_bit (take (t + 1) run.vectors) (bank_of lanes.now)
+        → IsGoldenRow lanes.now.circuit run.vectors t row.now → k < 64
+        → bit result.silenced k ≡ list_any (λ net. not (with_faults lanes.now.circuit (in_lane lanes.now.in_force word k) run t net)
+        && golden_value lanes.now.circuit run t net) nets.now }
 {
     let mut found = SILENT;
     for net in nets {

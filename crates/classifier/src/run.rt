@@ -6,19 +6,21 @@ ghost use Rattle.workload.specs.declared.run.Run.{Run};
 ghost use Rattle.workload.specs.Runs.{cycles_of, run_at};
 ghost use Rattle.alarm_points.specs.PointsKept.{ArePointsFor};
 ghost use Rattle.fm_base.specs.Planes.{bit};
-ghost use Rattle.golden_difference.specs.Beside.{IsGoldenRow, IsOver};
-ghost use Rattle.classifier.specs.Load.{IsLoadFor, in_lane};
+ghost use Rattle.golden_difference.specs.Beside.{IsGoldenRow, IsOver, AreBeside};
+ghost use Rattle.classifier.specs.Load.{in_lane, load_of};
 ghost use Rattle.classifier.specs.Planes.{outcome_at};
 ghost use Rattle.alarm_points.specs.FourWatches.{AreAllMadeFor};
 ghost use Rattle.classifier.specs.Seen.{AreAllFollowed, AreUndecided, HaveAllSeen, HaveAllSeenRun, KeepSettings, is_decided};
+ghost use Rattle.golden_difference.specs.Lanes.{bank_of, IsMadeFor};
 
 use crate::see::see_cycle;
 use crate::testbench::Testbench;
-use crate::words::LaneWords;
 use alarm_points::Points;
 use alarm_points::windows::Windows;
 use campaign_plan::Outcome;
+use differential_kernel::DifferentialLanes;
 use fm_base::Steps;
+use lane_words::Word;
 use std::sync::ledger::Ledger;
 use workload::run::Kind;
 
@@ -36,13 +38,13 @@ fn start_windows(points: &Points, windows: &mut [Windows], noticed: &mut [u64])
 }
 
 // Drops some lanes of a word, where there are more than before.
-fn drop_more<B: LaneWords>(lanes: &mut B, word: u32, before: u64, out: u64)
-    requires { word < B.words }
-    ensures load { B.load lanes.new ≡ B.load lanes.old }
-    ensures cycles { B.cycles lanes.new ≡ B.cycles lanes.old }
-    ensures after { (vectors : List (List Bool)) → B.IsAfter lanes.old vectors → B.IsAfter lanes.new vectors }
-    ensures others { (other k : ℕ) → other < B.words → k < 64 → (other ≢ word) ⊎ (bit out k ≡ false)
-        → in_lane (B.in_force lanes.new) other k ≡ in_lane (B.in_force lanes.old) other k }
+fn drop_more<W: Word>(lanes: &mut DifferentialLanes<W>, word: u32, before: u64, out: u64)
+    requires { word < W.words }
+    ensures load { load_of lanes.new ≡ load_of lanes.old }
+    ensures cycles { lanes.new.cycle ≡ lanes.old.cycle }
+    ensures after { (vectors : List (List Bool)) → AreBeside W.lanes W.lane_bit vectors (bank_of lanes.old) → AreBeside W.lanes W.lane_bit vectors (bank_of lanes.new) }
+    ensures others { (other k : ℕ) → other < W.words → k < 64 → (other ≢ word) ⊎ (bit out k ≡ false)
+        → in_lane lanes.new.in_force other k ≡ in_lane lanes.old.in_force other k }
 {
     if out != before {
         lanes.drop_lanes(word, out);
@@ -51,31 +53,31 @@ fn drop_more<B: LaneWords>(lanes: &mut B, word: u32, before: u64, out: u64)
 
 // Shows the last cycle of a run of this kind to the windows of each word, and drops the lanes that are noticed. `row` has the
 // golden values of the cycle.
-fn see_words<B: LaneWords>(
+fn see_words<W: Word>(
     points: &Points,
     kind: Kind,
     row: &[u64],
-    lanes: &mut B,
+    lanes: &mut DifferentialLanes<W>,
     windows: &mut [Windows],
     noticed: &mut [u64],
 )
-    requires points { ArePointsFor (B.load lanes.old).circuit points.now }
-    requires windows { length windows.old ≡ B.words }
-    requires noticed { length noticed.old ≡ B.words }
+    requires points { ArePointsFor lanes.old.circuit points.now }
+    requires windows { length windows.old ≡ W.words }
+    requires noticed { length noticed.old ≡ W.words }
     requires made { AreAllMadeFor points.now windows.old }
-    ensures load { B.load lanes.new ≡ B.load lanes.old }
-    ensures cycles { B.cycles lanes.new ≡ B.cycles lanes.old }
+    ensures load { load_of lanes.new ≡ load_of lanes.old }
+    ensures cycles { lanes.new.cycle ≡ lanes.old.cycle }
     ensures made { AreAllMadeFor points.now windows.new }
-    ensures seen { (run : Run) (faults : List (List (Option Fault))) (t : ℕ) → run.kind ≡ kind → t < cycles_of run → B.IsAfter lanes.old (take (t + 1) run.vectors)
-        → IsGoldenRow (B.load lanes.old).circuit run.vectors t row.now
-        → AreAllFollowed B.words faults (B.in_force lanes.old) noticed.old
-        → HaveAllSeen (B.load lanes.old).circuit points.now run faults t windows.old noticed.old
-        → B.IsAfter lanes.new (take (t + 1) run.vectors)
-        × AreAllFollowed B.words faults (B.in_force lanes.new) noticed.new
-        × HaveAllSeen (B.load lanes.old).circuit points.now run faults (t + 1) windows.new noticed.new }
+    ensures seen { (run : Run) (faults : List (List (Option Fault))) (t : ℕ) → run.kind ≡ kind → t < cycles_of run → AreBeside W.lanes W.lane_bit (take (t + 1) run.vectors) (bank_of lanes.old)
+        → IsGoldenRow lanes.old.circuit run.vectors t row.now
+        → AreAllFollowed W.words faults lanes.old.in_force noticed.old
+        → HaveAllSeen lanes.old.circuit points.now run faults t windows.old noticed.old
+        → AreBeside W.lanes W.lane_bit (take (t + 1) run.vectors) (bank_of lanes.new)
+        × AreAllFollowed W.words faults lanes.new.in_force noticed.new
+        × HaveAllSeen lanes.old.circuit points.now run faults (t + 1) windows.new noticed.new }
     ensures ftti { KeepSettings windows.old windows.new }
 {
-    for word in 0..B::count() {
+    for word in 0..W::words() {
         let at = word as usize;
         let before = noticed[at];
         see_cycle(
@@ -92,11 +94,11 @@ fn see_words<B: LaneWords>(
 }
 
 // Simulates the next cycle of a run, and shows it to the windows of each word.
-fn run_cycle<B: LaneWords, L: Ledger>(
+fn run_cycle<W: Word, L: Ledger>(
     bench: &Testbench<'_>,
     run: u32,
     t: u32,
-    lanes: &mut B,
+    lanes: &mut DifferentialLanes<W>,
     windows: &mut [Windows],
     noticed: &mut [u64],
     steps: &mut Steps<L>,
@@ -104,19 +106,19 @@ fn run_cycle<B: LaneWords, L: Ledger>(
     requires run { run < length bench.now.runs }
     requires cycle { t < cycles_of (run_at bench.now.runs run) }
     requires few { t < 65536 }
-    requires made { IsLoadFor bench.now.circuit bench.now.order (B.load lanes.old) }
-    requires cycles { B.cycles lanes.old ≡ t }
-    requires after { B.IsAfter lanes.old (take t (run_at bench.now.runs run).vectors) }
-    requires windows { length windows.old ≡ B.words }
-    requires noticed { length noticed.old ≡ B.words }
+    requires made { IsMadeFor bench.now.circuit bench.now.order lanes.old }
+    requires cycles { lanes.old.cycle ≡ t }
+    requires after { AreBeside W.lanes W.lane_bit (take t (run_at bench.now.runs run).vectors) (bank_of lanes.old) }
+    requires windows { length windows.old ≡ W.words }
+    requires noticed { length noticed.old ≡ W.words }
     requires windows_made { AreAllMadeFor bench.now.points windows.old }
-    ensures load { B.load lanes.new ≡ B.load lanes.old }
-    ensures cycles { B.cycles lanes.new ≡ t + 1 }
+    ensures load { load_of lanes.new ≡ load_of lanes.old }
+    ensures cycles { lanes.new.cycle ≡ t + 1 }
     ensures windows_made { AreAllMadeFor bench.now.points windows.new }
-    ensures seen { (faults : List (List (Option Fault))) → AreAllFollowed B.words faults (B.in_force lanes.old) noticed.old
+    ensures seen { (faults : List (List (Option Fault))) → AreAllFollowed W.words faults lanes.old.in_force noticed.old
         → HaveAllSeen bench.now.circuit bench.now.points (run_at bench.now.runs run) faults t windows.old noticed.old
-        → B.IsAfter lanes.new (take (t + 1) (run_at bench.now.runs run).vectors)
-        × AreAllFollowed B.words faults (B.in_force lanes.new) noticed.new
+        → AreBeside W.lanes W.lane_bit (take (t + 1) (run_at bench.now.runs run).vectors) (bank_of lanes.new)
+        × AreAllFollowed W.words faults lanes.new.in_force noticed.new
         × HaveAllSeen bench.now.circuit bench.now.points (run_at bench.now.runs run) faults (t + 1) windows.new noticed.new }
     ensures ftti { KeepSettings windows.old windows.new }
     ensures cost { steps.new ≤ steps.old + length bench.now.circuit.tables }
@@ -144,25 +146,25 @@ fn decided(kind: Kind, outcome: Outcome) -> u64
 }
 
 // Drops the lanes that earlier runs have decided.
-fn drop_decided<B: LaneWords>(kind: Kind, outcomes: &[Outcome], lanes: &mut B)
-    requires { length outcomes.now ≡ B.words }
-    ensures load { B.load lanes.new ≡ B.load lanes.old }
-    ensures cycles { B.cycles lanes.new ≡ B.cycles lanes.old }
-    ensures after { (vectors : List (List Bool)) → B.IsAfter lanes.old vectors → B.IsAfter lanes.new vectors }
-    ensures others { (word k : ℕ) → word < B.words → k < 64 → is_decided kind (outcome_at outcomes.now word) k ≡ false
-        → in_lane (B.in_force lanes.new) word k ≡ in_lane (B.in_force lanes.old) word k }
+fn drop_decided<W: Word>(kind: Kind, outcomes: &[Outcome], lanes: &mut DifferentialLanes<W>)
+    requires { length outcomes.now ≡ W.words }
+    ensures load { load_of lanes.new ≡ load_of lanes.old }
+    ensures cycles { lanes.new.cycle ≡ lanes.old.cycle }
+    ensures after { (vectors : List (List Bool)) → AreBeside W.lanes W.lane_bit vectors (bank_of lanes.old) → AreBeside W.lanes W.lane_bit vectors (bank_of lanes.new) }
+    ensures others { (word k : ℕ) → word < W.words → k < 64 → is_decided kind (outcome_at outcomes.now word) k ≡ false
+        → in_lane lanes.new.in_force word k ≡ in_lane lanes.old.in_force word k }
 {
-    for word in 0..B::count() {
+    for word in 0..W::words() {
         let out = decided(kind, outcomes[word as usize]);
         drop_more(lanes, word, 0, out);
     }
 }
 
 // Whether a run of so many cycles goes on in cycle t: there is one, and the run isn't over.
-fn goes_on<B: LaneWords>(lanes: &B, t: u32, cycles: u32) -> bool
+fn goes_on<W: Word>(lanes: &DifferentialLanes<W>, t: u32, cycles: u32) -> bool
     ensures more { result ≡ true → t < cycles }
-    ensures over { (vectors : List (List Bool)) (word k : ℕ) → result ≡ false → t < cycles → B.IsAfter lanes.now vectors → word < B.words → k < 64
-        → IsOver (B.load lanes.now).circuit (in_lane (B.in_force lanes.now) word k) vectors 65536 }
+    ensures over { (vectors : List (List Bool)) (word k : ℕ) → result ≡ false → t < cycles → AreBeside W.lanes W.lane_bit vectors (bank_of lanes.now) → word < W.words → k < 64
+        → IsOver lanes.now.circuit (in_lane lanes.now.in_force word k) vectors 65536 }
 {
     if t < cycles { !lanes.is_over() } else { false }
 }
@@ -171,29 +173,29 @@ fn goes_on<B: LaneWords>(lanes: &B, t: u32, cycles: u32) -> bool
 /// to the windows of each word. `noticed` are then the lanes of each word that the run gives notice of; such a lane is dropped once
 /// it is noticed. The run is left where it is over in all lanes. It takes at most one step for each table and cycle. What lanes,
 /// windows and `noticed` held before is no matter.
-pub fn watch_run<B: LaneWords, L: Ledger>(
+pub fn watch_run<W: Word, L: Ledger>(
     bench: &Testbench<'_>,
     run: u32,
-    lanes: &mut B,
+    lanes: &mut DifferentialLanes<W>,
     windows: &mut [Windows],
     noticed: &mut [u64],
     outcomes: &[Outcome],
     steps: &mut Steps<L>,
 )
     requires run { run < length bench.now.runs }
-    requires outcomes { length outcomes.now ≡ B.words }
-    requires made { IsLoadFor bench.now.circuit bench.now.order (B.load lanes.old) }
-    requires windows { length windows.old ≡ B.words }
-    requires noticed { length noticed.old ≡ B.words }
+    requires outcomes { length outcomes.now ≡ W.words }
+    requires made { IsMadeFor bench.now.circuit bench.now.order lanes.old }
+    requires windows { length windows.old ≡ W.words }
+    requires noticed { length noticed.old ≡ W.words }
     requires windows_made { AreAllMadeFor bench.now.points windows.old }
-    ensures load { B.load lanes.new ≡ B.load lanes.old }
+    ensures load { load_of lanes.new ≡ load_of lanes.old }
     ensures seen { (faults : List (List (Option Fault)))
-        × AreUndecided (run_at bench.now.runs run).kind B.words (B.load lanes.old) outcomes.now faults
+        × AreUndecided (run_at bench.now.runs run).kind W.words (load_of lanes.old) outcomes.now faults
         × HaveAllSeenRun bench.now.circuit bench.now.points (run_at bench.now.runs run) faults windows.new noticed.new }
     ensures ftti { KeepSettings windows.old windows.new }
     ensures cost { steps.new ≤ steps.old + cycles_of (run_at bench.now.runs run) * length bench.now.circuit.tables }
 {
-    lanes.restart();
+    lanes.start();
     start_windows(bench.points(), windows, noticed);
     drop_decided(bench.kind(run), outcomes, lanes);
     let mut t = 0;

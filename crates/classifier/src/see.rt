@@ -9,31 +9,39 @@ ghost use Rattle.alarm_points.specs.Watch.{KeepsIntervals, window_at};
 ghost use Rattle.alarm_points.specs.declared.Points.{Points as PointsValue};
 ghost use Rattle.campaign_plan.specs.Danger.{is_raised};
 ghost use Rattle.fm_base.specs.Planes.{bit};
-ghost use Rattle.golden_difference.specs.Beside.{IsGoldenRow};
+ghost use Rattle.golden_difference.specs.Beside.{IsGoldenRow, AreBeside};
 ghost use Rattle.classifier.specs.Load.{in_lane};
 ghost use Rattle.classifier.specs.Seen.{AreFollowed, HasSeen, HaveSeen, goal_at, is_noticed_by};
+ghost use Rattle.golden_difference.specs.Lanes.{bank_of};
 
 use crate::noise::Noise;
 use crate::points::{differing, either_lanes, noise_in};
-use crate::words::LaneWords;
 use alarm_points::windows::Windows;
 use alarm_points::{Goal, Points};
+use differential_kernel::DifferentialLanes;
+use lane_words::Word;
 use workload::run::Kind;
 
 // Shows each goal a cycle of a run: the lanes in which one of its points differs, and those in which an alarm is raised.
-fn see_goals<B: LaneWords>(lanes: &B, word: u32, goals: &[Goal], raised: u64, windows: &mut Windows)
-    requires word { word < B.words }
+fn see_goals<W: Word>(
+    lanes: &DifferentialLanes<W>,
+    word: u32,
+    goals: &[Goal],
+    raised: u64,
+    windows: &mut Windows,
+)
+    requires word { word < W.words }
     requires few_goals { length goals.now ≤ 4 }
-    requires nets { (g : ℕ) → g < length goals.now → All (IsNet (B.load lanes.now).circuit) (goal_at goals.now g).observe }
+    requires nets { (g : ℕ) → g < length goals.now → All (IsNet lanes.now.circuit) (goal_at goals.now g).observe }
     requires windows { length windows.old.windows ≡ length goals.now }
     ensures keeps { KeepsIntervals windows.old windows.new }
     ensures count { length windows.new.windows ≡ length goals.now }
-    ensures step { (points : PointsValue) (run : Run) (faults : ℕ → List Fault) (t g : ℕ) → t < cycles_of run → g < length goals.now → B.IsAfter lanes.now (take (t + 1) run.vectors)
-        → ((k : ℕ) → k < 64 → is_noticed_by (B.load lanes.now).circuit points (faults k) run t ≡ false
-        → (in_lane (B.in_force lanes.now) word k ≡ faults k)
-        × (bit raised k ≡ is_raised (B.load lanes.now).circuit points (faults k) run t))
-        → HasSeen (B.load lanes.now).circuit points run faults (goal_at goals.now g) t (window_at windows.old g)
-        → HasSeen (B.load lanes.now).circuit points run faults (goal_at goals.now g) (t + 1) (window_at windows.new g) }
+    ensures step { (points : PointsValue) (run : Run) (faults : ℕ → List Fault) (t g : ℕ) → t < cycles_of run → g < length goals.now → AreBeside W.lanes W.lane_bit (take (t + 1) run.vectors) (bank_of lanes.now)
+        → ((k : ℕ) → k < 64 → is_noticed_by lanes.now.circuit points (faults k) run t ≡ false
+        → (in_lane lanes.now.in_force word k ≡ faults k)
+        × (bit raised k ≡ is_raised lanes.now.circuit points (faults k) run t))
+        → HasSeen lanes.now.circuit points run faults (goal_at goals.now g) t (window_at windows.old g)
+        → HasSeen lanes.now.circuit points run faults (goal_at goals.now g) (t + 1) (window_at windows.new g) }
 {
     for (g, goal) in goals.iter().enumerate() {
         let differs = differing(lanes, word, goal.observe.as_slice());
@@ -53,8 +61,8 @@ fn noticed_by(kind: Kind, noise: Noise) -> u64
 
 /// Shows a word's windows the last cycle of a run of this kind, and adds the lanes that are noticed in it. `row` has the golden
 /// values of this cycle.
-pub fn see_cycle<B: LaneWords>(
-    lanes: &B,
+pub fn see_cycle<W: Word>(
+    lanes: &DifferentialLanes<W>,
     word: u32,
     points: &Points,
     kind: Kind,
@@ -62,14 +70,14 @@ pub fn see_cycle<B: LaneWords>(
     windows: &mut Windows,
     noticed: &mut u64,
 )
-    requires word { word < B.words }
-    requires points { ArePointsFor (B.load lanes.now).circuit points.now }
+    requires word { word < W.words }
+    requires points { ArePointsFor lanes.now.circuit points.now }
     requires windows { length windows.old.windows ≡ length points.now.goals }
-    ensures seen { (run : Run) (faults : ℕ → List Fault) (t : ℕ) → run.kind ≡ kind → t < cycles_of run → B.IsAfter lanes.now (take (t + 1) run.vectors)
-        → IsGoldenRow (B.load lanes.now).circuit run.vectors t row.now
-        → AreFollowed faults (B.in_force lanes.now) word noticed.old
-        → HaveSeen (B.load lanes.now).circuit points.now run faults t windows.old noticed.old
-        → HaveSeen (B.load lanes.now).circuit points.now run faults (t + 1) windows.new noticed.new }
+    ensures seen { (run : Run) (faults : ℕ → List Fault) (t : ℕ) → run.kind ≡ kind → t < cycles_of run → AreBeside W.lanes W.lane_bit (take (t + 1) run.vectors) (bank_of lanes.now)
+        → IsGoldenRow lanes.now.circuit run.vectors t row.now
+        → AreFollowed faults lanes.now.in_force word noticed.old
+        → HaveSeen lanes.now.circuit points.now run faults t windows.old noticed.old
+        → HaveSeen lanes.now.circuit points.now run faults (t + 1) windows.new noticed.new }
     ensures keeps { KeepsIntervals windows.old windows.new }
     ensures grows { (k : ℕ) → bit noticed.new k ≡ false → bit noticed.old k ≡ false }
 {

@@ -3,16 +3,18 @@ ghost use Rattle.std.specs.Prelude.{◌≡◌, ◌<◌, ◌≤◌, ◌+◌, ◌+
 ghost use Rattle.workload.specs.Runs.{cycles_of, run_at};
 ghost use Rattle.workload.specs.RunsKept.{AreRuns};
 ghost use Rattle.alarm_points.specs.PointsKept.{ArePointsFor};
-ghost use Rattle.golden_difference.specs.Beside.{IsGoldenRow};
-ghost use Rattle.classifier.specs.Load.{IsLoadFor};
+ghost use Rattle.golden_difference.specs.Beside.{IsGoldenRow, AreBeside};
+ghost use Rattle.classifier.specs.Load.{load_of};
 ghost use Rattle.classifier.specs.Tools.{IsTestbenchFor, golden_of};
+ghost use Rattle.golden_difference.specs.Lanes.{bank_of, IsMadeFor};
 
-use crate::words::LaneWords;
 use alarm_points::Points;
 use campaign_plan::Plan;
 use circuit::netlist::Netlist;
+use differential_kernel::DifferentialLanes;
 use fm_base::Steps;
 use golden_run::Golden;
+use lane_words::Word;
 use netlist_levels::Order;
 use std::marker::Model;
 use std::sync::ledger::Ledger;
@@ -73,14 +75,14 @@ impl<'a> Testbench<'a> {
     }
 
     /// The number of runs.
-    pub(crate) fn runs(&self) -> u32
+    pub fn runs(&self) -> u32
         ensures { result ≡ length self.now.runs }
     {
         self.work.runs()
     }
 
     /// What a run stands for.
-    pub(crate) fn kind(&self, run: u32) -> Kind
+    pub fn kind(&self, run: u32) -> Kind
         requires { run < length self.now.runs }
         ensures { result ≡ (run_at self.now.runs run).kind }
     {
@@ -88,7 +90,7 @@ impl<'a> Testbench<'a> {
     }
 
     /// The number of cycles of a run.
-    pub(crate) fn cycles(&self, run: u32) -> u32
+    pub fn cycles(&self, run: u32) -> u32
         requires { run < length self.now.runs }
         ensures count { result ≡ cycles_of (run_at self.now.runs run) }
         ensures sound { AreRuns self.now.runs }
@@ -97,7 +99,7 @@ impl<'a> Testbench<'a> {
     }
 
     /// The points that tell danger and notice.
-    pub(crate) fn points(&self) -> &'a Points
+    pub fn points(&self) -> &'a Points
         ensures points { result.now ≡ self.now.points }
         ensures fit { ArePointsFor self.now.circuit self.now.points }
     {
@@ -105,7 +107,7 @@ impl<'a> Testbench<'a> {
     }
 
     /// The golden values of all nets in a cycle of a run.
-    pub(crate) fn row(&self, run: u32, t: u32) -> &'a [u64]
+    pub fn row(&self, run: u32, t: u32) -> &'a [u64]
         requires run { run < length self.now.runs }
         requires cycle { t < cycles_of (run_at self.now.runs run) }
         ensures { IsGoldenRow self.now.circuit (run_at self.now.runs run).vectors t result.now }
@@ -114,21 +116,21 @@ impl<'a> Testbench<'a> {
     }
 
     /// Simulates the next cycle in all lanes, where `row` has the golden value of each net in this cycle.
-    pub(crate) fn advance<B: LaneWords, L: Ledger>(
+    pub fn advance<W: Word, L: Ledger>(
         &self,
         row: &[u64],
-        lanes: &mut B,
+        lanes: &mut DifferentialLanes<W>,
         steps: &mut Steps<L>,
     )
-        requires made { IsLoadFor self.now.circuit self.now.order (B.load lanes.old) }
-        requires few { B.cycles lanes.old < 65536 }
-        ensures keeps { B.load lanes.new ≡ B.load lanes.old }
-        ensures in_force { B.in_force lanes.new ≡ B.in_force lanes.old }
-        ensures cycles { B.cycles lanes.new ≡ B.cycles lanes.old + 1 }
-        ensures step { (vectors : List (List Bool)) (inputs : List Bool) → B.IsAfter lanes.old vectors
-            → IsGoldenRow self.now.circuit (vectors ++ inputs ∷ []) (length vectors) row.now → B.IsAfter lanes.new (vectors ++ inputs ∷ []) }
+        requires made { IsMadeFor self.now.circuit self.now.order lanes.old }
+        requires few { lanes.old.cycle < 65536 }
+        ensures keeps { load_of lanes.new ≡ load_of lanes.old }
+        ensures in_force { lanes.new.in_force ≡ lanes.old.in_force }
+        ensures cycles { lanes.new.cycle ≡ lanes.old.cycle + 1 }
+        ensures step { (vectors : List (List Bool)) (inputs : List Bool) → AreBeside W.lanes W.lane_bit vectors (bank_of lanes.old)
+            → IsGoldenRow self.now.circuit (vectors ++ inputs ∷ []) (length vectors) row.now → AreBeside W.lanes W.lane_bit (vectors ++ inputs ∷ []) (bank_of lanes.new) }
         ensures cost { steps.new ≤ steps.old + length self.now.circuit.tables }
     {
-        lanes.advance(self.net, self.order, self.golden.fanout(), row, steps);
+        lanes.cycle(self.net, self.order, self.golden.fanout(), row, steps);
     }
 }

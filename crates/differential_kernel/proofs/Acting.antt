@@ -8,8 +8,8 @@ use Rattle.circuit.specs.declared.parts.Fault.TheVariants.{Stuck, Flip, Pulse}
 use Rattle.circuit.specs.Effects.{forced, inverted, is_flip_of, is_permanent, is_pulse_on}
 use Rattle.circuit.specs.Trace.{flipped}
 use Rattle.golden_difference.specs.Beside.{DoNothing}
-use Rattle.lane_kernel.specs.Loads.{loaded_faults, has_pulses, is_pulse_in, somes}
-use Rattle.lane_kernel.proofs.Armed.{flipped_same, lane_fails, none_passes}
+use Rattle.lane_words.specs.Loads.{loaded_faults, has_pulses, is_pulse_in, somes}
+use Rattle.lane_words.proofs.Armed.{flipped_same, lane_fails, none_passes}
 use Rattle.differential_kernel.specs.Forces.{acts, has_acts, has_stuck, is_act_in}
 
 unpulsed : (t : ℕ) (fault : Fault) → is_act_in t fault ≡ false → is_pulse_in t fault ≡ false

@@ -17,14 +17,14 @@ use Rattle.golden_difference.specs.Beside.{latched}
 use Rattle.golden_difference.proofs.Exclusive.{either_back}
 use Rattle.golden_difference.proofs.Sources.{source_gives}
 use Rattle.golden_difference.proofs.Walked.{Walked, walked_none}
-use Rattle.lane_kernel.specs.Bits.{either}
-use Rattle.lane_kernel.specs.Gates.{plane}
+use Rattle.lane_words.specs.Bits.{either}
+use Rattle.lane_words.specs.Gates.{plane}
 use Rattle.place_set.specs.Places.{value_in}
-use Rattle.differential_kernel.specs.declared.force.Force.{Force}
+use Rattle.lane_words.specs.declared.force.Force.{Force}
 use Rattle.differential_kernel.specs.Differences.{read_in}
-use Rattle.differential_kernel.specs.Forces.{force_value}
+use Rattle.lane_words.specs.Forces.{force_value, AreForces}
 use Rattle.differential_kernel.specs.Places.{AreTablePlaces}
-use Rattle.differential_kernel.specs.Walk.{AreForces, IsPair}
+use Rattle.differential_kernel.specs.Walk.{IsPair}
 use Rattle.differential_kernel.proofs.Forcing.{forced_in}
 use Rattle.differential_kernel.proofs.Walking.{some_force}
 

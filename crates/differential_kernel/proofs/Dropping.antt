@@ -7,8 +7,8 @@ use Rattle.circuit.specs.Circuit.{Circuit}
 use Rattle.circuit.specs.Value.{bit_at}
 use Rattle.golden_difference.specs.Beside.{IsBeside, state_differs, trace_differs}
 use Rattle.golden_difference.proofs.Exclusive.{either_same}
-use Rattle.lane_kernel.specs.Bits.{either}
-use Rattle.lane_kernel.specs.Gates.{plane}
+use Rattle.lane_words.specs.Bits.{either}
+use Rattle.lane_words.specs.Gates.{plane}
 use Rattle.circuit.specs.Trace.{raw_state, trace}
 
 -- a bit that is kept where another isn't set

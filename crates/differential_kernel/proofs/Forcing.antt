@@ -2,12 +2,12 @@
 use Rattle.std.proofs.Common.{◌≡◌, ℕ, ◌<◌, Bool, List, get_or, ap, ◌∙◌}
 use Rattle.circuit.specs.Value.{bit_at}
 use Rattle.golden_difference.proofs.Exclusive.{either_again}
-use Rattle.lane_kernel.specs.Bits.{either}
-use Rattle.lane_kernel.specs.Gates.{plane}
+use Rattle.lane_words.specs.Bits.{either}
+use Rattle.lane_words.specs.Gates.{plane}
 use Rattle.place_set.specs.Places.{value_in}
-use Rattle.differential_kernel.specs.declared.force.Force.{Force}
+use Rattle.lane_words.specs.declared.force.Force.{Force}
 use Rattle.differential_kernel.specs.Differences.{read_in}
-use Rattle.differential_kernel.specs.Forces.{IsIdleAt, force_value}
+use Rattle.lane_words.specs.Forces.{IsIdleAt, force_value}
 
 -- what a net differs in, where its value in a lane is forced
 abbrev pub forced_in : {W : Type 0} → (W → ℕ → Bool) → ℕ → List ℕ → List (Force W) → Force W → List W → ℕ → Bool

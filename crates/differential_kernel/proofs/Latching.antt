@@ -9,7 +9,7 @@ use Rattle.circuit.specs.Circuit.{Circuit}
 use Rattle.circuit.specs.Sound.{IsNetOf, IsNetlist}
 use Rattle.circuit.specs.Value.{driver_at}
 use Rattle.golden_difference.specs.Beside.{latched}
-use Rattle.lane_kernel.specs.Gates.{latch_at}
+use Rattle.lane_words.specs.Gates.{latch_at}
 
 -- what latches differ in, of those below a place
 abbrev pub held_below : ℕ → (ℕ → Bool) → ℕ → Bool

@@ -1,8 +1,8 @@
 pub mod Acting
-pub mod Four
 pub mod Notes
 pub mod Latching
 pub mod Forcing
+pub mod Flipping
 pub mod Walking
 pub mod Begun
 pub mod Stepped

@@ -4,8 +4,8 @@ use Rattle.std.proofs.lemmas.Bool.{cases_eq, cases_lt, eq-eqb, false_from_ne_tru
 use Rattle.std.proofs.lemmas.List.{map-set, get_or-set_same, get_or-set_other}
 use Rattle.circuit.specs.Value.{bit_at}
 use Rattle.fanout.specs.Readers.{IsReadAt, Ordered}
-use Rattle.lane_kernel.specs.Gates.{plane}
-use Rattle.lane_kernel.proofs.Sources.{length_plane}
+use Rattle.lane_words.specs.Gates.{plane}
+use Rattle.lane_words.proofs.Planes.{length_plane}
 use Rattle.place_set.specs.Places.{Places, has}
 use Rattle.differential_kernel.specs.Differences.{AreSameOff, Grows, IsNoted, IsSame}
 

@@ -9,10 +9,10 @@ use Rattle.circuit.specs.Value.{Cycle, bit_at, net_value}
 use Rattle.golden_difference.specs.Beside.{AreBeside, IsBeside, IsGoldenRow, trace_differs}
 use Rattle.golden_difference.proofs.Exclusive.{either_back}
 use Rattle.golden_difference.proofs.NextCycle.{beside_more, flipped_differs}
-use Rattle.lane_kernel.specs.Bank.{Bank}
-use Rattle.lane_kernel.specs.Bits.{either}
-use Rattle.lane_kernel.specs.Gates.{latch_at}
-use Rattle.lane_kernel.specs.Loads.{loaded_faults}
+use Rattle.lane_words.specs.Bank.{Bank}
+use Rattle.lane_words.specs.Bits.{either}
+use Rattle.lane_words.specs.Gates.{latch_at}
+use Rattle.lane_words.specs.Loads.{loaded_faults}
 use Rattle.differential_kernel.specs.Differences.{read_in}
 use Rattle.differential_kernel.specs.Walk.{IsPair}
 

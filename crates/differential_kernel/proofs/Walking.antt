@@ -13,13 +13,13 @@ use Rattle.circuit.specs.Value.{Cycle, bit_at, driven, driver_at, table_at, tabl
 use Rattle.fanout.specs.Readers.{IsReadAt, Ordered, all_reads, driver_reads}
 use Rattle.golden_difference.proofs.Exclusive.{either_back}
 use Rattle.golden_difference.proofs.Walked.{Walked, quiet_place, walked_more}
-use Rattle.lane_kernel.specs.Bits.{either}
-use Rattle.lane_kernel.specs.Gates.{latch_at, plane}
+use Rattle.lane_words.specs.Bits.{either}
+use Rattle.lane_words.specs.Gates.{latch_at, plane}
 use Rattle.place_set.specs.Places.{Places, has, value_in}
-use Rattle.differential_kernel.specs.declared.force.Force.{Force}
+use Rattle.lane_words.specs.declared.force.Force.{Force}
 use Rattle.differential_kernel.specs.Differences.{IsNoted, read_in}
-use Rattle.differential_kernel.specs.Forces.{force_value}
-use Rattle.differential_kernel.specs.Walk.{AreForces, IsAhead, IsPair}
+use Rattle.lane_words.specs.Forces.{force_value, AreForces}
+use Rattle.differential_kernel.specs.Walk.{IsAhead, IsPair}
 
 -- a table's place reads what the table reads
 pub table_read : (o : Ordered) (j k : ℕ) (m : NetId) → j < length o.order → driver_at o.circuit (net_at o.order j).0 ≡ FromTable k

@@ -1,8 +1,8 @@
 -- What nets and latches differ in, lane by lane, and where it is noted.
 use Rattle.std.specs.Prelude.{◌≡◌, ℕ, ◌<◌, ◌≤◌, Bool, true, false, List}
 use Rattle.circuit.specs.Value.{bit_at}
-use Rattle.lane_kernel.specs.Bits.{either}
-use Rattle.lane_kernel.specs.Gates.{plane}
+use Rattle.lane_words.specs.Bits.{either}
+use Rattle.lane_words.specs.Gates.{plane}
 use Rattle.fanout.specs.Readers.{IsReadAt, Ordered}
 use Rattle.place_set.specs.Places.{Places, has, value_in}
 use Rattle.differential_kernel.specs.declared.nets.NetDifferences.{NetDifferences}

@@ -3,25 +3,14 @@ use Rattle.std.specs.Prelude.{◌≡◌, ℕ, Bool, true, false, length}
 use Rattle.circuit.specs.Order.{IsOrder}
 use Rattle.circuit.specs.Sound.{IsNetlist}
 use Rattle.golden_difference.specs.Lanes.{Lanes}
-use Rattle.lane_kernel.specs.Bank.{Bank}
-use Rattle.differential_kernel.specs.declared.kernel.Kernel.{Kernel}
+use Rattle.differential_kernel.specs.declared.lanes.DifferentialLanes.TheInside.{Inside}
 use Rattle.differential_kernel.specs.Differences.{AreSameOff}
-use Rattle.differential_kernel.specs.Forces.{AreActs, AreIdle, AreNamed, AreSteady, has_stuck}
+use Rattle.differential_kernel.specs.Forces.{AreActs, AreNamed, has_stuck}
+use Rattle.lane_words.specs.Forces.{AreIdle, AreSteady}
 use Rattle.differential_kernel.specs.Parts.{AreForcesOf, AreLatchesOf, AreNetsOf, IsProgramOf}
 
--- the simulations as they stand: words and raw hold what differs from the golden run, and the loads are the faults in force
-abbrev pub difference_bank : {W : Type 0} → Kernel W → Bank W
-difference_bank s = record {
-  circuit = s.circuit.value;
-  order = s.order.value;
-  loads = s.in_force.items;
-  cycle = s.cycle;
-  raw = s.latches.raw.items;
-  words = s.nets.words.items;
-}
-
 -- a kernel as contracts see it
-abbrev pub lanes_of : {W : Type 0} → Kernel W → Lanes W
+abbrev pub lanes_of : {W : Type 0} → Inside W → Lanes W
 lanes_of s = record {
   circuit = s.circuit.value;
   order = s.order.value;
@@ -33,7 +22,7 @@ lanes_of s = record {
 }
 
 -- the nets that differ, and the latches, are in sets; the forces are those of the faults of all lanes once these are noted
-pub record IsDifferenceKernel {W : Type 0} (lanes : ℕ) (bit : W → ℕ → Bool) (s : Kernel W) : Type 0 where
+pub record IsDifferenceKernel {W : Type 0} (lanes : ℕ) (bit : W → ℕ → Bool) (s : Inside W) : Type 0 where
   pub sound : IsNetlist s.circuit.value
   pub ordered : IsOrder s.circuit.value s.order.value
   pub program : IsProgramOf lanes bit s.circuit.value s.order.value s.program

@@ -3,7 +3,7 @@ use Rattle.std.specs.Prelude.{◌≡◌, ℕ, ◌+◌, Bool, List, length}
 use Rattle.circuit.specs.declared.parts.NetId.{NetId}
 use Rattle.circuit.specs.Circuit.{Circuit}
 use Rattle.fanout.specs.Readers.{Ordered}
-use Rattle.lane_kernel.specs.Gates.{AreOps, IsProgram}
+use Rattle.lane_words.specs.Gates.{AreOps, IsProgram}
 use Rattle.differential_kernel.specs.declared.force.Forces.{Forces}
 use Rattle.differential_kernel.specs.declared.latches.LatchDifferences.{LatchDifferences}
 use Rattle.differential_kernel.specs.declared.nets.NetDifferences.{NetDifferences}

@@ -5,11 +5,11 @@ use Rattle.circuit.specs.Circuit.{Circuit}
 use Rattle.circuit.specs.Effects.{affected}
 use Rattle.circuit.specs.Order.{net_at}
 use Rattle.circuit.specs.Value.{Cycle, net_value}
-use Rattle.lane_kernel.specs.Bits.{either}
+use Rattle.lane_words.specs.Bits.{either}
 use Rattle.place_set.specs.Places.{Places, has, value_in}
-use Rattle.differential_kernel.specs.declared.force.Force.{Force}
+use Rattle.lane_words.specs.declared.force.Force.{Force}
 use Rattle.differential_kernel.specs.Differences.{IsSame}
-use Rattle.differential_kernel.specs.Forces.{force_value}
+use Rattle.lane_words.specs.Forces.{force_value}
 
 -- a cycle with faults and the golden one, of the same circuit and inputs, and the golden values in a row
 pub record IsPair (c : Circuit) (row : List ℕ) (x golden : Cycle) : Type 0 where
@@ -18,11 +18,6 @@ pub record IsPair (c : Circuit) (row : List ℕ) (x golden : Cycle) : Type 0 whe
   pub none : golden.faults ≡ []
   pub inputs : golden.inputs ≡ x.inputs
   pub values : (n : ℕ) → n < length c.drivers → value_in row n ≡ net_value golden n
-
--- what the forces do to each net is what the faults of this lane do in this cycle
-abbrev pub AreForces : {W : Type 0} → (W → ℕ → Bool) → ℕ → List (Force W) → Cycle → Type 0
-AreForces {W} bit k forces x =
-    (n : ℕ) (d : Force W) (own : Bool) → n < length forces → force_value bit k (slice_index_or forces n d) own ≡ affected x.faults x.number n own
 
 -- the nets of the places from here on don't differ yet, and where a place isn't marked the force leaves its net's golden value
 pub record IsAhead {W : Type 0} (lanes : ℕ) (bit : W → ℕ → Bool) (order : List NetId) (row : List ℕ) (forces : List (Force W)) (from : ℕ) (words : List W) (marks : Places) : Type 0 where

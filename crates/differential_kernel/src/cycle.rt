@@ -3,15 +3,15 @@ ghost use Rattle.std.specs.Prelude.{◌≡◌, ◌<◌, ◌≤◌, ◌+◌, ℕ,
 ghost use Rattle.circuit.specs.Order.{IsOrder};
 ghost use Rattle.circuit.specs.Sound.{IsNetlist};
 ghost use Rattle.circuit.specs.Value.{Cycle, bit_at, net_value};
-ghost use Rattle.lane_kernel.specs.Bits.{either};
-ghost use Rattle.lane_kernel.specs.Gates.{latch_at, plane};
+ghost use Rattle.lane_words.specs.Bits.{either};
+ghost use Rattle.lane_words.specs.Gates.{latch_at, plane};
 ghost use Rattle.differential_kernel.specs.Differences.{AreSameOff};
 ghost use Rattle.differential_kernel.specs.Parts.{AreForcesOf, AreLatchesOf, AreNetsOf, IsProgramOf};
-ghost use Rattle.differential_kernel.specs.Walk.{AreForces, IsPair};
+ghost use Rattle.lane_words.specs.Forces.{AreForces};
+ghost use Rattle.differential_kernel.specs.Walk.{IsPair};
 
 use crate::force::Forces;
 use crate::golden_cycle::GoldenCycle;
-use crate::lane_word::LaneWord;
 use crate::latches::LatchDifferences;
 use crate::nets::NetDifferences;
 use crate::program::Program;
@@ -19,6 +19,7 @@ use crate::sources::{clear, force_all, take_live};
 use crate::sweep::{blank, force_sources, show_latches, sweep, take_all};
 use crate::walk::{take_latches, walk};
 use fm_base::Steps;
+use lane_words::Word;
 use std::sync::ledger::Ledger;
 
 // After so many cycles that were run by all tables, one shows again how much differs.
@@ -26,7 +27,7 @@ const SWEEPS: u32 = 31;
 
 // Runs one cycle with the forces of this cycle, on what the latches differ in after flips, and answers how many tables were
 // evaluated.
-fn run<W: LaneWord, L: Ledger>(
+fn run<W: Word, L: Ledger>(
     cycle: &GoldenCycle<'_>,
     program: &Program<W>,
     forces: &Forces<W>,
@@ -63,7 +64,7 @@ fn run<W: LaneWord, L: Ledger>(
 }
 
 // Evaluates all nets, by all tables.
-fn sweep_all<W: LaneWord, L: Ledger>(
+fn sweep_all<W: Word, L: Ledger>(
     cycle: &GoldenCycle<'_>,
     program: &Program<W>,
     forces: &Forces<W>,
@@ -89,7 +90,7 @@ fn sweep_all<W: LaneWord, L: Ledger>(
 }
 
 // The same as a run, by all tables, whatever differs.
-fn run_all<W: LaneWord, L: Ledger>(
+fn run_all<W: Word, L: Ledger>(
     cycle: &GoldenCycle<'_>,
     program: &Program<W>,
     forces: &Forces<W>,
@@ -129,7 +130,7 @@ fn sweeps_after(evaluated: usize, tables: usize) -> u32 {
 
 /// Runs one cycle with the forces of this cycle, on what the latches differ in after flips: by all tables where `sweeps` says so,
 /// which is the number of cycles to come that are run so, and else by those that read what differs.
-pub fn advance<W: LaneWord, L: Ledger>(
+pub fn advance<W: Word, L: Ledger>(
     cycle: &GoldenCycle<'_>,
     program: &Program<W>,
     forces: &Forces<W>,

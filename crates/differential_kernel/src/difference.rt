@@ -1,32 +1,21 @@
 // One net's difference: read, forced and stored.
 ghost use Rattle.std.specs.Prelude.{◌≡◌, ◌<◌, ℕ, true, false, All, Contains, IfOk, length, slice_index_or, slice_set};
-ghost use Rattle.circuit.specs.Value.{bit_at};
-ghost use Rattle.lane_kernel.specs.Bits.{either};
-ghost use Rattle.lane_kernel.specs.Gates.{plane};
+ghost use Rattle.lane_words.specs.Bits.{either};
 ghost use Rattle.place_set.specs.Places.{has, value_in};
-ghost use Rattle.differential_kernel.specs.declared.force.Force.{Force as ForceValue};
+ghost use Rattle.lane_words.specs.declared.force.Force.{Force as ForceValue};
 ghost use Rattle.differential_kernel.specs.Differences.{AreNoted, Grows, IsSame, read_in};
-ghost use Rattle.differential_kernel.specs.Forces.{AreIdleOff, force_value};
+ghost use Rattle.differential_kernel.specs.Forces.{AreIdleOff};
+ghost use Rattle.lane_words.specs.Forces.{force_value};
 ghost use Rattle.differential_kernel.specs.Parts.{AreNetsOf};
 
-use crate::force::{Force, Forces, forced_word};
-use crate::lane_word::LaneWord;
+use crate::force::Forces;
 use crate::nets::NetDifferences;
 use circuit::parts::NetId;
 use fanout::Fanout;
-use lane_kernel::Word;
+use lane_words::force::{Force, forced_word};
+use lane_words::{Word, word_at};
 use place_set::{PlaceSet, value_in_words};
 use std::alloc::{AllocError, Global};
-
-/// What is held at a place; behind the end nothing differs.
-pub fn word_at<W: Word>(words: &[W], at: usize) -> W
-    ensures { (k : ℕ) → k < W.lanes → W.lane_bit result k ≡ bit_at (plane W.lane_bit k words.now) at }
-{
-    match words.get(at) {
-        Some(word) => *word,
-        None => W::all(false),
-    }
-}
 
 /// Words in which nothing differs.
 pub fn same_words<W: Word>(alloc: Global, count: usize) -> Result<Vec<W>, AllocError>
@@ -98,7 +87,7 @@ fn mark_all(places: &[u32], marks: &mut PlaceSet)
 }
 
 /// Sets what a net differs in, and notes it where it differs in some lane.
-pub fn store<W: LaneWord>(net: NetId, word: W, fanout: &Fanout, nets: &mut NetDifferences<W>)
+pub fn store<W: Word>(net: NetId, word: W, fanout: &Fanout, nets: &mut NetDifferences<W>)
     requires net { net.0 < length fanout.now.circuit.drivers }
     requires nets { AreNetsOf fanout.now nets.old }
     ensures nets { AreNetsOf fanout.now nets.new }

@@ -1,12 +1,12 @@
 // Lanes that are dropped.
 ghost use Rattle.std.specs.Prelude.{◌≡◌, ◌<◌, ◌&&◌, ℕ, true, false, [], not, length};
 ghost use Rattle.circuit.specs.Value.{bit_at};
-ghost use Rattle.lane_kernel.specs.Gates.{plane};
-ghost use Rattle.lane_kernel.specs.Loads.{loaded_faults, somes};
+ghost use Rattle.lane_words.specs.Gates.{plane};
+ghost use Rattle.lane_words.specs.Loads.{loaded_faults, somes};
 ghost use Rattle.differential_kernel.specs.Differences.{AreSameOff};
 
 use circuit::parts::Fault;
-use lane_kernel::Word;
+use lane_words::Word;
 use place_set::PlaceSet;
 
 // The faults of a lane, or none where it is dropped.

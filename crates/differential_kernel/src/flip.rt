@@ -1,77 +1,21 @@
 // The latches that faults flip. What a latch differs in is inverted where its bit is.
-ghost use Rattle.std.specs.Prelude.{◌≡◌, ◌≢◌, ◌==◌, ◌<◌, ◌∷◌, ℕ, length};
+ghost use Rattle.std.specs.Prelude.{◌≡◌, ◌≢◌, ◌<◌, ℕ, length};
 ghost use Rattle.circuit.specs.Effects.{has_flip, inverted};
 ghost use Rattle.circuit.specs.Value.{bit_at};
 ghost use Rattle.circuit.specs.Trace.{flipped};
-ghost use Rattle.lane_kernel.specs.Gates.{plane};
-ghost use Rattle.lane_kernel.specs.Loads.{loaded_faults, somes};
+ghost use Rattle.lane_words.specs.Gates.{plane};
+ghost use Rattle.lane_words.specs.Loads.{loaded_faults, somes};
 ghost use Rattle.differential_kernel.specs.Differences.{AreSameOff};
 ghost use Rattle.differential_kernel.specs.Forces.{has_acts};
 
-use crate::difference::word_at;
 use crate::latches::LatchDifferences;
+use crate::note::note_flips;
 use circuit::parts::Fault;
-use lane_kernel::Word;
+use lane_words::Word;
+use lane_words::flip::{flip_lane, is_flipping};
 
-fn is_flipped(faults: &[Option<Fault>], latch: u32, cycle: u32) -> bool
-    ensures { result ≡ has_flip (somes faults.now) latch cycle }
-{
-    for fault in faults {
-        if let Some(Fault::Flip(l, c)) = fault {
-            if *l == latch && *c == cycle {
-                return true;
-            }
-        }
-    }
-    false
-}
-
-// Inverts the bit of a lane in the word of a latch, which joins those that may differ.
-fn turn<W: Word>(latch: u32, lane: u32, latches: &mut LatchDifferences<W>)
-    requires lane { lane < W.lanes }
-    requires bound { latches.old.live.bound ≡ length latches.old.raw.items }
-    ensures own { (l : ℕ) → l < length latches.old.raw.items
-        → bit_at (plane W.lane_bit lane latches.new.raw.items) l ≡ inverted (latch == l) (bit_at (plane W.lane_bit lane latches.old.raw.items) l) }
-    ensures others { (k : ℕ) → k < W.lanes → k ≢ lane → plane W.lane_bit k latches.new.raw.items ≡ plane W.lane_bit k latches.old.raw.items }
-    ensures raw { length latches.new.raw.items ≡ length latches.old.raw.items }
-    ensures live { latches.new.live.bound ≡ latches.old.live.bound }
-    ensures held { AreSameOff W.lanes W.lane_bit latches.old.live latches.old.raw.items → AreSameOff W.lanes W.lane_bit latches.new.live latches.new.raw.items }
-{
-    let at = latch as usize;
-    if at < latches.raw.len() {
-        let word = word_at(&latches.raw, at);
-        latches.raw[at] = word.put(lane, !word.get(lane));
-        latches.live.put(at);
-    }
-}
-
-// Inverts the latch that a fault flips in this cycle, unless a later fault of the lane does.
-fn flip_one<W: Word>(
-    fault: Option<Fault>,
-    rest: &[Option<Fault>],
-    cycle: u32,
-    lane: u32,
-    latches: &mut LatchDifferences<W>,
-)
-    requires lane { lane < W.lanes }
-    requires bound { latches.old.live.bound ≡ length latches.old.raw.items }
-    ensures own { (l : ℕ) → l < length latches.old.raw.items
-        → inverted (has_flip (somes rest.now) l cycle) (bit_at (plane W.lane_bit lane latches.new.raw.items) l)
-        ≡ inverted (has_flip (somes (fault ∷ rest.now)) l cycle) (bit_at (plane W.lane_bit lane latches.old.raw.items) l) }
-    ensures others { (k : ℕ) → k < W.lanes → k ≢ lane → plane W.lane_bit k latches.new.raw.items ≡ plane W.lane_bit k latches.old.raw.items }
-    ensures raw { length latches.new.raw.items ≡ length latches.old.raw.items }
-    ensures live { latches.new.live.bound ≡ latches.old.live.bound }
-    ensures held { AreSameOff W.lanes W.lane_bit latches.old.live latches.old.raw.items → AreSameOff W.lanes W.lane_bit latches.new.live latches.new.raw.items }
-{
-    if let Some(Fault::Flip(latch, c)) = fault {
-        if c == cycle && !is_flipped(rest, latch, cycle) {
-            turn(latch, lane, latches);
-        }
-    }
-}
-
-// Inverts the latches that the faults of one lane flip in this cycle.
-fn flip_lane<W: Word>(
+// Inverts the latches that the faults of one lane flip in this cycle, which join those that may differ.
+fn invert_lane<W: Word>(
     faults: &[Option<Fault>],
     cycle: u32,
     lane: u32,
@@ -86,8 +30,9 @@ fn flip_lane<W: Word>(
     ensures live { latches.new.live.bound ≡ latches.old.live.bound }
     ensures held { AreSameOff W.lanes W.lane_bit latches.old.live latches.old.raw.items → AreSameOff W.lanes W.lane_bit latches.new.live latches.new.raw.items }
 {
-    for (i, fault) in faults.iter().enumerate() {
-        flip_one(*fault, &faults[i + 1..], cycle, lane, latches);
+    if is_flipping(faults, cycle) {
+        flip_lane(faults, cycle, lane, &mut latches.raw);
+        note_flips(faults, cycle, &mut latches.live);
     }
 }
 
@@ -100,7 +45,7 @@ fn flip_all<W: Word>(loads: &[[Option<Fault>; 2]], cycle: u32, latches: &mut Lat
     ensures held { AreSameOff W.lanes W.lane_bit latches.old.live latches.old.raw.items → AreSameOff W.lanes W.lane_bit latches.new.live latches.new.raw.items }
 {
     for lane in 0..W::count() {
-        flip_lane(&loads[lane as usize], cycle, lane, latches);
+        invert_lane(&loads[lane as usize], cycle, lane, latches);
     }
 }
 

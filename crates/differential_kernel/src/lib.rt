@@ -1,15 +1,12 @@
 // Many faulty circuits at once, of which only what differs from the golden run is simulated.
 #![tactic(auto)]
 
-mod arm;
 mod cycle;
 mod difference;
 mod drop;
 mod flip;
 mod force;
 mod golden_cycle;
-mod kernel;
-mod lane_word;
 mod lanes;
 mod latches;
 mod nets;

@@ -3,7 +3,7 @@ ghost use Rattle.std.specs.Prelude.{◌≡◌, ◌<◌, ◌^◌, IfOk, length};
 ghost use Rattle.differential_kernel.specs.Differences.{AreSameOff};
 
 use crate::difference::same_words;
-use lane_kernel::Word;
+use lane_words::Word;
 use place_set::PlaceSet;
 use std::alloc::{AllocError, Global};
 

@@ -1,16 +1,18 @@
 // The nets that faults name, the cycles in which they act, and the forces.
 ghost use Rattle.std.specs.Prelude.{◌≡◌, ◌<◌, ◌≤◌, ◌||◌, ◌==◌, ℕ, Bool, true, false, length, if◌then◌else◌};
 ghost use Rattle.std.specs.List.{list_any};
-ghost use Rattle.circuit.specs.Effects.{is_permanent};
-ghost use Rattle.lane_kernel.specs.Loads.{some_names, names, somes};
+ghost use Rattle.circuit.specs.Effects.{has_flip, is_permanent};
+ghost use Rattle.lane_words.specs.Loads.{some_names, names, somes};
 ghost use Rattle.place_set.specs.Places.{has};
-ghost use Rattle.differential_kernel.specs.Differences.{IsEmptySet};
-ghost use Rattle.differential_kernel.specs.Forces.{AreActs, AreAllIdle, AreArmed, AreIdle, AreIdleOff, AreNamed, AreSteady, acts, has_acts, has_stuck};
+ghost use Rattle.differential_kernel.specs.Differences.{Grows, IsEmptySet};
+ghost use Rattle.differential_kernel.specs.Forces.{AreActs, AreIdleOff, AreNamed, acts, has_acts, has_stuck};
+ghost use Rattle.lane_words.specs.Forces.{AreAllIdle, AreArmed, AreIdle, AreSteady};
 
-use crate::arm::arm_for;
-use crate::force::{Forces, idle};
-use circuit::parts::{Fault, NetId};
-use lane_kernel::Word;
+use crate::force::Forces;
+use circuit::parts::Fault;
+use lane_words::Word;
+use lane_words::arm::arm_for;
+use lane_words::force::idle;
 use place_set::PlaceSet;
 
 /// Leaves all nets as they are, where only those that are named were changed, and names none.
@@ -30,12 +32,13 @@ pub fn forget_all<W: Word>(forces: &mut Forces<W>)
     }
 }
 
-fn note(net: NetId, set: &mut PlaceSet)
+fn note(place: u32, set: &mut PlaceSet)
     ensures bound { set.new.bound ≡ set.old.bound }
-    ensures has { (n : ℕ) → n < set.old.bound → has set.new n ≡ ((net.0 == n) || has set.old n) }
+    ensures kept { Grows set.old set.new }
+    ensures has { (p : ℕ) → p < set.old.bound → has set.new p ≡ ((place == p) || has set.old p) }
 {
-    if net.0 < set.bound() {
-        set.put(net.0 as usize);
+    if place < set.bound() {
+        set.put(place as usize);
     }
 }
 
@@ -45,8 +48,8 @@ fn note_lane(faults: &[Option<Fault>], set: &mut PlaceSet)
 {
     for fault in faults {
         match fault {
-            Some(Fault::Stuck(net, _)) => note(*net, set),
-            Some(Fault::Pulse(net, _)) => note(*net, set),
+            Some(Fault::Stuck(net, _)) => note(net.0, set),
+            Some(Fault::Pulse(net, _)) => note(net.0, set),
             _ => {}
         }
     }
@@ -83,23 +86,14 @@ fn forget_cycles(set: &mut PlaceSet)
     }
 }
 
-fn note_cycle(cycle: u32, set: &mut PlaceSet)
-    ensures bound { set.new.bound ≡ set.old.bound }
-    ensures has { (t : ℕ) → t < set.old.bound → has set.new t ≡ ((cycle == t) || has set.old t) }
-{
-    if cycle < set.bound() {
-        set.put(cycle as usize);
-    }
-}
-
 fn note_acts_of(faults: &[Option<Fault>], set: &mut PlaceSet)
     ensures bound { set.new.bound ≡ set.old.bound }
     ensures has { (t : ℕ) → t < set.old.bound → has set.new t ≡ (acts faults.now t || has set.old t) }
 {
     for fault in faults {
         match fault {
-            Some(Fault::Flip(_, cycle)) => note_cycle(*cycle, set),
-            Some(Fault::Pulse(_, cycle)) => note_cycle(*cycle, set),
+            Some(Fault::Flip(_, cycle)) => note(*cycle, set),
+            Some(Fault::Pulse(_, cycle)) => note(*cycle, set),
             _ => {}
         }
     }
@@ -122,6 +116,21 @@ pub fn note_cycles(loads: &[[Option<Fault>; 2]], set: &mut PlaceSet)
 {
     forget_cycles(set);
     note_acts(loads, set);
+}
+
+/// Puts the latches that the faults of one lane flip in this cycle into the set.
+pub fn note_flips(faults: &[Option<Fault>], cycle: u32, set: &mut PlaceSet)
+    ensures bound { set.new.bound ≡ set.old.bound }
+    ensures kept { Grows set.old set.new }
+    ensures has { (l : ℕ) → l < set.old.bound → has set.new l ≡ (has_flip (somes faults.now) l cycle || has set.old l) }
+{
+    for fault in faults {
+        if let Some(Fault::Flip(latch, c)) = fault {
+            if *c == cycle {
+                note(*latch, set);
+            }
+        }
+    }
 }
 
 fn is_stuck(faults: &[Option<Fault>]) -> bool
@@ -175,6 +184,7 @@ fn renew<W: Word>(
     }
 }
 
+#[tactic(auto, using(crate::proofs::Acting::no_pulses_now))]
 /// Sets the forces to those of a cycle, after a load from anew, and answers whether they are of no use in the next one.
 pub fn prepare<W: Word>(
     loads: &[[Option<Fault>; 2]],

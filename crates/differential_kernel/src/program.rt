@@ -7,9 +7,9 @@ ghost use Rattle.differential_kernel.specs.Parts.{IsProgramOf};
 
 use circuit::netlist::Netlist;
 use circuit::parts::NetId;
-use lane_kernel::Word;
-use lane_kernel::gate::{Gate, Masks};
-use lane_kernel::program::{make_gates, make_ops};
+use lane_words::Word;
+use lane_words::gate::{Gate, Masks};
+use lane_words::program::{make_gates, make_ops};
 use std::alloc::{AllocError, Global};
 
 /// What is made once of a netlist and an order of its tables.

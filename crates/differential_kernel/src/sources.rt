@@ -3,22 +3,21 @@ ghost use Rattle.std.specs.Prelude.{◌≡◌, ◌≢◌, ◌<◌, ◌^◌, ℕ,
 ghost use Rattle.circuit.specs.Sound.{IsNetlist};
 ghost use Rattle.circuit.specs.Value.{bit_at, driver_at};
 ghost use Rattle.golden_difference.specs.Beside.{latched};
-ghost use Rattle.lane_kernel.specs.Bits.{either};
-ghost use Rattle.lane_kernel.specs.Gates.{plane};
+ghost use Rattle.lane_words.specs.Bits.{either};
+ghost use Rattle.lane_words.specs.Gates.{plane};
 ghost use Rattle.place_set.specs.Places.{has, value_in};
-ghost use Rattle.differential_kernel.specs.declared.force.Force.{Force as ForceValue};
+ghost use Rattle.lane_words.specs.declared.force.Force.{Force as ForceValue};
 ghost use Rattle.differential_kernel.specs.Differences.{AreNoted, AreSameOff, Grows, IsEmptySet, IsSame, read_in};
-ghost use Rattle.differential_kernel.specs.Forces.{force_value};
+ghost use Rattle.lane_words.specs.Forces.{force_value};
 ghost use Rattle.differential_kernel.specs.Parts.{AreForcesOf, AreLatchesOf, AreNetsOf};
 
-use crate::difference::{forced_difference, store, value_word, word_at};
+use crate::difference::{forced_difference, store, value_word};
 use crate::force::Forces;
 use crate::golden_cycle::GoldenCycle;
-use crate::lane_word::LaneWord;
 use crate::latches::LatchDifferences;
 use crate::nets::NetDifferences;
 use circuit::parts::NetId;
-use lane_kernel::Word;
+use lane_words::{Word, word_at};
 use place_set::PlaceSet;
 
 /// Takes away all that differs, where it is in the set.
@@ -38,7 +37,7 @@ pub fn clear<W: Word>(set: &mut PlaceSet, words: &mut [W])
 }
 
 /// The net of each latch that differs differs in what the latch held, and the latch then holds nothing.
-pub fn take_live<W: LaneWord>(
+pub fn take_live<W: Word>(
     cycle: &GoldenCycle<'_>,
     latches: &mut LatchDifferences<W>,
     nets: &mut NetDifferences<W>,
@@ -71,7 +70,7 @@ pub fn take_live<W: LaneWord>(
 
 // A net that no table drives differs in what its force leaves. A table's place is marked where its net is forced away from what
 // the net would have.
-fn force_net<W: LaneWord>(
+fn force_net<W: Word>(
     cycle: &GoldenCycle<'_>,
     net: u32,
     place: Option<u32>,
@@ -107,7 +106,7 @@ fn force_net<W: LaneWord>(
 }
 
 /// So for each net in the set of those that are forced; all other nets are left as they are.
-pub fn force_all<W: LaneWord>(
+pub fn force_all<W: Word>(
     cycle: &GoldenCycle<'_>,
     places: &[Option<u32>],
     forces: &Forces<W>,

@@ -5,25 +5,27 @@ ghost use Rattle.circuit.specs.Sound.{IsNetlist};
 ghost use Rattle.circuit.specs.Value.{Cycle, bit_at, driven, driver_at, net_value, table_gives};
 ghost use Rattle.golden_difference.proofs.Walked.{Walked};
 ghost use Rattle.golden_difference.specs.Beside.{latched};
-ghost use Rattle.lane_kernel.specs.Bits.{either};
-ghost use Rattle.lane_kernel.specs.Gates.{AreOps, IsGate, latch_at, plane};
+ghost use Rattle.lane_words.specs.Bits.{either};
+ghost use Rattle.lane_words.specs.Gates.{AreOps, IsGate, latch_at, plane};
 ghost use Rattle.place_set.specs.Places.{value_in};
-ghost use Rattle.differential_kernel.specs.declared.force.Force.{Force as ForceValue};
+ghost use Rattle.lane_words.specs.declared.force.Force.{Force as ForceValue};
 ghost use Rattle.differential_kernel.specs.Differences.{IsSame, read_in};
-ghost use Rattle.differential_kernel.specs.Forces.{AreIdleOff, force_value};
+ghost use Rattle.differential_kernel.specs.Forces.{AreIdleOff};
+ghost use Rattle.lane_words.specs.Forces.{force_value, AreForces};
 ghost use Rattle.differential_kernel.specs.Parts.{AreForcesOf, IsProgramOf};
-ghost use Rattle.differential_kernel.specs.Walk.{AreForces, IsPair};
+ghost use Rattle.differential_kernel.specs.Walk.{IsPair};
 
-use crate::difference::{forced_difference, named_difference, set_word, value_word, word_at};
-use crate::force::{Force, Forces};
+use crate::difference::{forced_difference, named_difference, set_word, value_word};
+use crate::force::Forces;
 use crate::golden_cycle::GoldenCycle;
 use crate::program::Program;
 use crate::table::own_word;
 use circuit::netlist::Netlist;
 use circuit::parts::NetId;
 use fm_base::Steps;
-use lane_kernel::Word;
-use lane_kernel::gate::{Gate, Masks};
+use lane_words::force::Force;
+use lane_words::gate::{Gate, Masks};
+use lane_words::{Word, word_at};
 use std::sync::ledger::Ledger;
 
 /// Takes away all that differs.

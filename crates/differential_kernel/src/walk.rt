@@ -4,27 +4,26 @@ ghost use Rattle.circuit.specs.Order.{IsOrder};
 ghost use Rattle.circuit.specs.Sound.{IsNetlist};
 ghost use Rattle.circuit.specs.Value.{Cycle, bit_at, driven, driver_at, net_value, table_gives};
 ghost use Rattle.golden_difference.proofs.Walked.{Walked};
-ghost use Rattle.lane_kernel.specs.Bits.{either};
-ghost use Rattle.lane_kernel.specs.Gates.{AreOps, IsGate, latch_at, plane};
+ghost use Rattle.lane_words.specs.Bits.{either};
+ghost use Rattle.lane_words.specs.Gates.{AreOps, IsGate, latch_at, plane};
 ghost use Rattle.place_set.specs.Places.{has, value_in};
-ghost use Rattle.differential_kernel.specs.declared.force.Force.{Force as ForceValue};
+ghost use Rattle.lane_words.specs.declared.force.Force.{Force as ForceValue};
 ghost use Rattle.differential_kernel.specs.Differences.{AreNoted, AreSameOff, Grows, IsEmptySet, IsSame, read_in};
-ghost use Rattle.differential_kernel.specs.Forces.{force_value};
+ghost use Rattle.lane_words.specs.Forces.{force_value, AreForces};
 ghost use Rattle.differential_kernel.specs.Parts.{AreForcesOf, AreLatchesOf, AreNetsOf, IsProgramOf};
-ghost use Rattle.differential_kernel.specs.Walk.{AreForces, IsAhead, IsPair};
+ghost use Rattle.differential_kernel.specs.Walk.{IsAhead, IsPair};
 
-use crate::difference::{named_difference, store, word_at};
+use crate::difference::{named_difference, store};
 use crate::force::Forces;
 use crate::golden_cycle::GoldenCycle;
-use crate::lane_word::LaneWord;
 use crate::latches::LatchDifferences;
 use crate::nets::NetDifferences;
 use crate::program::Program;
 use crate::table::own_word;
 use circuit::parts::NetId;
 use fm_base::Steps;
-use lane_kernel::Word;
-use lane_kernel::gate::{Gate, Masks};
+use lane_words::gate::{Gate, Masks};
+use lane_words::{Word, word_at};
 use place_set::PlaceSet;
 use std::sync::ledger::Ledger;
 
@@ -41,7 +40,7 @@ fn next_table(marks: &PlaceSet, from: usize, tables: usize) -> Option<usize>
 }
 
 // Evaluates the table of a net, and notes what the net differs in.
-fn evaluate<W: LaneWord>(
+fn evaluate<W: Word>(
     cycle: &GoldenCycle<'_>,
     net: NetId,
     gate: &Gate,
@@ -72,7 +71,7 @@ fn evaluate<W: LaneWord>(
 
 /// Evaluates the tables at the marked places, in the order's sequence, with at most one step for each table, and answers how many
 /// there were.
-pub fn walk<W: LaneWord, L: Ledger>(
+pub fn walk<W: Word, L: Ledger>(
     cycle: &GoldenCycle<'_>,
     program: &Program<W>,
     forces: &Forces<W>,

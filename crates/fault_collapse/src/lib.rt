@@ -3,7 +3,9 @@
 
 mod chosen;
 mod outcomes;
+mod planes;
 mod simulate;
 mod spread;
 
 pub use outcomes::{OutcomeList, collapsed_outcomes, collapsed_quads};
+pub use planes::collapsed_planes;

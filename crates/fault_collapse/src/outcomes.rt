@@ -3,7 +3,6 @@ ghost use Rattle.std.specs.Prelude.{◌≡◌, ◌≤◌, ◌+◌, ◌*◌, IfOk
 ghost use Rattle.circuit.specs.Order.{IsOrder};
 ghost use Rattle.alarm_points.specs.FourWatches.{AreAllMadeFor, AreFourMadeFor};
 ghost use Rattle.alarm_points.specs.Watch.{AreMadeFor};
-ghost use Rattle.classifier.specs.Load.{IsLoadFor};
 ghost use Rattle.classifier.specs.Seen.{KeepSettings};
 ghost use Rattle.classifier.specs.Tools.{IsTestbenchFor};
 ghost use Rattle.golden_difference.specs.Lanes.{IsMadeFor};
@@ -16,10 +15,11 @@ use crate::spread::spread;
 use alarm_points::windows::Windows;
 use alarm_points::windows4::Windows4;
 use campaign_plan::{Outcome, Plan};
-use classifier::{LaneWords, Testbench};
+use classifier::Testbench;
 use collapse_map::Collapse;
 use differential_kernel::{DifferentialLanes, DifferentialLanes4};
 use fm_base::{Seq, Steps};
+use lane_words::Word;
 use std::alloc::{AllocError, Global};
 use std::slice::from_mut;
 use std::sync::ledger::Ledger;
@@ -36,30 +36,30 @@ const NOTHING: Outcome = Outcome {
 pub type OutcomeList = Seq<Outcome>;
 
 // The planes that each batch of a plan truly has, with a group of 64 faults that are their own representatives in each word.
-fn outcomes_by<B: LaneWords, L: Ledger>(
+fn outcomes_by<W: Word, L: Ledger>(
     alloc: Global,
     plan: &Plan,
     bench: &Testbench<'_>,
     collapse: &Collapse,
-    lanes: &mut B,
+    lanes: &mut DifferentialLanes<W>,
     windows: &mut [Windows],
     steps: &mut Steps<L>,
 ) -> Result<OutcomeList, AllocError>
     requires bench { IsTestbenchFor plan.now bench.now }
     requires order { IsOrder plan.now.circuit bench.now.order }
     requires collapse { collapse.now ≡ collapsed_of plan.now }
-    requires lanes { IsLoadFor plan.now.circuit bench.now.order (B.load lanes.old) }
-    requires count { length windows.old ≡ B.words }
+    requires lanes { IsMadeFor plan.now.circuit bench.now.order lanes.old }
+    requires count { length windows.old ≡ W.words }
     requires windows { AreAllMadeFor plan.now.points windows.old }
     requires ftti { HaveInterval plan.now.settings.ftti windows.old }
     ensures outcomes { IfOk result (λ list. list ≡ all_planes plan.now) }
-    ensures lanes { IsLoadFor plan.now.circuit bench.now.order (B.load lanes.new) }
+    ensures lanes { IsMadeFor plan.now.circuit bench.now.order lanes.new }
     ensures windows { AreAllMadeFor plan.now.points windows.new }
     ensures ftti { KeepSettings windows.old windows.new }
-    ensures cost { steps.new ≤ steps.old + most_steps_by (64 * B.words) plan.now }
+    ensures cost { steps.new ≤ steps.old + most_steps_by (64 * W.words) plan.now }
 {
     let count = plan.faults().len();
-    let words = B::count() as usize;
+    let words = W::words() as usize;
     let chosen = choose(alloc, collapse, count)?;
     let rounds = chosen.numbers.len().div_ceil(LANES * words);
     let mut found = vec![in alloc; NOTHING; rounds * words]?;

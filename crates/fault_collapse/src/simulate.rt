@@ -2,19 +2,22 @@
 ghost use Rattle.std.specs.Prelude.{◌≡◌, ◌+◌, ◌*◌, ◌/◌, ◌%◌, ◌<◌, ◌≤◌, ◌^◌, ℕ, All, length};
 ghost use Rattle.alarm_points.specs.FourWatches.{AreAllMadeFor};
 ghost use Rattle.campaign_plan.specs.Analysis.{all_faults};
-ghost use Rattle.classifier.specs.Load.{IsLoadFor, lane_faults};
+ghost use Rattle.classifier.specs.Load.{lane_faults, load_of};
 ghost use Rattle.classifier.specs.Seen.{KeepSettings};
 ghost use Rattle.classifier.specs.Tools.{IsTestbenchFor};
-ghost use Rattle.lane_kernel.specs.Loads.{loaded_faults};
+ghost use Rattle.lane_words.specs.Loads.{loaded_faults};
 ghost use Rattle.workload.specs.Runs.{all_cycles};
 ghost use Rattle.fault_collapse.specs.Chosen.{AreSimulated, HaveInterval, chosen_at, faults_in};
+ghost use Rattle.golden_difference.specs.Lanes.{IsMadeFor};
 
 use alarm_points::windows::Windows;
 use campaign_plan::{Outcome, Plan};
 use circuit::parts::Fault;
-use classifier::{LaneWords, Testbench, loaded_outcomes};
+use classifier::{Testbench, loaded_outcomes};
+use differential_kernel::DifferentialLanes;
 use fault_list::FaultList;
 use fm_base::Steps;
+use lane_words::Word;
 use std::sync::ledger::Ledger;
 
 const LANES: usize = 64;
@@ -44,44 +47,49 @@ fn loads_of(faults: &FaultList, numbers: &[u32], group: usize) -> [[Option<Fault
 }
 
 // Loads each word with a group, from the first group of a round on.
-fn load_groups<B: LaneWords>(faults: &FaultList, numbers: &[u32], first: usize, lanes: &mut B)
+fn load_groups<W: Word>(
+    faults: &FaultList,
+    numbers: &[u32],
+    first: usize,
+    lanes: &mut DifferentialLanes<W>,
+)
     requires numbers { All (λ number. number < length faults.now) numbers.now }
-    requires few { first + B.words ≤ 2 ^ 32 }
-    ensures made { IsLoadFor (B.load lanes.old).circuit (B.load lanes.old).order (B.load lanes.new) }
-    ensures loads { (word k : ℕ) → word < B.words → k < 64
-        → lane_faults (B.load lanes.new) word k ≡ faults_in faults.now numbers.now (first + word) k }
+    requires few { first + W.words ≤ 2 ^ 32 }
+    ensures made { IsMadeFor lanes.old.circuit lanes.old.order lanes.new }
+    ensures loads { (word k : ℕ) → word < W.words → k < 64
+        → lane_faults (load_of lanes.new) word k ≡ faults_in faults.now numbers.now (first + word) k }
 {
-    for word in 0..B::count() {
-        lanes.load_word(word, &loads_of(faults, numbers, first + word as usize));
+    for word in 0..W::words() {
+        lanes.load(word, &loads_of(faults, numbers, first + word as usize));
     }
 }
 
 /// The planes of each group of 64 of the faults of these numbers, one after the other; in each round as many groups as the lanes
 /// have words. `found` has room for whole rounds. It takes no memory, and at most one step for each round, table and cycle.
-pub(crate) fn simulate<B: LaneWords, L: Ledger>(
+pub(crate) fn simulate<W: Word, L: Ledger>(
     plan: &Plan,
     bench: &Testbench<'_>,
     numbers: &[u32],
     found: &mut [Outcome],
-    lanes: &mut B,
+    lanes: &mut DifferentialLanes<W>,
     windows: &mut [Windows],
     steps: &mut Steps<L>,
 )
     requires bench { IsTestbenchFor plan.now bench.now }
     requires numbers { All (λ number. number < length (all_faults plan.now)) numbers.now }
     requires few { length found.old < 2 ^ 32 }
-    requires rounds { length found.old % B.words ≡ 0 }
-    requires lanes { IsLoadFor plan.now.circuit bench.now.order (B.load lanes.old) }
-    requires count { length windows.old ≡ B.words }
+    requires rounds { length found.old % W.words ≡ 0 }
+    requires lanes { IsMadeFor plan.now.circuit bench.now.order lanes.old }
+    requires count { length windows.old ≡ W.words }
     requires windows { AreAllMadeFor plan.now.points windows.old }
     requires ftti { HaveInterval plan.now.settings.ftti windows.old }
     ensures found { AreSimulated plan.now numbers.now found.new }
-    ensures lanes { IsLoadFor plan.now.circuit bench.now.order (B.load lanes.new) }
+    ensures lanes { IsMadeFor plan.now.circuit bench.now.order lanes.new }
     ensures windows { AreAllMadeFor plan.now.points windows.new }
     ensures ftti { KeepSettings windows.old windows.new }
-    ensures cost { steps.new ≤ steps.old + length found.old / B.words * (all_cycles plan.now.runs * length plan.now.circuit.tables) }
+    ensures cost { steps.new ≤ steps.old + length found.old / W.words * (all_cycles plan.now.runs * length plan.now.circuit.tables) }
 {
-    let words = B::count() as usize;
+    let words = W::words() as usize;
     for round in 0..found.len() / words {
         let first = round * words;
         load_groups(plan.faults(), numbers, first, lanes);

@@ -7,7 +7,7 @@ ghost use Rattle.fault_collapse.specs.Chosen.{HaveLanes, danger_shown, notice_sh
 
 use campaign_plan::{Outcome, has_bit};
 use collapse_map::Collapse;
-use lane_kernel::Word;
+use lane_words::Word;
 
 const LANES: u32 = 64;
 

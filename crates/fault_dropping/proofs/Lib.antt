@@ -1,2 +1,3 @@
 pub mod Raised
 pub mod Still
+pub mod Settled

@@ -1,7 +1,7 @@
 -- What differs, bit by bit: exactly one of two values.
 use Rattle.std.proofs.Common.{◌≡◌, Bool, true, false, refl, ap, sym, ◌∙◌}
 use Rattle.circuit.specs.Effects.{inverted}
-use Rattle.lane_kernel.specs.Bits.{either}
+use Rattle.lane_words.specs.Bits.{either}
 
 -- equal values don't differ
 pub either_same : (a : Bool) → either a a ≡ false

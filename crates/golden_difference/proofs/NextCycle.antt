@@ -10,7 +10,7 @@ use Rattle.circuit.specs.Sound.{IsNetlist}
 use Rattle.circuit.specs.Trace.{cycle_at, first_state, flipped, flipped_from, raw_state, trace}
 use Rattle.circuit.specs.Value.{bit_at, net_value}
 use Rattle.circuit.proofs.Steps.{raw_state-suc, raw_state-zero}
-use Rattle.lane_kernel.specs.Bits.{either}
+use Rattle.lane_words.specs.Bits.{either}
 use Rattle.golden_difference.specs.Beside.{IsBeside, state_differs, trace_differs}
 use Rattle.golden_difference.proofs.Exclusive.{either_inverted, either_same}
 use Rattle.circuit.proofs.Cycles.{raw_state-append}

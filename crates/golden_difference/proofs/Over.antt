@@ -12,7 +12,7 @@ use Rattle.circuit.proofs.Walks.{driven_same, map_same}
 use Rattle.golden_difference.specs.Beside.{DoNothing, IsOver, state_differs}
 use Rattle.golden_difference.proofs.Exclusive.{none_of_same, same_of_none}
 use Rattle.golden_difference.proofs.NextCycle.{state_length}
-use Rattle.lane_kernel.proofs.Armed.{flipped_same}
+use Rattle.lane_words.proofs.Armed.{flipped_same}
 
 -- in such a cycle each net has the value that it has without faults
 same_value : (depth : ℕ) (c : Circuit) (faults : List Fault) (t : ℕ) (state inputs : List Bool) → DoNothing faults t → (net : ℕ)

@@ -9,7 +9,7 @@ use Rattle.circuit.specs.Effects.{affected}
 use Rattle.circuit.specs.Order.{IsOrder}
 use Rattle.circuit.specs.Sound.{IsNetOf, IsNetlist}
 use Rattle.circuit.specs.Value.{Cycle, bit_at, driven, driver_at, net_value, table_gives}
-use Rattle.lane_kernel.specs.Bits.{either}
+use Rattle.lane_words.specs.Bits.{either}
 use Rattle.golden_difference.specs.Beside.{latched}
 use Rattle.golden_difference.proofs.Exclusive.{either_back, either_none}
 use Rattle.circuit.proofs.ValuesAgain.{value_again}

@@ -15,7 +15,7 @@ use Rattle.circuit.specs.Sound.{IsNet, IsNetOf, IsNetlist}
 use Rattle.circuit.specs.Table.{table_value}
 use Rattle.circuit.specs.Value.{Cycle, bit_at, driven, driver_at, net_value, shown, table_at, table_gives}
 use Rattle.circuit.proofs.Walks.{Holds, driven_same, holds_end, holds_sources, holds_step, map_same}
-use Rattle.lane_kernel.specs.Bits.{either}
+use Rattle.lane_words.specs.Bits.{either}
 use Rattle.golden_difference.proofs.Exclusive.{either_none, same_of_none}
 use Rattle.circuit.proofs.ValuesAgain.{value_again}
 

@@ -9,9 +9,9 @@ use Rattle.circuit.specs.Circuit.{Circuit}
 use Rattle.circuit.specs.Effects.{affected}
 use Rattle.circuit.specs.Trace.{flipped, raw_state, trace}
 use Rattle.circuit.specs.Value.{bit_at}
-use Rattle.lane_kernel.specs.Bank.{Bank, lane_of}
-use Rattle.lane_kernel.specs.Bits.{either}
-use Rattle.lane_kernel.specs.Loads.{loaded_faults}
+use Rattle.lane_words.specs.Bank.{Bank, lane_of}
+use Rattle.lane_words.specs.Bits.{either}
+use Rattle.lane_words.specs.Loads.{loaded_faults}
 use Rattle.place_set.specs.Places.{value_in}
 
 -- what a latch has at the start of cycle t, with these faults, differs from what it has without them

@@ -1,10 +1,11 @@
 -- Simulations of one circuit in lanes, beside the golden run, as contracts see them. A lane whose outcome is decided can be
 -- dropped: until the next start its faults are not in force. Source: fault dropping in fault simulation.
-use Rattle.std.specs.Prelude.{◌≡◌, ℕ, List, Option}
+use Rattle.std.specs.Prelude.{◌≡◌, ℕ, List, [], Option}
 use Rattle.circuit.specs.declared.parts.Fault.{Fault}
 use Rattle.circuit.specs.declared.parts.NetId.{NetId}
 use Rattle.circuit.specs.Circuit.{Circuit}
-use Rattle.lane_kernel.specs.Bank.{Bank}
+use Rattle.lane_words.specs.Bank.{Bank}
+use Rattle.lane_words.specs.Loads.{loaded_faults}
 
 -- the circuit and the order of its tables that the lanes were made for, the faults that each lane was loaded with and those that
 -- are in force in it, the number of cycles since the start, and what the latches and, in the last cycle, the nets differ in
@@ -38,3 +39,8 @@ pub record KeepsLoads {W : Type 0} (old new : Lanes W) : Type 0 where
   pub circuit : new.circuit ≡ old.circuit
   pub order : new.order ≡ old.order
   pub loads : new.loads ≡ old.loads
+
+-- no lane was loaded with a fault, and none is in force
+pub record AreBare {W : Type 0} (lanes : Lanes W) : Type 0 where
+  pub loads : (k : ℕ) → loaded_faults lanes.loads k ≡ []
+  pub in_force : (k : ℕ) → loaded_faults lanes.in_force k ≡ []

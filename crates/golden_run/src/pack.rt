@@ -5,7 +5,8 @@ ghost use Rattle.fm_base.specs.Planes.{bit};
 ghost use Rattle.golden_difference.specs.Bare.{IsGoldenAfter};
 
 use circuit::parts::NetId;
-use lane_kernel::{Lanes, Word};
+use lane_kernel::Lanes;
+use lane_words::Word;
 use std::alloc::AllocError;
 
 // The values of 64 nets from a net on; those behind the last net are 0.

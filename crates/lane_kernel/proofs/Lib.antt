@@ -1,8 +1,4 @@
-pub mod Words
 pub mod OneGate
 pub mod Sources
-pub mod Pushes
-pub mod Armed
-pub mod FlipOnce
-pub mod WideRows
-pub mod TableGates
+pub mod Marking
+pub mod Transients

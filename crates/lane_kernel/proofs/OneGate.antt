@@ -6,8 +6,8 @@ use Rattle.circuit.specs.Effects.{affected}
 use Rattle.circuit.specs.Value.{Cycle, bit_at, driven, driver_at, table_gives}
 use Rattle.circuit.specs.Order.{net_at}
 use Rattle.circuit.proofs.Walks.{Holds, holds_step}
-use Rattle.lane_kernel.specs.declared.gate.Gate.{Gate}
-use Rattle.lane_kernel.specs.Gates.{IsProgram, gate_at, plane}
+use Rattle.lane_words.specs.declared.gate.Gate.{Gate}
+use Rattle.lane_words.specs.Gates.{IsProgram, gate_at, plane}
 
 -- where a gate's net gets the value that the lane's faults leave of what its table gives, one more place of the order holds
 pub gate_step : {W : Type 0} (bit : W → ℕ → Bool) (k : ℕ) (x : Cycle) (words : List W) (order : List NetId) (gates : List Gate) (j : ℕ) (own : Bool) (v : W)

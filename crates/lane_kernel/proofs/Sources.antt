@@ -1,5 +1,5 @@
 -- Nets that no table drives, in one lane.
-use Rattle.std.proofs.Common.{◌≡◌, inl, inr, ℕ, suc, ◌+◌, ◌<◌, Bool, false, List, [], ◌∷◌, ◌++◌, length, take, map, set, get_or, refl, ap, sym, ◌∙◌, subst, arith}
+use Rattle.std.proofs.Common.{◌≡◌, inl, inr, ℕ, ◌+◌, ◌<◌, Bool, false, List, [], ◌∷◌, ◌++◌, length, take, map, set, get_or, refl, ap, sym, ◌∙◌, subst, arith}
 use Rattle.std.specs.List.{All}
 use Rattle.std.proofs.lemmas.List.{map-set, map_more, take_more, take_more_set, get_or-set_same, get_or-set_other}
 use Rattle.std.proofs.lemmas.Option.{get_or_from_slice_get, slice_get-get_or, slice_get_within}
@@ -12,11 +12,9 @@ use Rattle.circuit.specs.Circuit.{Circuit}
 use Rattle.circuit.specs.Value.{Cycle, bit_at, driver_at, shown}
 use Rattle.circuit.specs.Sound.{IsNet, IsNetlist, IsNetOf}
 use Rattle.circuit.specs.Order.{net_at}
-use Rattle.lane_kernel.specs.Gates.{AreInputs, AreLatches, IsRight, latch_at, plane}
-
-pub length_plane : {W : Type 0} (bit : W → ℕ → Bool) (k : ℕ) (words : List W) → length (plane bit k words) ≡ length words
-length_plane bit k [] = refl
-length_plane bit k (w ∷ words) = ap suc (length_plane bit k words)
+use Rattle.lane_words.proofs.Planes.{length_plane}
+use Rattle.lane_kernel.specs.Ends.{AreInputs, IsRight}
+use Rattle.lane_words.specs.Gates.{AreLatches, latch_at, plane}
 
 -- one step of a loop that copies
 pub copied_more : {W X : Type 0} (bit : W → ℕ → Bool) (k : ℕ) (words : List W) (f : X → Bool) (xs : List X) (d : X) (i : ℕ) (v : W)
@@ -74,18 +72,9 @@ inputs_driven c sound j lt =
     get_or_from_slice_get c.drivers (net_at c.inputs j).0 (Input j) (Input 0)
     (sound.inputs j (net_at c.inputs j) (slice_get-get_or c.inputs j (record { 0 = 0 }) lt))
 
-pub latches_driven : (c : Circuit) → IsNetlist c → AreLatches c c.latches
-latches_driven c sound j lt =
-    get_or_from_slice_get c.drivers (latch_at c.latches j).to.0 (FromLatch j) (Input 0)
-    (sound.latches j (latch_at c.latches j) (slice_get-get_or c.latches j (record { from = record { 0 = 0 }; to = record { 0 = 0 }; start = false }) lt))
-
 pub inputs_inside : (c : Circuit) → IsNetlist c → All (λ (net : NetId). net.0 < length c.drivers) c.inputs
 inputs_inside c sound = λ i d lt.
     slice_get_within c.drivers (get_or c.inputs i d).0 (Input i) (sound.inputs i (get_or c.inputs i d) (slice_get-get_or c.inputs i d lt))
-
-pub latches_inside : (c : Circuit) → IsNetlist c → All (λ (latch : Latch). latch.to.0 < length c.drivers) c.latches
-latches_inside c sound = λ i d lt.
-    slice_get_within c.drivers (get_or c.latches i d).to.0 (FromLatch i) (sound.latches i (get_or c.latches i d) (slice_get-get_or c.latches i d lt))
 
 -- one step of a loop that stores given bits
 pub stored_more : {W : Type 0} (bit : W → ℕ → Bool) (k : ℕ) (words : List W) (bits : List Bool) (i : ℕ) (v : W)

@@ -2,9 +2,11 @@
 use Rattle.std.specs.Prelude.{◌≡◌, ℕ, Bool, false, length}
 use Rattle.circuit.specs.Trace.{first_state}
 use Rattle.lane_kernel.specs.declared.kernel.Kernel.{Kernel}
-use Rattle.lane_kernel.specs.Bank.{Bank}
-use Rattle.lane_kernel.specs.Gates.{AreNarrowRuns, AreOps, IsNextPause, IsProgram}
-use Rattle.lane_kernel.specs.Loads.{AreIdle, AreFaultMarks, AreSteady, IsUnnamed, has_transients}
+use Rattle.lane_words.specs.Bank.{Bank}
+use Rattle.lane_kernel.specs.Walk.{AreNarrowRuns, IsNextPause}
+use Rattle.lane_words.specs.Gates.{AreOps, IsProgram}
+use Rattle.lane_words.specs.Forces.{AreIdle, AreSteady}
+use Rattle.lane_kernel.specs.Marks.{AreFaultMarks, IsUnnamed, has_transients}
 
 -- a kernel as contracts see it
 abbrev pub kernel_bank : {W : Type 0} → Kernel W → Bank W

@@ -1,5 +1,4 @@
-pub mod Bits
-pub mod Gates
-pub mod Loads
-pub mod Bank
+pub mod Walk
+pub mod Ends
+pub mod Marks
 pub mod Kernel

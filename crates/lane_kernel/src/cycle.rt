@@ -4,17 +4,20 @@ ghost use Rattle.circuit.specs.declared.parts.NetId.{NetId};
 ghost use Rattle.circuit.specs.Value.{bit_at, cycle_of, net_value};
 ghost use Rattle.circuit.specs.Trace.{flipped};
 ghost use Rattle.circuit.specs.Sound.{IsNetlist};
-ghost use Rattle.lane_kernel.specs.Gates.{AreForces, AreGates, AreNarrowRuns, AreOps, IsNextPause, IsPaused, IsProgram, plane};
-ghost use Rattle.lane_kernel.specs.Loads.{loaded_faults, has_transients};
+ghost use Rattle.lane_words.specs.Forces.{AreForces};
+ghost use Rattle.lane_words.specs.Gates.{AreGates, AreOps, IsProgram, plane};
+ghost use Rattle.lane_kernel.specs.Walk.{AreNarrowRuns, IsNextPause, IsPaused};
+ghost use Rattle.lane_words.specs.Loads.{loaded_faults};
+ghost use Rattle.lane_kernel.specs.Marks.{has_transients};
 
-use crate::force::Force;
-use crate::gate::{Gate, Masks};
 use crate::source::{flip, take_inputs, take_latches, take_next};
 use crate::walk::walk;
-use crate::word::Word;
 use circuit::netlist::Netlist;
 use circuit::parts::Fault;
 use fm_base::Steps;
+use lane_words::Word;
+use lane_words::force::Force;
+use lane_words::gate::{Gate, Masks};
 use std::sync::ledger::Ledger;
 
 /// Runs one cycle on what the latches hold, with the forces of this cycle.

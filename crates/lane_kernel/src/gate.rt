@@ -1,43 +1,31 @@
-// Tables of at most two inputs, as masks.
-ghost use Rattle.std.specs.Prelude.{◌≡◌, ◌<◌, ◌≤◌, ◌+◌, ◌-◌, ℕ, List, length, take, slice_set};
-ghost use Rattle.circuit.specs.declared.parts.NetId.{NetId};
-ghost use Rattle.circuit.specs.Value.{Cycle, bit_at};
+// The gates of a walk, by their operations or by the rows of their tables.
+ghost use Rattle.std.specs.Prelude.{◌≡◌, ◌<◌, ◌≤◌, ◌+◌, ◌-◌, ℕ, Bool, List, length, take, slice_set};
+ghost use Rattle.circuit.specs.declared.parts.NetId.{NetId as NetIdValue};
+ghost use Rattle.circuit.specs.Value.{Cycle, bit_at, driven, driver_at, table_gives};
 ghost use Rattle.circuit.proofs.Walks.{Holds};
-ghost use Rattle.lane_kernel.specs.Bits.{normal};
-ghost use Rattle.lane_kernel.specs.Gates.{AreInside, AreOps, IsInside, IsNarrowRun, IsProgram, IsQuiet, gate_value, plane};
+ghost use Rattle.lane_words.specs.Gates.{AreOps, IsGate, IsInside, IsProgram, gate_value, plane};
+ghost use Rattle.lane_kernel.specs.Walk.{AreInside, IsNarrowRun, IsQuiet};
 
-use crate::word::Word;
+use circuit::netlist::Netlist;
+use circuit::parts::NetId;
 use fm_base::Steps;
+use lane_words::gate::{Gate, Masks, apply};
+use lane_words::table::{NetWords, net_word};
+use lane_words::{Word, word_at};
 use std::sync::ledger::Ledger;
 
-/// The four masks of an operation on two words, each all zeros or all ones.
-#[derive(Clone, Copy)]
-pub struct Masks<W> {
-    pub c0: W,
-    pub c1: W,
-    pub c2: W,
-    pub c3: W,
+// The words of all nets, as they are read.
+#[derive(Drop)]
+struct Words<'a, W> {
+    words: &'a [W],
 }
 
-/// A table of at most two inputs: its net, the nets that it reads, and the number of its operation, which is below 16.
-/// A wider table is a gate with the number 16, evaluated by its rows.
-#[derive(Clone, Copy)]
-pub struct Gate {
-    pub to: u32,
-    pub a: u32,
-    pub b: u32,
-    pub op: u8,
-}
+impl<'a, W: Word> NetWords<W> for Words<'a, W> {
+    ghost read = { λ s k n. bit_at (plane W.lane_bit k s.words.now) n };
 
-/// The operation on two words.
-pub fn apply<W: Word>(masks: &Masks<W>, a: W, b: W) -> W
-    ensures { (k : ℕ) → k < W.lanes → W.lane_bit result k
-        ≡ normal (W.lane_bit masks.now.c0 k) (W.lane_bit masks.now.c1 k) (W.lane_bit masks.now.c2 k) (W.lane_bit masks.now.c3 k) (W.lane_bit a k) (W.lane_bit b k) }
-{
-    masks
-        .c0
-        .xor(masks.c1.and(a))
-        .xor(b.and(masks.c2.xor(masks.c3.and(a))))
+    fn word_of(&self, net: u32) -> W {
+        word_at(self.words, net as usize)
+    }
 }
 
 /// What a gate gives.
@@ -76,7 +64,7 @@ pub fn run_plain<W: Word, L: Ledger>(
     requires narrow { IsNarrowRun gates.now from to }
     requires from { from ≤ to }
     requires to { to ≤ length gates.now }
-    ensures values { (k : ℕ) (x : Cycle) (order : List NetId) → k < W.lanes → IsProgram x.circuit order gates.now → IsQuiet gates.now x from to
+    ensures values { (k : ℕ) (x : Cycle) (order : List NetIdValue) → k < W.lanes → IsProgram x.circuit order gates.now → IsQuiet gates.now x from to
         → Holds x (plane W.lane_bit k words.old) (take from order) from
         → Holds x (plane W.lane_bit k words.new) (take to order) to }
     ensures cost { steps.new ≡ steps.old + (to - from) }
@@ -85,5 +73,20 @@ pub fn run_plain<W: Word, L: Ledger>(
         let gate = &gates[j];
         words[gate.to as usize] = evaluate(gate, masks, words);
         steps.tick();
+    }
+}
+
+/// What the table of a gate's net gives, by its operation or by its rows.
+pub fn evaluate_any<W: Word>(netlist: &Netlist, gate: &Gate, masks: &[Masks<W>], words: &[W]) -> W
+    requires ops { AreOps W.lanes W.lane_bit masks.now }
+    requires gate { IsGate netlist.now gate.now }
+    requires size { length words.now ≡ length netlist.now.drivers }
+    ensures { (k : ℕ) (state inputs : List Bool) → k < W.lanes
+        → W.lane_bit result k ≡ driven state inputs (table_gives netlist.now (bit_at (plane W.lane_bit k words.now))) (driver_at netlist.now gate.now.to) }
+{
+    if gate.op < 16 {
+        evaluate(gate, masks, words)
+    } else {
+        net_word(netlist, NetId(gate.to), &Words { words })
     }
 }

@@ -2,22 +2,23 @@
 ghost use Rattle.std.specs.Prelude.{◌≡◌, ◌<◌, ◌≤◌, ◌+◌, ◌⊎◌, ◌++◌, ◌∷◌, [], ℕ, Bool, List, Option, IfOk, length, map, slice_index_or};
 ghost use Rattle.circuit.specs.declared.parts.Fault.{Fault};
 ghost use Rattle.circuit.specs.Order.{IsOrder};
-ghost use Rattle.lane_kernel.specs.Bank.{AreAfter, AreUnloaded, IsBankFor, KeepsBankLoads};
-ghost use Rattle.lane_kernel.specs.Gates.{plane};
+ghost use Rattle.lane_words.specs.Bank.{AreAfter, AreUnloaded, IsBankFor, KeepsBankLoads};
+ghost use Rattle.lane_words.specs.Gates.{plane};
 ghost use Rattle.lane_kernel.specs.Kernel.{IsLaneKernel, kernel_bank};
-ghost use Rattle.lane_kernel.specs.Loads.{loaded_faults};
+ghost use Rattle.lane_words.specs.Loads.{loaded_faults};
 ghost use Rattle.circuit.specs.Value.{bit_at};
 
 use crate::cycle::run;
-use crate::force::{Force, idle_forces};
-use crate::gate::{Gate, Masks};
-use crate::load::{arm_for, disarm_all, is_some_transient, place, prepare, unmark_all};
-use crate::program::{make_gates, make_ops};
-use crate::source::{take_first, word_at};
-use crate::word::Word;
+use crate::load::{disarm_all, is_some_transient, prepare, unmark_all};
+use crate::source::take_first;
 use circuit::netlist::Netlist;
 use circuit::parts::{Fault, Latch, NetId};
 use fm_base::Steps;
+use lane_words::arm::{arm_for, no_faults, place};
+use lane_words::force::{Force, idle_forces};
+use lane_words::gate::{Gate, Masks};
+use lane_words::program::{make_gates, make_ops};
+use lane_words::{Word, word_at};
 use netlist_levels::Order;
 use std::alloc::{AllocError, Global};
 use std::snapshot::Snapshot;
@@ -46,18 +47,6 @@ fn first_state_of(alloc: Global, latches: &[Latch]) -> Result<Vec<bool>, AllocEr
     ensures { IfOk result (λ starts. starts.items ≡ map (λ latch. latch.start) latches.now) }
 {
     latches.iter().map(|latch| latch.start).collect(alloc)
-}
-
-// Lanes, so many of them, without faults.
-fn no_faults(alloc: Global, lanes: u32) -> Result<Vec<[Option<Fault>; 2]>, AllocError>
-    ensures count { IfOk result (λ loads. length loads.items ≡ lanes) }
-    ensures none { IfOk result (λ loads. (k : ℕ) → loaded_faults loads.items k ≡ []) }
-{
-    let mut loads = Vec::new(alloc);
-    for _ in 0..lanes {
-        loads.push([None, None])?;
-    }
-    Ok(loads)
 }
 
 impl<W: Word> Kernel<W> {

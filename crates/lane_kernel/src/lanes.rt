@@ -3,16 +3,15 @@ ghost use Rattle.std.specs.Prelude.{◌≡◌, ◌<◌, ◌≤◌, ◌+◌, ◌*
 ghost use Rattle.circuit.specs.Order.{IsOrder};
 ghost use Rattle.circuit.specs.Trace.{trace};
 ghost use Rattle.fm_base.specs.Planes.{bit};
-ghost use Rattle.lane_kernel.specs.Bank.{AreAfter, AreUnloaded, IsBankFor, KeepsBankLoads};
-ghost use Rattle.lane_kernel.specs.Bits.{quad_bit};
-ghost use Rattle.lane_kernel.specs.Loads.{loaded_faults};
+ghost use Rattle.lane_words.specs.Bank.{AreAfter, AreUnloaded, IsBankFor, KeepsBankLoads};
+ghost use Rattle.lane_words.specs.Bits.{quad_bit};
+ghost use Rattle.lane_words.specs.Loads.{loaded_faults};
 
 use crate::kernel::Kernel;
-use crate::quad;
-use crate::word::Word;
 use circuit::netlist::Netlist;
 use circuit::parts::{Fault, NetId};
 use fm_base::Steps;
+use lane_words::Word;
 use netlist_levels::Order;
 use std::alloc::{AllocError, Global};
 use std::marker::Model;
@@ -28,7 +27,7 @@ pub struct Lanes {
 impl Model for Lanes {
     ghost use Rattle.std.specs.Prelude.{ℕ};
     ghost use Rattle.fm_base.specs.Planes.{bit};
-    ghost use Rattle.lane_kernel.specs.Bank.{Bank};
+    ghost use Rattle.lane_words.specs.Bank.{Bank};
     ghost use Rattle.lane_kernel.specs.Kernel.{IsLaneKernel, kernel_bank};
 
     ghost Value = { Bank ℕ };
@@ -99,13 +98,6 @@ impl Lanes {
     }
 }
 
-fn word_of(words: u64x4, at: u32) -> u64
-    requires { at < 4 }
-    ensures { (k : ℕ) → k < 64 → bit result k ≡ quad_bit words (at * 64 + k) }
-{
-    words.to_array()[at as usize]
-}
-
 /// The same in four words, with 64 lanes in each: lane k of a word is the lane of number 64 * word + k.
 #[derive(Drop)]
 pub struct Lanes4 {
@@ -114,8 +106,8 @@ pub struct Lanes4 {
 
 impl Model for Lanes4 {
     ghost use Rattle.std.specs.Prelude.{ℕ, List};
-    ghost use Rattle.lane_kernel.specs.Bank.{Bank};
-    ghost use Rattle.lane_kernel.specs.Bits.{quad_bit};
+    ghost use Rattle.lane_words.specs.Bank.{Bank};
+    ghost use Rattle.lane_words.specs.Bits.{quad_bit};
     ghost use Rattle.lane_kernel.specs.Kernel.{IsLaneKernel, kernel_bank};
 
     ghost Value = { Bank (List ℕ) };
@@ -185,6 +177,6 @@ impl Lanes4 {
             → net.0 < length self.now.circuit.drivers
             → bit result k ≡ trace self.now.circuit (loaded_faults self.now.loads (word * 64 + k)) vectors t net.0 }
     {
-        word_of(self.kernel.net(net), word)
+        self.kernel.net(net).part(word)
     }
 }

@@ -1,25 +1,18 @@
 // The words of the nets that no table drives, and of the latches.
-ghost use Rattle.std.specs.Prelude.{◌≡◌, ◌≢◌, ◌==◌, ◌<◌, ◌∷◌, ℕ, Bool, false, length, map, All};
-ghost use Rattle.circuit.specs.Effects.{has_flip, inverted};
+ghost use Rattle.std.specs.Prelude.{◌≡◌, ◌<◌, ℕ, Bool, false, length, map, All};
 ghost use Rattle.circuit.specs.Value.{Cycle, bit_at, driven, driver_at};
 ghost use Rattle.circuit.specs.Trace.{flipped};
 ghost use Rattle.circuit.specs.Order.{net_at};
-ghost use Rattle.lane_kernel.specs.Gates.{AreForces, AreInputs, AreLatches, IsRight, latch_at, plane};
-ghost use Rattle.lane_kernel.specs.Loads.{loaded_faults, has_transients, somes};
+ghost use Rattle.lane_words.specs.Forces.{AreForces};
+ghost use Rattle.lane_kernel.specs.Ends.{AreInputs, IsRight};
+ghost use Rattle.lane_words.specs.Gates.{AreLatches, latch_at, plane};
+ghost use Rattle.lane_words.specs.Loads.{loaded_faults, somes};
+ghost use Rattle.lane_kernel.specs.Marks.{has_transients};
 
-use crate::force::{Force, forced_at};
-use crate::word::Word;
 use circuit::parts::{Fault, Latch, NetId};
-
-/// The word at a place; behind the end all bits are 0.
-pub fn word_at<W: Word>(words: &[W], at: usize) -> W
-    ensures { (k : ℕ) → k < W.lanes → W.lane_bit result k ≡ bit_at (plane W.lane_bit k words.now) at }
-{
-    match words.get(at) {
-        Some(word) => *word,
-        None => W::all(false),
-    }
-}
+use lane_words::flip::flip_all;
+use lane_words::force::{Force, forced_at};
+use lane_words::{Word, word_at};
 
 fn input_word<W: Word>(inputs: &[bool], at: usize) -> W
     ensures { (k : ℕ) → k < W.lanes → W.lane_bit result k ≡ bit_at inputs.now at }
@@ -87,75 +80,6 @@ pub fn take_first<W: Word>(starts: &[bool], raw: &mut [W])
 {
     for (j, start) in starts.iter().enumerate() {
         raw[j] = W::all(*start);
-    }
-}
-
-fn is_flipped(faults: &[Option<Fault>], latch: u32, cycle: u32) -> bool
-    ensures { result ≡ has_flip (somes faults.now) latch cycle }
-{
-    for fault in faults {
-        if let Some(Fault::Flip(l, c)) = fault {
-            if *l == latch && *c == cycle {
-                return true;
-            }
-        }
-    }
-    false
-}
-
-// Inverts the bit of a lane in the word of a latch.
-fn turn<W: Word>(latch: u32, lane: u32, raw: &mut [W])
-    requires { lane < W.lanes }
-    ensures own { (l : ℕ) → l < length raw.old
-        → bit_at (plane W.lane_bit lane raw.new) l ≡ inverted (latch == l) (bit_at (plane W.lane_bit lane raw.old) l) }
-    ensures others { (k : ℕ) → k < W.lanes → k ≢ lane → plane W.lane_bit k raw.new ≡ plane W.lane_bit k raw.old }
-{
-    let at = latch as usize;
-    if at < raw.len() {
-        let word = word_at(raw, at);
-        raw[at] = word.put(lane, !word.get(lane));
-    }
-}
-
-// Inverts the latch that a fault flips in this cycle, unless a later fault of the lane does.
-fn flip_one<W: Word>(
-    fault: Option<Fault>,
-    rest: &[Option<Fault>],
-    cycle: u32,
-    lane: u32,
-    raw: &mut [W],
-)
-    requires { lane < W.lanes }
-    ensures own { (l : ℕ) → l < length raw.old
-        → inverted (has_flip (somes rest.now) l cycle) (bit_at (plane W.lane_bit lane raw.new) l)
-        ≡ inverted (has_flip (somes (fault ∷ rest.now)) l cycle) (bit_at (plane W.lane_bit lane raw.old) l) }
-    ensures others { (k : ℕ) → k < W.lanes → k ≢ lane → plane W.lane_bit k raw.new ≡ plane W.lane_bit k raw.old }
-{
-    if let Some(Fault::Flip(latch, c)) = fault {
-        if c == cycle && !is_flipped(rest, latch, cycle) {
-            turn(latch, lane, raw);
-        }
-    }
-}
-
-// Inverts the latches that the faults of one lane flip in this cycle.
-fn flip_lane<W: Word>(faults: &[Option<Fault>], cycle: u32, lane: u32, raw: &mut [W])
-    requires { lane < W.lanes }
-    ensures own { (l : ℕ) → l < length raw.old
-        → bit_at (plane W.lane_bit lane raw.new) l ≡ inverted (has_flip (somes faults.now) l cycle) (bit_at (plane W.lane_bit lane raw.old) l) }
-    ensures others { (k : ℕ) → k < W.lanes → k ≢ lane → plane W.lane_bit k raw.new ≡ plane W.lane_bit k raw.old }
-{
-    for (i, fault) in faults.iter().enumerate() {
-        flip_one(*fault, &faults[i + 1..], cycle, lane, raw);
-    }
-}
-
-fn flip_all<W: Word>(loads: &[[Option<Fault>; 2]], cycle: u32, raw: &mut [W])
-    requires { length loads.now ≡ W.lanes }
-    ensures { (k : ℕ) → k < W.lanes → plane W.lane_bit k raw.new ≡ flipped (loaded_faults loads.now k) cycle (plane W.lane_bit k raw.old) }
-{
-    for lane in 0..W::count() {
-        flip_lane(&loads[lane as usize], cycle, lane, raw);
     }
 }
 

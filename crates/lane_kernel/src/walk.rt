@@ -3,14 +3,16 @@ ghost use Rattle.std.specs.Prelude.{◌≡◌, ◌<◌, ◌+◌, ℕ, List, [], 
 ghost use Rattle.circuit.specs.declared.parts.NetId.{NetId};
 ghost use Rattle.circuit.specs.Value.{Cycle};
 ghost use Rattle.circuit.proofs.Walks.{Holds};
-ghost use Rattle.lane_kernel.specs.Gates.{AreForces, AreGates, AreNarrowRuns, AreOps, IsNextPause, IsPaused, IsProgram, plane};
+ghost use Rattle.lane_words.specs.Forces.{AreForces};
+ghost use Rattle.lane_words.specs.Gates.{AreGates, AreOps, IsProgram, plane};
+ghost use Rattle.lane_kernel.specs.Walk.{AreNarrowRuns, IsNextPause, IsPaused};
 
-use crate::force::{Force, forced_at};
-use crate::gate::{Gate, Masks, run_plain, store};
-use crate::wide::evaluate_any;
-use crate::word::Word;
+use crate::gate::{evaluate_any, run_plain, store};
 use circuit::netlist::Netlist;
 use fm_base::Steps;
+use lane_words::Word;
+use lane_words::force::{Force, forced_at};
+use lane_words::gate::{Gate, Masks};
 use std::sync::ledger::Ledger;
 
 /// Evaluates the gate at one place, whose net a fault may change or whose table may be wide.

@@ -4,7 +4,7 @@ ghost use Rattle.fault_list.specs.Faults.{batches_for, is_used};
 ghost use Rattle.fm_base.specs.Planes.{bit};
 ghost use Rattle.classifier.specs.Load.{lane_faults, load_of};
 ghost use Rattle.golden_difference.specs.Lanes.{IsMadeFor};
-ghost use Rattle.lane_kernel.specs.Loads.{loaded_faults, somes};
+ghost use Rattle.lane_words.specs.Loads.{loaded_faults, somes};
 ghost use Rattle.pair_list.specs.Chosen.{AreFaults, pair_count};
 ghost use Rattle.pair_campaign.specs.Work.{faults_in_lane};
 

@@ -1,6 +1,6 @@
-use Rattle.std.proofs.Common.{sym, ◌∙◌, subst}
+use Rattle.std.proofs.Common.{◌≡◌, ◌+◌, ◌*◌, ap, sym, ◌∙◌, subst, arith}
 use Rattle.campaign_plan.specs.declared.Outcome.{Outcome}
-use Rattle.lane_kernel.specs.Loads.{loaded_faults}
+use Rattle.lane_words.specs.Loads.{loaded_faults}
 use Rattle.classifier.specs.Planes.{HasPlanes}
 use Rattle.classifier.proofs.PlaneBits.{planes_have}
 use Rattle.classifier.proofs.batch.batch_outcome.Goals as goal
@@ -12,5 +12,8 @@ returns-clause-outcome g c =
     let runs = c.args.bench.now.runs in
     let ftti = c.args.windows.now.ftti in
     let lanes = loaded_faults c.load.new.self.loads in
-    c.of_batch.ensures net points ftti runs lanes (λ k lane. c.load.ensures.loads k lane ∙ c.loads_of.ensures k lane)
+    c.of_batch.ensures net points ftti runs lanes
+    (λ k lane.
+    let first : k ≡ 0 * 64 + k = omega arith in
+    ap lanes first ∙ c.load.ensures.loads k lane ∙ c.loads_of.ensures k lane)
     (subst (λ (o : Outcome). HasPlanes net points ftti runs lanes o) (sym c.loaded_outcome-loaded.ensures.outcome) (planes_have net points ftti runs lanes))

@@ -1,6 +1,6 @@
 use Rattle.std.proofs.Common.{◌≡◌, ◌+◌, ◌*◌, ◌<◌, ℕ}
 use Rattle.golden_difference.specs.Lanes.{IsMadeFor}
-use Rattle.lane_kernel.specs.Loads.{loaded_faults}
+use Rattle.lane_words.specs.Loads.{loaded_faults}
 use Rattle.classifier.specs.Batch.{alone_in, batch_at}
 use Rattle.classifier.proofs.batch.load_words.Given as goal
 

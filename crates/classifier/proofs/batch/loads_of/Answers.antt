@@ -1,7 +1,7 @@
 use Rattle.std.proofs.Common.{◌≡◌, ◌≢◌, ◌<◌, List, [], ◌∷◌, length, refl, ap, ◌∙◌, arith, below_more, get_or-set_other, get_or-set_same, length-set}
 use Rattle.std.specs.Prelude.{Option, Some, None}
 use Rattle.circuit.specs.declared.parts.Fault.{Fault}
-use Rattle.lane_kernel.specs.Loads.{somes}
+use Rattle.lane_words.specs.Loads.{somes}
 use Rattle.classifier.proofs.batch.loads_of.Goals as goal
 
 -- one fault, or none

@@ -1,5 +1,5 @@
 use Rattle.std.proofs.Common.{◌≡◌, ◌<◌, ℕ, length}
-use Rattle.lane_kernel.specs.Loads.{loaded_faults}
+use Rattle.lane_words.specs.Loads.{loaded_faults}
 use Rattle.classifier.specs.Batch.{alone_in}
 use Rattle.classifier.proofs.batch.loads_of.Given as goal
 

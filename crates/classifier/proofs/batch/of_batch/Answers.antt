@@ -5,7 +5,7 @@ use Rattle.circuit.specs.declared.parts.Fault.{Fault}
 use Rattle.fault_list.specs.Faults.{fault_at, fault_number, is_used}
 use Rattle.fm_base.specs.Planes.{bit}
 use Rattle.fm_base.proofs.Bits.{bit-plane_of, bit_of_and}
-use Rattle.lane_kernel.specs.Loads.{somes}
+use Rattle.lane_words.specs.Loads.{somes}
 use Rattle.campaign_plan.specs.declared.Outcome.{Outcome}
 use Rattle.campaign_plan.specs.Batches.{outcome_of}
 use Rattle.campaign_plan.specs.Danger.{is_dangerous, is_noticed}

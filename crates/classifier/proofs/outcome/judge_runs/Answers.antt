@@ -6,7 +6,7 @@ use Rattle.workload.specs.declared.run.Kind.TheVariants.{Mission}
 use Rattle.workload.specs.declared.run.Run.{Run}
 use Rattle.workload.specs.Runs.{all_cycles, cycles_of, run_at}
 use Rattle.campaign_plan.specs.declared.Outcome.{Outcome}
-use Rattle.classifier.specs.Load.{Load, lane_faults}
+use Rattle.classifier.specs.Load.{Load, lane_faults, load_of}
 use Rattle.classifier.specs.Planes.{HasPlanes, outcome_at}
 use Rattle.alarm_points.specs.FourWatches.{windows_at}
 use Rattle.classifier.specs.Seen.{is_decided}
@@ -36,7 +36,7 @@ loop-run-init g c =
       ftti = λ word. refl;
       planes = λ word lt.
           let ftti = (windows_at c.args.windows.now word).ftti in
-          let faults = lane_faults (g.B.LaneWords.load c.args.lanes.now) word in
+          let faults = lane_faults (load_of c.args.lanes.now) word in
           subst (λ (o : Outcome). HasPlanes net points ftti [] faults o) (sym (c.requires.nothing word lt)) (planes_none net points ftti faults);
       cost = none;
     }
@@ -50,8 +50,8 @@ loop-run-preserved g c =
     let run = run_at runs n in
     let inv = c.loop-run.invariant in
     let watched = c.watch_run.ensures in
-    let before = g.B.LaneWords.load c.loop-run.lanes in
-    let load = g.B.LaneWords.load c.args.lanes.now in
+    let before = load_of c.loop-run.lanes in
+    let load = load_of c.args.lanes.now in
     let outcomes = c.add_run.new.outcomes in
     let within : n < length runs = omega (arith, c.runs-run-end.ensures) in
     let none : Run = record { kind = Mission; vectors = [] } in

@@ -2,7 +2,7 @@ use Rattle.std.proofs.Common.{◌≡◌, ℕ, ◌+◌, ◌*◌, ◌<◌, List, a
 use Rattle.circuit.specs.declared.parts.Fault.{Fault}
 use Rattle.alarm_points.specs.FourWatches.{windows_at}
 use Rattle.alarm_points.specs.Watch.{Watches}
-use Rattle.lane_kernel.specs.Loads.{loaded_faults}
+use Rattle.lane_words.specs.Loads.{loaded_faults}
 use Rattle.classifier.specs.Load.{lane_faults, load_of}
 use Rattle.classifier.specs.Planes.{planes_of}
 use Rattle.classifier.proofs.outcome.loaded_outcome.Goals as goal

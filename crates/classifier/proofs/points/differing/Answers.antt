@@ -10,8 +10,8 @@ use Rattle.classifier.proofs.points.differing.Goals as goal
 
 pub loop-net-preserved : goal.loop-net-preserved
 loop-net-preserved g c = λ run t k lt after lane.
-    let circuit = (g.B.LaneWords.load c.args.lanes.now).circuit in
-    let faults = in_lane (g.B.LaneWords.in_force c.args.lanes.now) c.args.word k in
+    let circuit = c.args.lanes.now.circuit in
+    let faults = in_lane c.args.lanes.now.in_force c.args.word k in
     let nets = c.args.nets.now in
     let i = c.loop-net.net-index in
     let none : NetId = record { 0 = 0 } in
@@ -24,8 +24,8 @@ loop-net-preserved g c = λ run t k lt after lane.
 
 pub returns : goal.returns
 returns g c = λ run t k lt after lane.
-    let circuit = (g.B.LaneWords.load c.args.lanes.now).circuit in
-    let faults = in_lane (g.B.LaneWords.in_force c.args.lanes.now) c.args.word k in
+    let circuit = c.args.lanes.now.circuit in
+    let faults = in_lane c.args.lanes.now.in_force c.args.word k in
     let done : length c.args.nets.now ≤ c.loop-net.net-index = c.loop-net-test.false in
     c.loop-net.invariant run t k lt after lane
     ∙ ap (λ (nets : List NetId). list_any (λ (net : NetId). not (same_bit (with_faults circuit faults run t net) (golden circuit run t net))) nets)

@@ -1,14 +1,14 @@
 use Rattle.std.proofs.Common.{◌≡◌, ◌+◌, [], take, length, ap₂, sym, ◌∙◌, arith}
 use Rattle.std.proofs.lemmas.List.{length-take-le}
 use Rattle.circuit.proofs.Cycles.{trace_taken}
-use Rattle.lane_kernel.specs.Bits.{either}
+use Rattle.lane_words.specs.Bits.{either}
 use Rattle.classifier.specs.Load.{in_lane}
 use Rattle.classifier.proofs.points.differs_at.Goals as goal
 
 pub returns : goal.returns
 returns g c = λ run t k lt after lane inside.
-    let circuit = (g.B.LaneWords.load c.args.lanes.now).circuit in
-    let faults = in_lane (g.B.LaneWords.in_force c.args.lanes.now) c.args.word k in
+    let circuit = c.args.lanes.now.circuit in
+    let faults = in_lane c.args.lanes.now.in_force c.args.word k in
     let size : t + 1 ≡ length (take (t + 1) run.vectors) = sym (length-take-le (t + 1) run.vectors (omega (arith, lt))) in
     c.differs.ensures (take (t + 1) run.vectors) t k after size lane inside
     ∙ ap₂ either (trace_taken circuit faults run.vectors t c.args.net.0 lt) (trace_taken circuit [] run.vectors t c.args.net.0 lt)

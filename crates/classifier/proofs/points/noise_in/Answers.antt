@@ -9,7 +9,7 @@ use Rattle.classifier.proofs.points.noise_in.Goals as goal
 
 pub loop-net-preserved : goal.loop-net-preserved
 loop-net-preserved g c =
-    let circuit = (g.B.LaneWords.load c.args.lanes.now).circuit in
+    let circuit = c.args.lanes.now.circuit in
     let nets = c.args.nets.now in
     let i = c.loop-net.net-index in
     let none : NetId = record { 0 = 0 } in
@@ -17,14 +17,14 @@ loop-net-preserved g c =
     let within : i < length nets = omega arith in
     record {
       raised = λ run t k lt after row lane.
-          let faults = in_lane (g.B.LaneWords.in_force c.args.lanes.now) c.args.word k in
+          let faults = in_lane c.args.lanes.now.in_force c.args.word k in
           c.louder-found.ensures.raised k
           ∙ ap₂ (λ a b. a || b) (c.loop-net.invariant.raised run t k lt after row lane)
           (ap₂ (λ d o. d && not o) (c.differs_at.ensures run t k lt after lane (c.requires.nets i none within)) (c.value_in_words-golden.ensures ∙ row net.0 (c.requires.nets i none within))
           ∙ raised_where (with_faults circuit faults run t net) (golden circuit run t net))
           ∙ sym (list_any_more (λ (n : NetId). with_faults circuit faults run t n && not (golden circuit run t n)) nets i none within);
       silenced = λ run t k lt after row lane.
-          let faults = in_lane (g.B.LaneWords.in_force c.args.lanes.now) c.args.word k in
+          let faults = in_lane c.args.lanes.now.in_force c.args.word k in
           c.louder-found.ensures.silenced k
           ∙ ap₂ (λ a b. a || b) (c.loop-net.invariant.silenced run t k lt after row lane)
           (ap₂ (λ d o. d && o) (c.differs_at.ensures run t k lt after lane (c.requires.nets i none within)) (c.value_in_words-golden.ensures ∙ row net.0 (c.requires.nets i none within))
@@ -34,16 +34,16 @@ loop-net-preserved g c =
 
 pub returns-clause-raised : goal.returns-clause-raised
 returns-clause-raised g c = λ run t k lt after row lane.
-    let circuit = (g.B.LaneWords.load c.args.lanes.now).circuit in
-    let faults = in_lane (g.B.LaneWords.in_force c.args.lanes.now) c.args.word k in
+    let circuit = c.args.lanes.now.circuit in
+    let faults = in_lane c.args.lanes.now.in_force c.args.word k in
     let done : length c.args.nets.now ≤ c.loop-net.net-index = c.loop-net-test.false in
     c.loop-net.invariant.raised run t k lt after row lane
     ∙ ap (λ (nets : List NetId). list_any (λ (n : NetId). with_faults circuit faults run t n && not (golden circuit run t n)) nets) (take_all c.loop-net.net-index c.args.nets.now done)
 
 pub returns-clause-silenced : goal.returns-clause-silenced
 returns-clause-silenced g c = λ run t k lt after row lane.
-    let circuit = (g.B.LaneWords.load c.args.lanes.now).circuit in
-    let faults = in_lane (g.B.LaneWords.in_force c.args.lanes.now) c.args.word k in
+    let circuit = c.args.lanes.now.circuit in
+    let faults = in_lane c.args.lanes.now.in_force c.args.word k in
     let done : length c.args.nets.now ≤ c.loop-net.net-index = c.loop-net-test.false in
     c.loop-net.invariant.silenced run t k lt after row lane
     ∙ ap (λ (nets : List NetId). list_any (λ (n : NetId). not (with_faults circuit faults run t n) && golden circuit run t n) nets) (take_all c.loop-net.net-index c.args.nets.now done)

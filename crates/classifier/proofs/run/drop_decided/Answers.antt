@@ -16,7 +16,7 @@ loop-word-preserved g c =
       cycles = dropped.cycles ∙ inv.cycles;
       after = λ vectors after. dropped.after vectors (inv.after vectors after);
       others = λ word k lt lane free.
-          elim (cases_eq word i) as (λ _. in_lane (g.B.LaneWords.in_force c.drop_more.new.lanes) word k ≡ in_lane (g.B.LaneWords.in_force c.loop-word.lanes) word k) [
+          elim (cases_eq word i) as (λ _. in_lane c.drop_more.new.lanes.in_force word k ≡ in_lane c.loop-word.lanes.in_force word k) [
             | inl same ↦
                 dropped.others word k lt lane (inr (c.decided-out.ensures k ∙ ap (λ j. is_decided c.args.kind (outcome_at outcomes j) k) (sym same) ∙ free))
             | inr apart ↦ dropped.others word k lt lane (inl apart)

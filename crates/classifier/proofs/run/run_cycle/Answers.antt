@@ -9,14 +9,15 @@ use Rattle.workload.specs.Runs.{run_at}
 use Rattle.alarm_points.specs.declared.Points.{Points}
 use Rattle.alarm_points.specs.FourWatches.{AreAllMadeFor}
 use Rattle.alarm_points.specs.PointsKept.{ArePointsFor}
-use Rattle.golden_difference.specs.Beside.{IsGoldenRow}
+use Rattle.golden_difference.specs.Beside.{IsGoldenRow, AreBeside}
 use Rattle.classifier.specs.Load.{Load}
 use Rattle.classifier.specs.Seen.{AreAllFollowed, HaveAllSeen}
+use Rattle.golden_difference.specs.Lanes.{bank_of}
 use Rattle.classifier.proofs.run.run_cycle.Goals as goal
 
 pub see_words-requires-clause-points : goal.see_words-requires-clause-points
 see_words-requires-clause-points g c =
-    subst (λ (ps : Points). ArePointsFor (g.B.LaneWords.load c.advance.new.lanes).circuit ps) (sym c.points.ensures.points)
+    subst (λ (ps : Points). ArePointsFor c.advance.new.lanes.circuit ps) (sym c.points.ensures.points)
     (subst (λ (m : Circuit). ArePointsFor m c.args.bench.now.points) (sym (ap (λ (l : Load). l.circuit) c.advance.ensures.keeps ∙ c.requires.made.circuit)) c.points.ensures.fit)
 
 pub returns : goal.returns
@@ -29,7 +30,7 @@ returns g c =
     let lt = c.requires.cycle in
     let keeps = c.advance.ensures.keeps in
     let made = c.requires.made.circuit in
-    let words = g.B.LaneWords.words in
+    let words = g.W.Word.words in
     let windows = c.args.windows.now in
     let noticed = c.args.noticed.now in
     let golden : IsGoldenRow net run.vectors t row = c.row-row.ensures in
@@ -39,8 +40,8 @@ returns g c =
     let joined : take t run.vectors ++ vector_at run.vectors t ∷ [] ≡ take (t + 1) run.vectors = sym (take_more run.vectors t [] lt) in
     let here : IsGoldenRow net (take t run.vectors ++ vector_at run.vectors t ∷ []) (length (take t run.vectors)) row =
     λ n within. golden n within ∙ sym (trace_taken net [] run.vectors t n lt) ∙ ap₂ (λ (vs : List (List Bool)) m. trace net [] vs m n) (sym joined) (sym size) in
-    let after : g.B.LaneWords.IsAfter c.advance.new.lanes (take (t + 1) run.vectors) =
-    subst (λ (vs : List (List Bool)). g.B.LaneWords.IsAfter c.advance.new.lanes vs) joined (c.advance.ensures.step (take t run.vectors) (vector_at run.vectors t) c.requires.after here) in
+    let after : AreBeside g.W.Word.lanes g.W.Word.lane_bit (take (t + 1) run.vectors) (bank_of c.advance.new.lanes) =
+    subst (λ (vs : List (List Bool)). AreBeside g.W.Word.lanes g.W.Word.lane_bit vs (bank_of c.advance.new.lanes)) joined (c.advance.ensures.step (take t run.vectors) (vector_at run.vectors t) c.requires.after here) in
     record {
       load = c.see_words.ensures.load ∙ keeps;
       cycles = c.see_words.ensures.cycles ∙ c.advance.ensures.cycles ∙ ap (λ n. n + 1) c.requires.cycles;

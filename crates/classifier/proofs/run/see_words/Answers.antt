@@ -6,7 +6,7 @@ use Rattle.alarm_points.specs.Interval.{interval_of}
 use Rattle.alarm_points.specs.PointsKept.{ArePointsFor}
 use Rattle.alarm_points.specs.Watch.{AreMadeFor, Watches}
 use Rattle.golden_difference.specs.Beside.{IsGoldenRow}
-use Rattle.classifier.specs.Load.{Load, in_lane}
+use Rattle.classifier.specs.Load.{Load, in_lane, load_of}
 use Rattle.classifier.specs.Seen.{HaveSeen, noticed_at}
 use Rattle.fm_base.specs.Planes.{bit}
 use Rattle.classifier.proofs.EachWord.{each_set, each_set_one}
@@ -32,13 +32,13 @@ loop-word-preserved g c =
     let ns = c.loop-word.noticed in
     let inv = c.loop-word.invariant in
     let points = c.args.points.now in
-    let load = g.B.LaneWords.load c.args.lanes.now in
-    let held = g.B.LaneWords.load c.loop-word.lanes in
+    let load = load_of c.args.lanes.now in
+    let held = load_of c.loop-word.lanes in
     let new = c.see_cycle.new in
     let none : Watches = windows_at [] 0 in
     let inside : i < length ws = omega (arith, c.loop-word-test.true, c.loop-word.auto.windows, c.requires.windows) in
     let also : i < length ns = omega (arith, c.loop-word-test.true, c.loop-word.auto.noticed, c.requires.noticed) in
-    let word_of : i < g.B.LaneWords.words = omega (arith, c.loop-word-test.true, c.count-word-end.ensures.count) in
+    let word_of : i < g.W.Word.words = omega (arith, c.loop-word-test.true, c.words-word-end.ensures.count) in
     let old : get_or ws i c.index-windows-at.result ≡ windows_at ws i = get_or_default ws i c.index-windows-at.result none inside in
     let made : AreMadeFor points new.windows =
     c.see_cycle.ensures.keeps.intervals ∙ subst (λ (w : Watches). AreMadeFor points w) (sym old) (inv.made i inside)
@@ -59,7 +59,7 @@ loop-word-preserved g c =
           let here : HaveSeen load.circuit points run (in_lane faults i) (t + 1) new.windows new.noticed =
           subst (λ (l : Load). HaveSeen l.circuit points run (in_lane faults i) (t + 1) new.windows new.noticed) inv.load own in (
             c.drop_more.ensures.after (take (t + 1) run.vectors) before.0,
-            λ word within k lane quiet. elim (cases_eq word i) as (λ _. in_lane (g.B.LaneWords.in_force c.drop_more.new.lanes) word k ≡ in_lane faults word k) [
+            λ word within k lane quiet. elim (cases_eq word i) as (λ _. in_lane c.drop_more.new.lanes.in_force word k ≡ in_lane faults word k) [
               | inl same ↦
                   (let at_i : bit (noticed_at (set ns i new.noticed) i) k ≡ false = ap (λ j. bit (noticed_at (set ns i new.noticed) j) k) (sym same) ∙ quiet in
                   let now : bit new.noticed k ≡ false = ap (λ n. bit n k) (sym (get_or-set_same ns i new.noticed 0 also)) ∙ at_i in
@@ -89,6 +89,6 @@ returns-clause-seen g c = λ run faults t kind lt at row followed seen.
       all.0,
       all.1,
       λ word within.
-          let before : word < c.loop-word.word = omega (arith, within, c.loop-word-test.false, c.count-word-end.ensures.count, c.loop-word.auto.windows, c.requires.windows) in
+          let before : word < c.loop-word.word = omega (arith, within, c.loop-word-test.false, c.words-word-end.ensures.count, c.loop-word.auto.windows, c.requires.windows) in
           all.2 word before,
     )

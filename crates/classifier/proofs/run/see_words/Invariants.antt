@@ -4,24 +4,25 @@ use Rattle.circuit.specs.declared.parts.Fault.{Fault}
 use Rattle.workload.specs.declared.run.Run.{Run}
 use Rattle.workload.specs.Runs.{cycles_of}
 use Rattle.alarm_points.specs.FourWatches.{AreAllMadeFor, windows_at}
-use Rattle.golden_difference.specs.Beside.{IsGoldenRow}
-use Rattle.classifier.specs.Load.{in_lane}
+use Rattle.golden_difference.specs.Beside.{IsGoldenRow, AreBeside}
+use Rattle.classifier.specs.Load.{in_lane, load_of}
 use Rattle.classifier.specs.Seen.{AreAllFollowed, HaveAllSeen, HaveSeen, KeepSettings, noticed_at}
+use Rattle.golden_difference.specs.Lanes.{bank_of}
 use Rattle.classifier.proofs.run.see_words.Given as goal
 
 -- the words so far have seen the cycle, and the others are as they were
 abbrev pub invariant-loop-word : goal.invariant-loop-word
 invariant-loop-word g l = record {
-  load : g.B.LaneWords.load l.lanes ≡ g.B.LaneWords.load l.initial.lanes;
-  cycles : g.B.LaneWords.cycles l.lanes ≡ g.B.LaneWords.cycles l.initial.lanes;
+  load : load_of l.lanes ≡ load_of l.initial.lanes;
+  cycles : l.lanes.cycle ≡ l.initial.lanes.cycle;
   made : AreAllMadeFor l.points l.windows;
-  seen : (run : Run) (faults : List (List (Option Fault))) (t : ℕ) → run.kind ≡ l.kind → t < cycles_of run → g.B.LaneWords.IsAfter l.initial.lanes (take (t + 1) run.vectors)
-      → IsGoldenRow (g.B.LaneWords.load l.initial.lanes).circuit run.vectors t l.row
-      → AreAllFollowed g.B.LaneWords.words faults (g.B.LaneWords.in_force l.initial.lanes) l.initial.noticed
-      → HaveAllSeen (g.B.LaneWords.load l.initial.lanes).circuit l.points run faults t l.initial.windows l.initial.noticed
-      → g.B.LaneWords.IsAfter l.lanes (take (t + 1) run.vectors)
-      × AreAllFollowed g.B.LaneWords.words faults (g.B.LaneWords.in_force l.lanes) l.noticed
-      × ((word : ℕ) → word < l.word → HaveSeen (g.B.LaneWords.load l.initial.lanes).circuit l.points run (in_lane faults word) (t + 1) (windows_at l.windows word) (noticed_at l.noticed word))
-      × ((word : ℕ) → l.word ≤ word → word < length l.windows → HaveSeen (g.B.LaneWords.load l.initial.lanes).circuit l.points run (in_lane faults word) t (windows_at l.windows word) (noticed_at l.noticed word));
+  seen : (run : Run) (faults : List (List (Option Fault))) (t : ℕ) → run.kind ≡ l.kind → t < cycles_of run → AreBeside g.W.Word.lanes g.W.Word.lane_bit (take (t + 1) run.vectors) (bank_of l.initial.lanes)
+      → IsGoldenRow l.initial.lanes.circuit run.vectors t l.row
+      → AreAllFollowed g.W.Word.words faults l.initial.lanes.in_force l.initial.noticed
+      → HaveAllSeen l.initial.lanes.circuit l.points run faults t l.initial.windows l.initial.noticed
+      → AreBeside g.W.Word.lanes g.W.Word.lane_bit (take (t + 1) run.vectors) (bank_of l.lanes)
+      × AreAllFollowed g.W.Word.words faults l.lanes.in_force l.noticed
+      × ((word : ℕ) → word < l.word → HaveSeen l.initial.lanes.circuit l.points run (in_lane faults word) (t + 1) (windows_at l.windows word) (noticed_at l.noticed word))
+      × ((word : ℕ) → l.word ≤ word → word < length l.windows → HaveSeen l.initial.lanes.circuit l.points run (in_lane faults word) t (windows_at l.windows word) (noticed_at l.noticed word));
   ftti : KeepSettings l.initial.windows l.windows;
 }

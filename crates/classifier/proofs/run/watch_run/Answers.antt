@@ -9,10 +9,11 @@ use Rattle.circuit.specs.declared.parts.Fault.{Fault}
 use Rattle.workload.specs.Runs.{all_cycles, cycles_of, run_at}
 use Rattle.alarm_points.specs.declared.Points.{Points}
 use Rattle.alarm_points.specs.FourWatches.{windows_at}
-use Rattle.classifier.specs.Load.{Load, in_lane, lane_faults}
+use Rattle.classifier.specs.Load.{Load, in_lane, lane_faults, load_of}
 use Rattle.classifier.specs.Planes.{outcome_at}
 use Rattle.classifier.specs.Seen.{HaveAllSeen, HaveSeen, is_decided, noticed_at}
 use Rattle.classifier.proofs.Stillness.{over_still}
+use Rattle.classifier.proofs.Kept.{load_kept}
 use Rattle.classifier.proofs.run.watch_run.Goals as goal
 
 -- the steps of one cycle more
@@ -26,14 +27,14 @@ pub clock-init : goal.clock-init
 clock-init g c =
     let net = c.args.bench.now.circuit in
     let run = run_at c.args.bench.now.runs c.args.run in
-    let faults = g.B.LaneWords.in_force c.drop_decided.new.lanes in
+    let faults = c.drop_decided.new.lanes.in_force in
     let none =
     subst (λ (ps : Points). HaveAllSeen net ps run faults 0 c.start_windows.new.windows c.start_windows.new.noticed) c.points.ensures.points
     (c.start_windows.ensures.seen net run faults) in
     record {
       load = refl;
-      cycles = c.drop_decided.ensures.cycles ∙ c.restart.ensures.cycles;
-      after = c.drop_decided.ensures.after [] c.restart.ensures.start;
+      cycles = c.drop_decided.ensures.cycles ∙ c.start.ensures.cycle;
+      after = c.drop_decided.ensures.after [] c.start.ensures.start;
       made = λ word lt. (none word lt).made;
       seen = none;
       followed = λ word lt k lane quiet. refl;
@@ -66,19 +67,19 @@ returns-clause-seen g c =
     let points = c.args.bench.now.points in
     let run = run_at c.args.bench.now.runs c.args.run in
     let t = c.clock.t in
-    let load = g.B.LaneWords.load c.args.lanes.now in
-    let faults = g.B.LaneWords.in_force c.drop_decided.new.lanes in
+    let load = load_of c.args.lanes.now in
+    let faults = c.drop_decided.new.lanes.in_force in
     let least : cycles_of run ≤ all_cycles c.args.bench.now.runs = get_or-le-sum_by cycles_of c.args.bench.now.runs c.args.run (run_at [] 0) c.requires.run in
     let few : cycles_of run ≤ 65536 = omega (arith, least, c.cycles.ensures.sound.few) in
-    let same : (g.B.LaneWords.load c.clock.lanes).circuit ≡ net =
-    ap (λ (l : Load). l.circuit) (inv.load ∙ c.drop_decided.ensures.load ∙ c.restart.ensures.keeps) ∙ c.requires.made.circuit in (
+    let same : c.clock.lanes.circuit ≡ net =
+    ap (λ (l : Load). l.circuit) (inv.load ∙ c.drop_decided.ensures.load ∙ (load_kept c.args.lanes.now c.start.new.self c.start.ensures.keeps)) ∙ c.requires.made.circuit in (
       faults,
       λ word k lt lane free.
           c.drop_decided.ensures.others word k lt lane (ap (λ kind. is_decided kind (outcome_at c.args.outcomes.now word) k) c.kind.ensures ∙ free)
-          ∙ ap (λ (fs : List (List (Option Fault))). in_lane fs word k) c.restart.ensures.in_force ∙ ap (λ (l : Load). lane_faults l word k) c.restart.ensures.keeps,
+          ∙ ap (λ (fs : List (List (Option Fault))). in_lane fs word k) c.start.ensures.in_force ∙ ap (λ (l : Load). lane_faults l word k) (load_kept c.args.lanes.now c.start.new.self c.start.ensures.keeps),
       λ word lt.
           let own : HaveSeen net points run (in_lane faults word) t (windows_at c.clock.windows word) (noticed_at c.clock.noticed word) = inv.seen word lt in
-          let in_words : word < g.B.LaneWords.words = omega (arith, lt, c.clock.auto.windows, c.start_windows.auto.windows, c.requires.windows) in
+          let in_words : word < g.W.Word.words = omega (arith, lt, c.clock.auto.windows, c.start_windows.auto.windows, c.requires.windows) in
           record {
             n = t;
             within = inv.within;
@@ -87,13 +88,13 @@ returns-clause-seen g c =
                 over_still net points run (in_lane faults word k) u c.points.ensures.fit
                 (λ n within.
                 let vectors = run.vectors in
-                let follows : in_lane (g.B.LaneWords.in_force c.clock.lanes) word k ≡ in_lane faults word k = inv.followed word in_words k lane (own.noticed_is k lane ∙ none) in
-                let over : trace_differs (g.B.LaneWords.load c.clock.lanes).circuit (in_lane (g.B.LaneWords.in_force c.clock.lanes) word k) (take t vectors ++ drop t vectors) u n ≡ false =
+                let follows : in_lane c.clock.lanes.in_force word k ≡ in_lane faults word k = inv.followed word in_words k lane (own.noticed_is k lane ∙ none) in
+                let over : trace_differs c.clock.lanes.circuit (in_lane c.clock.lanes.in_force word k) (take t vectors ++ drop t vectors) u n ≡ false =
                 c.goes_on.ensures.over (take t vectors) word k c.clock-test.false (omega (arith, from, late, c.cycles.ensures.count)) inv.after in_words lane (drop t vectors) u n
                 (omega (arith, length-take-le t vectors inv.within, from)) (omega (arith, late, few)) (subst (λ (m : Circuit). n < length m.drivers) (sym same) within) in
                 sym (ap (λ (vs : List (List Bool)). trace_differs net (in_lane faults word k) vs u n) (take-append-drop t vectors))
                 ∙ sym (ap (λ (m : Circuit). trace_differs m (in_lane faults word k) (take t vectors ++ drop t vectors) u n) same)
-                ∙ sym (ap (λ (fs : List Fault). trace_differs (g.B.LaneWords.load c.clock.lanes).circuit fs (take t vectors ++ drop t vectors) u n) follows)
+                ∙ sym (ap (λ (fs : List Fault). trace_differs c.clock.lanes.circuit fs (take t vectors ++ drop t vectors) u n) follows)
                 ∙ over);
           },
     )

@@ -2,18 +2,21 @@ use Rattle.std.proofs.Common.{◌≡◌, ◌≤◌, ◌+◌, ◌-◌, ◌*◌, l
 use Rattle.workload.specs.Runs.{cycles_of, run_at}
 use Rattle.alarm_points.specs.FourWatches.{AreAllMadeFor}
 use Rattle.classifier.specs.Seen.{AreAllFollowed, HaveAllSeen, KeepSettings}
+use Rattle.golden_difference.specs.Beside.{AreBeside}
+use Rattle.golden_difference.specs.Lanes.{bank_of}
+use Rattle.classifier.specs.Load.{load_of}
 use Rattle.classifier.proofs.run.watch_run.Given as goal
 
 -- the cycles so far are simulated, and the windows have seen them
 abbrev pub invariant-clock : goal.invariant-clock
 invariant-clock g l = record {
   within : l.t ≤ cycles_of (run_at l.bench.runs l.run);
-  load : g.B.LaneWords.load l.lanes ≡ g.B.LaneWords.load l.initial.lanes;
-  cycles : g.B.LaneWords.cycles l.lanes ≡ l.t;
-  after : g.B.LaneWords.IsAfter l.lanes (take l.t (run_at l.bench.runs l.run).vectors);
+  load : load_of l.lanes ≡ load_of l.initial.lanes;
+  cycles : l.lanes.cycle ≡ l.t;
+  after : AreBeside g.W.Word.lanes g.W.Word.lane_bit (take l.t (run_at l.bench.runs l.run).vectors) (bank_of l.lanes);
   made : AreAllMadeFor l.bench.points l.windows;
-  seen : HaveAllSeen l.bench.circuit l.bench.points (run_at l.bench.runs l.run) (g.B.LaneWords.in_force l.initial.lanes) l.t l.windows l.noticed;
-  followed : AreAllFollowed g.B.LaneWords.words (g.B.LaneWords.in_force l.initial.lanes) (g.B.LaneWords.in_force l.lanes) l.noticed;
+  seen : HaveAllSeen l.bench.circuit l.bench.points (run_at l.bench.runs l.run) l.initial.lanes.in_force l.t l.windows l.noticed;
+  followed : AreAllFollowed g.W.Word.words l.initial.lanes.in_force l.lanes.in_force l.noticed;
   ftti : KeepSettings l.initial.windows l.windows;
   cost : l.steps ≤ l.initial.steps + l.t * length l.bench.circuit.tables;
 }

@@ -11,30 +11,30 @@ use Rattle.alarm_points.specs.Interval.{interval_of}
 use Rattle.alarm_points.specs.Watch.{window_at}
 use Rattle.campaign_plan.specs.Danger.{golden, is_raised, is_silenced, with_faults}
 use Rattle.fm_base.specs.Planes.{bit}
-use Rattle.classifier.specs.Load.{in_lane}
+use Rattle.classifier.specs.Load.{in_lane, load_of}
 use Rattle.classifier.specs.Seen.{HasSeen, goal_at, is_noticed_by}
 use Rattle.classifier.proofs.Views.{notice_after}
 use Rattle.classifier.proofs.see.see_cycle.Goals as goal
 
 pub noise_in-found-requires-clause-nets : goal.noise_in-found-requires-clause-nets
 noise_in-found-requires-clause-nets g c =
-    subst (λ (ns : List NetId). All (IsNet (g.B.LaneWords.load c.args.lanes.now).circuit) ns) (sym c.as_slice.ensures) c.requires.points.alarm
+    subst (λ (ns : List NetId). All (IsNet c.args.lanes.now.circuit) ns) (sym c.as_slice.ensures) c.requires.points.alarm
 
 pub see_goals-requires-clause-nets : goal.see_goals-requires-clause-nets
 see_goals-requires-clause-nets g c = λ h lt.
     let goals : c.as_slice-2.result.now ≡ c.args.points.now.goals = c.as_slice-2.ensures in
-    subst (λ (gs : List Goal). All (IsNet (g.B.LaneWords.load c.args.lanes.now).circuit) (goal_at gs h).observe) (sym goals)
+    subst (λ (gs : List Goal). All (IsNet c.args.lanes.now.circuit) (goal_at gs h).observe) (sym goals)
     (c.requires.points.goals h (goal_at [] 0) (subst (λ (gs : List Goal). h < length gs) goals lt)).nets
 
 pub returns-clause-seen : goal.returns-clause-seen
 returns-clause-seen g c = λ run faults t kind within at row followed seen.
-    let load = g.B.LaneWords.load c.args.lanes.now in
+    let load = load_of c.args.lanes.now in
     let points = c.args.points.now in
     let goals : c.as_slice-2.result.now ≡ points.goals = c.as_slice-2.ensures in
     let old = c.args.noticed.now in
     let found = c.noise_in-found.result in
     let alarms : c.as_slice.result.now ≡ points.alarm = c.as_slice.ensures in
-    let follows : (k : ℕ) → k < 64 → is_noticed_by load.circuit points (faults k) run t ≡ false → in_lane (g.B.LaneWords.in_force c.args.lanes.now) c.args.word k ≡ faults k =
+    let follows : (k : ℕ) → k < 64 → is_noticed_by load.circuit points (faults k) run t ≡ false → in_lane c.args.lanes.now.in_force c.args.word k ≡ faults k =
     λ k lane none. followed k lane (seen.noticed_is k lane ∙ none) in
     let loud : (k : ℕ) → k < 64 → is_noticed_by load.circuit points (faults k) run t ≡ false → bit found.raised k ≡ is_raised load.circuit points (faults k) run t =
     λ k lane none.

@@ -8,6 +8,8 @@ use Rattle.campaign_plan.specs.Danger.{is_raised}
 use Rattle.fm_base.specs.Planes.{bit}
 use Rattle.classifier.specs.Load.{in_lane}
 use Rattle.classifier.specs.Seen.{HasSeen, goal_at, is_noticed_by}
+use Rattle.golden_difference.specs.Beside.{AreBeside}
+use Rattle.golden_difference.specs.Lanes.{bank_of}
 use Rattle.classifier.proofs.see.see_goals.Given as goal
 
 -- the goals so far have seen the cycle, and the windows of the others are as they were
@@ -15,11 +17,11 @@ abbrev pub invariant-loop-g : goal.invariant-loop-g
 invariant-loop-g o l = record {
   keeps : KeepsIntervals l.initial.windows l.windows;
   count : length l.windows.windows ≡ length l.goals;
-  done : (points : Points) (run : Run) (faults : ℕ → List Fault) (t h : ℕ) → t < cycles_of run → h < l.g → o.B.LaneWords.IsAfter l.lanes (take (t + 1) run.vectors)
-      → ((k : ℕ) → k < 64 → is_noticed_by (o.B.LaneWords.load l.lanes).circuit points (faults k) run t ≡ false
-      → (in_lane (o.B.LaneWords.in_force l.lanes) l.word k ≡ faults k)
-      × (bit l.raised k ≡ is_raised (o.B.LaneWords.load l.lanes).circuit points (faults k) run t))
-      → HasSeen (o.B.LaneWords.load l.lanes).circuit points run faults (goal_at l.goals h) t (window_at l.initial.windows h)
-      → HasSeen (o.B.LaneWords.load l.lanes).circuit points run faults (goal_at l.goals h) (t + 1) (window_at l.windows h);
+  done : (points : Points) (run : Run) (faults : ℕ → List Fault) (t h : ℕ) → t < cycles_of run → h < l.g → AreBeside o.W.Word.lanes o.W.Word.lane_bit (take (t + 1) run.vectors) (bank_of l.lanes)
+      → ((k : ℕ) → k < 64 → is_noticed_by l.lanes.circuit points (faults k) run t ≡ false
+      → (in_lane l.lanes.in_force l.word k ≡ faults k)
+      × (bit l.raised k ≡ is_raised l.lanes.circuit points (faults k) run t))
+      → HasSeen l.lanes.circuit points run faults (goal_at l.goals h) t (window_at l.initial.windows h)
+      → HasSeen l.lanes.circuit points run faults (goal_at l.goals h) (t + 1) (window_at l.windows h);
   left : (h : ℕ) → l.g ≤ h → window_at l.windows h ≡ window_at l.initial.windows h;
 }

@@ -6,11 +6,11 @@ use Rattle.fanout.specs.Readers.{IsReadAt, Ordered}
 use Rattle.circuit.proofs.FewTables.{few_tables}
 use Rattle.golden_difference.specs.Beside.{latched}
 use Rattle.golden_difference.proofs.Exclusive.{either_again, either_none}
-use Rattle.lane_kernel.specs.Bits.{either}
-use Rattle.lane_kernel.specs.Gates.{latch_at, plane}
+use Rattle.lane_words.specs.Bits.{either}
+use Rattle.lane_words.specs.Gates.{latch_at, plane}
 use Rattle.place_set.specs.Places.{value_in}
 use Rattle.differential_kernel.specs.Differences.{IsSame}
-use Rattle.differential_kernel.specs.Forces.{force_value}
+use Rattle.lane_words.specs.Forces.{force_value}
 use Rattle.differential_kernel.specs.Places.{AreTablePlaces}
 use Rattle.differential_kernel.proofs.Begun.{begun}
 use Rattle.differential_kernel.proofs.Walking.{latch_read}

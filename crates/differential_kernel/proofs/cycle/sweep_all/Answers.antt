@@ -1,8 +1,8 @@
 use Rattle.std.proofs.Common.{ap₂, subst, sym, ◌∙◌, arith}
 use Rattle.circuit.specs.Value.{bit_at}
 use Rattle.golden_difference.proofs.Exclusive.{either_again}
-use Rattle.lane_kernel.specs.Bits.{either}
-use Rattle.lane_kernel.specs.Gates.{plane}
+use Rattle.lane_words.specs.Bits.{either}
+use Rattle.lane_words.specs.Gates.{plane}
 use Rattle.place_set.specs.Places.{value_in}
 use Rattle.differential_kernel.specs.Places.{AreTablePlaces}
 use Rattle.differential_kernel.proofs.Begun.{begun}

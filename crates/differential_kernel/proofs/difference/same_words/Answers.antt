@@ -1,7 +1,7 @@
 use Rattle.std.proofs.Common.{◌≡◌, ◌++◌, ◌∷◌, [], ◌+◌, List, length, rules, ◌∙◌, ap}
 use Rattle.std.proofs.lemmas.List.{length_push}
 use Rattle.circuit.specs.Value.{bit_at}
-use Rattle.lane_kernel.specs.Gates.{plane}
+use Rattle.lane_words.specs.Gates.{plane}
 use Rattle.differential_kernel.proofs.Notes.{same_push}
 use Rattle.differential_kernel.proofs.difference.same_words.Goals as goal
 

@@ -1,6 +1,6 @@
 use Rattle.std.proofs.Common.{◌≡◌, ◌<◌, ◌≤◌, ◌-◌, ◌&&◌, ℕ, not}
 use Rattle.circuit.specs.Value.{bit_at}
-use Rattle.lane_kernel.specs.Gates.{plane}
+use Rattle.lane_words.specs.Gates.{plane}
 use Rattle.differential_kernel.proofs.drop.keep_lanes.Given as goal
 
 abbrev pub decreases-places : goal.decreases-places

@@ -2,7 +2,7 @@ use Rattle.std.proofs.Common.{◌≡◌, inl, inr, ◌<◌, List, [], length, se
 use Rattle.std.specs.Prelude.{Option}
 use Rattle.std.proofs.lemmas.Bool.{cases_eq}
 use Rattle.circuit.specs.declared.parts.Fault.{Fault}
-use Rattle.lane_kernel.specs.Loads.{loaded_faults, somes}
+use Rattle.lane_words.specs.Loads.{loaded_faults, somes}
 use Rattle.differential_kernel.proofs.drop.unload.Goals as goal
 
 pub loop-lane-preserved : goal.loop-lane-preserved

@@ -1,5 +1,5 @@
 use Rattle.std.proofs.Common.{◌≡◌, ◌<◌, ℕ, true, false, []}
-use Rattle.lane_kernel.specs.Loads.{loaded_faults}
+use Rattle.lane_words.specs.Loads.{loaded_faults}
 use Rattle.differential_kernel.proofs.drop.unload.Given as goal
 
 -- the lanes so far have none of the faults that are dropped, and the others are as they were

@@ -1,5 +1,5 @@
 use Rattle.std.proofs.Common.{sym, ◌∙◌}
-use Rattle.lane_kernel.specs.Gates.{plane}
+use Rattle.lane_words.specs.Gates.{plane}
 use Rattle.differential_kernel.proofs.Acting.{no_flips_now}
 use Rattle.differential_kernel.proofs.flip.flip.Goals as goal
 

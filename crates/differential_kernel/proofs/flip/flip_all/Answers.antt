@@ -1,8 +1,8 @@
 use Rattle.std.proofs.Common.{◌≡◌, length, sym, ◌∙◌, arith}
-use Rattle.lane_kernel.specs.Gates.{plane}
-use Rattle.lane_kernel.specs.Loads.{loaded_faults}
-use Rattle.lane_kernel.proofs.FlipOnce.{flipped_places}
-use Rattle.lane_kernel.proofs.Sources.{length_plane}
+use Rattle.lane_words.specs.Gates.{plane}
+use Rattle.lane_words.specs.Loads.{loaded_faults}
+use Rattle.lane_words.proofs.FlipOnce.{flipped_places}
+use Rattle.lane_words.proofs.Planes.{length_plane}
 use Rattle.differential_kernel.proofs.flip.flip_all.Goals as goal
 
 pub returns-clause-flipped : goal.returns-clause-flipped

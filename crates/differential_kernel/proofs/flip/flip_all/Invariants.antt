@@ -1,8 +1,8 @@
 use Rattle.std.proofs.Common.{◌≡◌, ◌≤◌, ◌<◌, ℕ, length}
 use Rattle.circuit.specs.Effects.{has_flip, inverted}
 use Rattle.circuit.specs.Value.{bit_at}
-use Rattle.lane_kernel.specs.Gates.{plane}
-use Rattle.lane_kernel.specs.Loads.{loaded_faults}
+use Rattle.lane_words.specs.Gates.{plane}
+use Rattle.lane_words.specs.Loads.{loaded_faults}
 use Rattle.differential_kernel.specs.Differences.{AreSameOff}
 use Rattle.differential_kernel.proofs.flip.flip_all.Given as goal
 

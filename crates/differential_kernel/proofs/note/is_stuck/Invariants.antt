@@ -1,7 +1,7 @@
 use Rattle.std.proofs.Common.{◌≡◌, drop}
 use Rattle.std.specs.List.{list_any}
 use Rattle.circuit.specs.Effects.{is_permanent}
-use Rattle.lane_kernel.specs.Loads.{somes}
+use Rattle.lane_words.specs.Loads.{somes}
 use Rattle.differential_kernel.proofs.note.is_stuck.Given as goal
 
 -- the faults that are left decide as all of them do

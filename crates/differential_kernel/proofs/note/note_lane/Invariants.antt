@@ -1,5 +1,5 @@
 use Rattle.std.proofs.Common.{◌≡◌, ◌<◌, ◌||◌, ℕ, drop}
-use Rattle.lane_kernel.specs.Loads.{names}
+use Rattle.lane_words.specs.Loads.{names}
 use Rattle.place_set.specs.Places.{has}
 use Rattle.differential_kernel.proofs.note.note_lane.Given as goal
 

@@ -1,5 +1,5 @@
 use Rattle.std.proofs.Common.{◌≡◌, ◌<◌, ◌||◌, ℕ, drop}
-use Rattle.lane_kernel.specs.Loads.{some_names}
+use Rattle.lane_words.specs.Loads.{some_names}
 use Rattle.place_set.specs.Places.{has}
 use Rattle.differential_kernel.proofs.note.note_lanes.Given as goal
 

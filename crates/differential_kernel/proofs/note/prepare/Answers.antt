@@ -1,7 +1,7 @@
 use Rattle.std.proofs.Common.{◌≡◌, sym, ◌∙◌, subst, arith}
 use Rattle.std.proofs.lemmas.Grind.{common_steps}
 use Rattle.std.specs.Vec.{with_items}
-use Rattle.lane_kernel.proofs.Armed.{lane_unnamed}
+use Rattle.lane_words.proofs.Armed.{lane_unnamed}
 use Rattle.differential_kernel.specs.Forces.{AreIdleOff}
 use Rattle.differential_kernel.proofs.note.prepare.Goals as goal
 

@@ -2,8 +2,8 @@ use Rattle.std.proofs.Common.{◌≡◌, inl, inr, ◌<◌, ◌≤◌, ℕ, fals
 use Rattle.std.specs.Prelude.{None}
 use Rattle.std.proofs.lemmas.Bool.{cases_eq, cases_lt}
 use Rattle.circuit.specs.Value.{bit_at}
-use Rattle.lane_kernel.specs.Gates.{plane}
-use Rattle.differential_kernel.specs.declared.force.Force.{Force}
+use Rattle.lane_words.specs.Gates.{plane}
+use Rattle.lane_words.specs.declared.force.Force.{Force}
 use Rattle.differential_kernel.proofs.Forcing.{forced_idle, forced_in, forced_same}
 use Rattle.differential_kernel.proofs.Notes.{grows_none}
 use Rattle.differential_kernel.proofs.sources.force_all.Goals as goal

@@ -1,9 +1,9 @@
 use Rattle.std.proofs.Common.{◌≡◌, ◌<◌, ◌≤◌, ◌-◌, ℕ, false, length, get_or}
 use Rattle.std.specs.Prelude.{None, Some}
 use Rattle.circuit.specs.Value.{bit_at}
-use Rattle.lane_kernel.specs.Gates.{plane}
+use Rattle.lane_words.specs.Gates.{plane}
 use Rattle.place_set.specs.Places.{has}
-use Rattle.differential_kernel.specs.declared.force.Force.{Force}
+use Rattle.lane_words.specs.declared.force.Force.{Force}
 use Rattle.differential_kernel.specs.Differences.{AreNoted, IsSame}
 use Rattle.differential_kernel.proofs.Forcing.{forced_in}
 use Rattle.differential_kernel.specs.Parts.{AreNetsOf}

@@ -1,11 +1,11 @@
 use Rattle.std.proofs.Common.{◌≡◌, get_or, ap, ap₂, sym, ◌∙◌, arith}
 use Rattle.std.proofs.lemmas.Bool.{true≢false}
 use Rattle.circuit.specs.Value.{bit_at}
-use Rattle.lane_kernel.specs.Bits.{either}
-use Rattle.lane_kernel.specs.Gates.{plane}
+use Rattle.lane_words.specs.Bits.{either}
+use Rattle.lane_words.specs.Gates.{plane}
 use Rattle.place_set.specs.Places.{has, value_in}
 use Rattle.differential_kernel.specs.Differences.{read_in}
-use Rattle.differential_kernel.specs.Forces.{force_value}
+use Rattle.lane_words.specs.Forces.{force_value}
 use Rattle.differential_kernel.proofs.Notes.{at_set_other, at_set_same, noted_more, put_grows, put_here}
 use Rattle.differential_kernel.proofs.sources.force_net.Goals as goal
 

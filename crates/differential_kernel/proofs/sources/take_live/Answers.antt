@@ -5,8 +5,8 @@ use Rattle.circuit.specs.declared.parts.Latch.{Latch}
 use Rattle.circuit.specs.Circuit.{Circuit}
 use Rattle.circuit.specs.Value.{bit_at, driver_at}
 use Rattle.golden_difference.specs.Beside.{latched}
-use Rattle.lane_kernel.specs.Gates.{latch_at, plane}
-use Rattle.lane_kernel.proofs.Sources.{latches_driven, latches_inside}
+use Rattle.lane_words.specs.Gates.{latch_at, plane}
+use Rattle.lane_words.proofs.Latches.{latches_driven, latches_inside}
 use Rattle.differential_kernel.proofs.Latching.{held_below, latched_all, latched_here, latched_more, latched_none}
 use Rattle.differential_kernel.proofs.Notes.{at_set_other, at_set_same, none_taken, same_taken}
 use Rattle.differential_kernel.proofs.sources.take_live.Goals as goal

@@ -1,7 +1,7 @@
 use Rattle.std.proofs.Common.{◌≡◌, ◌<◌, ◌≤◌, ◌-◌, ℕ, false, length}
 use Rattle.circuit.specs.Value.{bit_at, driver_at}
 use Rattle.golden_difference.specs.Beside.{latched}
-use Rattle.lane_kernel.specs.Gates.{plane}
+use Rattle.lane_words.specs.Gates.{plane}
 use Rattle.place_set.specs.Places.{has}
 use Rattle.differential_kernel.specs.Differences.{AreSameOff, AreNoted}
 use Rattle.differential_kernel.proofs.Latching.{held_below}

@@ -2,8 +2,8 @@ use Rattle.std.proofs.Common.{◌≡◌, inl, inr, ◌<◌, false, length, set, 
 use Rattle.std.proofs.lemmas.Bool.{cases_eq, cases_lt}
 use Rattle.std.proofs.lemmas.List.{get_or_past}
 use Rattle.circuit.specs.Value.{bit_at}
-use Rattle.lane_kernel.specs.Gates.{plane}
-use Rattle.lane_kernel.proofs.Sources.{length_plane}
+use Rattle.lane_words.specs.Gates.{plane}
+use Rattle.lane_words.proofs.Planes.{length_plane}
 use Rattle.differential_kernel.proofs.Notes.{at_set_other, at_set_same}
 use Rattle.differential_kernel.proofs.sweep.blank.Goals as goal
 

@@ -1,9 +1,9 @@
 use Rattle.std.proofs.Common.{get_or, ap, ◌∙◌}
 use Rattle.circuit.specs.Value.{bit_at}
-use Rattle.lane_kernel.specs.Bits.{either}
-use Rattle.lane_kernel.specs.Gates.{plane}
+use Rattle.lane_words.specs.Bits.{either}
+use Rattle.lane_words.specs.Gates.{plane}
 use Rattle.place_set.specs.Places.{value_in}
-use Rattle.differential_kernel.specs.Forces.{force_value}
+use Rattle.lane_words.specs.Forces.{force_value}
 use Rattle.differential_kernel.proofs.Notes.{at_set_other, at_set_same}
 use Rattle.differential_kernel.proofs.sweep.force_source.Goals as goal
 

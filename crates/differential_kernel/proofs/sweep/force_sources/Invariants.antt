@@ -1,8 +1,8 @@
 use Rattle.std.proofs.Common.{◌≡◌, ◌<◌, ◌≤◌, ◌-◌, ℕ, length, get_or}
 use Rattle.std.specs.Prelude.{None}
 use Rattle.circuit.specs.Value.{bit_at}
-use Rattle.lane_kernel.specs.Gates.{plane}
-use Rattle.differential_kernel.specs.declared.force.Force.{Force}
+use Rattle.lane_words.specs.Gates.{plane}
+use Rattle.lane_words.specs.declared.force.Force.{Force}
 use Rattle.differential_kernel.proofs.Forcing.{forced_in}
 use Rattle.differential_kernel.proofs.sweep.force_sources.Given as goal
 

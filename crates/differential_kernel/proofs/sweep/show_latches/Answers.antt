@@ -4,8 +4,9 @@ use Rattle.std.proofs.lemmas.List.{get_or_past}
 use Rattle.circuit.specs.declared.parts.Latch.{Latch}
 use Rattle.circuit.specs.Value.{bit_at, driver_at}
 use Rattle.golden_difference.specs.Beside.{latched}
-use Rattle.lane_kernel.specs.Gates.{latch_at, plane}
-use Rattle.lane_kernel.proofs.Sources.{latches_driven, latches_inside, length_plane}
+use Rattle.lane_words.specs.Gates.{latch_at, plane}
+use Rattle.lane_words.proofs.Latches.{latches_driven, latches_inside}
+use Rattle.lane_words.proofs.Planes.{length_plane}
 use Rattle.differential_kernel.proofs.Latching.{held_below, latched_all, latched_here, latched_more, latched_none}
 use Rattle.differential_kernel.proofs.Notes.{at_set_other, at_set_same}
 use Rattle.differential_kernel.proofs.sweep.show_latches.Goals as goal

@@ -1,7 +1,7 @@
 use Rattle.std.proofs.Common.{◌≡◌, ◌<◌, ℕ, length}
 use Rattle.circuit.specs.Value.{bit_at, driver_at}
 use Rattle.golden_difference.specs.Beside.{latched}
-use Rattle.lane_kernel.specs.Gates.{plane}
+use Rattle.lane_words.specs.Gates.{plane}
 use Rattle.differential_kernel.proofs.Latching.{held_below}
 use Rattle.differential_kernel.proofs.sweep.show_latches.Given as goal
 

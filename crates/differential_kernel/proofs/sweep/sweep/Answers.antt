@@ -4,9 +4,9 @@ use Rattle.circuit.specs.declared.parts.NetId.{NetId}
 use Rattle.circuit.specs.Circuit.{Circuit}
 use Rattle.circuit.specs.Order.{IsOrder, net_at}
 use Rattle.golden_difference.proofs.Walked.{Walked, walked_all}
-use Rattle.lane_kernel.specs.declared.gate.Gate.{Gate}
-use Rattle.lane_kernel.specs.Gates.{IsGate, gate_at}
-use Rattle.differential_kernel.specs.declared.force.Force.{Force}
+use Rattle.lane_words.specs.declared.gate.Gate.{Gate}
+use Rattle.lane_words.specs.Gates.{IsGate, gate_at}
+use Rattle.lane_words.specs.declared.force.Force.{Force}
 use Rattle.differential_kernel.specs.Differences.{read_in}
 use Rattle.differential_kernel.proofs.Walking.{evaluated, some_force}
 use Rattle.differential_kernel.proofs.sweep.sweep.Goals as goal

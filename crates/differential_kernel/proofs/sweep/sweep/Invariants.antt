@@ -2,7 +2,8 @@ use Rattle.std.proofs.Common.{◌≡◌, ◌<◌, ◌+◌, ℕ, [], take}
 use Rattle.circuit.specs.Value.{Cycle}
 use Rattle.golden_difference.proofs.Walked.{Walked}
 use Rattle.differential_kernel.specs.Differences.{read_in}
-use Rattle.differential_kernel.specs.Walk.{AreForces, IsPair}
+use Rattle.lane_words.specs.Forces.{AreForces}
+use Rattle.differential_kernel.specs.Walk.{IsPair}
 use Rattle.differential_kernel.proofs.sweep.sweep.Given as goal
 
 -- the nets of the places so far are read with their values

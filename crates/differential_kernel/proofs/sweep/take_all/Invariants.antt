@@ -1,6 +1,6 @@
 use Rattle.std.proofs.Common.{◌≡◌, ℕ, ◌<◌}
 use Rattle.circuit.specs.Value.{bit_at}
-use Rattle.lane_kernel.specs.Gates.{latch_at, plane}
+use Rattle.lane_words.specs.Gates.{latch_at, plane}
 use Rattle.differential_kernel.proofs.sweep.take_all.Given as goal
 
 abbrev pub invariant-loop-l : goal.invariant-loop-l

@@ -1,11 +1,11 @@
 use Rattle.std.proofs.Common.{length, get_or, ap, ◌∙◌, arith}
 use Rattle.circuit.specs.Circuit.{Circuit}
 use Rattle.circuit.specs.Value.{bit_at, driven, driver_at, table_gives}
-use Rattle.lane_kernel.specs.Bits.{either}
-use Rattle.lane_kernel.specs.Gates.{plane}
+use Rattle.lane_words.specs.Bits.{either}
+use Rattle.lane_words.specs.Gates.{plane}
 use Rattle.place_set.specs.Places.{value_in}
 use Rattle.differential_kernel.specs.Differences.{read_in}
-use Rattle.differential_kernel.specs.Forces.{force_value}
+use Rattle.lane_words.specs.Forces.{force_value}
 use Rattle.differential_kernel.proofs.Notes.{at_set_other, at_set_same}
 use Rattle.differential_kernel.proofs.walk.evaluate.Goals as goal
 

@@ -3,7 +3,7 @@ use Rattle.std.proofs.lemmas.Bool.{cases_eq, cases_lt}
 use Rattle.std.proofs.lemmas.List.{length-set}
 use Rattle.circuit.specs.declared.parts.Latch.{Latch}
 use Rattle.circuit.specs.Value.{bit_at}
-use Rattle.lane_kernel.specs.Gates.{latch_at, plane}
+use Rattle.lane_words.specs.Gates.{latch_at, plane}
 use Rattle.differential_kernel.proofs.Notes.{at_set_other, at_set_same, same_put, taken_other}
 use Rattle.differential_kernel.proofs.walk.take_latches.Goals as goal
 

@@ -1,6 +1,6 @@
 use Rattle.std.proofs.Common.{◌≡◌, ◌<◌, ◌≤◌, ◌+◌, ◌-◌, ℕ, length}
 use Rattle.circuit.specs.Value.{bit_at}
-use Rattle.lane_kernel.specs.Gates.{latch_at, plane}
+use Rattle.lane_words.specs.Gates.{latch_at, plane}
 use Rattle.place_set.specs.Places.{has}
 use Rattle.differential_kernel.specs.Differences.{AreSameOff, IsSame}
 use Rattle.differential_kernel.specs.Parts.{AreLatchesOf}

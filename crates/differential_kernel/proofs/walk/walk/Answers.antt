@@ -6,9 +6,9 @@ use Rattle.circuit.specs.Order.{IsOrder, net_at}
 use Rattle.fanout.specs.Readers.{Ordered}
 use Rattle.golden_difference.proofs.Apart.{order_apart}
 use Rattle.golden_difference.proofs.Walked.{Walked, walked_all}
-use Rattle.lane_kernel.specs.declared.gate.Gate.{Gate}
-use Rattle.lane_kernel.specs.Gates.{IsGate, gate_at}
-use Rattle.differential_kernel.specs.declared.force.Force.{Force}
+use Rattle.lane_words.specs.declared.gate.Gate.{Gate}
+use Rattle.lane_words.specs.Gates.{IsGate, gate_at}
+use Rattle.lane_words.specs.declared.force.Force.{Force}
 use Rattle.differential_kernel.specs.Differences.{IsNoted, read_in}
 use Rattle.differential_kernel.proofs.Notes.{grows_none, taken_other}
 use Rattle.differential_kernel.proofs.Walking.{evaluated, quiet_run, some_force}

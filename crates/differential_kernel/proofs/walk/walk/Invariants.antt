@@ -2,7 +2,8 @@ use Rattle.std.proofs.Common.{◌<◌, ◌≤◌, ◌+◌, ◌-◌, ℕ, [], len
 use Rattle.circuit.specs.Value.{Cycle}
 use Rattle.golden_difference.proofs.Walked.{Walked}
 use Rattle.differential_kernel.specs.Differences.{AreNoted, read_in}
-use Rattle.differential_kernel.specs.Walk.{AreForces, IsAhead, IsPair}
+use Rattle.lane_words.specs.Forces.{AreForces}
+use Rattle.differential_kernel.specs.Walk.{IsAhead, IsPair}
 use Rattle.differential_kernel.specs.Parts.{AreNetsOf}
 use Rattle.differential_kernel.proofs.walk.walk.Given as goal
 

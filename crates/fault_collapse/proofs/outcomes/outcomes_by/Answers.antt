@@ -25,23 +25,23 @@ simulate-requires-clause-numbers g c =
 pub simulate-requires-clause-few : goal.simulate-requires-clause-few
 simulate-requires-clause-few g c =
     let n : ℕ = length c.in_ok-chosen.chosen.numbers.items in
-    let count : ℕ = c.count-words.result in
+    let count : ℕ = c.words-words.result in
     let listed : length c.faults.result.now ≡ length (all_faults c.args.plan.now) = ap length c.faults.ensures.value in
     let faults : length c.args.collapse.now.faults ≡ length (all_faults c.args.plan.now) = ap (λ (x : Collapsed). length x.faults) c.requires.collapse in
     let most : n ≤ length c.args.collapse.now.faults = numbers_few c.args.collapse.now c.in_ok-chosen.chosen.numbers.items c.in_ok-chosen.chosen.places.items c.in_ok-chosen.ensures in
     let len : c.len.result ≡ n = omega (arith, c.len.ensures, c.deref.ensures.len, ap length c.deref.ensures.value) in
     let rounds : c.div_ceil-rounds.result ≡ div_ceil n (64 * count) = c.div_ceil-rounds.ensures ∙ ap (λ m. div_ceil m (64 * count)) len in
     let whole : c.div_ceil-rounds.result * count ≡ div_ceil n (64 * count) * count = ap (λ r. r * count) rounds in
-    let some : 0 < count = omega (arith, c.count-words.ensures.some, c.count-words.ensures.count) in
+    let some : 0 < count = omega (arith, c.words-words.ensures.some, c.words-words.ensures.count) in
     let hold = (rounds_hold n count some).1 in
-    omega (arith, hold, whole, most, faults, listed, c.len-count.ensures.few, c.count-words.ensures.few, c.count-words.ensures.count, c.deref_mut.ensures.len, c.in_ok-found.ensures.len)
+    omega (arith, hold, whole, most, faults, listed, c.len-count.ensures.few, c.words-words.ensures.few, c.words-words.ensures.count, c.deref_mut.ensures.len, c.in_ok-found.ensures.len)
 
 pub simulate-requires-clause-rounds : goal.simulate-requires-clause-rounds
 simulate-requires-clause-rounds g c =
     let rounds : ℕ = c.div_ceil-rounds.result in
-    let words : ℕ = g.B.LaneWords.words in
-    let long : length c.deref_mut.result.now ≡ rounds * c.count-words.result = omega (arith, c.deref_mut.ensures.len, c.in_ok-found.ensures.len) in
-    ap (λ n. n % words) (long ∙ ap (λ w. rounds * w) c.count-words.ensures.count) ∙ mul-mod_left rounds words
+    let words : ℕ = g.W.Word.words in
+    let long : length c.deref_mut.result.now ≡ rounds * c.words-words.result = omega (arith, c.deref_mut.ensures.len, c.in_ok-found.ensures.len) in
+    ap (λ n. n % words) (long ∙ ap (λ w. rounds * w) c.words-words.ensures.count) ∙ mul-mod_left rounds words
 
 pub spread-requires-clause-lanes : goal.spread-requires-clause-lanes
 spread-requires-clause-lanes g c =
@@ -50,11 +50,11 @@ spread-requires-clause-lanes g c =
     let places : List ℕ = c.in_ok-chosen.chosen.places.items in
     let chosen : AreChosen (collapsed_of p) numbers places = subst (λ (x : Collapsed). AreChosen x numbers places) c.requires.collapse c.in_ok-chosen.ensures in
     let found : List Outcome = c.simulate.new.found in
-    let count : ℕ = c.count-words.result in
+    let count : ℕ = c.words-words.result in
     let len : c.len.result ≡ length numbers = omega (arith, c.len.ensures, c.deref.ensures.len, ap length c.deref.ensures.value) in
     let rounds : c.div_ceil-rounds.result ≡ div_ceil (length numbers) (64 * count) = c.div_ceil-rounds.ensures ∙ ap (λ m. div_ceil m (64 * count)) len in
     let whole : c.div_ceil-rounds.result * count ≡ div_ceil (length numbers) (64 * count) * count = ap (λ r. r * count) rounds in
-    let some : 0 < count = omega (arith, c.count-words.ensures.some, c.count-words.ensures.count) in
+    let some : 0 < count = omega (arith, c.words-words.ensures.some, c.words-words.ensures.count) in
     let hold = (rounds_hold (length numbers) count some).0 in
     let room : length numbers ≤ 64 * length found = omega (arith, hold, whole, c.simulate.auto.found, c.deref_mut.ensures.len, c.in_ok-found.ensures.len) in
     let back : c.deref-3.result.now ≡ found = grind (arith, common_steps) in
@@ -71,11 +71,11 @@ returns-clause-outcomes g c =
     let places : List ℕ = c.in_ok-chosen.chosen.places.items in
     let chosen : AreChosen (collapsed_of p) numbers places = subst (λ (x : Collapsed). AreChosen x numbers places) c.requires.collapse c.in_ok-chosen.ensures in
     let found : List Outcome = c.simulate.new.found in
-    let count : ℕ = c.count-words.result in
+    let count : ℕ = c.words-words.result in
     let len : c.len.result ≡ length numbers = omega (arith, c.len.ensures, c.deref.ensures.len, ap length c.deref.ensures.value) in
     let rounds : c.div_ceil-rounds.result ≡ div_ceil (length numbers) (64 * count) = c.div_ceil-rounds.ensures ∙ ap (λ m. div_ceil m (64 * count)) len in
     let whole : c.div_ceil-rounds.result * count ≡ div_ceil (length numbers) (64 * count) * count = ap (λ r. r * count) rounds in
-    let some : 0 < count = omega (arith, c.count-words.ensures.some, c.count-words.ensures.count) in
+    let some : 0 < count = omega (arith, c.words-words.ensures.some, c.words-words.ensures.count) in
     let hold = (rounds_hold (length numbers) count some).0 in
     let room : length numbers ≤ 64 * length found = omega (arith, hold, whole, c.simulate.auto.found, c.deref_mut.ensures.len, c.in_ok-found.ensures.len) in
     let back : c.deref-3.result.now ≡ found = grind (arith, common_steps) in
@@ -97,13 +97,13 @@ returns-clause-cost g c =
     let len : c.len.result ≡ length numbers = omega (arith, c.len.ensures, c.deref.ensures.len, ap length c.deref.ensures.value) in
     let counted : length numbers ≡ rep_count c.args.collapse.now = numbers_counted c.args.collapse.now numbers c.in_ok-chosen.chosen.places.items c.in_ok-chosen.ensures in
     let reps : rep_count c.args.collapse.now ≡ rep_count (collapsed_of p) = ap rep_count c.requires.collapse in
-    let rounds : c.div_ceil-rounds.result ≡ div_ceil (rep_count (collapsed_of p)) (64 * g.B.LaneWords.words) =
-    c.div_ceil-rounds.ensures ∙ ap₂ (λ m w. div_ceil m (64 * w)) (len ∙ counted ∙ reps) c.count-words.ensures.count in
-    let words : ℕ = g.B.LaneWords.words in
-    let some : 0 < words = omega (arith, c.count-words.ensures.some) in
-    let long : length c.deref_mut.result.now ≡ c.div_ceil-rounds.result * c.count-words.result = omega (arith, c.deref_mut.ensures.len, c.in_ok-found.ensures.len) in
+    let rounds : c.div_ceil-rounds.result ≡ div_ceil (rep_count (collapsed_of p)) (64 * g.W.Word.words) =
+    c.div_ceil-rounds.ensures ∙ ap₂ (λ m w. div_ceil m (64 * w)) (len ∙ counted ∙ reps) c.words-words.ensures.count in
+    let words : ℕ = g.W.Word.words in
+    let some : 0 < words = omega (arith, c.words-words.ensures.some) in
+    let long : length c.deref_mut.result.now ≡ c.div_ceil-rounds.result * c.words-words.result = omega (arith, c.deref_mut.ensures.len, c.in_ok-found.ensures.len) in
     let shared : length c.deref_mut.result.now / words ≡ c.div_ceil-rounds.result =
-    ap (λ n. n / words) (long ∙ ap (λ w. c.div_ceil-rounds.result * w) c.count-words.ensures.count) ∙ mul-div_cancel c.div_ceil-rounds.result some in
+    ap (λ n. n / words) (long ∙ ap (λ w. c.div_ceil-rounds.result * w) c.words-words.ensures.count) ∙ mul-div_cancel c.div_ceil-rounds.result some in
     let spent : c.simulate.new.steps ≤ c.args.steps.now + div_ceil (rep_count (collapsed_of p)) (64 * words) * each =
     subst (λ r. c.simulate.new.steps ≤ c.args.steps.now + r * each) (shared ∙ rounds) c.simulate.ensures.cost in
     omega (arith, spent)

@@ -1,5 +1,5 @@
 use Rattle.std.proofs.Common.{◌≡◌, ◌<◌, ℕ, length}
-use Rattle.lane_kernel.specs.Loads.{loaded_faults}
+use Rattle.lane_words.specs.Loads.{loaded_faults}
 use Rattle.fault_collapse.specs.Chosen.{faults_in}
 use Rattle.fault_collapse.proofs.simulate.loads_of.Given as goal
 

@@ -9,7 +9,7 @@ use Rattle.alarm_points.specs.declared.Points.{Points}
 use Rattle.alarm_points.specs.FourWatches.{AreAllMadeFor, windows_at}
 use Rattle.campaign_plan.specs.declared.Outcome.{Outcome}
 use Rattle.campaign_plan.specs.Analysis.{Analysis}
-use Rattle.classifier.specs.Load.{Load, lane_faults}
+use Rattle.classifier.specs.Load.{Load, lane_faults, load_of}
 use Rattle.fault_collapse.specs.Chosen.{faults_in, group_planes}
 use Rattle.fault_collapse.proofs.Choosing.{group_is, times_more}
 use Rattle.fault_collapse.proofs.Rounds.{groups_more}
@@ -23,14 +23,14 @@ pub loop-round-preserved : goal.loop-round-preserved
 loop-round-preserved g c =
     let p : Analysis = c.args.plan.now in
     let numbers : List ℕ = c.args.numbers.now in
-    let words : ℕ = g.B.LaneWords.words in
+    let words : ℕ = g.W.Word.words in
     let round : ℕ = c.loop-round.round in
     let found : List Outcome = c.loop-round.found in
     let inv = c.loop-round.invariant in
-    let loaded : Load = g.B.LaneWords.load c.load_groups.new.lanes in
+    let loaded : Load = load_of c.load_groups.new.lanes in
     let own : List Outcome = c.loaded_outcomes.new.outcomes in
-    let count : ℕ = c.count-words.result in
-    let same : count ≡ words = c.count-words.ensures.count in
+    let count : ℕ = c.words-words.result in
+    let same : count ≡ words = c.words-words.ensures.count in
     let first : ℕ = round * count in
     let begins : first ≡ round * words = ap (λ n. round * n) same in
     let few : words ≤ words = omega arith in

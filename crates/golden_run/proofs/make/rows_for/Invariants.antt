@@ -1,6 +1,6 @@
 use Rattle.std.proofs.Common.{◌≡◌, []}
-use Rattle.lane_kernel.specs.Bank.{IsBankFor}
-use Rattle.lane_kernel.specs.Loads.{loaded_faults}
+use Rattle.lane_words.specs.Bank.{IsBankFor}
+use Rattle.lane_words.specs.Loads.{loaded_faults}
 use Rattle.golden_run.specs.Recorded.{AreGoldenRows}
 use Rattle.golden_run.proofs.make.rows_for.Given as goal
 

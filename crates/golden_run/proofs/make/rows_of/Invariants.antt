@@ -1,6 +1,6 @@
 use Rattle.std.proofs.Common.{◌≡◌, take}
 use Rattle.golden_difference.specs.Bare.{IsGoldenAfter}
-use Rattle.lane_kernel.specs.Bank.{IsBankFor}
+use Rattle.lane_words.specs.Bank.{IsBankFor}
 use Rattle.workload.specs.Runs.{run_at}
 use Rattle.golden_run.specs.Recorded.{AreRowsOf}
 use Rattle.golden_run.proofs.make.rows_of.Given as goal

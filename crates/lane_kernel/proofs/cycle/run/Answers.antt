@@ -6,9 +6,12 @@ use Rattle.circuit.specs.Value.{Cycle, cycle_of}
 use Rattle.circuit.specs.Order.{net_at}
 use Rattle.circuit.specs.Trace.{flipped}
 use Rattle.circuit.proofs.Walks.{holds_sources, holds_end}
-use Rattle.lane_kernel.specs.Gates.{AreInputs, AreLatches, IsRight, latch_at, plane}
-use Rattle.lane_kernel.specs.Loads.{loaded_faults}
-use Rattle.lane_kernel.proofs.Sources.{length_plane, sources_whole, inputs_driven, inputs_inside, latches_driven, latches_inside}
+use Rattle.lane_kernel.specs.Ends.{AreInputs, IsRight}
+use Rattle.lane_words.specs.Gates.{AreLatches, latch_at, plane}
+use Rattle.lane_words.specs.Loads.{loaded_faults}
+use Rattle.lane_words.proofs.Planes.{length_plane}
+use Rattle.lane_kernel.proofs.Sources.{sources_whole, inputs_driven, inputs_inside}
+use Rattle.lane_words.proofs.Latches.{latches_driven, latches_inside}
 use Rattle.lane_kernel.proofs.cycle.run.Goals as goal
 
 pub take_inputs-requires-clause-nets : goal.take_inputs-requires-clause-nets

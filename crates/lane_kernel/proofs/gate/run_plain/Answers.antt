@@ -1,7 +1,7 @@
 use Rattle.std.proofs.Common.{◌≡◌, take, sym, ◌∙◌, subst, arith}
 use Rattle.circuit.specs.Value.{bit_at}
 use Rattle.circuit.proofs.Walks.{Holds}
-use Rattle.lane_kernel.specs.Gates.{gate_at, gate_value, plane}
+use Rattle.lane_words.specs.Gates.{gate_at, gate_value, plane}
 use Rattle.lane_kernel.proofs.OneGate.{gate_step}
 use Rattle.lane_kernel.proofs.gate.run_plain.Goals as goal
 

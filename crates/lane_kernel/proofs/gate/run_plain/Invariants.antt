@@ -2,7 +2,8 @@ use Rattle.std.proofs.Common.{◌≡◌, ◌<◌, ◌+◌, ◌-◌, ℕ, List, t
 use Rattle.circuit.specs.declared.parts.NetId.{NetId}
 use Rattle.circuit.specs.Value.{Cycle}
 use Rattle.circuit.proofs.Walks.{Holds}
-use Rattle.lane_kernel.specs.Gates.{IsProgram, IsQuiet, plane}
+use Rattle.lane_words.specs.Gates.{IsProgram, plane}
+use Rattle.lane_kernel.specs.Walk.{IsQuiet}
 use Rattle.lane_kernel.proofs.gate.run_plain.Given as goal
 
 abbrev pub invariant-loop-j : goal.invariant-loop-j

@@ -1,7 +1,8 @@
 use Rattle.std.proofs.Common.{◌+◌, cond, drop, get_or, [], ap, sym, ◌∙◌, arith}
-use Rattle.lane_kernel.specs.Gates.{force_value}
-use Rattle.lane_kernel.specs.Loads.{some_names, names}
-use Rattle.lane_kernel.proofs.Armed.{armed, lane_unnamed, merged, named_more}
+use Rattle.lane_words.specs.Forces.{force_value}
+use Rattle.lane_words.specs.Loads.{some_names, names}
+use Rattle.lane_words.proofs.Armed.{armed, lane_unnamed}
+use Rattle.lane_kernel.proofs.Marking.{merged, named_more}
 use Rattle.lane_kernel.proofs.load.disarm_all.Goals as goal
 
 pub loop-faults-init : goal.loop-faults-init

@@ -1,7 +1,7 @@
 use Rattle.std.proofs.Common.{◌≡◌, ◌<◌, ℕ, Bool, cond, length, drop, get_or}
-use Rattle.lane_kernel.specs.declared.force.Force.{Force}
-use Rattle.lane_kernel.specs.Gates.{force_value}
-use Rattle.lane_kernel.specs.Loads.{some_names}
+use Rattle.lane_words.specs.declared.force.Force.{Force}
+use Rattle.lane_words.specs.Forces.{force_value}
+use Rattle.lane_words.specs.Loads.{some_names}
 use Rattle.lane_kernel.proofs.load.disarm_all.Given as goal
 
 -- only nets that what is left names are not as they are

@@ -1,7 +1,7 @@
 use Rattle.std.proofs.Common.{◌≡◌, ◌<◌, ℕ, Bool, cond, length, drop, get_or}
-use Rattle.lane_kernel.specs.declared.force.Force.{Force}
-use Rattle.lane_kernel.specs.Gates.{force_value}
-use Rattle.lane_kernel.specs.Loads.{names}
+use Rattle.lane_words.specs.declared.force.Force.{Force}
+use Rattle.lane_words.specs.Forces.{force_value}
+use Rattle.lane_words.specs.Loads.{names}
 use Rattle.lane_kernel.proofs.load.disarm_lane.Given as goal
 
 -- what is left comes to what all of them do

@@ -1,6 +1,6 @@
 use Rattle.std.proofs.Common.{◌≡◌, ◌<◌, ◌≤◌, ◌+◌, ℕ, false, length, get_or}
 use Rattle.circuit.specs.Value.{bit_at}
-use Rattle.lane_kernel.specs.Gates.{gate_at}
+use Rattle.lane_words.specs.Gates.{gate_at}
 use Rattle.lane_kernel.proofs.load.fill_next.Given as goal
 
 -- the places from some place on are filled, and `pause` is the first pause of them

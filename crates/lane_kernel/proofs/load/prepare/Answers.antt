@@ -1,7 +1,7 @@
 use Rattle.std.proofs.Common.{◌<◌, ◌||◌, length, ap, sym, ◌∙◌, arith}
 use Rattle.circuit.specs.Value.{bit_at}
-use Rattle.lane_kernel.specs.Gates.{gate_at}
-use Rattle.lane_kernel.specs.Loads.{some_names}
+use Rattle.lane_words.specs.Gates.{gate_at}
+use Rattle.lane_words.specs.Loads.{some_names}
 use Rattle.lane_kernel.proofs.load.prepare.Goals as goal
 use Rattle.std.proofs.Math.Bool.{or-false}
 use Rattle.std.proofs.lemmas.Bool.{or_parts}

@@ -1,7 +1,8 @@
 use Rattle.std.proofs.Common.{◌+◌, false, cond, drop, get_or, [], ap, sym, ◌∙◌, arith}
 use Rattle.circuit.specs.Value.{bit_at}
-use Rattle.lane_kernel.specs.Loads.{some_names, names}
-use Rattle.lane_kernel.proofs.Armed.{armed, merged, named_more}
+use Rattle.lane_words.specs.Loads.{some_names, names}
+use Rattle.lane_words.proofs.Armed.{armed}
+use Rattle.lane_kernel.proofs.Marking.{merged, named_more}
 use Rattle.lane_kernel.proofs.load.unmark_all.Goals as goal
 
 pub loop-faults-init : goal.loop-faults-init

@@ -1,6 +1,6 @@
 use Rattle.std.proofs.Common.{◌≡◌, ◌<◌, ℕ, false, cond, length, drop}
 use Rattle.circuit.specs.Value.{bit_at}
-use Rattle.lane_kernel.specs.Loads.{some_names}
+use Rattle.lane_words.specs.Loads.{some_names}
 use Rattle.lane_kernel.proofs.load.unmark_all.Given as goal
 
 -- only nets that what is left names are marked

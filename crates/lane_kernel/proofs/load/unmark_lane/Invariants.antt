@@ -1,6 +1,6 @@
 use Rattle.std.proofs.Common.{◌≡◌, ◌<◌, ℕ, false, cond, length, drop}
 use Rattle.circuit.specs.Value.{bit_at}
-use Rattle.lane_kernel.specs.Loads.{names}
+use Rattle.lane_words.specs.Loads.{names}
 use Rattle.lane_kernel.proofs.load.unmark_lane.Given as goal
 
 -- what is left comes to what all of them do

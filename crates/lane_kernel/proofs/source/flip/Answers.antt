@@ -1,6 +1,6 @@
 use Rattle.std.proofs.Common.{sym, ◌∙◌}
-use Rattle.lane_kernel.specs.Gates.{plane}
-use Rattle.lane_kernel.proofs.Armed.{flipped_free}
+use Rattle.lane_words.specs.Gates.{plane}
+use Rattle.lane_kernel.proofs.Transients.{flipped_free}
 use Rattle.lane_kernel.proofs.source.flip.Goals as goal
 
 pub returns-else-transient : goal.returns-else-transient

@@ -1,7 +1,7 @@
 use Rattle.std.proofs.Common.{false, get_or, ap, ◌∙◌, arith}
 use Rattle.circuit.specs.Value.{driven, driver_at}
-use Rattle.lane_kernel.specs.declared.force.Force.{Force}
-use Rattle.lane_kernel.specs.Gates.{force_value}
+use Rattle.lane_words.specs.declared.force.Force.{Force}
+use Rattle.lane_words.specs.Forces.{force_value}
 use Rattle.lane_kernel.proofs.Sources.{right_keeps, right_set}
 use Rattle.lane_kernel.proofs.source.store_source.Goals as goal
 

@@ -1,7 +1,8 @@
 use Rattle.std.proofs.Common.{◌≡◌, length, sym, ◌∙◌, arith}
 use Rattle.std.proofs.lemmas.List.{take_all}
-use Rattle.lane_kernel.specs.Gates.{plane}
-use Rattle.lane_kernel.proofs.Sources.{length_plane, stored_more}
+use Rattle.lane_words.specs.Gates.{plane}
+use Rattle.lane_words.proofs.Planes.{length_plane}
+use Rattle.lane_kernel.proofs.Sources.{stored_more}
 use Rattle.lane_kernel.proofs.source.take_first.Goals as goal
 
 pub loop-j-preserved : goal.loop-j-preserved

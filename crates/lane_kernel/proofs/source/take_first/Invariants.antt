@@ -1,5 +1,5 @@
 use Rattle.std.proofs.Common.{◌≡◌, ◌<◌, ℕ, take}
-use Rattle.lane_kernel.specs.Gates.{plane}
+use Rattle.lane_words.specs.Gates.{plane}
 use Rattle.lane_kernel.proofs.source.take_first.Given as goal
 
 abbrev pub invariant-loop-j : goal.invariant-loop-j

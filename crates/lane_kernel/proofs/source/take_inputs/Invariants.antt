@@ -1,7 +1,9 @@
 use Rattle.std.proofs.Common.{◌≡◌, ◌<◌, ℕ}
 use Rattle.circuit.specs.Value.{Cycle}
 use Rattle.circuit.specs.Order.{net_at}
-use Rattle.lane_kernel.specs.Gates.{AreForces, AreInputs, IsRight, plane}
+use Rattle.lane_words.specs.Forces.{AreForces}
+use Rattle.lane_kernel.specs.Ends.{AreInputs, IsRight}
+use Rattle.lane_words.specs.Gates.{plane}
 use Rattle.lane_kernel.proofs.source.take_inputs.Given as goal
 
 abbrev pub invariant-loop-j : goal.invariant-loop-j

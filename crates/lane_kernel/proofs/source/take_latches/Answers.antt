@@ -1,6 +1,6 @@
 use Rattle.std.proofs.Common.{◌≡◌, false, below_more, ap, sym, ◌∙◌, arith}
 use Rattle.circuit.specs.Value.{bit_at, driven, driver_at}
-use Rattle.lane_kernel.specs.Gates.{latch_at}
+use Rattle.lane_words.specs.Gates.{latch_at}
 use Rattle.lane_kernel.proofs.source.take_latches.Goals as goal
 
 pub loop-j-preserved : goal.loop-j-preserved

@@ -1,6 +1,8 @@
 use Rattle.std.proofs.Common.{◌≡◌, ◌<◌, ℕ}
 use Rattle.circuit.specs.Value.{Cycle}
-use Rattle.lane_kernel.specs.Gates.{AreForces, AreLatches, IsRight, latch_at, plane}
+use Rattle.lane_words.specs.Forces.{AreForces}
+use Rattle.lane_kernel.specs.Ends.{IsRight}
+use Rattle.lane_words.specs.Gates.{AreLatches, latch_at, plane}
 use Rattle.lane_kernel.proofs.source.take_latches.Given as goal
 
 abbrev pub invariant-loop-j : goal.invariant-loop-j

@@ -1,7 +1,7 @@
 use Rattle.std.proofs.Common.{false, arith}
 use Rattle.circuit.specs.declared.parts.Latch.{Latch}
 use Rattle.circuit.specs.Value.{bit_at}
-use Rattle.lane_kernel.specs.Gates.{plane}
+use Rattle.lane_words.specs.Gates.{plane}
 use Rattle.lane_kernel.proofs.Sources.{copied_more}
 use Rattle.lane_kernel.proofs.source.take_next.Goals as goal
 

@@ -2,8 +2,9 @@ use Rattle.std.proofs.Common.{get_or, take, ◌+◌, refl, ap, sym, ◌∙◌, s
 use Rattle.circuit.specs.Circuit.{Circuit}
 use Rattle.circuit.specs.Value.{bit_at, driven, driver_at, table_gives}
 use Rattle.circuit.proofs.Walks.{Holds}
-use Rattle.lane_kernel.specs.declared.force.Force.{Force}
-use Rattle.lane_kernel.specs.Gates.{gate_at, force_value, plane}
+use Rattle.lane_words.specs.declared.force.Force.{Force}
+use Rattle.lane_words.specs.Gates.{gate_at, plane}
+use Rattle.lane_words.specs.Forces.{force_value}
 use Rattle.lane_kernel.proofs.OneGate.{gate_step}
 use Rattle.lane_kernel.proofs.walk.run_forced.Goals as goal
 

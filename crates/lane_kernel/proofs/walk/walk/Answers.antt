@@ -1,7 +1,7 @@
 use Rattle.std.proofs.Common.{◌≡◌, length, take, subst, arith}
 use Rattle.std.proofs.lemmas.List.{take_all}
 use Rattle.circuit.proofs.Walks.{Holds}
-use Rattle.lane_kernel.specs.Gates.{plane}
+use Rattle.lane_words.specs.Gates.{plane}
 use Rattle.lane_kernel.proofs.walk.walk.Goals as goal
 
 pub pieces-preserved-then-to-gates : goal.pieces-preserved-then-to-gates

@@ -2,7 +2,9 @@ use Rattle.std.proofs.Common.{◌≡◌, ◌<◌, ◌+◌, ◌-◌, ◌≤◌, �
 use Rattle.circuit.specs.declared.parts.NetId.{NetId}
 use Rattle.circuit.specs.Value.{Cycle}
 use Rattle.circuit.proofs.Walks.{Holds}
-use Rattle.lane_kernel.specs.Gates.{AreForces, IsPaused, IsProgram, plane}
+use Rattle.lane_words.specs.Forces.{AreForces}
+use Rattle.lane_kernel.specs.Walk.{IsPaused}
+use Rattle.lane_words.specs.Gates.{IsProgram, plane}
 use Rattle.lane_kernel.proofs.walk.walk.Given as goal
 
 abbrev pub decreases-pieces : goal.decreases-pieces

@@ -1,5 +1,5 @@
 use Rattle.std.proofs.Common.{◌≡◌}
-use Rattle.lane_kernel.specs.Bank.{IsBankFor}
+use Rattle.lane_words.specs.Bank.{IsBankFor}
 use Rattle.layer_rows.proofs.words.four_words_bits.Given as goal
 
 abbrev pub invariant-loop-word : goal.invariant-loop-word

@@ -1,5 +1,5 @@
 use Rattle.std.proofs.Common.{◌≡◌, ◌<◌, ℕ, length}
-use Rattle.lane_kernel.specs.Loads.{loaded_faults}
+use Rattle.lane_words.specs.Loads.{loaded_faults}
 use Rattle.pair_campaign.specs.Work.{faults_in_lane}
 use Rattle.pair_campaign.proofs.load.loads_of.Given as goal
 

@@ -7,6 +7,7 @@ use Rattle.alarm_points.specs.FourWatches.{FourWatches}
 use Rattle.campaign_plan.specs.Analysis.{Analysis}
 use Rattle.fault_list.specs.Faults.{batches_for}
 use Rattle.golden_difference.specs.Lanes.{Lanes}
+use Rattle.lane_words.specs.declared.quad.Quad.{Quad}
 use Rattle.pair_list.specs.Chosen.{Chosen, pair_count}
 use Rattle.pair_campaign.specs.PairPlanes.{pair_plane}
 use Rattle.classifier.specs.Tools.{AreToolsFor}
@@ -52,7 +53,7 @@ loop-round-preserved c =
     record {
       equipped = record {
         tools =
-            subst (λ (lanes : Lanes (List ℕ)). AreToolsFor p c.args.bench.now.order lanes c.keep_planes.new.worker.windows) (sym kept.lanes)
+            subst (λ (lanes : Lanes Quad). AreToolsFor p c.args.bench.now.order lanes c.keep_planes.new.worker.windows) (sym kept.lanes)
             (subst (λ (windows : FourWatches). AreToolsFor p c.args.bench.now.order c.outcomes_of-found.new.lanes windows) (sym kept.windows) c.outcomes_of-found.ensures.tools);
         room = kept.room;
       };

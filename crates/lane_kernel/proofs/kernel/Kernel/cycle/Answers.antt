@@ -7,12 +7,19 @@ use Rattle.circuit.specs.Value.{Cycle, bit_at, cycle_of}
 use Rattle.circuit.specs.Trace.{flipped}
 use Rattle.circuit.specs.After.{Moment}
 use Rattle.circuit.proofs.Cycles.{after_step}
-use Rattle.lane_kernel.specs.Gates.{AreForces, gate_at, plane}
-use Rattle.lane_kernel.specs.Loads.{loaded_faults}
-use Rattle.lane_kernel.specs.Bank.{lane_of}
+use Rattle.lane_words.specs.Forces.{AreForces}
+use Rattle.lane_words.specs.Gates.{gate_at, plane}
+use Rattle.lane_words.specs.Loads.{has_pulses, loaded_faults}
+use Rattle.lane_words.specs.Bank.{lane_of}
 use Rattle.lane_kernel.specs.Kernel.{kernel_bank}
-use Rattle.lane_kernel.proofs.Armed.{affected_free}
+use Rattle.lane_kernel.proofs.Marking.{affected_free}
+use Rattle.lane_kernel.proofs.Transients.{no_pulses}
 use Rattle.lane_kernel.proofs.kernel.Kernel.cycle.Goals as goal
+
+pub arm_for-self-requires-clause-calm : goal.arm_for-self-requires-clause-calm
+arm_for-self-requires-clause-calm g c = λ none.
+    let s = c.args.self.now in
+    ap (λ loads. has_pulses loads s.cycle) c.deref.ensures.value ∙ no_pulses s.loads.items s.cycle (sym c.requires.kernel.transient ∙ none)
 
 pub returns-clause-step : goal.returns-clause-step
 returns-clause-step g c = λ vectors after k lt.

@@ -6,8 +6,9 @@ use Rattle.std.specs.Vec.{with_items}
 use Rattle.circuit.specs.declared.parts.Latch.{Latch}
 use Rattle.circuit.specs.Circuit.{Circuit}
 use Rattle.circuit.specs.Trace.{first_state}
-use Rattle.lane_kernel.specs.Gates.{AreNarrowRuns, IsNextPause, IsProgram}
-use Rattle.lane_kernel.specs.Loads.{AreFaultMarks, IsUnnamed, has_transients}
+use Rattle.lane_kernel.specs.Walk.{AreNarrowRuns, IsNextPause}
+use Rattle.lane_words.specs.Gates.{IsProgram}
+use Rattle.lane_kernel.specs.Marks.{AreFaultMarks, IsUnnamed, has_transients}
 use Rattle.lane_kernel.proofs.kernel.Kernel.new.Goals as goal
 
 pub returns-clause-kernel : goal.returns-clause-kernel
@@ -40,7 +41,7 @@ returns-clause-kernel g c =
           (subst (λ ls. IsUnnamed ls gates c.prepare.new.next) c.deref-2.ensures.value
           (subst (λ gs. IsUnnamed c.deref-2.result.now gs c.prepare.new.next) c.deref.ensures.value c.prepare.ensures.quiet));
       forces = c.in_ok-forces.ensures.count ∙ nets;
-      idle = λ k n d own lt within free. c.in_ok-forces.ensures.idle k n d own lt within refl;
+      idle = λ k n d own lt within free. c.in_ok-forces.ensures.idle n within k d own lt;
       steady = λ fresh. absurd (true≢false fresh);
       raw = omega (arith, c.in_ok-raw.raw.ok.0, c.in_ok-raw.ensures.len, c.len-2.ensures, c.in_ok-starts.starts.ok.0, held);
       words = omega (arith, c.in_ok-words.words.ok.0, c.in_ok-words.ensures.len, nets);

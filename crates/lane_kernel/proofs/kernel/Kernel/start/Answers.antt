@@ -3,8 +3,8 @@ use Rattle.std.proofs.lemmas.Grind.{common_steps}
 use Rattle.std.specs.Vec.{with_items}
 use Rattle.circuit.specs.After.{Moment}
 use Rattle.circuit.proofs.Cycles.{after_start}
-use Rattle.lane_kernel.specs.Gates.{plane}
-use Rattle.lane_kernel.specs.Loads.{loaded_faults}
+use Rattle.lane_words.specs.Gates.{plane}
+use Rattle.lane_words.specs.Loads.{loaded_faults}
 use Rattle.lane_kernel.proofs.kernel.Kernel.start.Goals as goal
 
 pub returns-clause-start : goal.returns-clause-start

@@ -1,6 +1,6 @@
 use Rattle.std.proofs.Common.{sym, subst}
 use Rattle.fm_base.specs.Planes.{bit}
-use Rattle.lane_kernel.specs.Bank.{AreAfter}
+use Rattle.lane_words.specs.Bank.{AreAfter}
 use Rattle.lane_kernel.proofs.lanes.Lanes.cycle.Goals as goal
 
 pub returns-clause-step : goal.returns-clause-step

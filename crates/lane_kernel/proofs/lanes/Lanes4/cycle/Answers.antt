@@ -1,6 +1,6 @@
 use Rattle.std.proofs.Common.{sym, subst}
-use Rattle.lane_kernel.specs.Bits.{quad_bit}
-use Rattle.lane_kernel.specs.Bank.{AreAfter}
+use Rattle.lane_words.specs.Bits.{quad_bit}
+use Rattle.lane_words.specs.Bank.{AreAfter}
 use Rattle.lane_kernel.proofs.lanes.Lanes4.cycle.Goals as goal
 
 pub returns-clause-step : goal.returns-clause-step

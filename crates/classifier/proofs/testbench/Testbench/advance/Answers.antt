@@ -1,0 +1,13 @@
+use Rattle.std.proofs.Common.{◌++◌, ◌∷◌, [], length, subst, sym}
+use Rattle.golden_difference.specs.Beside.{IsGoldenRow}
+use Rattle.classifier.specs.Testbench.{Testbench}
+use Rattle.classifier.proofs.Kept.{load_kept}
+use Rattle.classifier.proofs.testbench.Testbench.advance.Goals as goal
+
+pub returns-clause-keeps : goal.returns-clause-keeps
+returns-clause-keeps g c = load_kept c.args.lanes.now c.cycle.new.self c.cycle.ensures.keeps
+
+pub returns-clause-step : goal.returns-clause-step
+returns-clause-step g c = λ vectors inputs after golden.
+    c.cycle.ensures.step vectors inputs after
+    (subst (λ (bench : Testbench). IsGoldenRow bench.circuit (vectors ++ inputs ∷ []) (length vectors) c.args.row.now) (sym c.self.view_is) golden)

@@ -1,0 +1,48 @@
+use Rattle.std.proofs.Common.{◌≡◌, List, length, refl, ap, ◌∙◌, arith}
+use Rattle.std.proofs.lemmas.Grind.{common_steps}
+use Rattle.std.specs.Vec.{with_items}
+use Rattle.circuit.specs.After.{Moment}
+use Rattle.circuit.specs.Value.{bit_at}
+use Rattle.golden_difference.proofs.NextCycle.{beside_none}
+use Rattle.lane_words.specs.Gates.{plane}
+use Rattle.lane_words.specs.Loads.{loaded_faults}
+use Rattle.differential_kernel.proofs.lanes.DifferentialLanes.start.Goals as goal
+
+pub invariant_of-self : goal.invariant_of-self
+invariant_of-self g c =
+    let s = c.self.inside in
+    let kept = c.self.invariant in
+    let raw : (with_items s.latches.raw c.clear.new.words).items ≡ c.clear.new.words = grind (arith, common_steps) in
+    let count : length (with_items s.latches.raw c.clear.new.words).items ≡ length s.latches.raw.items =
+    ap (λ (ws : List g.row.W.Denot). length ws) raw ∙ c.clear.auto.words ∙ ap (λ (ws : List g.row.W.Denot). length ws) c.deref_mut.ensures.value in
+    record {
+      sound = kept.sound;
+      ordered = kept.ordered;
+      program = kept.program;
+      given = kept.given;
+      whole = kept.whole;
+      loads = kept.loads;
+      acts_bound = kept.acts_bound;
+      acts = kept.acts;
+      stuck = kept.stuck;
+      forces = kept.forces;
+      named = kept.named;
+      idle = kept.idle;
+      steady = kept.steady;
+      latches = record { raw = count ∙ kept.latches.raw; live = c.clear.ensures.bound ∙ kept.latches.live };
+      nets = kept.nets;
+      held = λ n none k lt. ap (λ ws. bit_at (plane g.W.Word.lane_bit k ws) n) raw ∙ c.clear.ensures.same n k lt;
+      same = kept.same;
+    }
+
+pub returns-clause-start : goal.returns-clause-start
+returns-clause-start g c = λ k lt.
+    let s = c.self.inside in
+    let raw : (with_items s.latches.raw c.clear.new.words).items ≡ c.clear.new.words = grind (arith, common_steps) in
+    let moment : Moment = record {
+      cycle = 0;
+      raw = plane g.W.Word.lane_bit k (with_items s.latches.raw c.clear.new.words).items;
+      values = plane g.W.Word.lane_bit k s.nets.words.items;
+    } in
+    beside_none s.circuit.value (loaded_faults s.in_force.items k) moment refl
+    (λ l within. ap (λ ws. bit_at (plane g.W.Word.lane_bit k ws) l) raw ∙ c.clear.ensures.same l k lt)

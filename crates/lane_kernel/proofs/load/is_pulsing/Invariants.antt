@@ -1,9 +1,0 @@
-use Rattle.std.proofs.Common.{◌≡◌, drop}
-use Rattle.std.specs.List.{list_any}
-use Rattle.lane_kernel.specs.Loads.{is_pulse_in}
-use Rattle.lane_kernel.specs.Loads.{somes}
-use Rattle.lane_kernel.proofs.load.is_pulsing.Given as goal
-
--- the faults that are left decide as all of them do
-abbrev pub invariant-loop-fault : goal.invariant-loop-fault
-invariant-loop-fault l = list_any (is_pulse_in l.cycle) (somes (drop l.fault-index l.faults)) ≡ list_any (is_pulse_in l.cycle) (somes l.faults)

@@ -1,0 +1,9 @@
+pub mod Words
+pub mod Four
+pub mod Planes
+pub mod Pushes
+pub mod Armed
+pub mod FlipOnce
+pub mod WideRows
+pub mod TableGates
+pub mod Latches

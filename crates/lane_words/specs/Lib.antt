@@ -1,0 +1,5 @@
+pub mod Bits
+pub mod Gates
+pub mod Loads
+pub mod Forces
+pub mod Bank
