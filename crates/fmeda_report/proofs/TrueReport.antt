@@ -1,8 +1,11 @@
 -- Rows with the planes that their batches truly have give the true report.
-use Rattle.std.proofs.Common.{◌≡◌, ℕ, zero, suc, ◌+◌, ◌*◌, ◌/◌, ◌<◌, ◌≤◌, Bool, true, false, List, [], ◌∷◌, map, refl, ap, sym, ◌∙◌, arith}
+use Rattle.std.proofs.Common.{◌≡◌, ℕ, zero, suc, ◌+◌, ◌*◌, ◌/◌, ◌<◌, ◌≤◌, Bool, true, false, List, [], ◌∷◌, length, map, refl, ap, sym, ◌∙◌, arith}
 use Rattle.std.specs.Prelude.{All, nat_lt, ◌&&◌, bit_or}
+use Rattle.std.proofs.lemmas.List.{get_or_past}
+use Rattle.std.proofs.lemmas.List.FromFn.{length-map-range_with_len, get_or-map-range_with_len}
 use Rattle.std.proofs.lemmas.List.Elements.{All-nil, All-cons, All-head, All-tail}
 use Rattle.fault_list.specs.Faults.{fault_at, fault_number, is_used}
+use Rattle.fm_base.specs.Lists.{below}
 use Rattle.fm_base.specs.Planes.{plane_below}
 use Rattle.campaign_plan.specs.Analysis.{Analysis, all_faults, fault_count, batch_count}
 use Rattle.campaign_plan.specs.Danger.{is_dangerous, is_noticed}
@@ -11,6 +14,7 @@ use Rattle.result_file.specs.declared.Row.{Row}
 use Rattle.result_file.specs.KeptRows.{entry_of}
 use Rattle.fmeda_report.specs.Report.{report, summary}
 use Rattle.fmeda_report.specs.Rows.{HoldEachOnce, planes_in, RowsReportTruly}
+use Rattle.fmeda_report.specs.Tallies.{planes_in_order}
 use Rattle.fmeda_report.proofs.RowPlanes.{no_row, row_at, row_found, rows_below, planes_of, planes_in-at, planes_in-none}
 
 -- ---- batches that the plan lacks have no planes
@@ -35,6 +39,27 @@ past_planes p batch past =
       danger = plane_none 64 (λ k. is_used (fault_count p) batch k && dangerous k) (λ k. ap (λ b. b && dangerous k) (unused (fault_count p) batch k past)) j;
       noticed = plane_none 64 (λ k. is_used (fault_count p) batch k && noticed k) (λ k. ap (λ b. b && noticed k) (unused (fault_count p) batch k past)) j;
     }
+
+-- ---- the true planes of all batches, in rising order
+
+pub true_count : (p : Analysis) → length (map (true_planes p) (below (batch_count p))) ≡ batch_count p
+unfolding below
+true_count p = length-map-range_with_len (true_planes p) 0 (batch_count p)
+
+pub true_in_order : (p : Analysis) → planes_in_order (map (true_planes p) (below (batch_count p))) ≡ true_planes p
+unfolding below
+true_in_order p = λ j batch. by_cases batch (nat_lt batch (batch_count p)) refl j
+  where
+    by_cases : (batch : ℕ) (b : Bool) → nat_lt batch (batch_count p) ≡ b
+        → planes_in_order (map (true_planes p) (below (batch_count p))) batch ≡ true_planes p batch
+    by_cases batch true e =
+        let lt : batch < batch_count p = grind (arith, e) in
+        let same : 0 + batch ≡ batch = omega arith in
+        get_or-map-range_with_len (true_planes p) 0 (batch_count p) batch batch _ lt same
+    by_cases batch false e =
+        let past : batch_count p ≤ batch = grind (arith, e) in
+        let behind : length (map (true_planes p) (below (batch_count p))) ≤ batch = omega (arith, past, true_count p) in
+        get_or_past (map (true_planes p) (below (batch_count p))) batch _ behind ∙ sym (past_planes p batch past)
 
 -- ---- rows with true planes
 

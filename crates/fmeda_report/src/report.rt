@@ -13,16 +13,34 @@ use crate::metrics::write_metrics;
 use crate::parts::write_parts;
 use crate::planes::{all_sums, place_planes};
 use crate::sizes::write_sizes;
-use crate::space::ReportSpace;
+use crate::space::{ReportSpace, Tallies};
 use crate::tally::{Tally, tally_faults};
 use crate::words::number_word;
 use campaign_plan::{Outcome, Plan};
 use fm_shelf::shelf::{Failed, Sink};
 use result_file::Row;
 
+/// Writes the report of a campaign, for these planes of its batches, which stand by their number. It takes no memory, and its
+/// time is linear in the numbers of faults and of parts.
+pub fn write_report<O: Sink>(
+    plan: &Plan,
+    planes: &[Outcome],
+    tallies: &mut Tallies,
+    out: &mut O,
+) -> Result<(), Failed>
+    requires planes { length planes.now ≡ batch_count plan.now }
+    requires tallies { tallies.old ≡ part_count plan.now }
+    ensures report { Sends (O.seen out.old) (O.seen out.new)
+        (report plan.now (planes_in_order planes.now)) result }
+    ensures tallies { tallies.new ≡ tallies.old }
+{
+    tally_faults(plan, planes, &mut tallies.parts);
+    report_for(plan, planes, &tallies.parts, out)
+}
+
 /// Writes the report of a campaign, for the planes that its rows give. The rows may stand in any order. It takes no
 /// memory, and its time is linear in the numbers of faults and of parts.
-pub fn write_report<O: Sink>(
+pub fn write_report_of_rows<O: Sink>(
     plan: &Plan,
     rows: &[Row],
     space: &mut ReportSpace,
@@ -35,8 +53,7 @@ pub fn write_report<O: Sink>(
     ensures space { space.new ≡ space.old }
 {
     place_planes(rows, &mut space.planes);
-    tally_faults(plan, &space.planes, &mut space.tallies);
-    report_for(plan, &space.planes, &space.tallies, out)
+    write_report(plan, &space.planes, &mut space.tallies, out)
 }
 
 // Writes the report for the planes of each batch and the tallies of each part.

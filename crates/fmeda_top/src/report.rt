@@ -11,15 +11,15 @@ ghost use Rattle.fmeda_top.specs.Promises.{CommandEnds};
 ghost use Rattle.fmeda_top.specs.Tried.{PlanTextAs, TextAs};
 
 use campaign_plan::Settings;
-use collapsed_rows::collapsed_rows;
 use command_line::InputNames;
 use command_steps::planned::{Planned, read_plan};
 use command_text::names::FileNames;
 use command_text::refuse::say_refused;
 use command_text::refused::Refused;
 use command_text::status::{Status, after_text};
+use fault_collapse::collapsed_planes;
 use fm_shelf::shelf::{Shelf, Sink};
-use fmeda_report::{ReportSpace, rows_report_truly, write_report};
+use fmeda_report::{Tallies, write_report};
 use std::alloc::Global;
 
 // Simulates one of each group of equal faults, and writes the report.
@@ -27,11 +27,10 @@ fn tell_report<O: Sink>(alloc: Global, planned: &Planned, out: &mut O) -> Result
     requires { IsOrder planned.now.plan.circuit planned.now.order }
     ensures { TextAs (O.seen out.old) (O.seen out.new) (true_report planned.now.plan) result }
 {
-    rows_report_truly();
     let plan = &planned.plan;
-    let rows = collapsed_rows(alloc, plan, &planned.order)?;
-    let mut space = ReportSpace::new(alloc, plan)?;
-    Ok(after_text(write_report(plan, rows.as_slice(), &mut space, out)))
+    let planes = collapsed_planes(alloc, plan, &planned.order)?;
+    let mut tallies = Tallies::new(alloc, plan)?;
+    Ok(after_text(write_report(plan, planes.as_slice(), &mut tallies, out)))
 }
 
 // Reads the files and writes the report, or says why not.

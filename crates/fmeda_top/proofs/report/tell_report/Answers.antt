@@ -1,12 +1,17 @@
-use Rattle.std.proofs.Common.{◌∙◌, ap}
+use Rattle.std.proofs.Common.{◌∙◌, length, ap}
 use Rattle.fmeda_report.specs.Report.{report}
-use Rattle.fmeda_report.specs.Rows.{planes_in}
+use Rattle.fmeda_report.specs.Tallies.{planes_in_order}
 use Rattle.fmeda_report.proofs.Sending.{sends_as}
+use Rattle.fmeda_report.proofs.TrueReport.{true_count, true_in_order}
 use Rattle.fmeda_top.proofs.ClassText.{text_as}
 use Rattle.fmeda_top.proofs.report.tell_report.Goals as goal
 
+pub write_report-requires-clause-planes : goal.write_report-requires-clause-planes
+write_report-requires-clause-planes g c = ap length (c.as_slice.ensures ∙ c.in_ok-planes.ensures) ∙ true_count c.args.planned.now.plan
+
 pub returns : goal.returns
 returns g c =
-    let truly = c.rows_report_truly.ensures c.args.planned.now.plan c.in_ok-rows.rows c.in_ok-rows.ensures.once c.in_ok-rows.ensures.truly in
-    text_as _ _ _ c.write_report.result c.after_text.result (sends_as (ap (λ rows. report c.args.planned.now.plan (planes_in rows)) c.as_slice.ensures ∙ truly.same_report) c.write_report.ensures.report)
+    let p = c.args.planned.now.plan in
+    let truly = ap planes_in_order (c.as_slice.ensures ∙ c.in_ok-planes.ensures) ∙ true_in_order p in
+    text_as _ _ _ c.write_report.result c.after_text.result (sends_as (ap (report p) truly) c.write_report.ensures.report)
     c.after_text.ensures.done c.after_text.ensures.failed

@@ -6,7 +6,7 @@ use Rattle.fmeda_report.specs.Rows.{planes_in}
 use Rattle.fmeda_report.specs.Tallies.{planes_in_order}
 use Rattle.fmeda_report.proofs.RowPlanes.{rows_within}
 use Rattle.fmeda_report.proofs.Sending.{sends_as}
-use Rattle.fmeda_report.proofs.report.write_report.Goals as goal
+use Rattle.fmeda_report.proofs.report.write_report_of_rows.Goals as goal
 
 pub place_planes-requires : goal.place_planes-requires
 place_planes-requires g c =
@@ -17,8 +17,8 @@ pub returns-clause-report : goal.returns-clause-report
 returns-clause-report g c =
     let p = c.args.plan.now in
     let count = c.deref_mut.ensures.len ∙ ap (λ (room : Room). room.batches) (c.space.view_is ∙ c.requires.space) in
-    let items : c.deref-2.result.now ≡ c.place_planes.new.planes = grind (arith, common_steps) in
-    let same : (batch : ℕ) → planes_in_order c.deref-2.result.now batch ≡ planes_in c.args.rows.now batch =
+    let items : c.deref.result.now ≡ c.place_planes.new.planes = grind (arith, common_steps) in
+    let same : (batch : ℕ) → planes_in_order c.deref.result.now batch ≡ planes_in c.args.rows.now batch =
     λ batch. ap (λ planes. planes_in_order planes batch) items ∙ c.place_planes.ensures p c.requires.rows count batch in
-    let all : planes_in_order c.deref-2.result.now ≡ planes_in c.args.rows.now = λ j batch. same batch j in
-    sends_as (ap (report p) all) c.report_for.ensures
+    let all : planes_in_order c.deref.result.now ≡ planes_in c.args.rows.now = λ j batch. same batch j in
+    sends_as (ap (report p) all) c.write_report.ensures.report
