@@ -1,5 +1,5 @@
 // A window over the cycles of a run, for one safety goal.
-ghost use Rattle.std.specs.Prelude.{length, ◌≡◌, ◌<◌, ◌≤◌, ◌+◌, ◌%◌, ◌∷◌, ◌++◌, [], ℕ, List, IfOk, min, not, ◌&&◌, ◌||◌, nat_lt, slice_index, if◌then◌else◌};
+ghost use Rattle.std.specs.Prelude.{length, ◌≡◌, ◌<◌, ◌≤◌, ◌+◌, ◌%◌, ◌∷◌, ◌++◌, [], ℕ, List, IfOk, true, min, not, ◌&&◌, ◌||◌, nat_lt, slice_index, if◌then◌else◌};
 ghost use Rattle.fm_base.specs.Planes.{bit};
 ghost use Rattle.alarm_points.specs.Watch.{IsAfterPairs, Pair, lane_goes_unalarmed};
 
@@ -116,6 +116,7 @@ impl Window {
         // After some pairs, it is after those and this one.
         ensures step { (pairs : List Pair) → IsAfterPairs pairs self.old
             → IsAfterPairs (pairs ++ record { differs = differs; raised = raised } ∷ []) self.new }
+        ensures stays { (k : ℕ) → k < 64 → bit self.old.settled k ≡ true → bit self.new.settled k ≡ true }
     {
         self.recent[self.place as usize] = differs;
         self.differed |= differs;
@@ -124,6 +125,13 @@ impl Window {
         let due = due(&self.recent, self.place, self.count, self.ftti);
         self.settled = with_quiet(self.settled, due, self.raised);
         self.count = count_up(self.count, self.ftti);
+    }
+
+    /// The lanes that went unalarmed for an interval that is over: whatever is seen later, they go unalarmed.
+    pub fn settled(&self) -> u64
+        ensures { result ≡ self.now.settled }
+    {
+        self.settled
     }
 
     /// The lanes that go unalarmed: some cycle t that was seen since the start differs, and no alarm was raised from the

@@ -1,5 +1,5 @@
 // A window for each safety goal.
-ghost use Rattle.std.specs.Prelude.{◌≡◌, ◌≢◌, ◌<◌, ◌∷◌, ◌++◌, [], ℕ, All, List, IfOk, length, map, slice_index_or};
+ghost use Rattle.std.specs.Prelude.{◌≡◌, ◌≢◌, ◌<◌, ◌∷◌, ◌++◌, [], ℕ, All, List, IfOk, true, length, map, slice_index_or};
 ghost use Rattle.fm_base.specs.Lists.{some_below};
 ghost use Rattle.fm_base.specs.Planes.{bit};
 ghost use Rattle.alarm_points.specs.Interval.{interval_of};
@@ -49,6 +49,16 @@ fn unalarmed_in(windows: &[Window]) -> u64
     unalarmed
 }
 
+fn settled_in(windows: &[Window]) -> u64
+    ensures { (none : Watch) (k : ℕ) → bit result k ≡ some_below (length windows.now) (λ g. bit (slice_index_or windows.now g none).settled k) }
+{
+    let mut settled = 0;
+    for window in windows {
+        settled |= window.settled();
+    }
+    settled
+}
+
 /// A window for each safety goal. No call but `new` takes memory.
 #[derive(Drop)]
 pub struct Windows {
@@ -91,8 +101,16 @@ impl Windows {
         ensures step { (pairs : List Pair) → IsAfterPairs pairs (window_at self.old goal)
             → IsAfterPairs (pairs ++ record { differs = differs; raised = raised } ∷ []) (window_at self.new goal) }
         ensures others { (g : ℕ) → g ≢ goal → window_at self.new g ≡ window_at self.old g }
+        ensures stays { (k : ℕ) → k < 64 → bit (window_at self.old goal).settled k ≡ true → bit (window_at self.new goal).settled k ≡ true }
     {
         self.windows[goal as usize].see(differs, raised);
+    }
+
+    /// The lanes that went unalarmed for some goal in an interval of it that is over: whatever is seen later, they go unalarmed.
+    pub fn settled(&self) -> u64
+        ensures { (k : ℕ) → bit result k ≡ some_below (length self.now.windows) (λ g. bit (window_at self.now g).settled k) }
+    {
+        settled_in(&self.windows)
     }
 
     /// The lanes that go unalarmed for some goal, each with its own interval.

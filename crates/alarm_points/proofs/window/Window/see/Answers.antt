@@ -1,5 +1,6 @@
-use Rattle.std.proofs.Common.{◌&&◌, ◌||◌, not, bit_or, get_or, set, refl, ap, sym, ◌∙◌, subst}
+use Rattle.std.proofs.Common.{◌≡◌, true, ◌&&◌, ◌||◌, not, bit_or, get_or, set, refl, ap, sym, ◌∙◌, subst}
 use Rattle.std.specs.Prelude.{if◌then◌else◌, nat_lt}
+use Rattle.std.proofs.lemmas.Bool.{or_left}
 use Rattle.fm_base.specs.Planes.{bit}
 use Rattle.alarm_points.specs.Watch.{IsAfterPairs, Pair, Watch}
 use Rattle.alarm_points.proofs.Rings.{after_pair}
@@ -41,3 +42,7 @@ returns-clause-step c = λ pairs after.
           (c.due-due.ensures
           ∙ ap (λ xs. if nat_lt was.count was.ftti then 0 else get_or xs c.next_place-self-inside.result 0) c.deref.ensures.value);
     })
+
+pub returns-clause-stays : goal.returns-clause-stays
+returns-clause-stays c = λ k lt is.
+    c.with_quiet-self-inside.ensures k lt ∙ or_left _ _ (subst (λ (w : Watch). bit w.settled k ≡ true) (sym c.self.view_is) is)

@@ -1,6 +1,7 @@
-use Rattle.std.proofs.Common.{◌≡◌, ◌<◌, [], ◌∷◌, ◌++◌, length, get_or, refl, ap, sym, ◌∙◌, subst, get_or-set_other, get_or-set_same}
+use Rattle.std.proofs.Common.{◌≡◌, true, ◌<◌, [], ◌∷◌, ◌++◌, length, get_or, refl, ap, sym, ◌∙◌, subst, get_or-set_other, get_or-set_same}
 use Rattle.std.specs.Prelude.{slice_set}
 use Rattle.std.proofs.lemmas.List.{get_or_default}
+use Rattle.fm_base.specs.Planes.{bit}
 use Rattle.alarm_points.specs.Watch.{IsAfterPairs, KeepsIntervals, Pair, Watch, Watches, no_watch, window_at}
 use Rattle.alarm_points.proofs.Rings.{map_set}
 use Rattle.alarm_points.proofs.windows.Windows.see.Goals as goal
@@ -34,3 +35,14 @@ returns-clause-others c = λ g other.
     let xs = c.self.inside.windows.items in
     let P = λ (ws : Watches). get_or (slice_set xs c.args.goal c.see.new.self) g no_watch ≡ window_at ws g in
     subst P c.self.view_is (get_or-set_other xs c.args.goal g c.see.new.self no_watch other)
+
+pub returns-clause-stays : goal.returns-clause-stays
+returns-clause-stays c = λ k lt is.
+    let xs = c.self.inside.windows.items in
+    let inside : c.args.goal < length xs = subst (λ (ws : Watches). c.args.goal < length ws.windows) (sym c.self.view_is) c.requires in
+    let own : get_or xs c.args.goal no_watch ≡ c.index_mut.result.now =
+    get_or_default xs c.args.goal no_watch c.index_mut.result.now inside ∙ sym c.index_mut.ensures.value in
+    let before : bit (get_or xs c.args.goal no_watch).settled k ≡ true =
+    subst (λ (ws : Watches). bit (window_at ws c.args.goal).settled k ≡ true) (sym c.self.view_is) is in
+    ap (λ (w : Watch). bit w.settled k) (get_or-set_same xs c.args.goal c.see.new.self no_watch inside)
+    ∙ c.see.ensures.stays k lt (subst (λ (w : Watch). bit w.settled k ≡ true) own before)

@@ -1,0 +1,4 @@
+pub mod Unreached
+pub mod Finding
+pub mod Cones
+pub mod Observed

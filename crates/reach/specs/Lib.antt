@@ -1,0 +1,3 @@
+pub mod Paths
+pub mod Reached
+pub mod Search
