@@ -1,0 +1,3 @@
+pub mod FirstCycles
+pub mod Shown
+pub mod Laws

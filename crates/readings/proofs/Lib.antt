@@ -1,0 +1,8 @@
+mod Telling
+pub mod Intervals
+mod Exciting
+mod Rows
+mod Files
+mod AlarmRows
+mod GoalRows
+mod Seeing

@@ -1,0 +1,4 @@
+pub mod Breakdown
+pub mod Latencies
+pub mod Laws
+pub mod PointsRows

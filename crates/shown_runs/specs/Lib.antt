@@ -1,0 +1,4 @@
+pub mod First
+pub mod Record
+pub mod Seen
+pub mod Lanes
