@@ -96,8 +96,25 @@ impl<'a, R: Files + Sync> Shelf for FileShelf<'a, R> {
     }
 }
 
-/// Standard output. It tells nothing of what was written. Its count of failures rises at every error of the system, and
-/// stands still at the end of `u64`.
+// How often a write is tried that signals cut short before a byte went out.
+const TRIES: u32 = 64;
+
+// One write, and again where a signal came first.
+fn put_some<R: Print>(rt: &R, piece: &[u8]) -> io::Result<usize>
+    ensures { IfOk result (λ n. n ≤ length piece.now) }
+{
+    for _ in 1..TRIES {
+        match rt.write_some(piece) {
+            Err(error) if error.kind() == io::ErrorKind::Interrupted => {}
+            written => return written,
+        }
+    }
+    rt.write_some(piece)
+}
+
+/// Standard output. It tells nothing of what was written. Its count of failures rises at every error of the system, and where
+/// the system takes no byte; it stands still at the end of `u64`. Each write is one call of the system, so after one that failed
+/// no byte of its piece went out.
 #[derive(Drop)]
 pub struct OutSink<'a, R: Print> {
     rt: &'a R,
@@ -117,9 +134,9 @@ impl<'a, R: Print> Sink for OutSink<'a, R> {
     ghost seen = { λ s. record { written = None; faults = s.failures } };
 
     fn write(&mut self, piece: &[u8]) -> Result<usize, Failed> {
-        match self.rt.write_all(piece) {
-            Ok(()) => Ok(piece.len()),
-            Err(_) => {
+        match put_some(self.rt, piece) {
+            Ok(n) if n > 0 || piece.is_empty() => Ok(n),
+            _ => {
                 self.failures = self.failures.saturating_add(1);
                 Err(Failed)
             }
