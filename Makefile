@@ -1,7 +1,10 @@
 # The program, a run of it on a real circuit, and all that CI runs.
-.PHONY: demo try test cases edits mutants examples install
+.PHONY: demo try test cases edits mutants examples install dist
 
 PREFIX ?= /usr/local
+INTO = $(DESTDIR)$(PREFIX)
+SHARE = $(INTO)/share/fmeda
+TOOLS = chip faults flow golden manifest page patterns vcd2workload waves
 DATA = examples/lockstep
 FILES = design.blif workload.csv rates.csv points.csv
 WORDS = run $(FILES)
@@ -70,9 +73,24 @@ examples: build/fmeda
 	tests/docs/remedies build/fmeda
 	examples/shards/run build/fmeda
 
-# The proved program, its manual page, and completions for bash and zsh.
+# The proved program, its manual page, completions for bash and zsh, and the tools that stand beside it: as fmeda-flow, fmeda-page and so on, with
+# the second program that they read netlists by, the pages and the examples in share/fmeda.
 install: build/fmeda
-	install -D build/fmeda $(DESTDIR)$(PREFIX)/bin/fmeda
-	install -D -m 644 docs/fmeda.1 $(DESTDIR)$(PREFIX)/share/man/man1/fmeda.1
-	install -D -m 644 tools/completions/fmeda.bash $(DESTDIR)$(PREFIX)/share/bash-completion/completions/fmeda
-	install -D -m 644 tools/completions/_fmeda $(DESTDIR)$(PREFIX)/share/zsh/site-functions/_fmeda
+	install -D build/fmeda $(INTO)/bin/fmeda
+	install -D -m 644 docs/fmeda.1 $(INTO)/share/man/man1/fmeda.1
+	install -D -m 644 tools/completions/fmeda.bash $(INTO)/share/bash-completion/completions/fmeda
+	install -D -m 644 tools/completions/_fmeda $(INTO)/share/zsh/site-functions/_fmeda
+	mkdir -p $(foreach folder,build docs tools tests/reference,$(SHARE)/$(folder))
+	install $(TOOLS:%=tools/%) $(SHARE)/tools
+	install -m 644 $(wildcard tools/*.py) tools/page.css tools/page.js $(SHARE)/tools
+	install -m 644 $(wildcard tests/reference/*.py) $(SHARE)/tests/reference
+	install -m 644 $(wildcard docs/*.md) $(SHARE)/docs
+	install -m 644 README.md CHANGELOG.md $(SHARE)
+	tar -cf - --exclude=flow --exclude=result --exclude=__pycache__ examples | tar -xf - -C $(SHARE)
+	ln -sfn ../../../bin/fmeda $(SHARE)/build/fmeda
+	$(foreach tool,$(TOOLS),ln -sfn ../share/fmeda/tools/$(tool) $(INTO)/bin/fmeda-$(tool);)
+
+# An archive that needs neither kit nor make: what `install` installs, and RELEASE with the digest of the sources and the gate's last
+# line. It runs the gate.
+dist:
+	tools/dist

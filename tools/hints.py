@@ -1,4 +1,6 @@
 """What of a campaign makes a good number worth less, as far as a program can notice it (docs/before-you-believe.md)."""
+from dataclasses import dataclass
+
 import designs
 from designs import campaign, tables
 
@@ -60,47 +62,78 @@ def other_faults(asked):
     return found
 
 
+@dataclass(frozen=True)
+class Hint:
+    """What was noticed, and the word by which ROWS and WRONG name it."""
+    key: str
+    text: str
+
+
+# How the row of docs/before-you-believe.md begins that says why it matters.
+ROWS = {
+    "outside": "the part of role `other` has the constants alone", "patterns": "each pattern takes what you meant", "rates": "no part got its rate 0 to silence a refusal",
+    "weights": "no part got its rate 0 to silence a refusal",
+    "latches": "the latches are as many as in the design", "cycles": "the cycles of `--flips` and `--pulses` exist", "transient": "transient faults were asked for",
+    "missions": "there is a run of kind `mission`", "mechanisms": "some part is a `mechanism`", "alarms": "the alarm is 0 in the golden run of the mission",
+    "harm": "a mechanism has no residual or single-point faults", "golden": "the golden run is what the simulation of the RTL did", "safe": "few faults are `safe`",
+    "goals": "one safety goal", "end": "the report ends with `end`, and the status was 0", "kept": "the settings were kept",
+}
+# Those that make a metric untrue, or one that says nothing; what isn't here is worth a look. The first may be meant, for a reason; the others never.
+MAY_BE_MEANT = ("outside", "patterns", "rates", "weights", "mechanisms", "alarms", "harm", "goals")
+WRONG = (*MAY_BE_MEANT, "latches", "cycles", "missions", "golden", "end", "kept")
+
+
 def of_runs(runs, asked):
     missions = [run for run in runs if run[1] == "mission"]
     if not missions:
-        yield "All runs are of kind test: no fault can be dangerous in them, so SPFM says nothing."
+        yield Hint("missions", "All runs are of kind test: no fault can be dangerous in them, so SPFM says nothing.")
     for option, listed in (("--flips", asked.flips), ("--pulses", asked.pulses)):
         late = [c for c in cycles(listed) if all(c >= len(run[2]) for run in missions)]
         if late:
-            yield f"{option}: no mission run has the cycles {', '.join(map(str, late))}, so these faults do nothing and count as safe."
+            yield Hint("cycles", f"{option}: no mission run has the cycles {', '.join(map(str, late))}, so these faults do nothing and count as safe.")
 
 
-def of_parts(report, design, asked):
+def of_rates(design, asked):
+    _, parts = read_rates(asked.rates)
+    parts = [(part[0].decode("latin-1"), *part[1:]) for part in parts]
     owners = parts_by_net(asked.rates, design)
-    outside = {part.name for part in report.parts if part.role == "other"}
+    outside = {name for name, role, *_ in parts if role == "other"}
     nets = [net for net, part in owners.items() if part in outside and net.rpartition(".")[2] not in CONSTANTS]
     if nets:
-        yield f"{len(nets)} nets other than the constants are outside (role other), as {nets[0]}: their faults count nowhere."
-    if not any(part.role == "mechanism" for part in report.parts):
-        yield "No part has the role mechanism: nothing can be latent, so LFM says nothing."
+        yield Hint("outside", f"{len(nets)} nets other than the constants are outside (role other), as {nets[0]}: their faults count nowhere.")
+    if not any(role == "mechanism" for _, role, *_ in parts):
+        yield Hint("mechanisms", "No part has the role mechanism: nothing can be latent, so LFM says nothing.")
+    silent = [name for name, role, _, permanent, _ in parts if role != "other" and not permanent and name in owners.values()]
+    if silent:
+        yield Hint("rates", f"The permanent rate of {', '.join(silent)} is 0: these stuck-at faults are classified, and weigh nothing.")
+
+
+def of_points(goals, alarms):
+    if len(goals) > 1:
+        yield Hint("goals", f"The points name {len(goals)} safety goals, and the metrics are of all of them together; the standard wants them for each.")
+    if not alarms:
+        yield Hint("alarm", "There is no alarm: nothing can be detected.")
+
+
+def of_files(design, asked):
+    """What can be noticed before a campaign is run."""
+    return [*of_runs(designs.read_runs(asked.workload, design), asked), *of_rates(design, asked), *of_points(*read_points(asked.points, design))]
+
+
+def of_report(report):
     for part in report.parts:
         if part.role != "other" and part.faults and 2 * part.counts["safe"] > part.faults:
-            yield f"Part {part.name}: {part.counts['safe']} of {part.faults} faults are safe. Does the workload use this part?"
+            yield Hint("safe", f"Part {part.name}: {part.counts['safe']} of {part.faults} faults are safe. Does the workload use this part?")
         if part.role == "mechanism" and part.counts["residual"] + part.counts["single-point"]:
-            yield f"Part {part.name} is a mechanism with harmful faults: look whether its patterns take nets of another part."
-
-
-def of_faults(report):
+            yield Hint("harm", f"Part {part.name} is a mechanism with harmful faults: look whether its patterns take nets of another part.")
     nothing = [f for f in report.faults if not f.weight]
     if nothing:
-        yield f"{len(nothing)} residual, single-point or latent faults have the weight 0, since their part has no rate, as {nothing[0].name}."
+        yield Hint("weights", f"{len(nothing)} residual, single-point or latent faults have the weight 0, since their part has no rate, as {nothing[0].name}.")
     for name, verdict in report.targets.items():
         if verdict == "-":
-            yield f"Target {name}: nothing was looked at."
+            yield Hint("transient", f"Target {name}: nothing was looked at.")
 
 
 def found(report, design, asked):
-    """The hints for a report and its files, in words."""
-    runs = designs.read_runs(asked.workload, design)
-    goals, alarms = read_points(asked.points, design)
-    said = [*of_runs(runs, asked), *of_parts(report, design, asked), *of_faults(report)]
-    if len(goals) > 1:
-        said.append(f"The points name {len(goals)} safety goals, and the metrics are of all of them together; the standard wants them for each.")
-    if not alarms:
-        said.append("There is no alarm: nothing can be detected.")
-    return said
+    """The hints for a report and its files."""
+    return [*of_files(design, asked), *of_report(report)]

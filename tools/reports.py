@@ -72,6 +72,24 @@ def metrics(report):
             ("lfm", left - report.latent, left, lfm)]
 
 
+def fraction_word(num, den):
+    return f"{num}/{den}" if den else "-"
+
+
+def targets(report):
+    """The verdict on each target by the sums, as the report's last lines have it."""
+    term = report.danger + report.transient_danger
+    found = {name: "-" if not den else "met" if 100 * num >= least * den else "missed" for name, num, den, least in metrics(report)}
+    return {**found, "term": "met" if term < PER_CENT[report.head["asil"]][2] else "missed"}
+
+
+def metric_lines(report):
+    """The ten lines of the sums, the metrics and the targets, as a report has them."""
+    return [f"permanent all {report.permanent} danger {report.danger} latent {report.latent}", f"transient all {report.transient} danger {report.transient_danger}",
+            *[f"{name} {fraction_word(num, den)}" for name, num, den, _ in metrics(report)], f"term {report.danger + report.transient_danger}",
+            *[f"target {name} {verdict}" for name, verdict in targets(report).items()]]
+
+
 def per_cent(num, den, places=2):
     """Rounded down, so that what is shown as the target has met it."""
     if not den:

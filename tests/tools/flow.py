@@ -1,0 +1,462 @@
+"""Cases of tools/flow. What the campaign of the small design must give was worked by hand."""
+import dataclasses
+import os
+import pathlib
+import re
+import shutil
+import signal
+import subprocess
+import sys
+import time
+
+from common import EXAMPLES, ROOT, TOOLS, Skipped, held
+
+# A flip-flop, its copy, and a comparator that is 1 in the cycle in which they differ.
+NETLIST = """.model top
+.inputs clk d
+.outputs q al
+.latch d q re clk 0
+.latch d c re clk 0
+.names q c al
+10 1
+01 1
+.end
+"""
+RATES = "pattern,part,role,covered,permanent,transient\nd,pins,mission,no,0.1,0\nq,main,mission,yes,2,4\nc,copy,mechanism,no,2,4\nal,copy,mechanism,no,2,4\n"
+POINTS = "kind,net\nobserve,q\nalarm,al\n"
+SETTINGS = """[design]
+netlist = design.blif
+latches = 2
+[runs]
+drive = mission drive.vcd
+[campaign]
+rates = rates.csv
+points = points.csv
+flips = 2
+asil = C
+"""
+DATA = (0, 1, 1, 0, 1, 0)
+# d stuck at 0 or 1 reaches both flip-flops alike: single-point, 0.05 FIT each. A stuck q or c and both flips raise the alarm in the cycle in which q is
+# wrong. al stuck at 1 raises it, and al stuck at 0 is seen by nobody: latent, a quarter of 2 FIT. Permanent 4.1 FIT, harmful 0.1, latent 0.5; transient 8 FIT.
+METRICS = """permanent all 4100000 danger 100000 latent 500000
+transient all 8000000 danger 0
+spfm permanent 4000000/4100000
+spfm transient 8000000/8000000
+lfm 3500000/4000000
+term 100000
+target spfm permanent met
+target spfm transient met
+target lfm met
+target term met
+single-point d/0 50000
+single-point d/1 50000
+latent al/0 500000
+end
+"""
+STEPS = ("workload", "golden", "parts", "check", "alarms", "run", "page", "manifest")
+
+
+def _dump(wrong=None):
+    """The simulation: q is d of the cycle before. In the cycle `wrong`, it is something else."""
+    lines = ["$scope module tb $end", "$scope module dut $end", *[f"$var wire 1 {code} {name} $end" for code, name in zip("!#$%", ("clk", "d", "q", "al"))],
+             "$upscope $end", "$upscope $end", "$enddefinitions $end"]
+    for cycle, bit in enumerate(DATA):
+        q = DATA[cycle - 1] if cycle else 0
+        lines += [f"#{10 * cycle}", "0!", f"{bit}#", f"{q ^ (cycle == wrong)}$", "0%", f"#{10 * cycle + 5}", "1!"]
+    return "\n".join(lines) + "\n"
+
+
+def _design(folder, settings=SETTINGS, **changes):
+    """The files of the design, some of them with other texts."""
+    files = {"design__blif": NETLIST, "rates__csv": RATES, "points__csv": POINTS, "drive__vcd": _dump(), "flow__ini": settings, **changes}
+    held(folder, **files)
+
+
+def _with(*lines, without=()):
+    """The settings with more lines behind their sections' heads, and without others."""
+    text = SETTINGS
+    for line in without:
+        assert line + "\n" in text, line
+        text = text.replace(line + "\n", "")
+    for section, line in lines:
+        text = text.replace(f"[{section}]\n", f"[{section}]\n{line}\n") if f"[{section}]" in text else text + f"[{section}]\n{line}\n"
+    return text
+
+
+def _flow(folder, program, *words, status=0, path=None):
+    """(what is printed, what is said of the stop)."""
+    environment = {**os.environ, **({"PATH": path} if path else {})}
+    done = subprocess.run([sys.executable, str(TOOLS / "flow"), "flow.ini", "--program", str(program), *words], cwd=folder, env=environment, capture_output=True, text=True, timeout=600)
+    assert done.returncode == status, f"status {done.returncode}\n{done.stdout}{done.stderr}"
+    return done.stdout, done.stderr
+
+
+def _done(printed):
+    """The steps that were done, as the lines that are no comments tell."""
+    found = []
+    for before, line in zip(printed.splitlines(), printed.splitlines()[1:]):
+        if not line.startswith("#"):
+            found.append(before.removeprefix("# "))
+    return tuple(found)
+
+
+def _stopped(folder, program, wanted, row, **design):
+    """The flow stops with status 1, tells `wanted`, and shows the row of the checklist that begins with `row`."""
+    shutil.rmtree(pathlib.Path(folder, "flow"), ignore_errors=True)
+    _design(folder, **design)
+    _, said = _flow(folder, program, status=1)
+    assert wanted in said, said
+    page = (ROOT / "docs" / "before-you-believe.md").read_text().splitlines()
+    shown = [line.removeprefix("docs/before-you-believe.md: ") for line in said.splitlines() if line.startswith("docs/before-you-believe.md: ")]
+    assert [line for line in page if line.startswith(f"| {row}")] == shown, said
+    return said
+
+
+def _program(folder, name, text):
+    """A shell script in place of fmeda."""
+    path = pathlib.Path(folder, name)
+    path.write_text("#!/bin/sh\n" + text)
+    path.chmod(0o755)
+    return path
+
+
+def a_flow_to_its_page(folder, program):
+    _design(folder)
+    printed, said = _flow(folder, program, "--met")
+    assert _done(printed) == STEPS and not said, printed + said
+    flow = pathlib.Path(folder, "flow")
+    assert flow.joinpath("workload.csv").read_text() == "workload,kind,d\n" + "".join(f"drive,mission,{bit}\n" for bit in DATA)
+    assert flow.joinpath("report.txt").read_text().endswith(METRICS), flow.joinpath("report.txt").read_text()
+    for wanted in ("97.56 %", "4000000/4100000", "87.50 %", "0.1 FIT", "Nothing was noticed"):
+        assert wanted in flow.joinpath("page.html").read_text(), wanted
+    for wanted in ("run drive: 6 cycles, 2 nets agree", "# spfm permanent: 97.56 %, met", "# term: 0.1 FIT, met", "# the page: flow/page.html"):
+        assert wanted in printed, printed
+
+
+def what_is_printed_can_be_done_by_hand(folder, program):
+    other = pathlib.Path(folder, "other")
+    for place in (folder, other):
+        pathlib.Path(place).mkdir(exist_ok=True)
+        _design(place)
+    printed, _ = _flow(folder, program)
+    other.joinpath("flow").mkdir()
+    script = printed.replace(os.path.relpath(TOOLS, folder), str(TOOLS)).replace(os.path.relpath(program, folder), str(program))
+    done = subprocess.run(["sh", "-e", "-c", script], cwd=other, capture_output=True, text=True)
+    assert not done.returncode, done.stdout + done.stderr
+    for name in ("report.txt", "result", "parts.txt", "workload.csv"):
+        assert other.joinpath("flow", name).read_bytes() == pathlib.Path(folder, "flow", name).read_bytes(), name
+
+
+def a_missed_target_is_a_status_where_it_is_asked_for(folder, program):
+    _design(folder, _with(("campaign", "asil = D"), without=("asil = C",)))
+    printed, _ = _flow(folder, program)
+    assert "# spfm permanent: 97.56 %, missed" in printed, printed
+    _flow(folder, program, "--met", status=4)
+
+
+def a_step_is_left_out_where_nothing_changed(folder, program):
+    _design(folder)
+    _flow(folder, program)
+    for name, text, wanted in (("rates.csv", RATES, ()), ("flow.ini", SETTINGS + "[output]\ntitle = another\n", ("page",)),
+                               ("flow.ini", SETTINGS.replace("asil = C", "asil = B"), ("run", "page", "manifest")), ("points.csv", POINTS + "observe,c\n", ("check", "alarms", "run", "page", "manifest")),
+                               ("drive.vcd", _dump() + "#60\n0!\n", ("workload", "golden")), ("rates.csv", RATES.replace("0.1", "0.2"), ("parts", "check", "run", "page", "manifest"))):
+        pathlib.Path(folder, name).write_text(text)
+        printed, _ = _flow(folder, program)
+        assert _done(printed) == wanted, (name, printed)
+        assert _done(_flow(folder, program)[0]) == (), name
+
+
+def what_was_made_and_changed_is_made_again(folder, program):
+    _design(folder)
+    _flow(folder, program)
+    report = pathlib.Path(folder, "flow", "report.txt")
+    for change in (lambda: report.unlink(), lambda: report.write_text(report.read_text().replace("missed", "met").replace("danger 100000", "danger 0")),
+                   lambda: pathlib.Path(folder, "flow", "manifest.json").write_text("{}")):
+        change()
+        printed, _ = _flow(folder, program)
+        assert "run" in _done(printed) and " resume " in printed and report.read_text().endswith(METRICS), printed
+    pathlib.Path(folder, "flow", "flow.json").write_text("{")
+    printed, _ = _flow(folder, program)
+    assert _done(printed) == STEPS and " resume " not in printed and report.read_text().endswith(METRICS), printed
+
+
+def another_program_begins_the_campaign_anew(folder, program):
+    _design(folder)
+    fake = _program(folder, "fmeda", f'exec "{program}" "$@"\n')
+    _flow(folder, fake)
+    assert _done(_flow(folder, fake)[0]) == ()
+    _program(folder, "fmeda", f'exec "{program}" "$@" # another\n')
+    printed, _ = _flow(folder, fake)
+    assert _done(printed)[:3] == ("parts", "check", "run") and " resume " not in printed and "of another program, are in flow/result." in printed, printed
+
+
+def rows_that_are_there_are_kept(folder, program):
+    """The campaign is killed when its header is written, and by half a row more; then it is resumed. Rows of another campaign are put aside."""
+    _design(folder)
+    script = f'if [ "$1" = run ]; then "{program}" "$@" > /dev/null; head -c {{}} "$6" > cut; cp cut "$6"; kill -9 $$; fi\nexec "{program}" "$@"\n'
+    result = pathlib.Path(folder, "flow", "result")
+    for size in (89, 150):
+        shutil.rmtree(result.parent, ignore_errors=True)
+        fake = _program(folder, "fmeda", script.format(size))
+        _, said = _flow(folder, fake, status=3)
+        assert "stopped at run" in said and result.stat().st_size == size, said
+        printed, _ = _flow(folder, fake)
+        assert _done(printed) == ("run", "page", "manifest") and " resume " in printed, printed
+        assert result.with_name("report.txt").read_text().endswith(METRICS)
+    kept = result.read_bytes()
+    _design(folder, _with(("campaign", "interval = 1")))
+    printed, _ = _flow(folder, program)
+    aside = re.search(r"the rows of another campaign, or of another program, are in (\S+) now", printed)
+    assert aside and pathlib.Path(folder, aside[1]).read_bytes() == kept and " resume " not in printed, printed
+
+
+def no_step_outlives_the_flow(folder, program):
+    """A campaign that waits: a second flow is refused, and a signal ends the first with its campaign. The next one goes on."""
+    _design(folder)
+    fake = _program(folder, "fmeda", f'[ "$1" != run ] || [ -e slept ] || {{ echo $$ > slept; exec sleep 600; }}\nexec "{program}" "$@"\n')
+    words = [sys.executable, str(TOOLS / "flow"), "flow.ini", "--program", str(fake)]
+    first = subprocess.Popen(words, cwd=folder, stdout=subprocess.PIPE, stderr=subprocess.PIPE, text=True)
+    slept = pathlib.Path(folder, "slept")
+    for _ in range(1200):
+        if slept.exists() and slept.read_text().endswith("\n"):
+            break
+        time.sleep(0.1)
+    _, said = _flow(folder, fake, status=2)
+    assert "another flow is at work in flow" in said, said
+    first.send_signal(signal.SIGTERM)
+    _, said = first.communicate(timeout=60)
+    assert first.returncode == 130 and "called again, it goes on from here" in said, said
+    sleeper = pathlib.Path("/proc", slept.read_text().strip())
+    for _ in range(100):
+        if not sleeper.exists():
+            break
+        time.sleep(0.1)
+    assert not sleeper.exists(), "the campaign outlives the flow"
+    printed, _ = _flow(folder, fake)
+    assert _done(printed) == ("run", "page", "manifest"), printed
+
+
+def what_is_in_the_way_is_not_overwritten(folder, program):
+    _design(folder)
+    pathlib.Path(folder, "flow").mkdir()
+    held(pathlib.Path(folder, "flow"), result="a letter\n")
+    _, said = _flow(folder, program, status=2)
+    assert "has files that no flow made" in said and pathlib.Path(folder, "flow", "result").read_text() == "a letter\n", said
+
+
+# ---- stops: a metric would be untrue
+
+def latches_that_were_merged(folder, program):
+    _stopped(folder, program, "design.blif has 2 latches, and the design 3", "the latches are as many as in the design",
+             settings=SETTINGS.replace("latches = 2", "latches = 3"))
+
+
+def a_simulation_that_differs(folder, program):
+    _stopped(folder, program, "stopped at golden: run drive cycle 3 net q: golden run 1, simulation 0", "the golden run is what the simulation of the RTL did", drive__vcd=_dump(3))
+
+
+def patterns_that_take_nothing(folder, program):
+    wrong = {"rates__csv": RATES + "u_main.*,main,mission,yes,2,4\n"}
+    said = _stopped(folder, program, "these patterns as the first that matches: u_main.*", "each pattern takes what you meant", **wrong)
+    assert "[accepted] patterns = REASON" in said, said
+    _design(folder, _with(("accepted", "patterns = one list for all variants")), **wrong)
+    printed, _ = _flow(folder, program)
+    assert "accepted, patterns: " in printed and "one list for all variants" in printed, printed
+    held(folder, rates__csv=RATES)
+    printed, _ = _flow(folder, program)
+    assert "accepted, and not noticed any more: patterns" in printed, printed
+
+
+def nets_without_a_part(folder, program):
+    said = _stopped(folder, program, "1 nets have no part, as c", "each pattern takes what you meant", rates__csv=RATES.replace("c,copy,mechanism,no,2,4\n", ""))
+    assert "accepted" not in said, said
+
+
+def nets_that_are_outside(folder, program):
+    wrong = {"rates__csv": RATES.replace("d,pins,mission,no,0.1,0", "d,pins,other,no,0,0")}
+    _stopped(folder, program, "1 nets other than the constants are outside (role other), as d", "the part of role `other` has the constants alone", **wrong)
+    _design(folder, _with(("accepted", "outside = the pins are a block of their own")), **wrong)
+    _flow(folder, program)
+
+
+def parts_whose_rate_is_silenced(folder, program):
+    _stopped(folder, program, "The permanent rate of pins is 0", "no part got its rate 0", rates__csv=RATES.replace("no,0.1,0", "no,0,0"))
+
+
+def harmful_faults_that_weigh_nothing(folder, program):
+    """A pulse at d in cycle 2 makes both flip-flops wrong in cycle 3, and the pins have no transient rate."""
+    said = _stopped(folder, program, "1 residual, single-point or latent faults have the weight 0, since their part has no rate, as d~2", "no part got its rate 0", settings=_with(("campaign", "pulses = 2")))
+    assert "stopped at report" in said, said
+
+
+def cycles_that_no_run_has(folder, program):
+    said = _stopped(folder, program, "--flips: no mission run has the cycles 6", "the cycles of `--flips` and `--pulses` exist", settings=SETTINGS.replace("flips = 2", "flips = 2,6"))
+    assert "stopped at files" in said and "accepted" not in said, said
+
+
+def no_run_of_the_mission(folder, program):
+    _stopped(folder, program, "All runs are of kind test", "there is a run of kind `mission`", settings=SETTINGS.replace("mission drive", "test drive"))
+
+
+def no_mechanism(folder, program):
+    _stopped(folder, program, "No part has the role mechanism", "some part is a `mechanism`", rates__csv=RATES.replace("mechanism", "mission"))
+
+
+def a_mechanism_that_does_harm(folder, program):
+    said = _stopped(folder, program, "Part copy is a mechanism with harmful faults", "a mechanism has no residual or single-point faults", rates__csv=RATES.replace("d,pins,mission,no,0.1,0", "d,copy,mechanism,no,2,4"))
+    assert "stopped at report" in said, said
+
+
+def several_goals(folder, program):
+    wrong = {"points__csv": "goal,ftti,kind,net\none,-,observe,q\ntwo,-,observe,c\n-,-,alarm,al\n"}
+    _stopped(folder, program, "2 safety goals", "one safety goal", **wrong)
+    _design(folder, _with(("accepted", "goals = both are one goal of the item")), **wrong)
+    printed, _ = _flow(folder, program)
+    assert "accepted, goals: The points name 2 safety goals" in printed, printed
+
+
+def an_alarm_that_is_raised_already(folder, program):
+    _stopped(folder, program, "al is 1 in the golden run of drive, in cycle 2", "the alarm is 0 in the golden run of the mission", design__blif=NETLIST.replace("10 1\n01 1\n", "1- 1\n"), drive__vcd=_dump().replace("0%\n", ""))
+
+
+def a_report_that_was_cut_off(folder, program):
+    """A program that ends with status 0 and has lost its last line."""
+    fake = _program(folder, "fmeda", f'"{program}" "$@" > out || exit $?\ncase $1 in run|resume) sed "\\$d" out;; *) cat out;; esac\n')
+    said = _stopped(folder, fake, "the last line isn't end: the report was cut off", "the report ends with `end`, and the status was 0")
+    assert "stopped at run" in said, said
+    _, said = _flow(folder, fake, status=1)
+    assert "was cut off" in said, said
+
+
+def files_that_change_while_the_campaign_runs(folder, program):
+    fake = _program(folder, "fmeda", f'"{program}" "$@"; status=$?\n[ "$1" != run ] || echo >> rates.csv\nexit $status\n')
+    said = _stopped(folder, fake, "a file isn't the one that the campaign was run with: result flow/result: its header is of another campaign", "the settings were kept")
+    assert "stopped at manifest" in said, said
+    printed, _ = _flow(folder, fake, status=1)
+    assert " run " in printed, printed
+
+
+# ---- stops: a step was refused or failed, or the settings are wrong
+
+def a_refusal_is_told(folder, program):
+    _design(folder, SETTINGS.replace("flips = 2", "flips = none"))
+    _, said = _flow(folder, program, status=3)
+    assert "stopped at check: refused: part main has a transient rate and no such fault (status 7)" in said, said
+    _design(folder, rates__csv=RATES.replace("mission", "Mission"))
+    _, said = _flow(folder, program, status=3)
+    assert "stopped at parts: refused: rates row 2 BadRole (status 5)" in said, said
+    assert not pathlib.Path(folder, "flow", "parts.txt.new").exists()
+
+
+def steps_that_fail(folder, program):
+    _design(folder, drive__vcd=_dump().replace("#0\n0!\n0#", "#0\n0!\nx#"))
+    _, said = _flow(folder, program, status=3)
+    assert "stopped at workload" in said and "input d is x or z in cycle 0" in said, said
+    _design(folder, _with(("workload", "scope = tb")))
+    _, said = _flow(folder, program, status=3)
+    assert "there is no signal tb.clk" in said, said
+    _design(folder)
+    _, said = _flow(folder, pathlib.Path(folder, "nothing"), status=3)
+    assert "cannot run ./nothing" in said, said
+    _design(folder, design__blif=NETLIST.replace(".end\n", ".names q q2 z\n11 1\n.end\n"))
+    _, said = _flow(folder, program, status=3)
+    assert "stopped at workload" in said and "refused: netlist line" in said, said
+
+
+def settings_that_say_something_wrong(folder, program):
+    for settings, wanted in (
+            (_with(("campaign", "flip = 2")), "[campaign] has no key flip: rates, points"), (_with(("design", "netlsit = x"), without=("netlist = design.blif",)), "has no key netlsit"),
+            (_with(("points", "observe = q")), "there is no section [points]"), (_with(("design", "verilog = design.blif")), "either verilog or netlist"),
+            (_with(without=("netlist = design.blif",)), "either verilog or netlist"), (_with(("design", "verilog = drive.vcd"), without=("netlist = design.blif",)), "top must name"),
+            (_with(without=("points = points.csv",)), "[campaign] points must be given"), (_with(without=("drive = mission drive.vcd",)), "[workload] file, or runs"),
+            (_with(("runs", "second = drive.vcd")), "a run has its kind"), (_with(("runs", "second = drive drive.vcd")), "a run has its kind"), (_with(("runs", "drive = test drive.vcd")), "already exists"),
+            (_with(("runs", "second = test none.vcd:0-3")), "there is no file none.vcd"), (_with(("campaign", "interval = 4097")), "interval is a number from 0 to 4096"),
+            (_with(("campaign", "workers = 0")), "workers is a number from 1 to 32"), (_with(("campaign", "pulses = 1;2")), "pulses is none, or cycles"), (SETTINGS.replace("= C", "= A"), "asil is B, C or D"),
+            (_with(("output", "folder = ../other")), "folder of its own"), (_with(("output", "folder = .")), "folder of its own"), (_with(("accepted", "missions = why not")), "[accepted] has no key missions"),
+            (_with(("accepted", "goals =")), "[accepted] goals has no value"), ("rates\n", "no section headers"), (SETTINGS.replace("rates.csv", "none.csv"), "there is no file none.csv")):
+        _design(folder, settings)
+        _, said = _flow(folder, program, status=2)
+        assert wanted in said, (wanted, said)
+    assert not pathlib.Path(folder, "flow").exists()
+
+
+def _settings(folder, text):
+    """What the tool makes of a settings file whose files are there."""
+    sys.path[:0] = [str(TOOLS)]
+    import settings
+    held(folder, flow__ini=text, **{name.replace(".", "__"): "" for name in ("design.v", "workload.csv", "drive.vcd", "rates.csv", "points.csv")})
+    return settings.read(str(pathlib.Path(folder, "flow.ini")))
+
+
+def the_settings_of_the_pages(folder, _):
+    """Those that --help shows can be read as they are; those of docs/tools.md are the example's, but for its title."""
+    text = subprocess.run([sys.executable, str(TOOLS / "flow"), "--help"], check=True, capture_output=True, text=True).stdout
+    block = text[text.index("    [design]"):text.index("What is printed")]
+    said = _settings(folder, "\n".join(line[4:] for line in block.splitlines()))
+    assert (said.verilog, said.top, said.latches, said.netlist, said.workload, said.rates, said.points) == (
+        ("design.v",), "lockstep", "136", "flow/design.blif", "workload.csv", "rates.csv", "points.csv"), said
+    assert [(run.name, run.kind, run.dump) for run in said.runs] == [("drive", "mission", "drive.vcd")] and said.accepted == {"goals": "both outputs belong to one goal of the item"}
+    assert (said.interval, said.flips, said.pulses, said.asil, said.workers, said.out, said.title) == ("4", "40,77,101,160", "none", "D", "2", "flow", "Two cores in lockstep"), said
+    text = (ROOT / "docs" / "tools.md").read_text()
+    block = text[text.index("    [design]"):text.index("In place of `verilog`")]
+    shown = _settings(folder, "\n".join(line[4:] for line in block.splitlines()))
+    kept = _settings(folder, (EXAMPLES / "lockstep" / "flow.ini").read_text())
+    assert shown == dataclasses.replace(kept, title=""), (shown, kept)
+
+
+def each_stop_has_its_row(folder, program):
+    """Each hint names one row of the checklist, and what may be accepted is a stop."""
+    sys.path[:0] = [str(TOOLS)]
+    import hints
+    page = (ROOT / "docs" / "before-you-believe.md").read_text().splitlines()
+    for key, begin in hints.ROWS.items():
+        assert sum(line.startswith(f"| {begin}") for line in page) == 1, (key, begin)
+    assert set(hints.WRONG) <= set(hints.ROWS) and set(hints.MAY_BE_MEANT) < set(hints.WRONG)
+    assert "meant: " + ", ".join(f"`{key}`" for key in hints.MAY_BE_MEANT) + "." in " ".join((ROOT / "docs" / "tools.md").read_text().split())
+
+
+# ---- from Verilog
+
+def _script(text):
+    """The lines of a script of yosys without its comments, names of files being left out."""
+    lines = [line for line in text.splitlines() if line and not line.startswith("#")]
+    return [re.sub(r"\S*(async_reset\.v|design\.blif)", r"\1", line) for line in lines]
+
+
+def the_script_is_that_of_the_page(folder, program):
+    """Where yosys isn't found the script is there, and the flow ends with status 3."""
+    for example in ("bridge", "lockstep"):
+        copy = shutil.copytree(EXAMPLES / example, pathlib.Path(folder, example), ignore=shutil.ignore_patterns("flow"))
+        _, said = _flow(copy, program, status=3, path=str(folder))
+        assert "yosys is not installed" in said, said
+        wanted = _script(copy.joinpath("synth.ys").read_text())
+        if example == "lockstep":
+            wanted.insert(wanted.index("async2sync"), "techmap -map async_reset.v")
+        assert _script(copy.joinpath("flow", "synth.ys").read_text()) == wanted, example
+
+
+def from_a_netlist_and_dumps(folder, program):
+    copy = shutil.copytree(EXAMPLES / "bridge", pathlib.Path(folder, "bridge"), ignore=shutil.ignore_patterns("flow"))
+    text = copy.joinpath("flow.ini").read_text()
+    copy.joinpath("flow.ini").write_text(text.replace("verilog = design.sv\ntop = bridge\n", "netlist = design.blif\n"))
+    printed, _ = _flow(copy, program)
+    assert "run traffic: 370 cycles, 115 nets agree" in printed, printed
+    for made, kept in (("workload.csv", "workload.csv"), ("report.txt", "report.txt")):
+        assert copy.joinpath("flow", made).read_bytes() == copy.joinpath(kept).read_bytes(), made
+
+
+def from_verilog_to_the_page(folder, program):
+    if shutil.which("yosys") is None:
+        raise Skipped("yosys is not installed")
+    copy = shutil.copytree(EXAMPLES / "lockstep", pathlib.Path(folder, "lockstep"), ignore=shutil.ignore_patterns("flow"))
+    _flow(copy, program)
+    made, kept = (copy.joinpath(*names, "design.blif").read_text() for names in (("flow",), ()))
+    if made.splitlines()[0] != kept.splitlines()[0]:
+        raise Skipped(f"another yosys, {made.splitlines()[0]}: the report is not compared")
+    assert made == kept and copy.joinpath("flow", "report.txt").read_bytes() == copy.joinpath("report.txt").read_bytes()
+    page = copy.joinpath("flow", "page.html").read_text()
+    for wanted in ("99.22 %", "24648215/24840000", "95.95 %", "0.191785 FIT", "Two cores in lockstep"):
+        assert wanted in page, wanted
+    copy.joinpath("design.v").write_text("module lockstep (input clk; endmodule\n")
+    _, said = _flow(copy, program, status=3)
+    assert "stopped at synthesis" in said and "syntax error" in said, said
