@@ -130,7 +130,7 @@ def of_duplicated(made):
 
 
 def of_examples(made):
-    for name in ("duplicated", "parity", "lockstep", "secded_fifo", "watchdog", "bridge", "voter"):
+    for name in ("duplicated", "parity", "lockstep", "secded_fifo", "watchdog", "bridge", "stream", "voter"):
         nets = made.report(f"examples/{name}").head["nets"]
         yield f"| `{name}` | {{}} | {thousands(nets)} |"
 
