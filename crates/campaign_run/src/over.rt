@@ -27,28 +27,28 @@ use worker_gate::Gate;
 
 // All the memory of a campaign.
 #[derive(Drop)]
-struct Prepared<F: Shelf + Drop, N: Origin> {
+struct Prepared<'a, F: Shelf + Drop, N: Origin> {
     space: ReportSpace,
-    crew: Crew<F, N>,
+    crew: Crew<'a, F, N>,
 }
 
 // Takes all the memory of a campaign, and changes no file.
-fn prepare<F: Shelf + Drop, N: Origin>(
+fn prepare<'a, F: Shelf + Drop, N: Origin>(
     alloc: Global,
-    plan: &Plan,
-    order: &Order,
+    plan: &'a Plan,
+    order: &'a Order,
     batches: u32,
     rows: RowList,
     workers: u32,
     shelf: F,
     name: &str,
-) -> Result<Prepared<F, N>, NoBoard<F>>
+) -> Result<Prepared<'a, F, N>, NoBoard<F>>
     requires workers { (0 < workers) × (workers ≤ 32) }
     requires order { IsOrder plan.now.circuit order.now }
     requires batches { batches ≡ batch_count plan.now }
     requires start { IsStart N.start name.now rows batches (F.seen shelf) }
     ensures space { IfOk result (λ r. r.space ≡ room_for plan.now) }
-    ensures crew { IfOk result (λ r. r.crew.workshop ≡ record { plan = plan.now; order = order.now }) }
+    ensures crew { IfOk result (λ r. r.crew.workshop ≡ plan.now) }
     ensures board { IfOk result (λ r. IsNewBoard N.start shelf r.crew.board) }
     ensures err { IfErr result (λ e. e.shelf ≡ shelf) }
 {
@@ -70,26 +70,18 @@ fn worked<
     F: Shelf + Send + Drop,
     N: Origin + Send + Sync,
     G: Gate + Sync,
->(
-    rt: &R,
-    plan: &Plan,
-    order: &Order,
-    own: &Line,
-    whole: u64,
-    mut crew: Crew<F, N>,
-    gate: &G,
-) -> Board<F, N>
-    requires made { crew.workshop ≡ record { plan = plan.now; order = order.now } }
+>(rt: &R, plan: &Plan, own: &Line, whole: u64, mut crew: Crew<'_, F, N>, gate: &G) -> Board<F, N>
+    requires made { crew.workshop ≡ plan.now }
     requires fresh { IsNewBoard N.start crew.board.shelf crew.board }
     requires own { own.now ≡ N.start.header }
     requires whole { AreKeptBytes N.start crew.board.rows whole ((F.seen crew.board.shelf).content N.start.name) }
     requires entries { HasTrueEntries plan.now N.start }
-    ensures { HasWorked N.start whole (F.seen crew.board.shelf) (F.seen result.shelf) result }
+    ensures { HasWorked N.start whole (F.seen crew.entry.board.shelf) (F.seen result.shelf) result }
 {
     if crew.board().append_header(whole, own).is_err() {
         return crew.into_board();
     }
-    campaign(rt, plan, order, crew, gate).board
+    campaign(rt, plan, crew, gate).board
 }
 
 /// The campaign, over the origin of its board.
@@ -134,6 +126,6 @@ pub(crate) fn run_over<
             };
         }
     };
-    let board = worked(rt, plan, order, own, whole, crew, gate);
+    let board = worked(rt, plan, own, whole, crew, gate);
     tell(plan, text, board, &mut space, out)
 }

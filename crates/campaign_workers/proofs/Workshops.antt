@@ -2,8 +2,6 @@
 use Rattle.std.proofs.Common.{◌≡◌, ℕ, Bool, false, List, refl, sym, subst, arith}
 use Rattle.std.specs.List.{All}
 use Rattle.std.proofs.lemmas.List.{get_or-map, length-map}
-use Rattle.circuit.specs.declared.parts.NetId.{NetId}
-use Rattle.golden_run.specs.Recording.{Recording}
 use Rattle.campaign_plan.specs.Analysis.{Analysis}
 use Rattle.campaign_core.specs.Machines.{times}
 use Rattle.claim_counter.specs.Views.{giving}
@@ -11,7 +9,8 @@ use Rattle.claim_counter.specs.Seats.{Counter, Seated, IsOf}
 use Rattle.claim_counter.specs.Crews.{MayDraw, IsCrew}
 use Rattle.campaign_workers.specs.declared.worker.Worker.{Worker}
 use Rattle.campaign_workers.specs.Workplaces.{AreFor, seats_of}
-use Rattle.classifier.specs.Tools.{AreToolsFor}
+use Rattle.classifier.specs.Simulator.{simulator_of}
+use Rattle.classifier.specs.Testbench.{Testbench}
 use Rattle.campaign_workers.proofs.Owing.{same_seat}
 
 module _ {F N : Type 0} where
@@ -19,14 +18,13 @@ module _ {F N : Type 0} where
   all_workers P workers h =
       λ k d lt. subst P (get_or-map (λ (w : Worker F N). w.seat) workers k d d.seat lt) (h k d.seat (omega (arith, lt, length-map workers (λ (w : Worker F N). w.seat))))
 
-  -- each worker is ready, with tools for the plan and the order
-  pub at_work : (p q : Analysis) (order nets : List NetId) (golden : Recording) (table : Counter) (first : Seated) (workers now : List (Worker F N)) → AreFor p order golden table first workers
-      → p ≡ q → order ≡ nets → now ≡ workers → All (λ w. MayDraw table w.seat × AreToolsFor q nets w.lanes w.windows) now
-  at_work p q order nets golden table first workers now h plan orders same =
-      subst (All (λ w. MayDraw table w.seat × AreToolsFor q nets w.lanes w.windows)) (sym same)
-      (subst (λ nets. All (λ w. MayDraw table w.seat × AreToolsFor q nets w.lanes w.windows) workers) orders
-      (subst (λ q. All (λ w. MayDraw table w.seat × AreToolsFor q order w.lanes w.windows) workers) plan
-      (λ k d lt. (all_workers (λ s. MayDraw table s) workers h.crew.ready k d lt, h.tools k d lt))))
+  -- each worker is ready, with a simulator for the plan
+  pub at_work : (p q : Analysis) (bench : Testbench) (table : Counter) (first : Seated) (workers now : List (Worker F N)) → AreFor p bench table first workers
+      → p ≡ q → now ≡ workers → All (λ w. MayDraw table w.seat × (w.simulator ≡ simulator_of bench q.settings.ftti)) now
+  at_work p q bench table first workers now h plan same =
+      subst (All (λ w. MayDraw table w.seat × (w.simulator ≡ simulator_of bench q.settings.ftti))) (sym same)
+      (subst (λ q. All (λ w. MayDraw table w.seat × (w.simulator ≡ simulator_of bench q.settings.ftti)) workers) plan
+      (λ k d lt. (all_workers (λ s. MayDraw table s) workers h.crew.ready k d lt, h.simulators k d lt)))
 
 -- the first seat, once it has given the turn back
 pub first_free : (c : Counter) (first now : Seated) (seats : List Seated) (failed : Bool) → IsCrew c first seats → now.table ≡ first.table → now.view ≡ giving first.view failed

@@ -3,49 +3,46 @@ ghost use Rattle.circuit.specs.Order.{IsOrder};
 ghost use Rattle.campaign_plan.specs.Analysis.{batch_count};
 ghost use Rattle.claim_counter.specs.Crews.{IsCrew};
 ghost use Rattle.campaign_workers.specs.Workplaces.{seats_of};
-ghost use Rattle.classifier.specs.Tools.{AreToolsFor};
+ghost use Rattle.classifier.specs.Simulator.{simulator_of};
 
 use crate::worker::Worker;
-use alarm_points::windows4::Windows4;
 use campaign_board::{Board, Origin, Seat, Shared, missing_batches};
 use campaign_plan::Plan;
-use differential_kernel::DifferentialLanes4;
+use classifier::{Simulator, Testbench};
 use fm_shelf::shelf::Shelf;
-use golden_run::Golden;
 use netlist_levels::Order;
 use std::alloc::{AllocError, Global};
 use std::marker::Model;
 use std::snapshot::Snapshot;
 
-/// All that a campaign needs but the board: the golden run, the shared table, a seat that opens it, and the workers. Contracts
-/// see the plan and the order that it was made for.
+/// All that a campaign needs but the board: the testbench, the shared table, a seat that opens it, and the workers. Contracts
+/// see the plan that it was made for.
 #[derive(Drop)]
-pub struct Workshop<F: Shelf + Drop, N: Origin> {
+pub struct Workshop<'a, F: Shelf + Drop, N: Origin> {
     plan: Snapshot<Plan>,
-    order: Snapshot<Order>,
-    pub(crate) golden: Golden,
+    pub(crate) bench: Testbench<'a>,
     pub(crate) shared: Shared<F, N>,
     pub(crate) first: Seat<F, N>,
     pub(crate) workers: Vec<Worker<F, N>>,
 }
 
-impl<F: Shelf + Drop, N: Origin> Model for Workshop<F, N> {
+impl<'a, F: Shelf + Drop, N: Origin> Model for Workshop<'a, F, N> {
     ghost use Rattle.std.specs.Prelude.{◌≡◌, length};
-    ghost use Rattle.campaign_plan.specs.Analysis.{batch_count};
-    ghost use Rattle.campaign_workers.specs.Workplaces.{AreFor, Made};
+    ghost use Rattle.campaign_plan.specs.Analysis.{Analysis, batch_count};
+    ghost use Rattle.campaign_workers.specs.Workplaces.{AreFor};
 
-    ghost Value = { Made };
+    ghost Value = { Analysis };
 
-    ghost view = { λ s. record { plan = s.plan.value; order = s.order.value } };
+    ghost view = { λ s. s.plan.value };
 
-    ghost invariant = { λ s. AreFor s.plan.value s.order.value s.golden s.shared s.first s.workers.items × (length N.start.entries ≡ batch_count s.plan.value) };
+    ghost invariant = { λ s. AreFor s.plan.value s.bench s.shared s.first s.workers.items × (length N.start.entries ≡ batch_count s.plan.value) };
 }
 
 /// A crew: the board of a campaign, and all else that the campaign needs. Its campaign takes no memory.
 #[derive(Drop)]
-pub struct Crew<F: Shelf + Drop, N: Origin> {
+pub struct Crew<'a, F: Shelf + Drop, N: Origin> {
     pub(crate) board: Board<F, N>,
-    pub(crate) workshop: Workshop<F, N>,
+    pub(crate) workshop: Workshop<'a, F, N>,
 }
 
 /// There was no memory for a crew.
@@ -54,16 +51,16 @@ pub struct NoCrew<F: Shelf + Drop, N: Origin> {
     pub board: Board<F, N>,
 }
 
-impl<F: Shelf + Drop, N: Origin> Crew<F, N> {
+impl<'a, F: Shelf + Drop, N: Origin> Crew<'a, F, N> {
     ghost use Rattle.std.specs.Borrow.{sem};
     ghost use Rattle.campaign_workers.specs.LentBoard.{LendsBoard};
 
-    /// A crew of up to 32 workers, which takes all memory of its campaign: the golden run, the shared table with a seat for each
-    /// worker, lanes and windows. For want of memory the board comes back.
+    /// A crew of up to 32 workers, which takes all memory of its campaign: the testbench, the shared table with a seat for each
+    /// worker, and their simulators. For want of memory the board comes back.
     pub fn new(
         alloc: Global,
-        plan: &Plan,
-        order: &Order,
+        plan: &'a Plan,
+        order: &'a Order,
         board: Board<F, N>,
         workers: u32,
     ) -> Result<Self, NoCrew<F, N>>
@@ -71,7 +68,7 @@ impl<F: Shelf + Drop, N: Origin> Crew<F, N> {
         requires order { IsOrder plan.now.circuit order.now }
         requires entries { length N.start.entries ≡ batch_count plan.now }
         requires rows { board.rows ≡ N.start.rows }
-        ensures ok { IfOk result (λ crew. (crew.board ≡ board) × (crew.workshop ≡ record { plan = plan.now; order = order.now })) }
+        ensures ok { IfOk result (λ crew. (crew.board ≡ board) × (crew.workshop ≡ plan.now)) }
         ensures err { IfErr result (λ e. e.board ≡ board) }
     {
         let Ok(workshop) = Workshop::new(alloc, plan, order, &board, workers) else {
@@ -90,18 +87,18 @@ impl<F: Shelf + Drop, N: Origin> Crew<F, N> {
 
     /// The board of a crew that ran no campaign.
     pub fn into_board(self) -> Board<F, N>
-        ensures { result ≡ self.board }
+        ensures { result ≡ self.entry.board }
     {
         let Crew { board, .. } = self;
         board
     }
 }
 
-impl<F: Shelf + Drop, N: Origin> Workshop<F, N> {
+impl<'a, F: Shelf + Drop, N: Origin> Workshop<'a, F, N> {
     fn new(
         alloc: Global,
-        plan: &Plan,
-        order: &Order,
+        plan: &'a Plan,
+        order: &'a Order,
         board: &Board<F, N>,
         workers: u32,
     ) -> Result<Self, AllocError>
@@ -109,16 +106,15 @@ impl<F: Shelf + Drop, N: Origin> Workshop<F, N> {
         requires order { IsOrder plan.now.circuit order.now }
         requires entries { length N.start.entries ≡ batch_count plan.now }
         requires rows { board.now.rows ≡ N.start.rows }
-        ensures { IfOk result (λ s. s ≡ record { plan = plan.now; order = order.now }) }
+        ensures { IfOk result (λ workshop. workshop ≡ plan.now) }
     {
-        let golden = Golden::new(alloc, plan.net(), order, plan.work())?;
+        let bench = Testbench::of_plan(alloc, plan, order)?;
         let todo = missing_batches(alloc, plan.batches(), board.rows())?;
         let (shared, mut first) = Shared::table(alloc, board, todo)?;
-        let workers = hired(alloc, plan, order, &shared, &mut first, workers)?;
+        let workers = hired(alloc, plan, &bench, &shared, &mut first, workers)?;
         Ok(Workshop {
             plan: Snapshot::of(plan),
-            order: Snapshot::of(order),
-            golden,
+            bench,
             shared,
             first,
             workers,
@@ -130,21 +126,18 @@ impl<F: Shelf + Drop, N: Origin> Workshop<F, N> {
 fn worker_at<F: Shelf + Drop, N: Origin>(
     alloc: Global,
     plan: &Plan,
-    order: &Order,
+    bench: &Testbench<'_>,
     number: u32,
     seat: Seat<F, N>,
 ) -> Result<Worker<F, N>, AllocError>
-    requires order { IsOrder plan.now.circuit order.now }
     ensures seat { IfOk result (λ w. w.seat ≡ seat) }
-    ensures tools { IfOk result (λ w. AreToolsFor plan.now order.now w.lanes w.windows) }
+    ensures simulator { IfOk result (λ w. w.simulator ≡ simulator_of bench.now plan.now.settings.ftti) }
 {
-    let lanes = DifferentialLanes4::new(alloc, plan.net(), order)?;
-    let windows = Windows4::new(alloc, plan.points(), plan.settings().ftti)?;
+    let simulator = Simulator::new(alloc, bench, plan.settings().ftti)?;
     Ok(Worker {
         number,
         seat,
-        lanes,
-        windows,
+        simulator,
     })
 }
 
@@ -152,23 +145,22 @@ fn worker_at<F: Shelf + Drop, N: Origin>(
 fn hired<F: Shelf + Drop, N: Origin>(
     alloc: Global,
     plan: &Plan,
-    order: &Order,
+    bench: &Testbench<'_>,
     shared: &Shared<F, N>,
     first: &mut Seat<F, N>,
     count: u32,
 ) -> Result<Vec<Worker<F, N>>, AllocError>
-    requires order { IsOrder plan.now.circuit order.now }
     requires count { count ≤ 32 }
     requires first { IsCrew shared.now first.old [] × (first.old.view.share ≡ 2 ^ 32) }
     ensures crew { IfOk result (λ workers. IsCrew shared.now first.new (seats_of workers.items)) }
-    ensures tools { IfOk result (λ workers. All (λ w. AreToolsFor plan.now order.now w.lanes w.windows) workers.items) }
+    ensures simulators { IfOk result (λ workers. All (λ w. w.simulator ≡ simulator_of bench.now plan.now.settings.ftti) workers.items) }
     ensures count { IfOk result (λ workers. length workers.items ≡ count) }
     ensures view { (first.new.table ≡ first.old.table) × (first.new.view.holds ≡ first.old.view.holds) × (first.new.view.fails ≡ first.old.view.fails) × (first.new.view.seen ≡ first.old.view.seen) }
 {
     let mut workers = Vec::new(alloc);
     for number in 0..count {
         let seat = shared.split(first);
-        workers.push(worker_at(alloc, plan, order, number, seat)?)?;
+        workers.push(worker_at(alloc, plan, bench, number, seat)?)?;
     }
     Ok(workers)
 }

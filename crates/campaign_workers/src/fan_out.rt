@@ -5,7 +5,8 @@ ghost use Rattle.claim_counter.specs.Seats.{IsOf};
 ghost use Rattle.claim_counter.specs.Crews.{MayDraw, IsDone, shares_of};
 ghost use Rattle.campaign_workers.specs.Truth.{HasTrueEntries};
 ghost use Rattle.campaign_workers.specs.Workplaces.{seats_of};
-ghost use Rattle.classifier.specs.Tools.{AreToolsFor, IsTestbenchFor};
+ghost use Rattle.classifier.specs.Simulator.{simulator_of};
+ghost use Rattle.classifier.specs.Testbench.{IsTestbenchFor};
 ghost use Rattle.campaign_workers.specs.Finish.{IsFinished};
 
 use crate::crew::{Crew, Workshop};
@@ -14,7 +15,6 @@ use campaign_board::{Board, Origin, Seat, Shared};
 use campaign_plan::Plan;
 use classifier::Testbench;
 use fm_shelf::shelf::Shelf;
-use netlist_levels::Order;
 use std::sync::Wait;
 use std::thread;
 use std::thread::Threads;
@@ -40,7 +40,7 @@ fn work_all<
     gate: &G,
     workers: &mut [Worker<F, N>],
 )
-    requires ready { All (λ w. MayDraw shared.now w.seat × AreToolsFor plan.now bench.now.order w.lanes w.windows) workers.old }
+    requires ready { All (λ w. MayDraw shared.now w.seat × (w.simulator ≡ simulator_of bench.now plan.now.settings.ftti)) workers.old }
     requires bench { IsTestbenchFor plan.now bench.now }
     requires entries { HasTrueEntries plan.now N.start × (length N.start.entries ≡ batch_count plan.now) }
     ensures done { All (λ w. IsDone shared.now w.seat) workers.new }
@@ -51,7 +51,7 @@ fn work_all<
         workers,
         32,
         &|_, worker: &mut Worker<F, N>|
-            requires { MayDraw shared.now worker.now.seat × AreToolsFor plan.now bench.now.order worker.now.lanes worker.now.windows × IsTestbenchFor plan.now bench.now × HasTrueEntries plan.now N.start × (length N.start.entries ≡ batch_count plan.now) }
+            requires { MayDraw shared.now worker.now.seat × (worker.now.simulator ≡ simulator_of bench.now plan.now.settings.ftti) × IsTestbenchFor plan.now bench.now × HasTrueEntries plan.now N.start × (length N.start.entries ≡ batch_count plan.now) }
             ensures { IsDone shared.entry.now worker.exit.now.seat × (worker.exit.now.seat.view.share ≡ worker.entry.now.seat.view.share) }
         { work(rt, plan, bench, shared, gate, worker) },
     );
@@ -84,8 +84,8 @@ pub fn campaign<
     F: Shelf + Send + Drop,
     N: Origin + Send + Sync,
     G: Gate + Sync,
->(rt: &R, plan: &Plan, order: &Order, crew: Crew<F, N>, gate: &G) -> Finished<F, N>
-    requires made { crew.workshop ≡ record { plan = plan.now; order = order.now } }
+>(rt: &R, plan: &Plan, crew: Crew<'_, F, N>, gate: &G) -> Finished<F, N>
+    requires made { crew.workshop ≡ plan.now }
     requires entries { HasTrueEntries plan.now N.start }
     requires written { crew.board.written ≡ true }
     requires rows { crew.board.rows ≡ N.start.rows }
@@ -94,14 +94,13 @@ pub fn campaign<
 {
     let Crew { board, workshop } = crew;
     let Workshop {
-        golden,
+        bench,
         shared,
         mut first,
         mut workers,
         ..
     } = workshop;
     shared.put(&mut first, board);
-    let bench = Testbench::of_plan(plan, order, &golden);
     work_all(rt, plan, &bench, &shared, gate, workers.as_mut_slice());
     Finished {
         board: board_of_all(shared, first, workers),

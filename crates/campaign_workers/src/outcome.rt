@@ -3,50 +3,26 @@ ghost use Rattle.campaign_plan.specs.Analysis.{batch_count};
 ghost use Rattle.campaign_plan.specs.Batches.{true_planes};
 ghost use Rattle.campaign_workers.specs.Rounds.{true_planes_in};
 ghost use Rattle.campaign_workers.specs.Truth.{true_entry};
-ghost use Rattle.classifier.specs.Tools.{AreToolsFor, IsTestbenchFor};
+ghost use Rattle.classifier.specs.Simulator.{simulator_of};
+ghost use Rattle.classifier.specs.Testbench.{IsTestbenchFor};
 
-use alarm_points::windows4::Windows4;
 use campaign_board::Entry;
 use campaign_plan::{Outcome, Plan, own_sums};
-use classifier::{Testbench, quad_outcomes};
-use differential_kernel::DifferentialLanes4;
-use fm_base::Steps;
-use std::marker::Brand;
-use std::sync::ledger::{Blank, Ledger};
-
-// The planes of up to four batches. The steps are counted in a ledger of their own.
-fn counted_outcomes<L: Ledger>(
-    plan: &Plan,
-    bench: &Testbench<'_>,
-    batches: &[Option<u32>; 4],
-    lanes: &mut DifferentialLanes4,
-    windows: &mut Windows4,
-    blank: Blank,
-) -> [Outcome; 4]
-    requires blank { (blank.name ≡ L.name) × (blank.parts ≡ L.parts) × (0 < blank.parts) }
-    requires bench { IsTestbenchFor plan.now bench.now }
-    requires tools { AreToolsFor plan.now bench.now.order lanes.old windows.old }
-    ensures planes { result ≡ true_planes_in plan.now batches.now }
-    ensures tools { AreToolsFor plan.now bench.now.order lanes.new windows.new }
-{
-    let mut steps: Steps<L> = Steps::fresh(blank);
-    quad_outcomes(bench, plan.faults(), batches, lanes, windows, &mut steps)
-}
+use classifier::{Simulator, Testbench};
 
 /// The planes that each of up to four batches truly has, simulated together.
 pub(crate) fn simulated_planes(
     plan: &Plan,
     bench: &Testbench<'_>,
     batches: &[Option<u32>; 4],
-    lanes: &mut DifferentialLanes4,
-    windows: &mut Windows4,
+    simulator: &mut Simulator,
 ) -> [Outcome; 4]
     requires bench { IsTestbenchFor plan.now bench.now }
-    requires tools { AreToolsFor plan.now bench.now.order lanes.old windows.old }
+    requires simulator { simulator.old ≡ simulator_of bench.now plan.now.settings.ftti }
     ensures planes { result ≡ true_planes_in plan.now batches.now }
-    ensures tools { AreToolsFor plan.now bench.now.order lanes.new windows.new }
+    ensures simulator { simulator.new ≡ simulator.old }
 {
-    counted_outcomes::<Brand>(plan, bench, batches, lanes, windows, Blank::new(1))
+    simulator.quad(bench, plan.faults(), batches)
 }
 
 /// The entry of a batch with these planes, which are those that it truly has.

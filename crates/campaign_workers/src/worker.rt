@@ -3,15 +3,14 @@ ghost use Rattle.campaign_plan.specs.Analysis.{batch_count};
 ghost use Rattle.claim_counter.specs.Crews.{MayDraw, IsDone};
 ghost use Rattle.campaign_workers.specs.Rounds.{drawn_in, numbers_in, true_planes_in, Owes};
 ghost use Rattle.campaign_workers.specs.Truth.{HasTrueEntries};
-ghost use Rattle.classifier.specs.Tools.{AreToolsFor, IsTestbenchFor};
+ghost use Rattle.classifier.specs.Simulator.{simulator_of};
+ghost use Rattle.classifier.specs.Testbench.{IsTestbenchFor};
 
 use crate::outcome::{entry_with, simulated_planes};
 use crate::round::{Round, draw_round};
-use alarm_points::windows4::Windows4;
 use campaign_board::{Origin, Posted, Seat, Shared};
 use campaign_plan::{Outcome, Plan};
-use classifier::Testbench;
-use differential_kernel::DifferentialLanes4;
+use classifier::{Simulator, Testbench};
 use fm_shelf::shelf::Shelf;
 use std::sync::Wait;
 use worker_gate::Gate;
@@ -21,8 +20,7 @@ use worker_gate::Gate;
 pub struct Worker<F: Shelf + Drop, N: Origin> {
     pub(crate) number: u32,
     pub(crate) seat: Seat<F, N>,
-    pub(crate) lanes: DifferentialLanes4,
-    pub(crate) windows: Windows4,
+    pub(crate) simulator: Simulator,
 }
 
 impl<F: Shelf + Drop, N: Origin> Worker<F, N> {
@@ -77,25 +75,19 @@ fn finish_round<R: Wait, F: Shelf + Drop, N: Origin>(
 ) -> Result<(), BoardFailed>
     requires owes { Owes shared.now N.start worker.old.seat (drawn_in round.now.batches) }
     requires bench { IsTestbenchFor plan.now bench.now }
-    requires tools { AreToolsFor plan.now bench.now.order worker.old.lanes worker.old.windows }
+    requires simulator { worker.old.simulator ≡ simulator_of bench.now plan.now.settings.ftti }
     requires entries { HasTrueEntries plan.now N.start × (length N.start.entries ≡ batch_count plan.now) }
     ensures owes { OnOk result (Owes shared.now N.start worker.new.seat []) }
     ensures posts { OnOk result (worker.new.seat.view.posts ≡ worker.old.seat.view.posts ++ numbers_in N.start round.now.batches) }
     ensures nones { OnOk result (worker.new.seat.view.nones ≡ worker.old.seat.view.nones) }
     ensures stopped { OnErr result (IsDone shared.now worker.new.seat) }
     ensures share { worker.new.seat.view.share ≡ worker.old.seat.view.share }
-    ensures tools { AreToolsFor plan.now bench.now.order worker.new.lanes worker.new.windows }
+    ensures simulator { worker.new.simulator ≡ worker.old.simulator }
 {
     if round.is_empty() {
         return Ok(());
     }
-    let planes = simulated_planes(
-        plan,
-        bench,
-        &round.batches,
-        &mut worker.lanes,
-        &mut worker.windows,
-    );
+    let planes = simulated_planes(plan, bench, &round.batches, &mut worker.simulator);
     post_round(rt, plan, shared, &mut worker.seat, round, &planes)
 }
 
@@ -111,7 +103,7 @@ pub(crate) fn work<R: Wait, F: Shelf + Drop, N: Origin, G: Gate>(
 )
     requires ready { MayDraw shared.now worker.old.seat }
     requires bench { IsTestbenchFor plan.now bench.now }
-    requires tools { AreToolsFor plan.now bench.now.order worker.old.lanes worker.old.windows }
+    requires simulator { worker.old.simulator ≡ simulator_of bench.now plan.now.settings.ftti }
     requires entries { HasTrueEntries plan.now N.start × (length N.start.entries ≡ batch_count plan.now) }
     ensures done { IsDone shared.now worker.new.seat }
     ensures share { worker.new.seat.view.share ≡ worker.old.seat.view.share }

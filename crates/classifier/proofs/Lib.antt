@@ -1,9 +1,17 @@
+pub mod Notice
 pub mod Views
 pub mod WindowCounts
 pub mod PointBits
 pub mod EachWord
 pub mod Kept
+pub mod OfPlan
 pub mod PlaneBits
+pub mod Simulators
+pub mod Sends
 pub mod Ends
 pub mod RunByRun
 pub mod Stillness
+pub mod Beyond
+pub mod Leaving
+pub mod BareLanes
+pub mod Following

@@ -1,5 +1,5 @@
 -- Planes are known by their bits.
-use Rattle.std.proofs.Common.{◌≡◌, ℕ, zero, suc, ◌^◌, ◌<◌, Bool, List, refl, ap, ap₂, sym, ◌∙◌, arith}
+use Rattle.std.proofs.Common.{◌≡◌, ℕ, zero, suc, ◌^◌, ◌<◌, Bool, List, refl, ap, ap₂, sym, ◌∙◌, subst, arith}
 use Rattle.std.specs.Prelude.{◌==◌}
 use Rattle.std.specs.Int.{bit_at}
 use Rattle.std.proofs.lemmas.Nat.Bits.{bit_at-lt, same_from_bits_below}
@@ -11,6 +11,8 @@ use Rattle.workload.specs.declared.run.Run.{Run}
 use Rattle.alarm_points.specs.declared.Points.{Points}
 use Rattle.campaign_plan.specs.declared.Outcome.{Outcome}
 use Rattle.campaign_plan.specs.Danger.{is_dangerous, is_noticed}
+use Rattle.classifier.specs.OutOfReach.{AreOutOfReach, IsDeaf, IsHarmless}
+use Rattle.classifier.specs.declared.reached.OutOfReach.{OutOfReach}
 use Rattle.classifier.specs.Planes.{HasPlanes, planes_of}
 
 same_one : (x y : ℕ) → x < 2 → y < 2 → (x == 1) ≡ (y == 1) → x ≡ y
@@ -51,4 +53,18 @@ planes_have c points ftti runs faults = record {
   fits = (plane_small 64 (λ k. is_dangerous c points ftti runs (faults k)), plane_small 64 (λ k. is_noticed c points runs (faults k)));
   danger = bit-plane_of (λ k. is_dangerous c points ftti runs (faults k));
   noticed = bit-plane_of (λ k. is_noticed c points runs (faults k));
+}
+
+pub planes_same : (c : Circuit) (points : Points) (ftti : ℕ) (runs : List Run) (faults others : ℕ → List Fault) → ((k : ℕ) → k < 64 → faults k ≡ others k)
+    → planes_of c points ftti runs faults ≡ planes_of c points ftti runs others
+planes_same c points ftti runs faults others same =
+    planes_are c points ftti runs others (planes_of c points ftti runs faults)
+    (planes_alike c points ftti runs faults others (planes_of c points ftti runs faults) same (planes_have c points ftti runs faults))
+
+-- lanes with the same faults are out of reach alike
+pub reach_alike : (c : Circuit) (points : Points) (faults others : ℕ → List Fault) (reach : OutOfReach) → ((k : ℕ) → k < 64 → others k ≡ faults k)
+    → AreOutOfReach c points faults reach → AreOutOfReach c points others reach
+reach_alike c points faults others reach same is = record {
+  alarm = λ k lane marked. subst (IsDeaf c points) (sym (same k lane)) (is.alarm k lane marked);
+  observation = λ k lane marked. subst (IsHarmless c points) (sym (same k lane)) (is.observation k lane marked);
 }

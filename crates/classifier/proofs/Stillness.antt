@@ -15,7 +15,7 @@ use Rattle.golden_difference.specs.Beside.{trace_differs}
 use Rattle.golden_difference.proofs.Exclusive.{same_of_none}
 use Rattle.classifier.specs.Seen.{IsStill, goal_at}
 
-same_bits : (v g : Bool) → v ≡ g → not (same_bit v g) ≡ false
+pub same_bits : (v g : Bool) → v ≡ g → not (same_bit v g) ≡ false
 same_bits true g e = ap not (sym e)
 same_bits false g e = ap (λ b. not (not b)) (sym e)
 

@@ -1,6 +1,9 @@
 pub mod Testbench
 pub mod Load
+pub mod OutOfReach
 pub mod Seen
 pub mod Planes
 pub mod Batch
-pub mod Tools
+pub mod Simulator
+pub mod Simulated
+pub mod Batches

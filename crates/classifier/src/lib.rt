@@ -2,14 +2,18 @@
 #![tactic(auto)]
 
 mod batch;
+mod batch_simulator;
+mod decided;
 mod noise;
 mod outcome;
 mod points;
+mod reached;
 mod run;
 mod see;
+mod simulator;
 mod testbench;
 
-pub use batch::{batch_outcome, quad_outcomes};
-pub use outcome::{loaded_outcome, loaded_outcomes, loaded_quad};
+pub use batch_simulator::BatchSimulator;
 pub use points::{differing, differs_at};
+pub use simulator::{LaneFaults, Simulator};
 pub use testbench::Testbench;

@@ -1,21 +1,24 @@
 // What the faults in the lanes are found to be, over all runs.
-ghost use Rattle.std.specs.Prelude.{◌≡◌, ◌<◌, ◌≤◌, ◌+◌, ◌*◌, ◌++◌, ◌∷◌, [], ◌||◌, ℕ, List, Option, length};
+ghost use Rattle.std.specs.Prelude.{◌≡◌, ◌<◌, ◌≤◌, ◌⊎◌, ◌+◌, ◌*◌, ◌++◌, ◌∷◌, [], ◌||◌, false, ℕ, List, Option, length};
 ghost use Rattle.circuit.specs.declared.parts.Fault.{Fault};
 ghost use Rattle.circuit.specs.Circuit.{Circuit};
 ghost use Rattle.workload.specs.declared.run.Run.{Run};
 ghost use Rattle.workload.specs.Runs.{all_cycles};
 ghost use Rattle.alarm_points.specs.declared.Points.{Points as PointsValue};
-ghost use Rattle.alarm_points.specs.Watch.{AreMadeFor};
 ghost use Rattle.campaign_plan.specs.Danger.{is_dangerous_in, is_noticed_in};
 ghost use Rattle.fm_base.specs.Planes.{bit};
 ghost use Rattle.golden_difference.specs.Lanes.{IsMadeFor};
-ghost use Rattle.lane_words.specs.Loads.{loaded_faults};
 ghost use Rattle.classifier.specs.Load.{Load, lane_faults, load_of};
+ghost use Rattle.classifier.specs.OutOfReach.{AreAllDecidedBy, AreAllOutOfReach, IsDeaf};
+ghost use Rattle.classifier.specs.declared.decided.Decided.{Decided as DecidedValue};
+ghost use Rattle.classifier.specs.declared.reached.OutOfReach.{OutOfReach as OutOfReachValue};
 ghost use Rattle.classifier.specs.Planes.{HasPlanes, outcome_at, planes_of};
 ghost use Rattle.alarm_points.specs.FourWatches.{AreAllMadeFor, AreFourMadeFor, windows_at};
-ghost use Rattle.classifier.specs.Seen.{AreUndecided, HaveAllSeenRun, HaveSeenRun, KeepSettings};
+ghost use Rattle.classifier.specs.Seen.{AllBegin, HaveAllSeenRun, HaveSeenRun, KeepSettings};
 
+use crate::decided::{Decided, OPEN, decide};
 use crate::points::either_lanes;
+use crate::reached::OutOfReach;
 use crate::run::watch_run;
 use crate::testbench::Testbench;
 use alarm_points::windows::Windows;
@@ -24,7 +27,6 @@ use campaign_plan::Outcome;
 use differential_kernel::{DifferentialLanes, DifferentialLanes4};
 use fm_base::Steps;
 use lane_words::Word;
-use std::slice::from_mut;
 use std::sync::ledger::Ledger;
 use workload::run::Kind;
 
@@ -38,11 +40,11 @@ pub const NOTHING: Outcome = Outcome {
 
 // What a run of a kind shows in a word: the lanes that go unalarmed are in danger in the mission alone.
 fn run_outcome(kind: Kind, windows: &Windows, noticed: u64) -> Outcome
-    ensures danger { (c : Circuit) (points : PointsValue) (run : Run) (faults : ℕ → List Fault) (k : ℕ) → run.kind ≡ kind
-        → HaveSeenRun c points run faults windows.now noticed → k < 64
+    ensures danger { (c : Circuit) (points : PointsValue) (run : Run) (faults : ℕ → List Fault) (known k : ℕ) → run.kind ≡ kind
+        → HaveSeenRun c points run faults known windows.now noticed → k < 64
         → bit result.danger k ≡ is_dangerous_in c points windows.now.ftti (faults k) run }
-    ensures noticed { (c : Circuit) (points : PointsValue) (run : Run) (faults : ℕ → List Fault) (k : ℕ) → run.kind ≡ kind
-        → HaveSeenRun c points run faults windows.now noticed → k < 64
+    ensures noticed { (c : Circuit) (points : PointsValue) (run : Run) (faults : ℕ → List Fault) (known k : ℕ) → run.kind ≡ kind
+        → HaveSeenRun c points run faults known windows.now noticed → k < 64 → (bit known k ≡ false) ⊎ IsDeaf c points (faults k)
         → bit result.noticed k ≡ is_noticed_in c points (faults k) run }
 {
     match kind {
@@ -69,9 +71,12 @@ fn either(a: Outcome, b: Outcome) -> Outcome
 fn add_run(kind: Kind, windows: &[Windows], noticed: &[u64], outcomes: &mut [Outcome])
     requires windows { length windows.now ≡ length outcomes.old }
     requires noticed { length noticed.now ≡ length outcomes.old }
-    ensures { (c : Circuit) (points : PointsValue) (runs : List Run) (run : Run) (load : Load) (faults : List (List (Option Fault))) (word : ℕ) → run.kind ≡ kind
-        → AreUndecided kind (length outcomes.old) load outcomes.old faults
-        → HaveAllSeenRun c points run faults windows.now noticed.now → word < length outcomes.old
+    ensures { (c : Circuit) (points : PointsValue) (runs : List Run) (run : Run) (load : Load) (reach : List OutOfReachValue) (decided : List DecidedValue)
+        (faults : List (List (Option Fault))) (word : ℕ) → run.kind ≡ kind
+        → AreAllOutOfReach c points (length outcomes.old) load reach
+        → AreAllDecidedBy outcomes.old reach decided
+        → AllBegin kind (length outcomes.old) load decided faults
+        → HaveAllSeenRun c points run faults decided windows.now noticed.now → word < length outcomes.old
         → HasPlanes c points (windows_at windows.now word).ftti runs (lane_faults load word) (outcome_at outcomes.old word)
         → HasPlanes c points (windows_at windows.now word).ftti (runs ++ run ∷ []) (lane_faults load word) (outcome_at outcomes.new word) }
 {
@@ -84,12 +89,17 @@ fn add_run(kind: Kind, windows: &[Windows], noticed: &[u64], outcomes: &mut [Out
 // Simulates all runs in all lanes, and adds what each shows in each word; `outcomes` are all 0 before.
 fn judge_runs<W: Word, L: Ledger>(
     bench: &Testbench<'_>,
+    reach: &[OutOfReach],
     lanes: &mut DifferentialLanes<W>,
     windows: &mut [Windows],
     noticed: &mut [u64],
+    decided: &mut [Decided],
     outcomes: &mut [Outcome],
     steps: &mut Steps<L>,
 )
+    requires reach_count { length reach.now ≡ W.words }
+    requires reach { AreAllOutOfReach bench.now.circuit bench.now.points W.words (load_of lanes.old) reach.now }
+    requires decided { length decided.old ≡ W.words }
     requires made { IsMadeFor bench.now.circuit bench.now.order lanes.old }
     requires windows { length windows.old ≡ W.words }
     requires windows_made { AreAllMadeFor bench.now.points windows.old }
@@ -104,7 +114,8 @@ fn judge_runs<W: Word, L: Ledger>(
     ensures cost { steps.new ≤ steps.old + all_cycles bench.now.runs * length bench.now.circuit.tables }
 {
     for run in 0..bench.runs() {
-        watch_run(bench, run, lanes, windows, noticed, outcomes, steps);
+        decide(outcomes, reach, decided);
+        watch_run(bench, run, decided, lanes, windows, noticed, steps);
         add_run(bench.kind(run), windows, noticed, outcomes);
     }
 }
@@ -121,15 +132,18 @@ fn forget(outcomes: &mut [Outcome])
 /// Simulates all runs in all circuits of `lanes`, as they are loaded, and puts the planes of danger and of notice of each word
 /// into `outcomes`: bit k of word w's is that of the faults of lane 64w + k together. `windows` are those of each word, and have
 /// the fault tolerant time intervals. What lanes, windows and outcomes held before is no matter. It takes no memory, and at most
-/// one step for each table and cycle, for all words together.
+/// one step for each table and cycle, for all words together. `reach` tells of each word in which lanes points are out of reach.
 pub fn loaded_outcomes<W: Word, L: Ledger>(
     bench: &Testbench<'_>,
+    reach: &[OutOfReach],
     lanes: &mut DifferentialLanes<W>,
     windows: &mut [Windows],
     outcomes: &mut [Outcome],
     steps: &mut Steps<L>,
 )
     requires lanes { IsMadeFor bench.now.circuit bench.now.order lanes.old }
+    requires reach_count { length reach.now ≡ W.words }
+    requires reach { AreAllOutOfReach bench.now.circuit bench.now.points W.words (load_of lanes.old) reach.now }
     requires count { length windows.old ≡ W.words }
     requires windows { AreAllMadeFor bench.now.points windows.old }
     requires outcomes { length outcomes.old ≡ W.words }
@@ -141,51 +155,33 @@ pub fn loaded_outcomes<W: Word, L: Ledger>(
     ensures cost { steps.new ≤ steps.old + all_cycles bench.now.runs * length bench.now.circuit.tables }
 {
     let mut noticed = [0; MOST_WORDS];
+    let mut decided = [OPEN; MOST_WORDS];
     let words = W::words() as usize;
     forget(outcomes);
     judge_runs(
         bench,
+        reach,
         lanes,
         windows,
         &mut noticed[..words],
+        &mut decided[..words],
         outcomes,
         steps,
     );
 }
 
-/// Simulates all runs in the 64 circuits of `lanes`, as they are loaded, and answers the planes of danger and of notice: bit
-/// k of each is that of the faults of lane k together. `windows` has the fault tolerant time intervals. What lanes and windows
-/// held of earlier runs is no matter. It takes no memory, and at most one step for each table and cycle.
-pub fn loaded_outcome<L: Ledger>(
-    bench: &Testbench<'_>,
-    lanes: &mut DifferentialLanes,
-    windows: &mut Windows,
-    steps: &mut Steps<L>,
-) -> Outcome
-    requires lanes { IsMadeFor bench.now.circuit bench.now.order lanes.old }
-    requires windows { AreMadeFor bench.now.points windows.old }
-    ensures outcome { result ≡ planes_of bench.now.circuit bench.now.points windows.old.ftti bench.now.runs (loaded_faults lanes.old.loads) }
-    ensures lanes { IsMadeFor bench.now.circuit bench.now.order lanes.new }
-    ensures loads { lanes.new.loads ≡ lanes.old.loads }
-    ensures windows { AreMadeFor bench.now.points windows.new }
-    ensures ftti { windows.new.ftti ≡ windows.old.ftti }
-    ensures cost { steps.new ≤ steps.old + all_cycles bench.now.runs * length bench.now.circuit.tables }
-{
-    let mut outcomes = [NOTHING];
-    loaded_outcomes(bench, lanes, from_mut(windows), &mut outcomes, steps);
-    outcomes[0]
-}
-
 /// Simulates all runs in the 256 circuits of `lanes`, as they are loaded, and answers the planes of danger and of notice of each
 /// word: bit k of word w's is that of the faults of lane 64w + k together. `windows` has the fault tolerant time intervals. What
 /// lanes and windows held of earlier runs is no matter. It takes no memory, and at most one step for each table and cycle, for all four
-/// words together.
+/// words together. `reach` tells of each word in which lanes points are out of reach.
 pub fn loaded_quad<L: Ledger>(
     bench: &Testbench<'_>,
+    reach: &[OutOfReach; 4],
     lanes: &mut DifferentialLanes4,
     windows: &mut Windows4,
     steps: &mut Steps<L>,
 ) -> [Outcome; 4]
+    requires reach { AreAllOutOfReach bench.now.circuit bench.now.points 4 (load_of lanes.old) reach.now }
     requires lanes { IsMadeFor bench.now.circuit bench.now.order lanes.old }
     requires windows { AreFourMadeFor bench.now.points windows.old }
     ensures outcomes { (word : ℕ) → word < 4
@@ -197,6 +193,6 @@ pub fn loaded_quad<L: Ledger>(
     ensures cost { steps.new ≤ steps.old + all_cycles bench.now.runs * length bench.now.circuit.tables }
 {
     let mut outcomes = [NOTHING; 4];
-    loaded_outcomes(bench, lanes, windows.words(), &mut outcomes, steps);
+    loaded_outcomes(bench, reach, lanes, windows.words(), &mut outcomes, steps);
     outcomes
 }

@@ -1,23 +1,26 @@
 // One run in all lanes.
-ghost use Rattle.std.specs.Prelude.{◌≡◌, ◌≢◌, ◌<◌, ◌≤◌, ◌+◌, ◌*◌, ◌⊎◌, ℕ, Bool, List, Option, true, false, length, take};
+ghost use Rattle.std.specs.Prelude.{◌≡◌, ◌≢◌, ◌<◌, ◌≤◌, ◌+◌, ◌*◌, ◌⊎◌, ℕ, Bool, List, [], Option, true, false, length, take};
 ghost use Rattle.circuit.specs.declared.parts.Fault.{Fault};
 ghost use Rattle.circuit.specs.Circuit.{Circuit};
 ghost use Rattle.workload.specs.declared.run.Run.{Run};
 ghost use Rattle.workload.specs.Runs.{cycles_of, run_at};
 ghost use Rattle.alarm_points.specs.PointsKept.{ArePointsFor};
+ghost use Rattle.alarm_points.specs.Watch.{KeepsIntervals};
 ghost use Rattle.fm_base.specs.Planes.{bit};
 ghost use Rattle.golden_difference.specs.Beside.{IsGoldenRow, IsOver, AreBeside};
 ghost use Rattle.classifier.specs.Load.{in_lane, load_of};
-ghost use Rattle.classifier.specs.Planes.{outcome_at};
+ghost use Rattle.classifier.specs.OutOfReach.{decided_at};
+ghost use Rattle.classifier.specs.declared.decided.Decided.{Decided as DecidedValue};
 ghost use Rattle.alarm_points.specs.FourWatches.{AreAllMadeFor};
-ghost use Rattle.classifier.specs.Seen.{AreAllFollowed, AreUndecided, HaveAllSeen, HaveAllSeenRun, KeepSettings, is_decided};
+ghost use Rattle.classifier.specs.Seen.{AllBegin, AreAllFollowed, AreFollowed, Begins, HaveAllSeen, HaveAllSeenRun, HaveSeen, KeepSettings, is_decided, is_dropped};
 ghost use Rattle.golden_difference.specs.Lanes.{bank_of, IsMadeFor};
 
+use crate::decided::Decided;
+use crate::points::either_lanes;
 use crate::see::see_cycle;
 use crate::testbench::Testbench;
 use alarm_points::Points;
 use alarm_points::windows::Windows;
-use campaign_plan::Outcome;
 use differential_kernel::DifferentialLanes;
 use fm_base::Steps;
 use lane_words::Word;
@@ -28,7 +31,7 @@ use workload::run::Kind;
 fn start_windows(points: &Points, windows: &mut [Windows], noticed: &mut [u64])
     requires noticed { length noticed.old ≡ length windows.old }
     requires made { AreAllMadeFor points.now windows.old }
-    ensures seen { (c : Circuit) (run : Run) (faults : List (List (Option Fault))) → HaveAllSeen c points.now run faults 0 windows.new noticed.new }
+    ensures seen { (c : Circuit) (run : Run) (faults : List (List (Option Fault))) (decided : List DecidedValue) → HaveAllSeen c points.now run faults decided 0 windows.new noticed.new }
     ensures ftti { KeepSettings windows.old windows.new }
 {
     for word in 0..windows.len() {
@@ -45,23 +48,68 @@ fn drop_more<W: Word>(lanes: &mut DifferentialLanes<W>, word: u32, before: u64, 
     ensures after { (vectors : List (List Bool)) → AreBeside W.lanes W.lane_bit vectors (bank_of lanes.old) → AreBeside W.lanes W.lane_bit vectors (bank_of lanes.new) }
     ensures others { (other k : ℕ) → other < W.words → k < 64 → (other ≢ word) ⊎ (bit out k ≡ false)
         → in_lane lanes.new.in_force other k ≡ in_lane lanes.old.in_force other k }
+    ensures dropped { (other k : ℕ) → other < W.words → k < 64 → (in_lane lanes.new.in_force other k ≡ in_lane lanes.old.in_force other k)
+        ⊎ ((other ≡ word) × (bit out k ≡ true) × (in_lane lanes.new.in_force other k ≡ [])) }
 {
     if out != before {
         lanes.drop_lanes(word, out);
     }
 }
 
-// Shows the last cycle of a run of this kind to the windows of each word, and drops the lanes that are noticed. `row` has the
-// golden values of the cycle.
+// The lanes of a word in which nothing more of a run decides: they are noticed; or their notice is decided before, and they are
+// dangerous whatever comes.
+fn left(decided: Decided, windows: &Windows, noticed: u64) -> u64
+    ensures { (k : ℕ) → bit result k ≡ is_dropped decided.notice windows.now noticed k }
+{
+    either_lanes(noticed, decided.notice & windows.settled())
+}
+
+// Shows the last cycle of a run of this kind to the windows of a word, and drops its lanes in which nothing more decides. `row` has
+// the golden values of the cycle.
+fn see_word<W: Word>(
+    points: &Points,
+    kind: Kind,
+    row: &[u64],
+    decided: Decided,
+    word: u32,
+    lanes: &mut DifferentialLanes<W>,
+    windows: &mut Windows,
+    noticed: &mut u64,
+)
+    requires word { word < W.words }
+    requires points { ArePointsFor lanes.old.circuit points.now }
+    requires windows { length windows.old.windows ≡ length points.now.goals }
+    ensures load { load_of lanes.new ≡ load_of lanes.old }
+    ensures cycles { lanes.new.cycle ≡ lanes.old.cycle }
+    ensures after { (vectors : List (List Bool)) → AreBeside W.lanes W.lane_bit vectors (bank_of lanes.old) → AreBeside W.lanes W.lane_bit vectors (bank_of lanes.new) }
+    ensures keeps { KeepsIntervals windows.old windows.new }
+    ensures seen { (run : Run) (faults : ℕ → List Fault) (t : ℕ) → run.kind ≡ kind → t < cycles_of run → AreBeside W.lanes W.lane_bit (take (t + 1) run.vectors) (bank_of lanes.old)
+        → IsGoldenRow lanes.old.circuit run.vectors t row.now
+        → AreFollowed lanes.old.circuit points.now windows.old.ftti run faults decided.notice t lanes.old.in_force word
+        → HaveSeen lanes.old.circuit points.now run faults decided.notice t windows.old noticed.old
+        → HaveSeen lanes.old.circuit points.now run faults decided.notice (t + 1) windows.new noticed.new
+        × AreFollowed lanes.old.circuit points.now windows.new.ftti run faults decided.notice (t + 1) lanes.new.in_force word }
+    ensures others { (other k : ℕ) → other < W.words → k < 64 → other ≢ word → in_lane lanes.new.in_force other k ≡ in_lane lanes.old.in_force other k }
+{
+    let before = left(decided, windows, *noticed);
+    see_cycle(lanes, word, points, kind, row, windows, noticed);
+    let out = left(decided, windows, *noticed);
+    drop_more(lanes, word, before, out);
+}
+
+// Shows the last cycle of a run of this kind to the windows of each word, and drops the lanes in which nothing more decides. `row`
+// has the golden values of the cycle.
 fn see_words<W: Word>(
     points: &Points,
     kind: Kind,
     row: &[u64],
+    decided: &[Decided],
     lanes: &mut DifferentialLanes<W>,
     windows: &mut [Windows],
     noticed: &mut [u64],
 )
     requires points { ArePointsFor lanes.old.circuit points.now }
+    requires decided { length decided.now ≡ W.words }
     requires windows { length windows.old ≡ W.words }
     requires noticed { length noticed.old ≡ W.words }
     requires made { AreAllMadeFor points.now windows.old }
@@ -70,26 +118,25 @@ fn see_words<W: Word>(
     ensures made { AreAllMadeFor points.now windows.new }
     ensures seen { (run : Run) (faults : List (List (Option Fault))) (t : ℕ) → run.kind ≡ kind → t < cycles_of run → AreBeside W.lanes W.lane_bit (take (t + 1) run.vectors) (bank_of lanes.old)
         → IsGoldenRow lanes.old.circuit run.vectors t row.now
-        → AreAllFollowed W.words faults lanes.old.in_force noticed.old
-        → HaveAllSeen lanes.old.circuit points.now run faults t windows.old noticed.old
+        → AreAllFollowed lanes.old.circuit points.now run W.words faults decided.now t windows.old lanes.old.in_force
+        → HaveAllSeen lanes.old.circuit points.now run faults decided.now t windows.old noticed.old
         → AreBeside W.lanes W.lane_bit (take (t + 1) run.vectors) (bank_of lanes.new)
-        × AreAllFollowed W.words faults lanes.new.in_force noticed.new
-        × HaveAllSeen lanes.old.circuit points.now run faults (t + 1) windows.new noticed.new }
+        × AreAllFollowed lanes.old.circuit points.now run W.words faults decided.now (t + 1) windows.new lanes.new.in_force
+        × HaveAllSeen lanes.old.circuit points.now run faults decided.now (t + 1) windows.new noticed.new }
     ensures ftti { KeepSettings windows.old windows.new }
 {
     for word in 0..W::words() {
         let at = word as usize;
-        let before = noticed[at];
-        see_cycle(
-            lanes,
-            word,
+        see_word(
             points,
             kind,
             row,
+            decided[at],
+            word,
+            lanes,
             &mut windows[at],
             &mut noticed[at],
         );
-        drop_more(lanes, word, before, noticed[at]);
     }
 }
 
@@ -98,6 +145,7 @@ fn run_cycle<W: Word, L: Ledger>(
     bench: &Testbench<'_>,
     run: u32,
     t: u32,
+    decided: &[Decided],
     lanes: &mut DifferentialLanes<W>,
     windows: &mut [Windows],
     noticed: &mut [u64],
@@ -105,6 +153,7 @@ fn run_cycle<W: Word, L: Ledger>(
 )
     requires run { run < length bench.now.runs }
     requires cycle { t < cycles_of (run_at bench.now.runs run) }
+    requires decided { length decided.now ≡ W.words }
     requires few { t < 65536 }
     requires made { IsMadeFor bench.now.circuit bench.now.order lanes.old }
     requires cycles { lanes.old.cycle ≡ t }
@@ -115,11 +164,12 @@ fn run_cycle<W: Word, L: Ledger>(
     ensures load { load_of lanes.new ≡ load_of lanes.old }
     ensures cycles { lanes.new.cycle ≡ t + 1 }
     ensures windows_made { AreAllMadeFor bench.now.points windows.new }
-    ensures seen { (faults : List (List (Option Fault))) → AreAllFollowed W.words faults lanes.old.in_force noticed.old
-        → HaveAllSeen bench.now.circuit bench.now.points (run_at bench.now.runs run) faults t windows.old noticed.old
+    ensures seen { (faults : List (List (Option Fault)))
+        → AreAllFollowed bench.now.circuit bench.now.points (run_at bench.now.runs run) W.words faults decided.now t windows.old lanes.old.in_force
+        → HaveAllSeen bench.now.circuit bench.now.points (run_at bench.now.runs run) faults decided.now t windows.old noticed.old
         → AreBeside W.lanes W.lane_bit (take (t + 1) (run_at bench.now.runs run).vectors) (bank_of lanes.new)
-        × AreAllFollowed W.words faults lanes.new.in_force noticed.new
-        × HaveAllSeen bench.now.circuit bench.now.points (run_at bench.now.runs run) faults (t + 1) windows.new noticed.new }
+        × AreAllFollowed bench.now.circuit bench.now.points (run_at bench.now.runs run) W.words faults decided.now (t + 1) windows.new lanes.new.in_force
+        × HaveAllSeen bench.now.circuit bench.now.points (run_at bench.now.runs run) faults decided.now (t + 1) windows.new noticed.new }
     ensures ftti { KeepSettings windows.old windows.new }
     ensures cost { steps.new ≤ steps.old + length bench.now.circuit.tables }
 {
@@ -129,33 +179,34 @@ fn run_cycle<W: Word, L: Ledger>(
         bench.points(),
         bench.kind(run),
         row,
+        decided,
         lanes,
         windows,
         noticed,
     );
 }
 
-// The lanes that earlier runs have decided for a run of this kind.
-fn decided(kind: Kind, outcome: Outcome) -> u64
-    ensures { (k : ℕ) → bit result k ≡ is_decided kind outcome k }
+// The lanes of a word that are decided before a run of this kind.
+fn left_out(kind: Kind, decided: Decided) -> u64
+    ensures { (k : ℕ) → bit result k ≡ is_decided kind decided k }
 {
     match kind {
-        Kind::Mission => outcome.danger & outcome.noticed,
-        Kind::Test => outcome.noticed,
+        Kind::Mission => decided.danger & decided.notice,
+        Kind::Test => decided.notice,
     }
 }
 
-// Drops the lanes that earlier runs have decided.
-fn drop_decided<W: Word>(kind: Kind, outcomes: &[Outcome], lanes: &mut DifferentialLanes<W>)
-    requires { length outcomes.now ≡ W.words }
+// Drops the lanes that are decided before a run of this kind.
+fn drop_decided<W: Word>(kind: Kind, decided: &[Decided], lanes: &mut DifferentialLanes<W>)
+    requires { length decided.now ≡ W.words }
     ensures load { load_of lanes.new ≡ load_of lanes.old }
     ensures cycles { lanes.new.cycle ≡ lanes.old.cycle }
     ensures after { (vectors : List (List Bool)) → AreBeside W.lanes W.lane_bit vectors (bank_of lanes.old) → AreBeside W.lanes W.lane_bit vectors (bank_of lanes.new) }
-    ensures others { (word k : ℕ) → word < W.words → k < 64 → is_decided kind (outcome_at outcomes.now word) k ≡ false
-        → in_lane lanes.new.in_force word k ≡ in_lane lanes.old.in_force word k }
+    ensures begin { (word k : ℕ) → word < W.words → k < 64
+        → Begins kind (decided_at decided.now word) k (in_lane lanes.old.in_force word k) (in_lane lanes.new.in_force word k) }
 {
     for word in 0..W::words() {
-        let out = decided(kind, outcomes[word as usize]);
+        let out = left_out(kind, decided[word as usize]);
         drop_more(lanes, word, 0, out);
     }
 }
@@ -169,38 +220,38 @@ fn goes_on<W: Word>(lanes: &DifferentialLanes<W>, t: u32, cycles: u32) -> bool
     if t < cycles { !lanes.is_over() } else { false }
 }
 
-/// Simulates a run from its start in all lanes that earlier runs haven't decided, whose planes are `outcomes`, and shows each cycle
-/// to the windows of each word. `noticed` are then the lanes of each word that the run gives notice of; such a lane is dropped once
-/// it is noticed. The run is left where it is over in all lanes. It takes at most one step for each table and cycle. What lanes,
+/// Simulates a run from its start in all lanes that aren't decided before, and shows each cycle to the windows of each word. `noticed`
+/// are then the lanes of each word that the run gives notice of. A lane is dropped once nothing more of the run decides: it is noticed;
+/// or its notice is decided before, and it is dangerous whatever comes. The run is left where it is over in all lanes. It takes at most one step for each table and cycle. What lanes,
 /// windows and `noticed` held before is no matter.
 pub fn watch_run<W: Word, L: Ledger>(
     bench: &Testbench<'_>,
     run: u32,
+    decided: &[Decided],
     lanes: &mut DifferentialLanes<W>,
     windows: &mut [Windows],
     noticed: &mut [u64],
-    outcomes: &[Outcome],
     steps: &mut Steps<L>,
 )
     requires run { run < length bench.now.runs }
-    requires outcomes { length outcomes.now ≡ W.words }
+    requires decided { length decided.now ≡ W.words }
     requires made { IsMadeFor bench.now.circuit bench.now.order lanes.old }
     requires windows { length windows.old ≡ W.words }
     requires noticed { length noticed.old ≡ W.words }
     requires windows_made { AreAllMadeFor bench.now.points windows.old }
     ensures load { load_of lanes.new ≡ load_of lanes.old }
     ensures seen { (faults : List (List (Option Fault)))
-        × AreUndecided (run_at bench.now.runs run).kind W.words (load_of lanes.old) outcomes.now faults
-        × HaveAllSeenRun bench.now.circuit bench.now.points (run_at bench.now.runs run) faults windows.new noticed.new }
+        × AllBegin (run_at bench.now.runs run).kind W.words (load_of lanes.old) decided.now faults
+        × HaveAllSeenRun bench.now.circuit bench.now.points (run_at bench.now.runs run) faults decided.now windows.new noticed.new }
     ensures ftti { KeepSettings windows.old windows.new }
     ensures cost { steps.new ≤ steps.old + cycles_of (run_at bench.now.runs run) * length bench.now.circuit.tables }
 {
     lanes.start();
     start_windows(bench.points(), windows, noticed);
-    drop_decided(bench.kind(run), outcomes, lanes);
+    drop_decided(bench.kind(run), decided, lanes);
     let mut t = 0;
     'clock: while goes_on(lanes, t, bench.cycles(run)) {
-        run_cycle(bench, run, t, lanes, windows, noticed, steps);
+        run_cycle(bench, run, t, decided, lanes, windows, noticed, steps);
         t += 1;
     }
 }

@@ -11,7 +11,7 @@ ghost use Rattle.campaign_plan.specs.Danger.{is_raised};
 ghost use Rattle.fm_base.specs.Planes.{bit};
 ghost use Rattle.golden_difference.specs.Beside.{IsGoldenRow, AreBeside};
 ghost use Rattle.classifier.specs.Load.{in_lane};
-ghost use Rattle.classifier.specs.Seen.{AreFollowed, HasSeen, HaveSeen, goal_at, is_noticed_by};
+ghost use Rattle.classifier.specs.Seen.{AreFollowed, HasSeen, HaveSeen, goal_at, has_left};
 ghost use Rattle.golden_difference.specs.Lanes.{bank_of};
 
 use crate::noise::Noise;
@@ -36,12 +36,12 @@ fn see_goals<W: Word>(
     requires windows { length windows.old.windows ≡ length goals.now }
     ensures keeps { KeepsIntervals windows.old windows.new }
     ensures count { length windows.new.windows ≡ length goals.now }
-    ensures step { (points : PointsValue) (run : Run) (faults : ℕ → List Fault) (t g : ℕ) → t < cycles_of run → g < length goals.now → AreBeside W.lanes W.lane_bit (take (t + 1) run.vectors) (bank_of lanes.now)
-        → ((k : ℕ) → k < 64 → is_noticed_by lanes.now.circuit points (faults k) run t ≡ false
+    ensures step { (points : PointsValue) (ftti : ℕ) (run : Run) (faults : ℕ → List Fault) (known t g : ℕ) → t < cycles_of run → g < length goals.now → AreBeside W.lanes W.lane_bit (take (t + 1) run.vectors) (bank_of lanes.now)
+        → ((k : ℕ) → k < 64 → has_left lanes.now.circuit points ftti (bit known k) (faults k) run t ≡ false
         → (in_lane lanes.now.in_force word k ≡ faults k)
         × (bit raised k ≡ is_raised lanes.now.circuit points (faults k) run t))
-        → HasSeen lanes.now.circuit points run faults (goal_at goals.now g) t (window_at windows.old g)
-        → HasSeen lanes.now.circuit points run faults (goal_at goals.now g) (t + 1) (window_at windows.new g) }
+        → HasSeen lanes.now.circuit points ftti run faults known (goal_at goals.now g) t (window_at windows.old g)
+        → HasSeen lanes.now.circuit points ftti run faults known (goal_at goals.now g) (t + 1) (window_at windows.new g) }
 {
     for (g, goal) in goals.iter().enumerate() {
         let differs = differing(lanes, word, goal.observe.as_slice());
@@ -73,13 +73,12 @@ pub fn see_cycle<W: Word>(
     requires word { word < W.words }
     requires points { ArePointsFor lanes.now.circuit points.now }
     requires windows { length windows.old.windows ≡ length points.now.goals }
-    ensures seen { (run : Run) (faults : ℕ → List Fault) (t : ℕ) → run.kind ≡ kind → t < cycles_of run → AreBeside W.lanes W.lane_bit (take (t + 1) run.vectors) (bank_of lanes.now)
+    ensures seen { (run : Run) (faults : ℕ → List Fault) (known t : ℕ) → run.kind ≡ kind → t < cycles_of run → AreBeside W.lanes W.lane_bit (take (t + 1) run.vectors) (bank_of lanes.now)
         → IsGoldenRow lanes.now.circuit run.vectors t row.now
-        → AreFollowed faults lanes.now.in_force word noticed.old
-        → HaveSeen lanes.now.circuit points.now run faults t windows.old noticed.old
-        → HaveSeen lanes.now.circuit points.now run faults (t + 1) windows.new noticed.new }
+        → AreFollowed lanes.now.circuit points.now windows.old.ftti run faults known t lanes.now.in_force word
+        → HaveSeen lanes.now.circuit points.now run faults known t windows.old noticed.old
+        → HaveSeen lanes.now.circuit points.now run faults known (t + 1) windows.new noticed.new }
     ensures keeps { KeepsIntervals windows.old windows.new }
-    ensures grows { (k : ℕ) → bit noticed.new k ≡ false → bit noticed.old k ≡ false }
 {
     let found = noise_in(lanes, word, row, points.alarm.as_slice());
     see_goals(lanes, word, points.goals.as_slice(), found.raised, windows);

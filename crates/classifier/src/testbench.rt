@@ -1,11 +1,12 @@
 // What faults are simulated on, as one argument.
-ghost use Rattle.std.specs.Prelude.{◌≡◌, ◌<◌, ◌≤◌, ◌+◌, ◌++◌, ◌∷◌, [], Bool, List, length};
+ghost use Rattle.std.specs.Prelude.{◌≡◌, ◌<◌, ◌≤◌, ◌+◌, ◌++◌, ◌∷◌, [], Bool, List, IfOk, length};
+ghost use Rattle.circuit.specs.Order.{IsOrder};
 ghost use Rattle.workload.specs.Runs.{cycles_of, run_at};
 ghost use Rattle.workload.specs.RunsKept.{AreRuns};
 ghost use Rattle.alarm_points.specs.PointsKept.{ArePointsFor};
 ghost use Rattle.golden_difference.specs.Beside.{IsGoldenRow, AreBeside};
 ghost use Rattle.classifier.specs.Load.{load_of};
-ghost use Rattle.classifier.specs.Tools.{IsTestbenchFor, golden_of};
+ghost use Rattle.classifier.specs.Testbench.{testbench_of};
 ghost use Rattle.golden_difference.specs.Lanes.{bank_of, IsMadeFor};
 
 use alarm_points::Points;
@@ -16,23 +17,27 @@ use fm_base::Steps;
 use golden_run::Golden;
 use lane_words::Word;
 use netlist_levels::Order;
+use reach::Reach;
+use std::alloc::{AllocError, Global};
 use std::marker::Model;
 use std::sync::ledger::Ledger;
 use workload::run::{Kind, Workload};
 
 /// What faults are simulated on: a netlist with an order of its tables, the runs of a workload, the points that tell danger and
-/// notice, and the golden run of all this.
+/// notice, the golden run of all this, and from where paths lead to the points. It takes no memory once it is made, and threads may share it.
 #[derive(Drop)]
 pub struct Testbench<'a> {
     net: &'a Netlist,
     order: &'a Order,
     work: &'a Workload,
     points: &'a Points,
-    golden: &'a Golden,
+    golden: Golden,
+    reach: Reach,
 }
 
 impl<'a> Model for Testbench<'a> {
     ghost use Rattle.std.specs.Prelude.{◌≡◌};
+    ghost use Rattle.circuit.specs.Order.{IsOrder};
     ghost use Rattle.alarm_points.specs.PointsKept.{ArePointsFor};
     ghost use Rattle.classifier.specs.Testbench.{Testbench};
 
@@ -40,38 +45,56 @@ impl<'a> Model for Testbench<'a> {
 
     ghost view = { λ b. record { circuit = b.net.now; order = b.order.now; runs = b.work.now; points = b.points.now } };
 
-    ghost invariant = { λ b. (b.golden.now ≡ record { circuit = b.net.now; order = b.order.now; runs = b.work.now }) × ArePointsFor b.net.now b.points.now };
+    ghost invariant = { λ b. (b.golden ≡ record { circuit = b.net.now; order = b.order.now; runs = b.work.now }) × (b.reach ≡ record { circuit = b.net.now; points = b.points.now }) × IsOrder b.net.now b.order.now × ArePointsFor b.net.now b.points.now };
 }
 
 impl<'a> Testbench<'a> {
-    /// A testbench of points for this netlist, with the golden run of this netlist, order and workload.
+    /// A testbench of an order of this netlist's tables and of points for it. The golden run is simulated here, and the
+    /// paths to the points are searched.
     pub fn new(
+        alloc: Global,
         net: &'a Netlist,
         order: &'a Order,
         work: &'a Workload,
         points: &'a Points,
-        golden: &'a Golden,
-    ) -> Self
-        requires golden { golden.now ≡ record { circuit = net.now; order = order.now; runs = work.now } }
+    ) -> Result<Self, AllocError>
+        requires order { IsOrder net.now order.now }
         requires points { ArePointsFor net.now points.now }
-        ensures { result ≡ record { circuit = net.now; order = order.now; runs = work.now; points = points.now } }
+        ensures { IfOk result (λ bench. bench ≡ record { circuit = net.now; order = order.now; runs = work.now; points = points.now }) }
     {
-        Testbench {
+        let golden = Golden::new(alloc, net, order, work)?;
+        let reach = Reach::new(alloc, net, points)?;
+        Ok(Testbench {
             net,
             order,
             work,
             points,
             golden,
-        }
+            reach,
+        })
     }
 
-    /// The testbench of a plan, with its golden run by an order of its tables.
-    pub fn of_plan(plan: &'a Plan, order: &'a Order, golden: &'a Golden) -> Self
-        requires { golden.now ≡ golden_of plan.now order.now }
-        ensures plan { IsTestbenchFor plan.now result }
-        ensures order { result.order ≡ order.now }
+    /// The testbench of a plan, by an order of its tables.
+    pub fn of_plan(alloc: Global, plan: &'a Plan, order: &'a Order) -> Result<Self, AllocError>
+        requires { IsOrder plan.now.circuit order.now }
+        ensures { IfOk result (λ bench. bench ≡ testbench_of plan.now order.now) }
     {
-        Testbench::new(plan.net(), order, plan.work(), plan.points(), golden)
+        Testbench::new(alloc, plan.net(), order, plan.work(), plan.points())
+    }
+
+    /// The netlist.
+    pub fn net(&self) -> &'a Netlist
+        ensures { result.now ≡ self.now.circuit }
+    {
+        self.net
+    }
+
+    /// The order of its tables.
+    pub fn order(&self) -> &'a Order
+        ensures order { result.now ≡ self.now.order }
+        ensures sound { IsOrder self.now.circuit self.now.order }
+    {
+        self.order
     }
 
     /// The number of runs.
@@ -106,8 +129,16 @@ impl<'a> Testbench<'a> {
         self.points
     }
 
+    /// Which faults can change the points.
+    pub fn reach(&self) -> &Reach
+        ensures made { result.now ≡ record { circuit = self.now.circuit; points = self.now.points } }
+        ensures fit { ArePointsFor self.now.circuit self.now.points }
+    {
+        &self.reach
+    }
+
     /// The golden values of all nets in a cycle of a run.
-    pub fn row(&self, run: u32, t: u32) -> &'a [u64]
+    pub fn row(&self, run: u32, t: u32) -> &[u64]
         requires run { run < length self.now.runs }
         requires cycle { t < cycles_of (run_at self.now.runs run) }
         ensures { IsGoldenRow self.now.circuit (run_at self.now.runs run).vectors t result.now }

@@ -24,7 +24,7 @@ use Rattle.campaign_plan.specs.Batches.{outcome_of, true_planes}
 use Rattle.campaign_plan.specs.Danger.{is_dangerous, is_noticed}
 use Rattle.campaign_plan.specs.Kept.{IsPlan}
 use Rattle.classifier.specs.Planes.{planes_of}
-use Rattle.classifier.proofs.PlaneBits.{plane_is, planes_alike, planes_are, planes_have}
+use Rattle.classifier.proofs.PlaneBits.{plane_is, planes_have, planes_same}
 use Rattle.workload.specs.declared.run.Run.{Run}
 use Rattle.alarm_points.specs.declared.Points.{Points}
 use Rattle.collapse_map.specs.Collapsed.{AreFaultsOf, Collapsed, is_own, rep_count, rep_of}
@@ -107,9 +107,7 @@ pub group_is : (p : Analysis) (net : Circuit) (points : Points) (runs : List Run
 group_is p net points runs ftti loaded numbers group e f g h same =
     ap₂ (λ (n : Circuit) (x : Points). planes_of n x ftti runs loaded) e f
     ∙ ap₂ (λ t (rs : List Run). planes_of p.circuit p.points t rs loaded) h g
-    ∙ planes_are p.circuit p.points p.settings.ftti p.runs (faults_in (all_faults p) numbers group) (planes_of p.circuit p.points p.settings.ftti p.runs loaded)
-    (planes_alike p.circuit p.points p.settings.ftti p.runs loaded (faults_in (all_faults p) numbers group) (planes_of p.circuit p.points p.settings.ftti p.runs loaded) same
-    (planes_have p.circuit p.points p.settings.ftti p.runs loaded))
+    ∙ planes_same p.circuit p.points p.settings.ftti p.runs loaded (faults_in (all_faults p) numbers group) same
 
 pub times_more : (start n x : ℕ) → start + n * x + x ≡ start + (n + 1) * x
 times_more start n x = let more : (n + 1) * x ≡ n * x + x = ap (λ k. k * x) (add-one n) ∙ suc-mul n x in omega (arith, more)

@@ -2,8 +2,6 @@
 use Rattle.std.specs.Prelude.{◌≡◌, ℕ, ◌/◌, ◌%◌, ◌<◌, Bool, true, ◌&&◌, List, filter, length, Option, slice_get, slice_index}
 use Rattle.std.specs.Option.{option_map, option_to_list}
 use Rattle.circuit.specs.declared.parts.Fault.{Fault}
-use Rattle.alarm_points.specs.FourWatches.{windows_at}
-use Rattle.alarm_points.specs.Watch.{Watches}
 use Rattle.fault_list.specs.Faults.{fault_at, fault_number, is_used}
 use Rattle.fm_base.specs.Lists.{below}
 use Rattle.fm_base.specs.Planes.{bit, lanes, plane_of}
@@ -55,7 +53,3 @@ planes_shown s places found batch = record {
 -- each fault has a lane to be read off
 abbrev pub HaveLanes : Collapsed → List ℕ → List Outcome → Type 0
 HaveLanes s places found = (i : ℕ) → i < length s.faults → place_for s places i / lanes < length found
-
--- the windows of each word have this interval
-abbrev pub HaveInterval : ℕ → List Watches → Type 0
-HaveInterval ftti windows = (word : ℕ) → word < length windows → (windows_at windows word).ftti ≡ ftti

@@ -7,5 +7,5 @@ mod planes;
 mod simulate;
 mod spread;
 
-pub use outcomes::{OutcomeList, collapsed_outcomes, collapsed_quads};
+pub use outcomes::{OutcomeList, collapsed_outcomes};
 pub use planes::collapsed_planes;

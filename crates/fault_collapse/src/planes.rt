@@ -1,47 +1,34 @@
 // The planes of all batches of a plan, with all that it takes to simulate them.
 ghost use Rattle.std.specs.Prelude.{◌≡◌, ◌<◌, IfOk};
 ghost use Rattle.circuit.specs.Order.{IsOrder};
+ghost use Rattle.classifier.specs.Testbench.{testbench_of};
 ghost use Rattle.fault_collapse.specs.Outcomes.{all_planes, collapsed_of};
 
-use crate::outcomes::{OutcomeList, collapsed_quads};
-use alarm_points::windows4::Windows4;
+use crate::outcomes::{OutcomeList, collapsed_outcomes};
 use campaign_plan::Plan;
-use classifier::Testbench;
+use classifier::{Simulator, Testbench};
 use collapse_map::Collapse;
-use differential_kernel::DifferentialLanes4;
 use fm_base::Steps;
-use golden_run::Golden;
 use netlist_levels::Order;
 use std::alloc::{AllocError, Global};
 use std::marker::Brand;
 use std::sync::ledger::{Blank, Ledger};
 
-// The planes of all batches, simulated in lanes and windows that are made here.
+// The planes of all batches, by a simulator that is made here.
 fn simulated_planes<L: Ledger>(
     alloc: Global,
     plan: &Plan,
-    order: &Order,
+    bench: &Testbench<'_>,
     collapse: &Collapse,
-    golden: &Golden,
     steps: &mut Steps<L>,
 ) -> Result<OutcomeList, AllocError>
-    requires order { IsOrder plan.now.circuit order.now }
+    requires order { IsOrder plan.now.circuit bench.now.order }
     requires collapse { collapse.now ≡ collapsed_of plan.now }
-    requires golden { golden.now ≡ record { circuit = plan.now.circuit; order = order.now; runs = plan.now.runs } }
+    requires bench { bench.now ≡ testbench_of plan.now bench.now.order }
     ensures { IfOk result (λ list. list ≡ all_planes plan.now) }
 {
-    let mut lanes = DifferentialLanes4::new(alloc, plan.net(), order)?;
-    let mut windows = Windows4::new(alloc, plan.points(), plan.settings().ftti)?;
-    let bench = Testbench::of_plan(plan, order, golden);
-    collapsed_quads(
-        alloc,
-        plan,
-        &bench,
-        collapse,
-        &mut lanes,
-        &mut windows,
-        steps,
-    )
+    let mut simulator = Simulator::new(alloc, bench, plan.settings().ftti)?;
+    collapsed_outcomes(alloc, plan, bench, collapse, &mut simulator, steps)
 }
 
 // The same, with a counter of steps that nobody reads.
@@ -59,13 +46,13 @@ fn counted_planes<L: Ledger>(
 {
     let (net, points) = (plan.net(), plan.points());
     let collapse = Collapse::new(alloc, net, order, plan.faults(), points)?;
-    let golden = Golden::new(alloc, net, order, plan.work())?;
+    let bench = Testbench::of_plan(alloc, plan, order)?;
     let mut steps: Steps<L> = Steps::fresh(blank);
-    simulated_planes(alloc, plan, order, &collapse, &golden, &mut steps)
+    simulated_planes(alloc, plan, &bench, &collapse, &mut steps)
 }
 
 /// The planes that each batch of a plan truly has, in rising order: equal faults are collapsed, and only faults that are their own
-/// representatives are simulated, on this thread. The golden run, lanes and windows are made here.
+/// representatives are simulated, on this thread. The testbench and the simulator are made here.
 pub fn collapsed_planes(
     alloc: Global,
     plan: &Plan,

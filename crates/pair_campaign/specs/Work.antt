@@ -1,14 +1,14 @@
 -- Shapes of private steps: what a worker judges pairs with, and what it has judged.
 use Rattle.std.specs.Prelude.{◌≡◌, ℕ, ◌+◌, ◌*◌, ◌%◌, ◌<◌, List, [], ◌∷◌, length, slice_index, if◌then◌else◌}
 use Rattle.circuit.specs.declared.parts.Fault.{Fault}
-use Rattle.circuit.specs.declared.parts.NetId.{NetId}
 use Rattle.fault_list.specs.Faults.{batches_for, fault_number, is_used}
 use Rattle.fm_base.specs.Planes.{bit}
 use Rattle.campaign_plan.specs.Analysis.{Analysis, fault_numbered}
-use Rattle.classifier.specs.Tools.{AreToolsFor}
 use Rattle.campaign_plan.specs.Danger.{is_dangerous}
 use Rattle.campaign_plan.specs.declared.Outcome.{Outcome}
 use Rattle.classifier.specs.Planes.{outcome_at}
+use Rattle.classifier.specs.Simulator.{simulator_of}
+use Rattle.classifier.specs.Testbench.{Testbench}
 use Rattle.pair_list.specs.Chosen.{Chosen, pair_count, pair_numbered}
 use Rattle.pair_campaign.specs.declared.worker.PairWorker.{PairWorker}
 use Rattle.pair_campaign.specs.PairPlanes.{pair_plane}
@@ -30,9 +30,9 @@ ShowsPlane p c plane outcome =
 abbrev pub ShowPlanes : Analysis → Chosen → (first apart : ℕ) → List Outcome → Type 0
 ShowPlanes p c first apart outcomes = (word : ℕ) → word < 4 → ShowsPlane p c (first + word * apart) (outcome_at outcomes word)
 
--- a worker with such tools, and with room for so many planes
-pub record IsEquippedFor (p : Analysis) (order : List NetId) (planes : ℕ) (worker : PairWorker) : Type 0 where
-  pub tools : AreToolsFor p order worker.lanes worker.windows
+-- a worker with a simulator for the plan, on this testbench, and with room for so many planes
+pub record IsEquippedFor (p : Analysis) (bench : Testbench) (planes : ℕ) (worker : PairWorker) : Type 0 where
+  pub simulator : worker.simulator ≡ simulator_of bench p.settings.ftti
   pub room : length worker.planes.items ≡ planes
 
 -- each plane whose number leaves this worker's as its remainder, of so many workers, stands at its place

@@ -7,8 +7,8 @@ ghost use Rattle.pair_campaign.specs.Work.{IsEquippedFor};
 use crate::load::planes_for;
 use crate::worker::PairWorker;
 use campaign_plan::Plan;
+use classifier::Testbench;
 use fm_base::Seq;
-use golden_run::Golden;
 use netlist_levels::Order;
 use pair_list::Pairs;
 use std::alloc::{AllocError, Global};
@@ -18,50 +18,48 @@ use std::snapshot::Snapshot;
 /// Planes of pairs: bit k of plane q says whether pair 64q + k is dangerous, and is 0 where there is none.
 pub type PairPlanes = Seq<u64>;
 
-/// Workers with their golden run, lanes and windows, and the room for all planes. Judging takes no memory.
+/// A testbench, workers with their simulators, and the room for all planes. Judging takes no memory.
 #[derive(Drop)]
-pub struct PairCrew {
+pub struct PairCrew<'a> {
     plan: Snapshot<Plan>,
-    order: Snapshot<Order>,
     pairs: Snapshot<Pairs>,
-    pub(crate) golden: Golden,
+    pub(crate) bench: Testbench<'a>,
     pub(crate) workers: Vec<PairWorker>,
     pub(crate) planes: Vec<u64>,
 }
 
-impl Model for PairCrew {
+impl<'a> Model for PairCrew<'a> {
     ghost use Rattle.pair_campaign.specs.Crews.{IsCrewFor, MadeFor};
 
     ghost Value = { MadeFor };
 
-    ghost view = { λ c. record { plan = c.plan.value; order = c.order.value; pairs = c.pairs.value } };
+    ghost view = { λ c. record { plan = c.plan.value; pairs = c.pairs.value } };
 
-    ghost invariant = { λ c. IsCrewFor (record { plan = c.plan.value; order = c.order.value; pairs = c.pairs.value }) c.golden c.workers.items c.planes.items };
+    ghost invariant = { λ c. IsCrewFor (record { plan = c.plan.value; pairs = c.pairs.value }) c.bench c.workers.items c.planes.items };
 }
 
-impl PairCrew {
+impl<'a> PairCrew<'a> {
     /// A crew of 1 to 32 workers for the pairs of a plan.
     pub fn new(
         alloc: Global,
-        plan: &Plan,
-        order: &Order,
+        plan: &'a Plan,
+        order: &'a Order,
         pairs: &Pairs,
         workers: u32,
-    ) -> Result<PairCrew, AllocError>
+    ) -> Result<Self, AllocError>
         requires workers { (0 < workers) × (workers ≤ 32) }
         requires order { IsOrder plan.now.circuit order.now }
         requires pairs { AreFaults plan.now pairs.now }
-        ensures { IfOk result (λ crew. crew ≡ record { plan = plan.now; order = order.now; pairs = pairs.now }) }
+        ensures { IfOk result (λ crew. crew ≡ record { plan = plan.now; pairs = pairs.now }) }
     {
-        let golden = Golden::new(alloc, plan.net(), order, plan.work())?;
+        let bench = Testbench::of_plan(alloc, plan, order)?;
         let planes = planes_for(pairs);
-        let workers = hired(alloc, plan, order, planes, workers)?;
+        let workers = hired(alloc, plan, &bench, planes, workers)?;
         let room = vec![in alloc; 0; planes as usize]?;
         Ok(PairCrew {
             plan: Snapshot::of(plan),
-            order: Snapshot::of(order),
             pairs: Snapshot::of(pairs),
-            golden,
+            bench,
             workers,
             planes: room,
         })
@@ -72,17 +70,16 @@ impl PairCrew {
 fn hired(
     alloc: Global,
     plan: &Plan,
-    order: &Order,
+    bench: &Testbench<'_>,
     planes: u32,
     count: u32,
 ) -> Result<Vec<PairWorker>, AllocError>
-    requires { IsOrder plan.now.circuit order.now }
-    ensures equipped { IfOk result (λ workers. All (IsEquippedFor plan.now order.now planes) workers.items) }
+    ensures equipped { IfOk result (λ workers. All (IsEquippedFor plan.now bench.now planes) workers.items) }
     ensures count { IfOk result (λ workers. length workers.items ≡ count) }
 {
     let mut workers = Vec::new(alloc);
     for _ in 0..count {
-        workers.push(PairWorker::new(alloc, plan, order, planes)?)?;
+        workers.push(PairWorker::new(alloc, plan, bench, planes)?)?;
     }
     Ok(workers)
 }

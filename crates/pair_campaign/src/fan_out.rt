@@ -5,14 +5,13 @@ ghost use Rattle.pair_list.specs.Chosen.{AreFaults, pair_count};
 ghost use Rattle.pair_campaign.specs.declared.worker.PairWorker.{PairWorker as Worker};
 ghost use Rattle.pair_campaign.specs.PairPlanes.{pair_planes};
 ghost use Rattle.pair_campaign.specs.Work.{HasJudged, IsEquippedFor};
-ghost use Rattle.classifier.specs.Tools.{IsTestbenchFor};
+ghost use Rattle.classifier.specs.Testbench.{IsTestbenchFor};
 
 use crate::crew::{PairCrew, PairPlanes};
 use crate::worker::{PairWorker, work};
 use campaign_plan::Plan;
 use classifier::Testbench;
 use fm_base::Seq;
-use netlist_levels::Order;
 use pair_list::Pairs;
 use std::sync::Wait;
 use std::thread;
@@ -29,7 +28,7 @@ fn work_all<R: Threads + Sync>(
     requires bench { IsTestbenchFor plan.now bench.now }
     requires pairs { AreFaults plan.now pairs.now }
     requires few { length workers.old ≤ 32 }
-    requires equipped { All (IsEquippedFor plan.now bench.now.order (batches_for (pair_count pairs.now))) workers.old }
+    requires equipped { All (IsEquippedFor plan.now bench.now (batches_for (pair_count pairs.now))) workers.old }
     ensures { (w : ℕ) (d : Worker) → w < length workers.old → HasJudged plan.now pairs.now (length workers.old) w (slice_index_or workers.new w d).planes.items }
 {
     let count = workers.len();
@@ -38,7 +37,7 @@ fn work_all<R: Threads + Sync>(
         workers,
         32,
         &|number, worker: &mut PairWorker|
-            requires { IsEquippedFor plan.now bench.now.order (batches_for (pair_count pairs.now)) worker.now × IsTestbenchFor plan.now bench.now × AreFaults plan.now pairs.now × (number < count) × (count ≤ 32) }
+            requires { IsEquippedFor plan.now bench.now (batches_for (pair_count pairs.now)) worker.now × IsTestbenchFor plan.now bench.now × AreFaults plan.now pairs.now × (number < count) × (count ≤ 32) }
             ensures { HasJudged plan.entry.now pairs.entry.now count number worker.exit.now.planes.items }
         { work(plan, bench, pairs, number as u32, count as u32, worker) },
     );
@@ -69,7 +68,7 @@ fn judge_all<R: Threads + Sync>(
     requires pairs { AreFaults plan.now pairs.now }
     requires some { 0 < length workers.old }
     requires few { length workers.old ≤ 32 }
-    requires equipped { All (IsEquippedFor plan.now bench.now.order (batches_for (pair_count pairs.now))) workers.old }
+    requires equipped { All (IsEquippedFor plan.now bench.now (batches_for (pair_count pairs.now))) workers.old }
     requires room { length planes.old ≡ batches_for (pair_count pairs.now) }
     ensures { planes.new ≡ pair_planes plan.now pairs.now }
 {
@@ -82,20 +81,18 @@ fn judge_all<R: Threads + Sync>(
 pub fn judge<R: Threads + Wait + Sync>(
     rt: &R,
     plan: &Plan,
-    order: &Order,
     pairs: &Pairs,
-    crew: PairCrew,
+    crew: PairCrew<'_>,
 ) -> PairPlanes
-    requires made { crew ≡ record { plan = plan.now; order = order.now; pairs = pairs.now } }
+    requires made { crew ≡ record { plan = plan.now; pairs = pairs.now } }
     ensures { result ≡ pair_planes plan.now pairs.now }
 {
     let PairCrew {
-        golden,
+        bench,
         mut workers,
         mut planes,
         ..
     } = crew;
-    let bench = Testbench::of_plan(plan, order, &golden);
     judge_all(
         rt,
         plan,

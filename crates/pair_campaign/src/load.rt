@@ -1,16 +1,15 @@
-// The planes of pairs, and what the lanes of a plane are loaded with.
+// The planes of pairs, and the faults of each lane of a plane.
 ghost use Rattle.std.specs.Prelude.{◌≡◌, ◌+◌, ◌*◌, ◌<◌, ◌≤◌, ◌^◌, ℕ, nat_lt};
 ghost use Rattle.fault_list.specs.Faults.{batches_for, is_used};
 ghost use Rattle.fm_base.specs.Planes.{bit};
-ghost use Rattle.classifier.specs.Load.{lane_faults, load_of};
-ghost use Rattle.golden_difference.specs.Lanes.{IsMadeFor};
+ghost use Rattle.classifier.specs.Simulator.{listed};
 ghost use Rattle.lane_words.specs.Loads.{loaded_faults, somes};
 ghost use Rattle.pair_list.specs.Chosen.{AreFaults, pair_count};
 ghost use Rattle.pair_campaign.specs.Work.{faults_in_lane};
 
 use campaign_plan::Plan;
 use circuit::parts::Fault;
-use differential_kernel::DifferentialLanes4;
+use classifier::LaneFaults;
 use pair_list::Pairs;
 
 /// The number of pairs in a plane.
@@ -41,7 +40,7 @@ fn both_in(plan: &Plan, pairs: &Pairs, plane: u32, lane: u32) -> [Option<Fault>;
 }
 
 // Both faults of each pair of a plane, the latent one first.
-fn loads_of(plan: &Plan, pairs: &Pairs, plane: u32) -> [[Option<Fault>; 2]; 64]
+fn loads_of(plan: &Plan, pairs: &Pairs, plane: u32) -> LaneFaults
     requires { AreFaults plan.now pairs.now }
     ensures { (k : ℕ) → k < 64 → loaded_faults result k ≡ faults_in_lane plan.now pairs.now plane k }
 {
@@ -52,23 +51,17 @@ fn loads_of(plan: &Plan, pairs: &Pairs, plane: u32) -> [[Option<Fault>; 2]; 64]
     loads
 }
 
-/// Loads each word with a plane: with the first, and with each `apart` further.
-pub(crate) fn load_planes(
-    plan: &Plan,
-    pairs: &Pairs,
-    first: u32,
-    apart: u32,
-    lanes: &mut DifferentialLanes4,
-)
+/// The faults of the pairs of four planes, in each word those of one: of the first, and of each `apart` further.
+pub(crate) fn lists_of(plan: &Plan, pairs: &Pairs, first: u32, apart: u32) -> [LaneFaults; 4]
     requires pairs { AreFaults plan.now pairs.now }
     requires few { first + 4 * apart < 2 ^ 32 }
-    ensures made { IsMadeFor lanes.old.circuit lanes.old.order lanes.new }
-    ensures loads { (word k : ℕ) → word < 4 → k < 64
-        → lane_faults (load_of lanes.new) word k ≡ faults_in_lane plan.now pairs.now (first + word * apart) k }
+    ensures { (word k : ℕ) → word < 4 → k < 64 → listed result word k ≡ faults_in_lane plan.now pairs.now (first + word * apart) k }
 {
-    for word in 0..4 {
-        lanes.load(word, &loads_of(plan, pairs, first + word * apart));
+    let mut lists = [[[None, None]; 64]; 4];
+    for word in 0..4u32 {
+        lists[word as usize] = loads_of(plan, pairs, first + word * apart);
     }
+    lists
 }
 
 /// The lanes of a plane that hold pairs.

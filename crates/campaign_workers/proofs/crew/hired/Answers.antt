@@ -1,9 +1,9 @@
-use Rattle.std.proofs.Common.{◌≤◌, length, ap, ◌∙◌, arith}
+use Rattle.std.proofs.Common.{◌≡◌, ◌≤◌, length, ap, ◌∙◌, arith}
 use Rattle.std.proofs.lemmas.List.{length_push}
 use Rattle.std.proofs.lemmas.List.Elements.{All-push}
 use Rattle.claim_counter.specs.declared.view.View.{View}
 use Rattle.campaign_workers.specs.declared.worker.Worker.{Worker}
-use Rattle.classifier.specs.Tools.{AreToolsFor}
+use Rattle.classifier.specs.Simulator.{simulator_of}
 use Rattle.campaign_workers.proofs.Hiring.{hires_one}
 use Rattle.campaign_workers.proofs.crew.hired.Goals as goal
 
@@ -16,10 +16,10 @@ loop-number-preserved g c =
     let now = c.in_ok-push.ensures.items in
     let two : 2 ≤ c.loop-number.first.view.share = omega (arith, i.share, c.loop-number-test.true, c.requires.count) in
     let crew = hires_one c.args.shared.now c.loop-number.first c.split-seat.new.seat old worker c.split-seat.result i.crew two split.seat.0 split.seat.1 split.new.0 split.new.1 c.in_ok-worker_at.ensures.seat in
-    let T = λ (w : Worker g.row.F.Denot g.row.N.Denot). AreToolsFor c.args.plan.now c.args.order.now w.lanes w.windows in
+    let T = λ (w : Worker g.row.F.Denot g.row.N.Denot). w.simulator ≡ simulator_of c.args.bench.now c.args.plan.now.settings.ftti in
     record {
       crew = rw now crew;
-      tools = rw now (All-push T old worker i.tools c.in_ok-worker_at.ensures.tools);
+      simulators = rw now (All-push T old worker i.simulators c.in_ok-worker_at.ensures.simulator);
       len = ap length now ∙ length_push old worker ∙ omega (arith, i.len);
       share = omega (arith, i.share, two, ap (λ (v : View). v.share) split.seat.1);
       table = split.seat.0 ∙ i.table;

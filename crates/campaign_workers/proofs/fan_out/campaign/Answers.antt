@@ -1,14 +1,12 @@
-use Rattle.std.proofs.Common.{◌<◌, length, ap, sym, ◌∙◌, arith}
-use Rattle.campaign_workers.specs.Workplaces.{Made}
+use Rattle.std.proofs.Common.{◌<◌, length, ap, ◌∙◌, arith}
 use Rattle.campaign_workers.proofs.Workshops.{at_work, first_free}
 use Rattle.campaign_workers.proofs.fan_out.campaign.Goals as goal
 use Rattle.fm_base.proofs.Lists.{written_whole}
 
 pub work_all-requires-clause-ready : goal.work_all-requires-clause-ready
 work_all-requires-clause-ready g c = λ κs bounds.
-    (let made = c.workshop.view_is ∙ c.requires.made in
-    at_work _ c.args.plan.now _ c.of_plan-bench.result.order _ c.workshop.inside.shared _ _ c.as_mut_slice.result.now c.workshop.invariant.0 (ap (λ (m : Made). m.plan) made)
-    (ap (λ (m : Made). m.order) made ∙ sym c.of_plan-bench.ensures.order) c.as_mut_slice.ensures.value)
+    at_work _ c.args.plan.now c.workshop.inside.bench c.workshop.inside.shared _ _ c.as_mut_slice.result.now c.workshop.invariant.0 (c.workshop.view_is ∙ c.requires.made)
+    c.as_mut_slice.ensures.value
 
 pub board_of_all-requires-clause-first : goal.board_of_all-requires-clause-first
 board_of_all-requires-clause-first g c = first_free c.workshop.inside.shared c.workshop.inside.first c.put.new.seat _ _ c.workshop.invariant.0.crew c.put.ensures.0 c.put.ensures.1

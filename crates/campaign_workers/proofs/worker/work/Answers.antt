@@ -13,6 +13,6 @@ loop-preserved g c =
     let finished = c.in_default.ensures in
     record {
       ready = ready_again c.args.shared.now g.N.Origin.start c.finish_round.new.worker.seat finished.owes (finished.nones ∙ c.draw_round-round.ensures.more c.if-round.false);
-      tools = finished.tools;
+      simulator = finished.simulator ∙ c.loop.invariant.simulator;
       share = finished.share ∙ c.draw_round-round.ensures.share ∙ c.loop.invariant.share;
     }

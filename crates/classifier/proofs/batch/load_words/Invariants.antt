@@ -1,12 +1,16 @@
-use Rattle.std.proofs.Common.{◌≡◌, ◌+◌, ◌*◌, ◌<◌, ℕ}
+use Rattle.std.proofs.Common.{◌≡◌, ◌+◌, ◌*◌, ◌<◌, ℕ, length}
 use Rattle.golden_difference.specs.Lanes.{IsMadeFor}
 use Rattle.lane_words.specs.Loads.{loaded_faults}
 use Rattle.classifier.specs.Batch.{alone_in, batch_at}
+use Rattle.classifier.specs.Load.{lane_faults, load_of}
+use Rattle.classifier.specs.OutOfReach.{AreOutOfReach, reach_at}
 use Rattle.classifier.proofs.batch.load_words.Given as goal
 
--- the words so far hold their batches
+-- the words so far hold their batches, and their lanes are marked
 abbrev pub invariant-loop-word : goal.invariant-loop-word
 invariant-loop-word l = record {
   made : IsMadeFor l.initial.lanes.circuit l.initial.lanes.order l.lanes;
   loads : (word k : ℕ) → word < l.word → k < 64 → loaded_faults l.lanes.loads (word * 64 + k) ≡ alone_in l.faults (batch_at l.batches word) k;
+  count : length l.reach ≡ 4;
+  reach : (word : ℕ) → word < l.word → AreOutOfReach l.bench.circuit l.bench.points (lane_faults (load_of l.lanes) word) (reach_at l.reach word);
 }

@@ -15,7 +15,7 @@ returns-clause-outcomes g c =
     let runs = c.args.bench.now.runs in
     let ftti = c.args.windows.now.ftti in
     let batches = c.args.batches.now in
-    let lanes = load_of c.load_words.new.lanes in
+    let lanes = load_of c.load_words-reach.new.lanes in
     let none : Outcome = outcome_at [] 0 in
     let found = outcome_for net points ftti runs c.args.faults.now in
     let count : length c.of_batches.new.outcomes ≡ length (map found batches) =
@@ -24,7 +24,7 @@ returns-clause-outcomes g c =
     (λ word lt.
     let within : word < 4 = omega (arith, lt, c.of_batches.array_long) in
     let inside : word < length batches = omega (arith, within, c.told-batches) in
-    c.of_batches.ensures net points ftti runs word (lane_faults lanes word) within (λ k lane. c.load_words.ensures.loads word k within lane)
+    c.of_batches.ensures net points ftti runs word (lane_faults lanes word) within (λ k lane. c.load_words-reach.ensures.loads word k within lane)
     (subst (λ (o : Outcome). HasPlanes net points ftti runs (lane_faults lanes word) o) (sym (c.loaded_quad-outcomes.ensures.outcomes word within))
     (planes_have net points ftti runs (lane_faults lanes word)))
     ∙ sym (get_or-map found batches word None none inside))

@@ -6,7 +6,8 @@ use Rattle.campaign_plan.specs.Danger.{is_dangerous_in}
 use Rattle.classifier.specs.Load.{in_lane, lane_faults}
 use Rattle.classifier.specs.Planes.{HasPlanes, outcome_at}
 use Rattle.alarm_points.specs.FourWatches.{windows_at}
-use Rattle.classifier.specs.Seen.{HaveSeenRun, is_decided, noticed_at}
+use Rattle.classifier.specs.Seen.{Begins, HaveSeenRun, known_at, noticed_at}
+use Rattle.classifier.specs.OutOfReach.{IsDecidedBy, decided_at, reach_at}
 use Rattle.classifier.proofs.EachWord.{each_set_one}
 use Rattle.classifier.proofs.RunByRun.{planes_more}
 use Rattle.classifier.proofs.outcome.add_run.Goals as goal
@@ -25,25 +26,26 @@ loop-word-preserved c =
     let same : windows_at ws i ≡ c.index-windows-word.result =
     sym (c.index-windows-word.is ∙ get_or_default ws i c.index-windows-word.result (windows_at [] 0) within) in
     record {
-      done = λ circuit points runs run load faults word kind undecided seen lt planes.
+      done = λ circuit points runs run load reach decided faults word kind beyond is begins seen lt planes.
           let more = λ (j : ℕ) (o : Outcome). HasPlanes circuit points (windows_at ws j).ftti (runs ++ run ∷ []) (lane_faults load j) o in
           let before = λ (j : ℕ) (o : Outcome). HasPlanes circuit points (windows_at ws j).ftti runs (lane_faults load j) o in
-          let sees : HaveSeenRun circuit points run (in_lane faults i) c.index-windows-word.result (noticed_at c.args.noticed.now i) =
-          subst (λ (w : Watches). HaveSeenRun circuit points run (in_lane faults i) w (noticed_at c.args.noticed.now i)) same (seen i within) in
+          let here : i < length c.args.outcomes.now = omega (arith, inside, c.loop-word.auto.outcomes) in
+          let sees : HaveSeenRun circuit points run (in_lane faults i) (known_at decided i) c.index-windows-word.result (noticed_at c.args.noticed.now i) =
+          subst (λ (w : Watches). HaveSeenRun circuit points run (in_lane faults i) (known_at decided i) w (noticed_at c.args.noticed.now i)) same (seen i within) in
           each_set_one (λ j o. before j (outcome_at c.args.outcomes.now j) → more j o) outcomes i new none inside
           (λ old.
-          planes_more circuit points (windows_at ws i).ftti runs run (lane_faults load i) (in_lane faults i) (outcome_at outcomes i) own.result new
+          planes_more circuit points (windows_at ws i).ftti runs run (lane_faults load i) (in_lane faults i) (outcome_at outcomes i) own.result new (reach_at reach i) (decided_at decided i)
           (subst (before i) (sym (inv.left i (omega arith))) old)
-          (λ k lane free.
-          undecided i k (omega (arith, inside, c.loop-word.auto.outcomes)) lane
-          (ap (λ (o : Outcome). is_decided c.args.kind o k) (sym (inv.left i (omega arith))) ∙ ap (λ kd. is_decided kd (outcome_at outcomes i) k) (sym kind) ∙ free))
+          (beyond i here)
+          (subst (λ (o : Outcome). IsDecidedBy o (reach_at reach i) (decided_at decided i)) (sym (inv.left i (omega arith))) (is i here))
+          (λ k lane. subst (λ kd. Begins kd (decided_at decided i) k (lane_faults load i k) (in_lane faults i k)) (sym kind) (begins i k here lane))
           (λ k lane.
-          own.ensures.danger circuit points run (in_lane faults i) k kind sees lane
+          own.ensures.danger circuit points run (in_lane faults i) (known_at decided i) k kind sees lane
           ∙ ap (λ (w : Watches). is_dangerous_in circuit points w.ftti (in_lane faults i k) run) (sym same))
-          (λ k lane. own.ensures.noticed circuit points run (in_lane faults i) k kind sees lane)
+          (λ k lane shows. own.ensures.noticed circuit points run (in_lane faults i) (known_at decided i) k kind sees lane shows)
           c.either.ensures.danger c.either.ensures.noticed (omega (arith, c.either.type_inv), omega (arith, c.either.type_inv)))
           word
-          (λ apart old. let early : word < i = omega (arith, apart, lt) in inv.done circuit points runs run load faults word kind undecided seen early old)
+          (λ apart old. let early : word < i = omega (arith, apart, lt) in inv.done circuit points runs run load reach decided faults word kind beyond is begins seen early old)
           planes;
       left = λ word le.
           let apart : word ≢ i = omega (arith, le) in
@@ -51,6 +53,6 @@ loop-word-preserved c =
     }
 
 pub returns : goal.returns
-returns c = λ circuit points runs run load faults word kind undecided seen lt planes.
+returns c = λ circuit points runs run load reach decided faults word kind beyond is begins seen lt planes.
     let done : word < c.loop-word.word = omega (arith, lt, c.loop-word-test.false) in
-    c.loop-word.invariant.done circuit points runs run load faults word kind undecided seen done planes
+    c.loop-word.invariant.done circuit points runs run load reach decided faults word kind beyond is begins seen done planes

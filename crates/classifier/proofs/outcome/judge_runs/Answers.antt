@@ -9,7 +9,8 @@ use Rattle.campaign_plan.specs.declared.Outcome.{Outcome}
 use Rattle.classifier.specs.Load.{Load, lane_faults, load_of}
 use Rattle.classifier.specs.Planes.{HasPlanes, outcome_at}
 use Rattle.alarm_points.specs.FourWatches.{windows_at}
-use Rattle.classifier.specs.Seen.{is_decided}
+use Rattle.classifier.specs.OutOfReach.{AreAllOutOfReach}
+use Rattle.classifier.specs.Seen.{AllBegin}
 use Rattle.classifier.proofs.RunByRun.{planes_none}
 use Rattle.classifier.proofs.outcome.judge_runs.Goals as goal
 
@@ -62,14 +63,17 @@ loop-run-preserved g c =
       planes = λ word lt.
           let ftti = (windows_at c.args.windows.now word).ftti in
           let same : (windows_at c.watch_run.new.windows word).ftti ≡ ftti = watched.ftti word ∙ inv.ftti word in
+          let words : g.W.Word.words ≡ length c.loop-run.outcomes = omega (arith, c.requires.outcomes, c.loop-run.auto.outcomes) in
           let inside : word < length c.loop-run.outcomes = omega (arith, c.requires.outcomes, c.loop-run.auto.outcomes) in
           subst (λ f. HasPlanes net points f (take (n + 1) runs) (lane_faults load word) (outcome_at outcomes word)) same
           (subst (λ (rs : List Run). HasPlanes net points (windows_at c.watch_run.new.windows word).ftti rs (lane_faults load word) (outcome_at outcomes word)) (sym (take_more runs n none within))
           (subst (λ (l : Load). HasPlanes net points (windows_at c.watch_run.new.windows word).ftti (take n runs ++ run ∷ []) (lane_faults l word) (outcome_at outcomes word)) inv.load
-          (c.add_run.ensures net points (take n runs) run before watched.seen.0 word (sym c.kind.ensures)
-          (λ w k lt lane free.
-          watched.seen.1 w k (omega (arith, lt, c.requires.outcomes, c.loop-run.auto.outcomes)) lane
-          (ap (λ kd. is_decided kd (outcome_at c.loop-run.outcomes w) k) (sym c.kind.ensures) ∙ free))
+          (c.add_run.ensures net points (take n runs) run before c.args.reach.now c.decide.new.decided watched.seen.0 word (sym c.kind.ensures)
+          (subst (λ m. AreAllOutOfReach net points m before c.args.reach.now) words
+          (subst (λ (l : Load). AreAllOutOfReach net points g.W.Word.words l c.args.reach.now) (sym inv.load) c.requires.reach))
+          c.decide.ensures
+          (subst (λ kd. AllBegin kd (length c.loop-run.outcomes) before c.decide.new.decided watched.seen.0) (sym c.kind.ensures)
+          (subst (λ m. AllBegin run.kind m before c.decide.new.decided watched.seen.0) words watched.seen.1))
           watched.seen.2 inside
           (subst (λ (l : Load). HasPlanes net points (windows_at c.watch_run.new.windows word).ftti (take n runs) (lane_faults l word) (outcome_at c.loop-run.outcomes word)) (sym inv.load)
           (subst (λ f. HasPlanes net points f (take n runs) (lane_faults load word) (outcome_at c.loop-run.outcomes word)) (sym same) (inv.planes word lt))))));

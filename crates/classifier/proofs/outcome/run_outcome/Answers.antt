@@ -1,4 +1,4 @@
-use Rattle.std.proofs.Common.{◌≡◌, ◌<◌, ℕ, Bool, List, ap, sym, ◌∙◌}
+use Rattle.std.proofs.Common.{◌≡◌, ◌<◌, ◌⊎◌, inl, inr, ℕ, Bool, false, List, ap, sym, ◌∙◌}
 use Rattle.circuit.specs.declared.parts.Fault.{Fault}
 use Rattle.circuit.specs.Circuit.{Circuit}
 use Rattle.workload.specs.declared.run.Run.{Run}
@@ -10,7 +10,10 @@ use Rattle.alarm_points.proofs.Planes.{bit_of_none}
 use Rattle.campaign_plan.specs.Danger.{differs, is_noticed_in, is_raised}
 use Rattle.alarm_points.specs.Watch.{Watches}
 use Rattle.fm_base.specs.Planes.{bit}
+use Rattle.classifier.specs.OutOfReach.{IsDeaf}
 use Rattle.classifier.specs.Seen.{HaveSeenRun}
+use Rattle.classifier.proofs.BareLanes.{deaf_in}
+use Rattle.classifier.proofs.Leaving.{open_stays}
 use Rattle.classifier.proofs.Views.{noticed_still}
 use Rattle.classifier.proofs.Ends.{end_says, list_any_nowhere, list_any_where}
 use Rattle.classifier.proofs.outcome.run_outcome.Goals as goal
@@ -18,23 +21,27 @@ use Rattle.classifier.proofs.outcome.run_outcome.Goals as goal
 abbrev unalarmed : Circuit → Points → ℕ → List Fault → Run → Goal → Bool
 unalarmed c points ftti x run goal = goes_unalarmed (interval_of ftti goal) (cycles_of run) (differs c goal x run) (is_raised c points x run)
 
-notice : (c : Circuit) (points : Points) (run : Run) (faults : ℕ → List Fault) (windows : Watches) (noticed k : ℕ) → k < 64
-    → HaveSeenRun c points run faults windows noticed → bit noticed k ≡ is_noticed_in c points (faults k) run
-notice c points run faults windows noticed k lane done =
-    done.seen.noticed_is k lane ∙ noticed_still c points run (faults k) done.n done.within (λ none t from late. done.still k t lane none from late)
+notice : (c : Circuit) (points : Points) (run : Run) (faults : ℕ → List Fault) (windows : Watches) (noticed known k : ℕ) → k < 64
+    → HaveSeenRun c points run faults known windows noticed → (bit known k ≡ false) ⊎ IsDeaf c points (faults k) → bit noticed k ≡ is_noticed_in c points (faults k) run
+notice c points run faults windows noticed known k lane done (inl free) =
+    done.seen.noticed_is k lane free
+    ∙ noticed_still c points run (faults k) done.n done.within (λ none t from late.
+    let still = done.still k t lane (open_stays c points windows.ftti (bit known k) (faults k) run done.n free none) from late in
+    (still.raise, still.silence))
+notice c points run faults windows noticed known k lane done (inr deaf) = done.seen.deaf k lane deaf ∙ sym (deaf_in c points (faults k) run deaf)
 
 pub returns-in-Mission-clause-noticed : goal.returns-in-Mission-clause-noticed
-returns-in-Mission-clause-noticed c = λ circuit points run faults k kind seen lane. notice circuit points run faults c.args.windows.now c.args.noticed k lane seen
+returns-in-Mission-clause-noticed c = λ circuit points run faults known k kind seen lane shows. notice circuit points run faults c.args.windows.now c.args.noticed known k lane seen shows
 
 pub returns-in-Test-clause-noticed : goal.returns-in-Test-clause-noticed
-returns-in-Test-clause-noticed c = λ circuit points run faults k kind seen lane. notice circuit points run faults c.args.windows.now c.args.noticed k lane seen
+returns-in-Test-clause-noticed c = λ circuit points run faults known k kind seen lane shows. notice circuit points run faults c.args.windows.now c.args.noticed known k lane seen shows
 
 pub returns-in-Mission-clause-danger : goal.returns-in-Mission-clause-danger
-returns-in-Mission-clause-danger c = λ circuit points run faults k kind seen lane.
-    end_says circuit points run faults c.args.windows.now c.args.noticed c.end.result k lane (ap is_mission (kind ∙ c.in-Mission.is)) seen c.end.ensures
+returns-in-Mission-clause-danger c = λ circuit points run faults known k kind seen lane.
+    end_says circuit points run faults known c.args.windows.now c.args.noticed k lane (ap is_mission (kind ∙ c.in-Mission.is)) seen c.end.result c.end.ensures
     ∙ list_any_where (is_mission run.kind) (unalarmed circuit points c.args.windows.now.ftti (faults k) run) points.goals (ap is_mission (kind ∙ c.in-Mission.is))
 
 pub returns-in-Test-clause-danger : goal.returns-in-Test-clause-danger
-returns-in-Test-clause-danger c = λ circuit points run faults k kind seen lane.
+returns-in-Test-clause-danger c = λ circuit points run faults known k kind seen lane.
     bit_of_none k
     ∙ sym (list_any_nowhere (is_mission run.kind) (unalarmed circuit points c.args.windows.now.ftti (faults k) run) points.goals (ap is_mission (kind ∙ c.in-Test.is)))

@@ -1,5 +1,4 @@
-use Rattle.std.proofs.Common.{◌≡◌, ◌≢◌, ◌+◌, ◌<◌, inl, inr, false, [], length, map, take, get_or, refl, ap, sym, ◌∙◌, set, subst, arith, get_or-set_other, get_or-set_same, length-set}
-use Rattle.std.proofs.lemmas.Bool.{cases_eq}
+use Rattle.std.proofs.Common.{ℕ, List, ◌≡◌, ◌≢◌, ◌+◌, ◌<◌, [], length, map, take, get_or, refl, ap, sym, ◌∙◌, subst, arith, length-set}
 use Rattle.std.proofs.lemmas.List.{get_or_default}
 use Rattle.alarm_points.specs.FourWatches.{windows_at}
 use Rattle.alarm_points.specs.Interval.{interval_of}
@@ -7,17 +6,20 @@ use Rattle.alarm_points.specs.PointsKept.{ArePointsFor}
 use Rattle.alarm_points.specs.Watch.{AreMadeFor, Watches}
 use Rattle.golden_difference.specs.Beside.{IsGoldenRow}
 use Rattle.classifier.specs.Load.{Load, in_lane, load_of}
-use Rattle.classifier.specs.Seen.{HaveSeen, noticed_at}
-use Rattle.fm_base.specs.Planes.{bit}
+use Rattle.std.specs.Prelude.{Option}
+use Rattle.circuit.specs.declared.parts.Fault.{Fault}
+use Rattle.circuit.specs.Circuit.{Circuit}
+use Rattle.classifier.specs.Seen.{AreFollowed, HaveSeen, known_at, noticed_at}
 use Rattle.classifier.proofs.EachWord.{each_set, each_set_one}
+use Rattle.classifier.proofs.Following.{followed_alike}
 use Rattle.classifier.proofs.WindowCounts.{window_count}
 use Rattle.classifier.proofs.run.see_words.Goals as goal
 
-pub see_cycle-requires-clause-points : goal.see_cycle-requires-clause-points
-see_cycle-requires-clause-points g c = subst (λ (l : Load). ArePointsFor l.circuit c.args.points.now) (sym c.loop-word.invariant.load) c.requires.points
+pub see_word-requires-clause-points : goal.see_word-requires-clause-points
+see_word-requires-clause-points g c = subst (λ (l : Load). ArePointsFor l.circuit c.args.points.now) (sym c.loop-word.invariant.load) c.requires.points
 
-pub see_cycle-requires-clause-windows : goal.see_cycle-requires-clause-windows
-see_cycle-requires-clause-windows g c =
+pub see_word-requires-clause-windows : goal.see_word-requires-clause-windows
+see_word-requires-clause-windows g c =
     let i = c.loop-word.word in
     let ws = c.loop-word.windows in
     let none : Watches = windows_at [] 0 in
@@ -31,64 +33,83 @@ loop-word-preserved g c =
     let ws = c.loop-word.windows in
     let ns = c.loop-word.noticed in
     let inv = c.loop-word.invariant in
+    let decided = c.args.decided.now in
+    let held_force = c.loop-word.lanes.in_force in
+    let new_force = c.see_word.new.lanes.in_force in
     let points = c.args.points.now in
     let load = load_of c.args.lanes.now in
     let held = load_of c.loop-word.lanes in
-    let new = c.see_cycle.new in
+    let new = c.see_word.new in
     let none : Watches = windows_at [] 0 in
     let inside : i < length ws = omega (arith, c.loop-word-test.true, c.loop-word.auto.windows, c.requires.windows) in
     let also : i < length ns = omega (arith, c.loop-word-test.true, c.loop-word.auto.noticed, c.requires.noticed) in
     let word_of : i < g.W.Word.words = omega (arith, c.loop-word-test.true, c.words-word-end.ensures.count) in
     let old : get_or ws i c.index-windows-at.result ≡ windows_at ws i = get_or_default ws i c.index-windows-at.result none inside in
     let made : AreMadeFor points new.windows =
-    c.see_cycle.ensures.keeps.intervals ∙ subst (λ (w : Watches). AreMadeFor points w) (sym old) (inv.made i inside)
-    ∙ ap (λ f. map (interval_of f) points.goals) (sym c.see_cycle.ensures.keeps.ftti) in
+    c.see_word.ensures.keeps.intervals ∙ subst (λ (w : Watches). AreMadeFor points w) (sym old) (inv.made i inside)
+    ∙ ap (λ f. map (interval_of f) points.goals) (sym c.see_word.ensures.keeps.ftti) in
     record {
-      load = c.drop_more.ensures.load ∙ inv.load;
-      cycles = c.drop_more.ensures.cycles ∙ inv.cycles;
+      load = c.see_word.ensures.load ∙ inv.load;
+      cycles = c.see_word.ensures.cycles ∙ inv.cycles;
       made = λ word lt.
           each_set_one (λ j w. AreMadeFor points w) ws i new.windows none inside made word (λ apart. inv.made word (subst (λ n. word < n) (length-set ws i new.windows) lt));
       seen = λ run faults t kind lt at row followed seen.
           let before = inv.seen run faults t kind lt at row followed seen in
-          let own : HaveSeen held.circuit points run (in_lane faults i) (t + 1) new.windows new.noticed =
-          c.see_cycle.ensures.seen run (in_lane faults i) t kind lt before.0
-          (subst (λ (l : Load). IsGoldenRow l.circuit run.vectors t c.args.row.now) (sym inv.load) row)
-          (before.1 i word_of)
-          (subst (λ (l : Load). HaveSeen l.circuit points run (in_lane faults i) t (get_or ws i c.index-windows-at.result) (noticed_at ns i)) (sym inv.load)
-          (subst (λ (w : Watches). HaveSeen load.circuit points run (in_lane faults i) t w (noticed_at ns i)) (sym old) (before.3 i (omega arith) inside))) in
-          let here : HaveSeen load.circuit points run (in_lane faults i) (t + 1) new.windows new.noticed =
-          subst (λ (l : Load). HaveSeen l.circuit points run (in_lane faults i) (t + 1) new.windows new.noticed) inv.load own in (
-            c.drop_more.ensures.after (take (t + 1) run.vectors) before.0,
-            λ word within k lane quiet. elim (cases_eq word i) as (λ _. in_lane c.drop_more.new.lanes.in_force word k ≡ in_lane faults word k) [
-              | inl same ↦
-                  (let at_i : bit (noticed_at (set ns i new.noticed) i) k ≡ false = ap (λ j. bit (noticed_at (set ns i new.noticed) j) k) (sym same) ∙ quiet in
-                  let now : bit new.noticed k ≡ false = ap (λ n. bit n k) (sym (get_or-set_same ns i new.noticed 0 also)) ∙ at_i in
-                  c.drop_more.ensures.others word k within lane (inr at_i)
-                  ∙ before.1 word within k lane (ap (λ j. bit (noticed_at ns j) k) same ∙ c.see_cycle.ensures.grows k now))
-              | inr apart ↦
-                  c.drop_more.ensures.others word k within lane (inl apart)
-                  ∙ before.1 word within k lane (ap (λ n. bit n k) (sym (get_or-set_other ns i word new.noticed 0 apart)) ∙ quiet)
-            ],
+          let known = known_at decided i in
+          let both = λ (known n : ℕ) (force : List (List (Option Fault))) (net : Circuit) (j : ℕ) (w : Watches) (m : ℕ).
+          HaveSeen net points run (in_lane faults j) known n w m × AreFollowed net points w.ftti run (in_lane faults j) known n force j in
+          let waits : both known t held_force load.circuit i (get_or ws i c.index-windows-at.result) (noticed_at ns i) =
+          subst (λ (w : Watches). both known t held_force load.circuit i w (noticed_at ns i)) (sym old) (before.2 i (omega arith) inside) in
+          let first : both known t held_force held.circuit i (get_or ws i c.index-windows-at.result) (noticed_at ns i) =
+          subst (λ (l : Load). both known t held_force l.circuit i (get_or ws i c.index-windows-at.result) (noticed_at ns i)) (sym inv.load) waits in
+          let now : both known (t + 1) new_force held.circuit i new.windows new.noticed =
+          c.see_word.ensures.seen run (in_lane faults i) t kind lt before.0
+          (subst (λ (l : Load). IsGoldenRow l.circuit run.vectors t c.args.row.now) (sym inv.load) row) first.1 first.0 in
+          let here : both known (t + 1) new_force load.circuit i new.windows new.noticed =
+          subst (λ (l : Load). both known (t + 1) new_force l.circuit i new.windows new.noticed) inv.load now in
+          let others : (j n : ℕ) → j ≢ i → j < g.W.Word.words → (w : Watches) (m : ℕ) → both (known_at decided j) n held_force load.circuit j w m → both (known_at decided j) n new_force load.circuit j w m =
+          λ j n apart less w m is.
+          (is.0, followed_alike load.circuit points w.ftti run (in_lane faults j) (known_at decided j) n j held_force new_force (λ k lane. c.see_word.ensures.others j k less lane apart) is.1) in (
+            c.see_word.ensures.after (take (t + 1) run.vectors) before.0,
             λ word less.
-                each_set (λ j w n. HaveSeen load.circuit points run (in_lane faults j) (t + 1) w n) ws ns i new.windows none new.noticed 0 inside also here word
-                (λ apart. let early : word < i = omega (arith, apart, less) in before.2 word early),
+                each_set (λ j w m. both (known_at decided j) (t + 1) new_force load.circuit j w m) ws ns i new.windows none new.noticed 0 inside also here word
+                (λ apart.
+                let early : word < i = omega (arith, apart, less) in
+                others word (t + 1) apart (omega (arith, early, word_of)) (windows_at ws word) (noticed_at ns word) (before.1 word early)),
             λ word le within.
                 let apart : word ≢ i = omega (arith, le) in
-                each_set (λ j w n. j ≢ i → HaveSeen load.circuit points run (in_lane faults j) t w n) ws ns i new.windows none new.noticed 0 inside also
+                let less : word < length ws = subst (λ n. word < n) (length-set ws i new.windows) within in
+                each_set (λ j w m. j ≢ i → both (known_at decided j) t new_force load.circuit j w m) ws ns i new.windows none new.noticed 0 inside also
                 (λ same. absurd (same refl)) word
-                (λ other away. before.3 word (omega (arith, le)) (subst (λ n. word < n) (length-set ws i new.windows) within)) apart,
+                (λ other away.
+                others word t away (omega (arith, less, c.loop-word.auto.windows, c.requires.windows)) (windows_at ws word) (noticed_at ns word) (before.2 word (omega (arith, le)) less)) apart,
           );
       ftti = λ word.
           each_set_one (λ j w. w.ftti ≡ (windows_at c.args.windows.now j).ftti) ws i new.windows none inside
-          (c.see_cycle.ensures.keeps.ftti ∙ ap (λ (w : Watches). w.ftti) old ∙ inv.ftti i) word (λ apart. inv.ftti word);
+          (c.see_word.ensures.keeps.ftti ∙ ap (λ (w : Watches). w.ftti) old ∙ inv.ftti i) word (λ apart. inv.ftti word);
     }
 
 pub returns-clause-seen : goal.returns-clause-seen
 returns-clause-seen g c = λ run faults t kind lt at row followed seen.
     let all = c.loop-word.invariant.seen run faults t kind lt at row followed seen in (
       all.0,
-      all.1,
+      λ word within.
+          let before : word < c.loop-word.word = omega (arith, within, c.loop-word-test.false, c.words-word-end.ensures.count) in
+          (all.1 word before).1,
       λ word within.
           let before : word < c.loop-word.word = omega (arith, within, c.loop-word-test.false, c.words-word-end.ensures.count, c.loop-word.auto.windows, c.requires.windows) in
-          all.2 word before,
+          (all.1 word before).0,
     )
+
+pub loop-word-init : goal.loop-word-init
+loop-word-init g c = record {
+  load = refl;
+  cycles = refl;
+  made = c.requires.made;
+  seen = λ run faults t kind lt at row followed seen. (
+    at,
+    λ word less. absurd (omega (arith, less)),
+    λ word le within. (seen word within, followed word (omega (arith, within, c.requires.windows))),
+  );
+  ftti = λ word. refl;
+}

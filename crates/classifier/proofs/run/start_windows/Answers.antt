@@ -4,7 +4,7 @@ use Rattle.alarm_points.specs.Interval.{interval_of}
 use Rattle.alarm_points.specs.Watch.{AreMadeFor, Watches}
 use Rattle.classifier.specs.Load.{in_lane}
 use Rattle.alarm_points.specs.FourWatches.{windows_at}
-use Rattle.classifier.specs.Seen.{HaveSeen}
+use Rattle.classifier.specs.Seen.{HaveSeen, known_at}
 use Rattle.classifier.proofs.EachWord.{each_set, each_set_one}
 use Rattle.classifier.proofs.Views.{unseen}
 use Rattle.classifier.proofs.run.start_windows.Goals as goal
@@ -28,10 +28,10 @@ loop-word-preserved c =
     record {
       made = λ word lt.
           each_set_one (λ j w. AreMadeFor points w) ws i new none inside made word (λ apart. inv.made word (subst (λ n. word < n) (length-set ws i new) lt));
-      seen = λ circuit run faults word lt.
-          each_set (λ j w n. HaveSeen circuit points run (in_lane faults j) 0 w n) ws ns i new none silent silent inside also
-          (unseen circuit points run (in_lane faults i) new made c.start.ensures.start) word
-          (λ apart. let before : word < i = omega (arith, apart, lt) in inv.seen circuit run faults word before);
+      seen = λ circuit run faults decided word lt.
+          each_set (λ j w n. HaveSeen circuit points run (in_lane faults j) (known_at decided j) 0 w n) ws ns i new none silent silent inside also
+          (unseen circuit points run (in_lane faults i) (known_at decided i) new made c.start.ensures.start) word
+          (λ apart. let before : word < i = omega (arith, apart, lt) in inv.seen circuit run faults decided word before);
       ftti = λ word.
           each_set_one (λ j w. w.ftti ≡ (windows_at c.args.windows.now j).ftti) ws i new none inside
           (c.start.ensures.keeps.ftti ∙ ap (λ (w : Watches). w.ftti) old ∙ inv.ftti i) word (λ apart. inv.ftti word);

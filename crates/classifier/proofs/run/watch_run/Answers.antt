@@ -10,8 +10,9 @@ use Rattle.workload.specs.Runs.{all_cycles, cycles_of, run_at}
 use Rattle.alarm_points.specs.declared.Points.{Points}
 use Rattle.alarm_points.specs.FourWatches.{windows_at}
 use Rattle.classifier.specs.Load.{Load, in_lane, lane_faults, load_of}
-use Rattle.classifier.specs.Planes.{outcome_at}
-use Rattle.classifier.specs.Seen.{HaveAllSeen, HaveSeen, is_decided, noticed_at}
+use Rattle.workload.specs.declared.run.Kind.{Kind}
+use Rattle.classifier.specs.OutOfReach.{decided_at}
+use Rattle.classifier.specs.Seen.{Begins, HaveAllSeen, HaveSeen, known_at, noticed_at}
 use Rattle.classifier.proofs.Stillness.{over_still}
 use Rattle.classifier.proofs.Kept.{load_kept}
 use Rattle.classifier.proofs.run.watch_run.Goals as goal
@@ -29,15 +30,15 @@ clock-init g c =
     let run = run_at c.args.bench.now.runs c.args.run in
     let faults = c.drop_decided.new.lanes.in_force in
     let none =
-    subst (λ (ps : Points). HaveAllSeen net ps run faults 0 c.start_windows.new.windows c.start_windows.new.noticed) c.points.ensures.points
-    (c.start_windows.ensures.seen net run faults) in
+    subst (λ (ps : Points). HaveAllSeen net ps run faults c.args.decided.now 0 c.start_windows.new.windows c.start_windows.new.noticed) c.points.ensures.points
+    (c.start_windows.ensures.seen net run faults c.args.decided.now) in
     record {
       load = refl;
       cycles = c.drop_decided.ensures.cycles ∙ c.start.ensures.cycle;
       after = c.drop_decided.ensures.after [] c.start.ensures.start;
       made = λ word lt. (none word lt).made;
       seen = none;
-      followed = λ word lt k lane quiet. refl;
+      followed = λ word lt. record { follow = λ k lane stays. refl; deaf = λ k lane deaf. deaf };
       ftti = λ word. refl;
       within = omega arith;
       cost = omega arith;
@@ -74,11 +75,13 @@ returns-clause-seen g c =
     let same : c.clock.lanes.circuit ≡ net =
     ap (λ (l : Load). l.circuit) (inv.load ∙ c.drop_decided.ensures.load ∙ (load_kept c.args.lanes.now c.start.new.self c.start.ensures.keeps)) ∙ c.requires.made.circuit in (
       faults,
-      λ word k lt lane free.
-          c.drop_decided.ensures.others word k lt lane (ap (λ kind. is_decided kind (outcome_at c.args.outcomes.now word) k) c.kind.ensures ∙ free)
-          ∙ ap (λ (fs : List (List (Option Fault))). in_lane fs word k) c.start.ensures.in_force ∙ ap (λ (l : Load). lane_faults l word k) (load_kept c.args.lanes.now c.start.new.self c.start.ensures.keeps),
+      λ word k lt lane.
+          subst (λ (kind : Kind). Begins kind (decided_at c.args.decided.now word) k (lane_faults load word k) (in_lane faults word k)) c.kind.ensures
+          (subst (λ fs. Begins c.kind.result (decided_at c.args.decided.now word) k fs (in_lane faults word k))
+          (ap (λ (fs : List (List (Option Fault))). in_lane fs word k) c.start.ensures.in_force ∙ ap (λ (l : Load). lane_faults l word k) (load_kept c.args.lanes.now c.start.new.self c.start.ensures.keeps))
+          (c.drop_decided.ensures.begin word k lt lane)),
       λ word lt.
-          let own : HaveSeen net points run (in_lane faults word) t (windows_at c.clock.windows word) (noticed_at c.clock.noticed word) = inv.seen word lt in
+          let own : HaveSeen net points run (in_lane faults word) (known_at c.args.decided.now word) t (windows_at c.clock.windows word) (noticed_at c.clock.noticed word) = inv.seen word lt in
           let in_words : word < g.W.Word.words = omega (arith, lt, c.clock.auto.windows, c.start_windows.auto.windows, c.requires.windows) in
           record {
             n = t;
@@ -88,7 +91,7 @@ returns-clause-seen g c =
                 over_still net points run (in_lane faults word k) u c.points.ensures.fit
                 (λ n within.
                 let vectors = run.vectors in
-                let follows : in_lane c.clock.lanes.in_force word k ≡ in_lane faults word k = inv.followed word in_words k lane (own.noticed_is k lane ∙ none) in
+                let follows : in_lane c.clock.lanes.in_force word k ≡ in_lane faults word k = (inv.followed word in_words).follow k lane none in
                 let over : trace_differs c.clock.lanes.circuit (in_lane c.clock.lanes.in_force word k) (take t vectors ++ drop t vectors) u n ≡ false =
                 c.goes_on.ensures.over (take t vectors) word k c.clock-test.false (omega (arith, from, late, c.cycles.ensures.count)) inv.after in_words lane (drop t vectors) u n
                 (omega (arith, length-take-le t vectors inv.within, from)) (omega (arith, late, few)) (subst (λ (m : Circuit). n < length m.drivers) (sym same) within) in

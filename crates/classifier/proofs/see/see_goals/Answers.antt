@@ -38,16 +38,16 @@ loop-g-preserved o c =
         intervals = c.see.ensures.keeps.intervals ∙ inv.keeps.intervals;
       };
       count = same_count c.loop-g.windows new c.see.ensures.keeps ∙ inv.count;
-      done = λ points run faults t h within lt at follows seen.
+      done = λ points ftti run faults known t h within lt at follows seen.
           below_more (λ (m : ℕ).
-          HasSeen net points run faults (goal_at goals m) t (window_at c.args.windows.now m)
-          → HasSeen net points run faults (goal_at goals m) (t + 1) (window_at new m)) g
+          HasSeen net points ftti run faults known (goal_at goals m) t (window_at c.args.windows.now m)
+          → HasSeen net points ftti run faults known (goal_at goals m) (t + 1) (window_at new m)) g
           (λ m early before.
           let other : m ≢ g = omega (arith, early) in
-          subst (HasSeen net points run faults (goal_at goals m) (t + 1)) (sym (c.see.ensures.others m other)) (inv.done points run faults t m within early at follows before))
+          subst (HasSeen net points ftti run faults known (goal_at goals m) (t + 1)) (sym (c.see.ensures.others m other)) (inv.done points ftti run faults known t m within early at follows before))
           (λ before.
-          sees_more net points run faults (goal_at goals g) t (window_at c.loop-g.windows g) (window_at new g) c.differing-differs.result c.args.raised
-          (subst (HasSeen net points run faults (goal_at goals g) t) (sym (inv.left g (omega arith))) before)
+          sees_more net points ftti run faults known (goal_at goals g) t (window_at c.loop-g.windows g) (window_at new g) c.differing-differs.result c.args.raised
+          (subst (HasSeen net points ftti run faults known (goal_at goals g) t) (sym (inv.left g (omega arith))) before)
           (λ k lane none.
           c.differing-differs.ensures run t k within at lane
           ∙ ap (λ (fs : List Fault). list_any (λ (n : NetId). not (same_bit (with_faults net fs run t n) (golden net run t n))) c.as_slice.result.now) (follows k lane none).0

@@ -11,6 +11,6 @@ loop-preserved c =
     let old = c.loop.workers.items in
     let worker = c.in_ok-new.field-0 in
     record {
-      equipped = rw now (All-push (IsEquippedFor c.args.plan.now c.args.order.now c.args.planes) old worker i.equipped c.in_ok-new.ensures);
+      equipped = rw now (All-push (IsEquippedFor c.args.plan.now c.args.bench.now c.args.planes) old worker i.equipped c.in_ok-new.ensures);
       count = ap length now ∙ length_push old worker ∙ omega (arith, i.count);
     }

@@ -10,8 +10,7 @@ use Rattle.pair_campaign.proofs.worker.keep_planes.Given as goal
 -- the planes of the words so far stand at their places, and a plane that was right is right
 abbrev pub invariant-loop-word : goal.invariant-loop-word
 invariant-loop-word l = record {
-  lanes : l.worker.lanes ≡ l.initial.worker.lanes;
-  windows : l.worker.windows ≡ l.initial.worker.windows;
+  simulator : l.worker.simulator ≡ l.initial.worker.simulator;
   room : length l.worker.planes.items ≡ batches_for (pair_count l.pairs);
   right : (p : Analysis) (q : ℕ) → ShowPlanes p l.pairs l.first l.apart l.found
       → slice_index l.initial.worker.planes.items q ≡ pair_plane p l.pairs q → slice_index l.worker.planes.items q ≡ pair_plane p l.pairs q;

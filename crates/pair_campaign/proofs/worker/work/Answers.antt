@@ -1,16 +1,12 @@
-use Rattle.std.proofs.Common.{◌≡◌, ◌<◌, ◌≤◌, ◌+◌, ◌*◌, ◌^◌, ℕ, List, inl, inr, sym, subst, arith}
+use Rattle.std.proofs.Common.{◌≡◌, ◌<◌, ◌≤◌, ◌∙◌, ◌+◌, ◌*◌, ◌^◌, ℕ, List, inl, inr, sym, subst, arith}
 use Rattle.std.specs.Prelude.{slice_index}
 use Rattle.std.specs.Int.{div_ceil}
 use Rattle.std.proofs.Math.Nat.{add-mul}
 use Rattle.std.proofs.lemmas.Bool.{cases_lt}
-use Rattle.alarm_points.specs.FourWatches.{FourWatches}
 use Rattle.campaign_plan.specs.Analysis.{Analysis}
 use Rattle.fault_list.specs.Faults.{batches_for}
-use Rattle.golden_difference.specs.Lanes.{Lanes}
-use Rattle.lane_words.specs.declared.quad.Quad.{Quad}
 use Rattle.pair_list.specs.Chosen.{Chosen, pair_count}
 use Rattle.pair_campaign.specs.PairPlanes.{pair_plane}
-use Rattle.classifier.specs.Tools.{AreToolsFor}
 use Rattle.pair_campaign.proofs.Rounds.{begins_within, ends_behind, in_round}
 use Rattle.pair_campaign.proofs.worker.work.Goals as goal
 
@@ -52,9 +48,7 @@ loop-round-preserved c =
     let next : (round + 1) * (4 * workers) ≡ round * (4 * workers) + 1 * (4 * workers) = add-mul round 1 (4 * workers) in
     record {
       equipped = record {
-        tools =
-            subst (λ (lanes : Lanes Quad). AreToolsFor p c.args.bench.now.order lanes c.keep_planes.new.worker.windows) (sym kept.lanes)
-            (subst (λ (windows : FourWatches). AreToolsFor p c.args.bench.now.order c.outcomes_of-found.new.lanes windows) (sym kept.windows) c.outcomes_of-found.ensures.tools);
+        simulator = kept.simulator ∙ c.outcomes_of-found.ensures.same ∙ c.loop-round.invariant.equipped.simulator;
         room = kept.room;
       };
       own = λ q lt mine early.

@@ -1,4 +1,0 @@
-use Rattle.campaign_workers.proofs.outcome.simulated_planes.Given as goal
-
-abbrev pub ghosts-counted_outcomes : goal.ghosts-counted_outcomes
-ghosts-counted_outcomes a = record { name = a.blank.name; parts = a.blank.parts }

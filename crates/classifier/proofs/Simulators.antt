@@ -1,0 +1,31 @@
+-- What a simulator holds, by what it was made for.
+use Rattle.std.proofs.Common.{◌≡◌, ap, sym, subst, ◌∙◌}
+use Rattle.alarm_points.specs.declared.Points.{Points}
+use Rattle.alarm_points.specs.FourWatches.{AreFourMadeFor, FourWatches}
+use Rattle.golden_difference.specs.Lanes.{IsMadeFor, Lanes}
+use Rattle.lane_words.specs.declared.quad.Quad.{Quad}
+use Rattle.classifier.specs.Simulator.{Simulator, simulator_of}
+use Rattle.classifier.specs.Testbench.{Testbench}
+
+-- a simulator with these lanes and windows
+abbrev pub holding : Lanes Quad → Points → FourWatches → Simulator
+holding lanes points windows = record { circuit = lanes.circuit; order = lanes.order; points = points; ftti = windows.ftti }
+
+module _ (bench : Testbench) (s : Simulator) (lanes : Lanes Quad) (points : Points) (windows : FourWatches)
+    (is : holding lanes points windows ≡ s) (made : s ≡ simulator_of bench s.ftti) where
+  pub lanes_fit : IsMadeFor bench.circuit bench.order lanes
+  lanes_fit = record { circuit = ap (λ (t : Simulator). t.circuit) (is ∙ made); order = ap (λ (t : Simulator). t.order) (is ∙ made) }
+
+  points_fit : points ≡ bench.points
+  points_fit = ap (λ (t : Simulator). t.points) (is ∙ made)
+
+  pub windows_fit : AreFourMadeFor points windows → AreFourMadeFor bench.points windows
+  windows_fit = subst (λ x. AreFourMadeFor x windows) points_fit
+
+  pub windows_kept : (new : FourWatches) → AreFourMadeFor bench.points new → AreFourMadeFor points new
+  windows_kept new = subst (λ x. AreFourMadeFor x new) (sym points_fit)
+
+  -- with other lanes and windows for the testbench it is the same
+  pub same_as_before : (later : Lanes Quad) (new : FourWatches) → IsMadeFor bench.circuit bench.order later → new.ftti ≡ windows.ftti → holding later points new ≡ s
+  same_as_before later new fit interval =
+      (λ i. record { circuit = fit.circuit i; order = fit.order i; points = points_fit i; ftti = (interval ∙ ap (λ (t : Simulator). t.ftti) is) i }) ∙ sym made
