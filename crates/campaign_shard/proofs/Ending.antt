@@ -32,7 +32,7 @@ use Rattle.campaign_run.proofs.Finding.{have_true}
 use Rattle.campaign_run.proofs.Reporting.{are_part, text_result}
 use Rattle.campaign_run.proofs.Leaving.{left_torn, left_header}
 use Rattle.campaign_run.proofs.Ending.{starts as campaign_starts}
-use Rattle.command_text.specs.Texts.{shard_line}
+use Rattle.refusals.specs.Texts.{shard_line}
 use Rattle.result_merge.specs.Parts.{is_of_part, HasPart}
 use Rattle.campaign_shard.specs.PartSeats.{IsPartDone}
 use Rattle.campaign_shard.specs.RanPart.{PartCampaign, IsPartTold, EndsPartAs, HasRunPart}

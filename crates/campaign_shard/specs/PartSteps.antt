@@ -2,10 +2,9 @@
 use Rattle.std.specs.Prelude.{◌≡◌, ◌⊎◌, ℕ, true}
 use Rattle.fm_shelf.specs.Shelf.{ShelfState}
 use Rattle.fm_base.specs.Names.{Bytes}
-use Rattle.campaign_plan.specs.Analysis.{Analysis, all_faults}
+use Rattle.campaign_plan.specs.Analysis.{Analysis}
 use Rattle.claim_counter.specs.Views.{starting_view}
 use Rattle.claim_counter.specs.Seats.{Counter, Seated}
-use Rattle.command_text.specs.Simulated.{Simulated}
 use Rattle.campaign_board.specs.Boards.{Start}
 use Rattle.campaign_board.specs.Kept.{BoardState, IsHeaderTorn}
 use Rattle.campaign_run.specs.declared.run.Text.TheVariants.{Report}
@@ -21,10 +20,6 @@ whole_campaign name own p = record { name = name; own = own; p = p; k = no_kept_
 -- what the board of a part begins with: the same as that of the whole campaign
 abbrev pub part_origin : (name own : Bytes) → Analysis → ShelfState → Start
 part_origin name own p shelf = origin_of (whole_campaign name own p) shelf
-
--- what a plan's batches are simulated with
-abbrev pub simulated : Analysis → Simulated
-simulated p = record { circuit = p.circuit; faults = all_faults p; runs = p.runs; points = p.points; ftti = p.settings.ftti }
 
 -- the one seat of a table; it holds the turn, with no board behind it yet
 pub record IsOpening (c : Counter) (p : Seated) : Type 0 where

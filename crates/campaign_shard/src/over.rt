@@ -7,27 +7,28 @@ ghost use Rattle.campaign_board.specs.Kept.{IsBoard, IsStart};
 ghost use Rattle.campaign_board.specs.Missing.{batches_missing};
 ghost use Rattle.campaign_workers.specs.Truth.{HasTrueEntries};
 ghost use Rattle.campaign_run.specs.Steps.{IsNewBoard, TellsEnd};
-ghost use Rattle.command_text.specs.Texts.{shard_line};
+ghost use Rattle.classifier.specs.Simulated.{simulated_of};
+ghost use Rattle.refusals.specs.Texts.{shard_line};
 ghost use Rattle.campaign_shard.specs.RanPart.{HasRunPart};
-ghost use Rattle.campaign_shard.specs.PartSteps.{part_origin, simulated, HasPartWorked, IsOpening};
+ghost use Rattle.campaign_shard.specs.PartSteps.{part_origin, HasPartWorked, IsOpening};
 
 use crate::part::{PartCampaign, Shard};
 use crate::seat::work_part;
 use campaign_board::{BatchList, Board, NoBoard, Origin, Seat, Shared, missing_batches};
 use campaign_plan::Plan;
 use campaign_run::{End, Ran};
-use command_text::share_text::write_shard;
-use command_text::simulator::Simulator;
+use classifier::BatchSimulator;
 use fm_base::{Line, Seq};
 use fm_shelf::shelf::{Failed, Shelf, Sink};
 use netlist_levels::Order;
+use refusals::share_text::write_shard;
 use std::alloc::{AllocError, Global};
 use std::sync::Wait;
 
 // All that a part needs but its board: what simulates its batches, the shared table, and the one seat at it.
 #[derive(Drop)]
 struct Workplace<'a, F: Shelf + Drop, N: Origin> {
-    simulator: Simulator<'a>,
+    simulator: BatchSimulator<'a>,
     shared: Shared<F, N>,
     seat: Seat<F, N>,
 }
@@ -57,18 +58,17 @@ fn make_workplace<'a, F: Shelf + Drop, N: Origin>(
     alloc: Global,
     plan: &'a Plan,
     order: &'a Order,
+    parts: u32,
     board: &Board<F, N>,
 ) -> Result<Workplace<'a, F, N>, AllocError>
     requires order { IsOrder plan.now.circuit order.now }
     requires entries { length N.start.entries ≡ batch_count plan.now }
     requires rows { board.now.rows ≡ N.start.rows }
-    ensures simulator { IfOk result (λ w. w.simulator ≡ simulated plan.now) }
+    ensures simulator { IfOk result (λ w. w.simulator ≡ simulated_of plan.now) }
     ensures seat { IfOk result (λ w. IsOpening w.shared w.seat) }
 {
-    let (net, work, points) = (plan.net(), plan.work(), plan.points());
-    let ftti = plan.settings().ftti;
     let todo = batches_to_do(alloc, plan, board)?;
-    let simulator = Simulator::new(alloc, net, order, plan.faults(), work, points, ftti)?;
+    let simulator = BatchSimulator::of_plan(alloc, plan, order, parts)?;
     match Shared::table(alloc, board, todo) {
         Ok((shared, seat)) => Ok(Workplace {
             simulator,
@@ -87,6 +87,7 @@ fn prepare<'a, F: Shelf + Drop, N: Origin>(
     alloc: Global,
     plan: &'a Plan,
     order: &'a Order,
+    parts: u32,
     batches: u32,
     shelf: F,
     name: &str,
@@ -95,12 +96,12 @@ fn prepare<'a, F: Shelf + Drop, N: Origin>(
     requires batches { batches ≡ batch_count plan.now }
     requires start { IsStart N.start name.now [] batches (F.seen shelf) }
     ensures board { IfOk result (λ r. IsNewBoard N.start shelf r.board) }
-    ensures simulator { IfOk result (λ r. r.place.simulator ≡ simulated plan.now) }
+    ensures simulator { IfOk result (λ r. r.place.simulator ≡ simulated_of plan.now) }
     ensures seat { IfOk result (λ r. IsOpening r.place.shared r.place.seat) }
     ensures err { IfErr result (λ e. e.shelf ≡ shelf) }
 {
     let board = Board::new(alloc, shelf, name, batches, Seq::new(alloc))?;
-    match make_workplace(alloc, plan, order, &board) {
+    match make_workplace(alloc, plan, order, parts, &board) {
         Ok(place) => Ok(Prepared { board, place }),
         Err(AllocError) => Err(NoBoard {
             shelf: board.into_shelf(),
@@ -119,7 +120,7 @@ fn worked<R: Wait, F: Shelf + Drop, N: Origin>(
     requires parts { 0 < shard.parts }
     requires own { own.now ≡ N.start.header }
     requires fresh { IsNewBoard N.start prepared.board.shelf prepared.board × (N.start.rows ≡ []) }
-    requires simulator { prepared.place.simulator ≡ simulated plan.now }
+    requires simulator { prepared.place.simulator ≡ simulated_of plan.now }
     requires seat { IsOpening prepared.place.shared prepared.place.seat }
     requires entries { HasTrueEntries plan.now N.start × (length N.start.entries ≡ batch_count plan.now) }
     ensures { HasPartWorked N.start shard.part shard.parts (F.seen prepared.entry.board.shelf) (F.seen result.shelf) result }
@@ -189,7 +190,7 @@ pub(crate) fn run_over<R: Wait, F: Shelf + Drop, N: Origin, O: Sink>(
         shard,
     } = campaign;
     let batches = plan.batches();
-    match prepare::<F, N>(alloc, plan, order, batches, shelf, name) {
+    match prepare::<F, N>(alloc, plan, order, shard.parts, batches, shelf, name) {
         Ok(prepared) => {
             let board = worked(rt, plan, own, shard, prepared);
             tell(shard, board, out)

@@ -1,14 +1,15 @@
 // The one seat of a part.
 ghost use Rattle.std.specs.Prelude.{◌≡◌, ◌<◌, length};
-ghost use Rattle.campaign_plan.specs.Analysis.{all_faults, batch_count};
+ghost use Rattle.campaign_plan.specs.Analysis.{batch_count};
 ghost use Rattle.campaign_plan.specs.Batches.{true_planes};
 ghost use Rattle.campaign_workers.specs.Truth.{true_entry, HasTrueEntries};
+ghost use Rattle.classifier.specs.Simulated.{simulated_of};
 ghost use Rattle.result_merge.specs.Parts.{is_of_part};
 ghost use Rattle.campaign_shard.specs.PartSeats.{IsAtPart, HasWorkedPart};
 
 use campaign_board::{Entry, Origin, Posted, Seat, Shared};
 use campaign_plan::{Outcome, Plan, own_sums};
-use command_text::simulator::Simulator;
+use classifier::BatchSimulator;
 use fm_shelf::shelf::Shelf;
 use std::sync::Wait;
 
@@ -38,7 +39,7 @@ fn entry_with(plan: &Plan, batch: u32, planes: Outcome) -> Entry
 pub(crate) fn work_part<R: Wait, F: Shelf + Drop, N: Origin>(
     rt: &R,
     plan: &Plan,
-    simulator: &mut Simulator<'_>,
+    simulator: &mut BatchSimulator<'_>,
     shared: &Shared<F, N>,
     seat: &mut Seat<F, N>,
     part: u32,
@@ -46,7 +47,7 @@ pub(crate) fn work_part<R: Wait, F: Shelf + Drop, N: Origin>(
 )
     requires parts { 0 < parts }
     requires seat { IsAtPart shared.now N.start part parts seat.old × (seat.old.view.nones ≡ 0) }
-    requires simulator { (record { circuit = plan.now.circuit; faults = all_faults plan.now; runs = plan.now.runs; points = plan.now.points; ftti = plan.now.settings.ftti }) ≡ simulator.old }
+    requires simulator { simulator.old ≡ simulated_of plan.now }
     requires entries { HasTrueEntries plan.now N.start × (length N.start.entries ≡ batch_count plan.now) }
     ensures { HasWorkedPart shared.now N.start part parts seat.new }
 {
@@ -55,7 +56,7 @@ pub(crate) fn work_part<R: Wait, F: Shelf + Drop, N: Origin>(
             return;
         };
         if is_own(batch, part, parts) {
-            let entry = entry_with(plan, batch, simulator.outcome(batch));
+            let entry = entry_with(plan, batch, simulator.batch(batch));
             if let Posted::Stopped = shared.post(rt, seat, &entry) {
                 return;
             }

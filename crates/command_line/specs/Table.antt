@@ -3,6 +3,8 @@ use Rattle.std.specs.Prelude.{ℕ, List, [], ◌∷◌, ◌++◌, fold, map, cod
 use Rattle.clap.specs.Simple.{on_top}
 use Rattle.clap.specs.Words.{App, Rule, Text, new_app, new_rule, with_rule, with_subcommand}
 use Rattle.clap.specs.declared.builder.value_parser.ValueParser.TheVariants as vp
+use Rattle.command_line.specs.declared.command.Task.{Task}
+use Rattle.command_line.specs.declared.command.Task.TheVariants as task
 
 -- the commands: the word of each, and the arguments behind it, in this order
 abbrev pub commands : List (Text × List Rule)
@@ -32,6 +34,22 @@ commands =
     ∷ (codes "faults", plan)
     ∷ (codes "progress", plan ++ asil)
     ∷ []
+
+-- the word of a command
+abbrev pub word_of : Task → Text
+word_of task.Classes = codes "classes"
+word_of task.Check = codes "check"
+word_of (task.Run workers) = codes "run"
+word_of (task.Resume workers) = codes "resume"
+word_of task.Audit = codes "audit"
+word_of (task.Gen stages workers) = codes "gen"
+word_of task.Report = codes "report"
+word_of (task.Shard part parts) = codes "shard"
+word_of task.Merge = codes "merge"
+word_of (task.Pairs workers) = codes "pairs"
+word_of task.Parts = codes "parts"
+word_of task.Faults = codes "faults"
+word_of task.Progress = codes "progress"
 
 -- the program, of which one command must be named
 abbrev pub fmeda_app : App

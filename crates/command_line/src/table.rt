@@ -1,12 +1,16 @@
 // The table of commands.
 ghost use Rattle.std.specs.Prelude.{◌≡◌, ◌∷◌, [], IfOk, codes, false};
-ghost use Rattle.clap.specs.Words.{app_of, new_app, rule_of};
+ghost use Rattle.clap.specs.Words.{app_of, found_of, new_app, rows_of, rule_of};
 ghost use Rattle.clap.specs.declared.builder.command.Command.TheViews.{out-Command};
 ghost use Rattle.command_line.specs.OneMore.{HasCommandToo};
 ghost use Rattle.command_line.specs.TableSteps.{asil_rule, bounded, check_app, classes_app, faults_app, ftti_rule, gen_app, input_rules, list_rules, merge_app, option, pairs_app, parts_app, positional, program_with, progress_app, report_app, required_option, result_rules, shard_app, with_campaign, with_plan, with_rules, workers_rule};
 ghost use Rattle.command_line.specs.Table.{fmeda_app};
+ghost use Rattle.command_line.specs.Words.{HasNumber};
+ghost use Rattle.command_line.specs.WordsSteps.{Finds, IsTaskOf};
 
-use clap::{Arg, Command, value_parser};
+use crate::command::Task;
+use crate::entries::number_of;
+use clap::{Arg, ArgMatches, Command, value_parser};
 use std::alloc::{AllocError, Global};
 
 fn named_arg<'a>(alloc: Global, id: &'a str) -> Arg<'a>
@@ -253,4 +257,59 @@ pub(crate) fn fmeda_command<'a>(alloc: Global) -> Result<Command<'a>, AllocError
     let program = with_command(program, parts_command(alloc))?;
     let program = with_command(program, plan_command(alloc, "faults"))?;
     with_command(program, progress_command(alloc))
+}
+
+fn workers_of(matches: &ArgMatches) -> Option<u32>
+    ensures { Finds (HasNumber (rows_of (found_of matches.now)) [] (codes "workers") 1 32) result }
+{
+    number_of(matches, "workers", "", 1, 32)
+}
+
+// The part of a campaign, which is below the number of parts.
+fn shard_of(matches: &ArgMatches) -> Option<Task>
+    ensures { Finds (IsTaskOf (codes "shard") (rows_of (found_of matches.now))) result }
+{
+    let part = number_of(matches, "part", "", 0, 1023)?;
+    let parts = number_of(matches, "of", "", 1, 1024)?;
+    if part < parts {
+        Some(Task::Shard { part, parts })
+    } else {
+        None
+    }
+}
+
+fn gen_of(matches: &ArgMatches) -> Option<Task>
+    ensures { Finds (IsTaskOf (codes "gen") (rows_of (found_of matches.now))) result }
+{
+    let stages = number_of(matches, "stages", "", 1, 1000)?;
+    let workers = workers_of(matches)?;
+    Some(Task::Gen { stages, workers })
+}
+
+/// What the command of this word does, by the arguments behind it.
+pub(crate) fn task_of(word: &str, matches: &ArgMatches) -> Option<Task>
+    ensures { Finds (IsTaskOf word.now (rows_of (found_of matches.now))) result }
+{
+    match word {
+        "classes" => Some(Task::Classes),
+        "check" => Some(Task::Check),
+        "run" => Some(Task::Run {
+            workers: workers_of(matches)?,
+        }),
+        "resume" => Some(Task::Resume {
+            workers: workers_of(matches)?,
+        }),
+        "audit" => Some(Task::Audit),
+        "gen" => gen_of(matches),
+        "report" => Some(Task::Report),
+        "shard" => shard_of(matches),
+        "merge" => Some(Task::Merge),
+        "pairs" => Some(Task::Pairs {
+            workers: workers_of(matches)?,
+        }),
+        "parts" => Some(Task::Parts),
+        "faults" => Some(Task::Faults),
+        "progress" => Some(Task::Progress),
+        _ => None,
+    }
 }

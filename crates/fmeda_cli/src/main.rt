@@ -3,13 +3,13 @@
 
 ghost use Rattle.std.specs.Prelude.{◌≡◌, ◌≢◌, drop};
 ghost use Rattle.fm_shelf.specs.Sink.{Wrote};
-ghost use Rattle.command_text.specs.RefusalLines.{code_of};
+ghost use Rattle.refusals.specs.RefusalLines.{code_of};
 
-use command_text::status::{Status, WriteTo};
 use fm_shelf::real::{FileShelf, OutSink};
 use fm_shelf::shelf::Sink;
 use fmeda_top::top::fmeda;
 use paged_sink::Paged;
+use refusals::status::{Status, WriteTo};
 use std::process::ExitCode;
 use std::{env, io};
 use worker_gate::NoGate;

@@ -1,22 +1,44 @@
 -- Laws under the promises of a call.
-use Rattle.std.specs.Prelude.{◌≡◌, ◌⊎◌, ◌↔◌, List}
+use Rattle.std.specs.Prelude.{◌≡◌, ◌⊎◌, ◌↔◌, List, Option, None, Ok}
 use Rattle.std.specs.List.{AllByRecursion as ForEach}
 use Rattle.fm_base.specs.Names.{Bytes}
-use Rattle.fm_shelf.specs.Shelf.{ShelfState}
+use Rattle.fm_shelf.specs.Content.{Held}
+use Rattle.fm_shelf.specs.Shelf.{CountRose, ShelfState}
 use Rattle.fm_shelf.specs.Outside.{Outside}
-use Rattle.command_text.specs.declared.status.Status.{Status}
-use Rattle.command_text.specs.declared.status.Status.TheVariants as status
-use Rattle.command_line.specs.Commands.{Command}
+use Rattle.circuit.specs.declared.parts.NetId.{NetId}
+use Rattle.circuit.specs.Circuit.{Circuit}
+use Rattle.circuit.specs.Loop.{HasNoLoop}
+use Rattle.campaign_plan.specs.Analysis.{Analysis}
+use Rattle.campaign_plan.specs.Batches.{AreDistinct, AreTrue, true_planes}
+use Rattle.result_file.specs.declared.KeptRows.{KeptRows}
+use Rattle.result_file.specs.KeptRows.{kept_entries}
+use Rattle.fmeda_report.specs.Rows.{planes_in}
+use Rattle.pair_campaign.specs.PairText.{pairs_text}
+use Rattle.command_line.specs.declared.command.Kind.{Kind}
+use Rattle.command_line.specs.declared.command.Which.{Which}
+use Rattle.command_line.specs.declared.command.Which.TheVariants as which
+use Rattle.command_line.specs.Commands.{Command, files_of}
 use Rattle.command_line.specs.Words.{IsCommand, IsNoCommand}
-use Rattle.command_steps.specs.Files.{Files}
-use Rattle.command_steps.specs.Held.{AreRead, AreHeld, files_of}
-use Rattle.fmeda_top.specs.Promises.{CommandEnds, Promises}
+use Rattle.refusals.specs.declared.status.Status.{Status}
+use Rattle.refusals.specs.declared.status.Status.TheVariants as status
+use Rattle.command_reads.specs.declared.files.FileRead.TheVariants.{Failed}
+use Rattle.command_reads.specs.Files.{Reads, WereRead, given}
+use Rattle.command_reads.specs.FirstRefusal.{IsLoopAnswer, Judged, Observed, Rated, Planned, Begun, Merged, judged, pairs_refusal}
+use Rattle.fmeda_top.specs.Promises.{CommandEnds, Promises, RanOut}
+
+-- the circuit that is worked on
+abbrev pub circuit_in : Judged → Circuit
+circuit_in (Observed p) = p.circuit
+circuit_in (Planned p) = p.circuit
+circuit_in (Rated c table) = c
+circuit_in (Begun p k) = p.circuit
+circuit_in (Merged p first second both) = p.circuit
 
 -- OF THE COMMAND: who knows which command the words are has what is promised of it, or memory has run out
 abbrev pub AreOfTheCommand : Type 0
 AreOfTheCommand =
     (words : List Bytes) (ended : Status) (before after : Outside) → Promises words ended before after → (command : Command) → IsCommand words command
-    → CommandEnds command ended before after ⊎ (ended ≡ status.Memory)
+    → CommandEnds command ended before after ⊎ RanOut ended before after
 
 -- OF THE WORDS: Usage is the answer exactly where the words are no command, or memory has run out
 abbrev pub UsageIsOfTheWords : Type 0
@@ -24,8 +46,27 @@ UsageIsOfTheWords =
     (words : List Bytes) (ended : Status) (before after : Outside) → Promises words ended before after
     → ((ended ≡ status.Usage) ↔ IsNoCommand words) ⊎ (ended ≡ status.Memory)
 
--- OF WHAT IS KNOWN: where a shelf is known to hold these bytes of all files that a command reads, they are what was read
+-- OF WHAT IS KNOWN: where a file is known to hold these bytes, they are what was read of it, or a read of it has failed
 abbrev pub HeldIsRead : Type 0
 HeldIsRead =
-    (shelf : ShelfState) (command : Command) (read held : Files) → AreRead shelf command read → AreHeld shelf command held
-    → ForEach (λ file. held file ≡ read file) (files_of command)
+    (before after : ShelfState) (names : Which → Bytes) (reads : Reads) (kind : Kind) (held : Which → Bytes)
+    → WereRead before after names reads kind → ((file : Which) → before.content (names file) ≡ Held (held file))
+    → ForEach (λ file. (reads file ≡ given (held file)) ⊎ (reads file ≡ Failed)) (files_of kind)
+
+-- OF FAULTS OF READING: a file can't be read only where a read of it has failed in this call
+abbrev pub ReadFaultsRose : Type 0
+ReadFaultsRose =
+    (command : Command) (file : Which) (before after : Outside) → CommandEnds command (status.ReadFault file) before after
+    → CountRose (before.shelf.read_faults (command.files file)) (after.shelf.read_faults (command.files file))
+
+-- OF LOOPS: what wasn't refused has a netlist without a loop
+abbrev pub HaveNoLoop : Type 0
+HaveNoLoop =
+    (command : Command) (walk : Option (List NetId)) (reads : Reads) (made : Judged)
+    → IsLoopAnswer (command.files which.Netlist) reads walk → judged walk command reads ≡ Ok made → HasNoLoop (circuit_in made)
+
+-- OF PAIRS: where the rows that are kept have true planes, their pairs are those of the true planes
+abbrev pub PairsAreTrue : Type 0
+PairsAreTrue =
+    (p : Analysis) (k : KeptRows) → AreDistinct p (kept_entries k) → pairs_refusal p k ≡ None → AreTrue p (kept_entries k)
+    → pairs_text p (planes_in k.rows) ≡ pairs_text p (true_planes p)

@@ -14,13 +14,13 @@ abbrev pub rows_file : Bytes → List Row → Bytes
 rows_file own rows = own ++ flat_map row_text rows
 
 -- it has this text; or it is as before or has a prefix of the text, and the faults of writing it rose
-abbrev pub WritesAs : (name text : Bytes) → (before after : ShelfState) → Result (Unit {0}) Failed → Type 0
-WritesAs name text before after (Ok done) = HasIfKnown (after.content name) text
-WritesAs name text before after (Err failed) =
+abbrev pub RewritesAs : (name text : Bytes) → (before after : ShelfState) → Result (Unit {0}) Failed → Type 0
+RewritesAs name text before after (Ok done) = HasIfKnown (after.content name) text
+RewritesAs name text before after (Err failed) =
     ((after.content name ≡ before.content name) ⊎ IsPrefixOf (after.content name) text) × CountRose (before.write_faults name) (after.write_faults name)
 
 -- the same; files of other names stay, and the faults of writing it don't fall
 pub record IsWrittenAnew (name text : Bytes) (before after : ShelfState) (result : Result (Unit {0}) Failed) : Type 0 where
-  pub writes : WritesAs name text before after result
+  pub writes : RewritesAs name text before after result
   pub others : KeepsOthers before after name
   pub grows : before.write_faults name ≤ after.write_faults name

@@ -1,11 +1,18 @@
 // Laws of the promises, for those who read them.
-ghost use Rattle.fmeda_top.specs.Laws.{AreOfTheCommand, HeldIsRead, UsageIsOfTheWords};
+ghost use Rattle.fmeda_top.specs.Laws.{AreOfTheCommand, HaveNoLoop, HeldIsRead, PairsAreTrue, ReadFaultsRose, UsageIsOfTheWords};
+
+use pair_campaign::pairs_are_told;
 
 /// What is promised of a call is promised of the command that its words are, and Usage is the answer exactly where they are none;
-/// but where memory has run out. Where a shelf is known to hold bytes of all inputs, what is promised of the bytes that were read is
-/// promised of these. It computes nothing.
+/// but where memory has run out. Where a shelf is known to hold bytes of all inputs, these are what was read. A file can't be read only
+/// where a read of it has failed, what wasn't refused has no loop, and pairs by true rows are true. It computes nothing.
 pub fn promises_are_of_the_command()
     ensures command { AreOfTheCommand }
     ensures usage { UsageIsOfTheWords }
     ensures read { HeldIsRead }
-{}
+    ensures faults { ReadFaultsRose }
+    ensures loops { HaveNoLoop }
+    ensures pairs { PairsAreTrue }
+{
+    pairs_are_told();
+}

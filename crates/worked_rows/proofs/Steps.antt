@@ -4,7 +4,7 @@ use Rattle.std.specs.Prelude.{decimal, flat_map}
 use Rattle.worked_rows.specs.Opened.{opened}
 use Rattle.fm_base.specs.Lists.{below}
 use Rattle.campaign_plan.specs.Analysis.{Analysis}
-use Rattle.fault_collapse.specs.Outcomes.{most_steps, most_steps_by}
+use Rattle.fault_collapse.specs.Outcomes.{most_steps}
 use Rattle.worked_rows.specs.Circuits.{chain, dup}
 use Rattle.worked_rows.specs.Files.{plan_of, chain_workload, chain_rates, chain_points, dup_workload, dup_rates, dup_points}
 
@@ -17,17 +17,13 @@ pub one_pass : most_steps plan ≡ 64
 unfolding plan opened
 one_pass = refl
 
--- the same chain with each net observed: all 66 faults are left, which are two passes with 64 at once and one with 256
+-- the same chain with each net observed: all 66 faults are left, which are one pass with 256 at once
 pub all_observed : Analysis
 unfolding opened
 all_observed =
     plan_of (chain 32) chain_workload (chain_rates 33) (codes "kind,net\n" ++ flat_map (λ k. codes "observe,n" ++ decimal k ++ codes "\n") (below 33)) 0 []
 
-pub two_passes : most_steps all_observed ≡ 128
-unfolding all_observed opened
-two_passes = refl
-
-pub one_wide_pass : most_steps_by 256 all_observed ≡ 64
+pub one_wide_pass : most_steps all_observed ≡ 64
 unfolding all_observed opened
 one_wide_pass = refl
 

@@ -47,12 +47,13 @@ use Rattle.result_merge.specs.Parts.{part_batches}
 use Rattle.pair_list.specs.Chosen.{pair_refusal}
 use Rattle.pair_campaign.specs.PairPlanes.{pair_planes}
 use Rattle.pair_campaign.specs.PairText.{pairs_text, text_by_planes}
-use Rattle.command_text.specs.Texts.{classes_text, check_text}
-use Rattle.command_text.specs.NetlistFile.{netlist_in}
-use Rattle.command_text.specs.RefusalLines.{refusal_line}
-use Rattle.command_steps.specs.FirstRefusal.{netlist_step, plan_of, classes_plan_of, kept_of, audited_of, merged_of, paired_of, first_refusal}
-use Rattle.command_steps.specs.FileSteps.{audit_step, workload_step, rates_step, points_step, plan_for, back_step}
+use Rattle.class_table.specs.ClassTable.{classes_text}
+use Rattle.refusals.specs.Texts.{check_text}
+use Rattle.refusals.specs.NetlistFile.{netlist_in}
+use Rattle.refusals.specs.RefusalLines.{refusal_line}
+use Rattle.command_reads.specs.FirstRefusal.{netlist_step, plan_of, classes_plan_of, judge}
+use Rattle.command_reads.specs.Answers.{plan_behind, both_behind}
 
 unfoldable pub opened : ⊤
-unfolding tokens_of gate_named odd_rows bench_statement_of bench_said_lines bench_line_fault bench_nets_of inputs_of driven_of bench_drivers_of bench_circuit_of bench_too_large bench_two_drivers bench_undriven bench_of fixed_value readings next_fault follow rep_of rep_count netlist_in digits next_record records_from strip_bom val raw_state below some_below firsts first_where first_after plane_below hex lines_of placed bare joined statement_of directive_line table_line line_fault kind_of is_inside table_above plane_above file_models models_of items_of rows_below formals formal_inputs instances reaches has_nest sum_over_instances walk enter steps_from net_of visits_of clock_names nets_of drives_of model_fault two_models unknown_model bad_formal unbound recursive too_deep too_large walk_fault two_clocks bad_clock clock_read two_drivers undriven bad_net netlist_of circuit_of input_names_of table_names_of latch_names_of output_names_of faults_for row_fault workloads workload_of alarm_points_row_fault points_of goes_unalarmed units_of rate_table_row_fault rates_of is_dangerous is_noticed weight plan_refusal outcome_of own_sums header_text row_text result_rows hex_value result_file_row_fault kept sizes_line part_line metric_lines fault_line report summary netlist_text workload_text rates_text points_text classes_text check_text refusal_line netlist_step workload_step rates_step points_step plan_for plan_of classes_plan_of audit_step kept_of audited_of first_refusal merged part_batches pair_refusal pair_planes pairs_text text_by_planes back_step merged_of paired_of placed_lines placed_joined
+unfolding tokens_of gate_named odd_rows bench_statement_of bench_said_lines bench_line_fault bench_nets_of inputs_of driven_of bench_drivers_of bench_circuit_of bench_too_large bench_two_drivers bench_undriven bench_of fixed_value readings next_fault follow rep_of rep_count netlist_in digits next_record records_from strip_bom val raw_state below some_below firsts first_where first_after plane_below hex lines_of placed bare joined statement_of directive_line table_line line_fault kind_of is_inside table_above plane_above file_models models_of items_of rows_below formals formal_inputs instances reaches has_nest sum_over_instances walk enter steps_from net_of visits_of clock_names nets_of drives_of model_fault two_models unknown_model bad_formal unbound recursive too_deep too_large walk_fault two_clocks bad_clock clock_read two_drivers undriven bad_net netlist_of circuit_of input_names_of table_names_of latch_names_of output_names_of faults_for row_fault workloads workload_of alarm_points_row_fault points_of goes_unalarmed units_of rate_table_row_fault rates_of is_dangerous is_noticed weight plan_refusal outcome_of own_sums header_text row_text result_rows hex_value result_file_row_fault kept sizes_line part_line metric_lines fault_line report summary netlist_text workload_text rates_text points_text classes_text check_text refusal_line netlist_step plan_behind plan_of classes_plan_of judge both_behind merged part_batches pair_refusal pair_planes pairs_text text_by_planes placed_lines placed_joined
 opened = tt

@@ -24,5 +24,5 @@ loop-preserved-in_default-post g c =
       at = goes_on c.args.shared.now g.N.Origin.start c.args.part c.args.parts c.loop.seat c.draw.new.seat c.post.new.seat c.in-Some-draw.batch c.in_default-post.field-0
           c.loop.invariant.at c.in-Some-draw.ensures.table c.post.ensures.table drawn (sym c.is_own.ensures ∙ c.if-is_own.true) posted;
       none = ap (λ (v : View). v.nones) posted.view ∙ none_yet c.loop.seat.view c.draw.new.seat.view _ drawn.view c.loop.invariant.none;
-      simulator = c.outcome.ensures.same ∙ c.loop.invariant.simulator;
+      simulator = c.batch.ensures.same ∙ c.loop.invariant.simulator;
     }

@@ -1,5 +1,5 @@
-use Rattle.command_steps.proofs.PlanOrder.{are_held}
-use Rattle.fmeda_top.proofs.Causing.{of_the_command, usage_of_words}
+use Rattle.fmeda_top.proofs.Causing.{have_no_loop, held_read, of_the_command, read_fault_rose, usage_of_words}
+use Rattle.fmeda_top.proofs.RowTexts.{pairs_are_true}
 use Rattle.fmeda_top.proofs.law.promises_are_of_the_command.Goals as goal
 
 pub returns-clause-command : goal.returns-clause-command
@@ -9,4 +9,13 @@ pub returns-clause-usage : goal.returns-clause-usage
 returns-clause-usage c = usage_of_words
 
 pub returns-clause-read : goal.returns-clause-read
-returns-clause-read c = are_held
+returns-clause-read c = held_read
+
+pub returns-clause-faults : goal.returns-clause-faults
+returns-clause-faults c = read_fault_rose
+
+pub returns-clause-loops : goal.returns-clause-loops
+returns-clause-loops c = have_no_loop
+
+pub returns-clause-pairs : goal.returns-clause-pairs
+returns-clause-pairs c = pairs_are_true c.pairs_are_told.ensures

@@ -1,42 +1,66 @@
-use Rattle.std.proofs.Common.{◌≡◌, ◌⊎◌, refl, length}
+use Rattle.std.proofs.Common.{◌≡◌, ◌∙◌, ap, refl, sym, subst, length, true, false}
+use Rattle.std.specs.Result.{is_err}
 use Rattle.fm_shelf.specs.Content.{HasIfKnown}
-use Rattle.fm_shelf.specs.Sink.{Wrote}
-use Rattle.fm_shelf.specs.Outside.{outside}
-use Rattle.campaign_run.specs.Left.{IsPrefixOf}
+use Rattle.fm_shelf.specs.Outside.{Outside, outside}
+use Rattle.fm_shelf.specs.Sink.{with_more}
 use Rattle.campaign_plan.specs.Analysis.{batch_count}
-use Rattle.command_line.specs.Commands.{Merge}
-use Rattle.command_line.specs.Asks.{names_of}
-use Rattle.command_steps.specs.MergeSteps.{MergeRefused}
-use Rattle.command_text.specs.Texts.{merge_line}
+use Rattle.campaign_run.specs.Outside.{had_written}
+use Rattle.refusals.specs.Texts.{merge_line}
 use Rattle.fmeda_top.specs.Written.{rows_file}
-use Rattle.fmeda_top.proofs.Ending.{tried_ends, same_names}
-use Rattle.fmeda_top.proofs.KeptEnding.{merge_none, merge_done, merge_left, merge_refused, sources_ended}
+use Rattle.fmeda_top.proofs.Writing.{merge_left, merge_written}
+use Rattle.fmeda_top.proofs.Written.{not_written, written}
 use Rattle.fmeda_top.proofs.merge.merge.Goals as goal
 
-pub returns-in-Ok : goal.returns-in-Ok
-returns-in-Ok g c =
-    let name = c.args.rows.now in
-    let made = c.in-Ok.merged in
-    let read = c.in-Ok.ensures.read in
-    let reads = c.in-Ok.ensures.rest in
-    let before = outside (g.F.Shelf.seen c.args.shelf.now) (g.O.Sink.seen c.args.out.now) in
-    let mid = g.F.Shelf.seen c.read_merged.new.shelf in
-    let after = outside (g.F.Shelf.seen c.write_rows-end.new.shelf) (g.O.Sink.seen c.write_rows-end.new.out) in
-    let file = rows_file made.own made.rows in
-    sources_ended (names_of c.args.inputs.now) c.args.rows.now c.args.first.now c.args.second.now c.args.settings
-    (λ now. HasIfKnown (now.shelf.content name) file × Wrote before.out now.out (merge_line (length made.rows) (batch_count made.planned.plan)))
-    ((after.shelf.content name ≡ mid.content name) ⊎ IsPrefixOf (after.shelf.content name) file) before mid after (g.O.Sink.seen c.say_end.new.out) _ reads
-    (merge_none (names_of c.args.inputs.now) c.args.rows.now c.args.first.now c.args.second.now c.args.settings before after.shelf made read)
-    (merge_done (names_of c.args.inputs.now) c.args.rows.now c.args.first.now c.args.second.now c.args.settings before after.shelf made read c.merges_are_lawful.ensures)
-    (merge_left (names_of c.args.inputs.now) c.args.rows.now c.args.first.now c.args.second.now c.args.settings before after.shelf made read mid reads)
-    c.write_rows-end.result c.say_end.result c.write_rows-end.ensures c.say_end.ensures refl refl refl refl refl refl refl
+pub returns-then-is_err : goal.returns-then-is_err
+returns-then-is_err g c =
+    let it = c.args.merged.now in
+    let name = c.args.name.now in
+    let before : Outside = outside (g.F.Shelf.seen c.args.shelf.now) (g.O.Sink.seen c.args.out.now) in
+    let after : Outside = outside (g.F.Shelf.seen c.write_anew.new.shelf) (g.O.Sink.seen c.args.out.now) in
+    let failed : is_err c.write_anew.result ≡ true = sym c.is_err.ensures.value ∙ c.if-is_err.true in
+    let file : c.as_slice.result.now ≡ rows_file it.planned.own it.both.rows =
+    c.as_slice.ensures.value ∙ c.in-Ok.ensures ∙ ap (rows_file it.planned.own) c.as_slice-rows.ensures in
+    let left = not_written name c.as_slice.result.now before.shelf after.shelf c.write_anew.result c.write_anew.ensures.writes failed in
+    λ reads sound both. record {
+      ends = (left.1, merge_left it reads name before sound both after (rw file at left.0), refl {a = after.out});
+      others = c.write_anew.ensures.others;
+    }
 
-pub returns-in-Err : goal.returns-in-Err
-returns-in-Err g c =
-    let before = outside (g.F.Shelf.seen c.args.shelf.now) (g.O.Sink.seen c.args.out.now) in
-    let mid = outside (g.F.Shelf.seen c.read_merged.new.shelf) (g.O.Sink.seen c.args.out.now) in
-    rw c.say_refused.ensures.status
-    (tried_ends (Merge (names_of c.args.inputs.now) c.args.rows.now c.args.first.now c.args.second.now c.args.settings) c.args.inputs.now.netlist.now c.in-Err.refused _ before mid (g.O.Sink.seen c.say_refused.new.out)
-    (MergeRefused (names_of c.args.inputs.now) c.args.first.now c.args.second.now c.args.settings before.shelf mid.shelf) (c.in-Err.ensures.read.0, c.in-Err.ensures.read.1, refl) (merge_refused (names_of c.args.inputs.now) c.args.rows.now c.args.first.now c.args.second.now c.args.settings before.shelf mid.shelf)
-    c.in-Err.ensures.rest.content refl
-    (same_names _ _ refl refl refl refl refl refl refl) c.say_refused.ensures.said)
+pub returns-in-Ok-write_merge : goal.returns-in-Ok-write_merge
+returns-in-Ok-write_merge g c =
+    let it = c.args.merged.now in
+    let name = c.args.name.now in
+    let before : Outside = outside (g.F.Shelf.seen c.args.shelf.now) (g.O.Sink.seen c.args.out.now) in
+    let after : Outside = outside (g.F.Shelf.seen c.write_anew.new.shelf) (g.O.Sink.seen c.write_merge.new.out) in
+    let fine : is_err c.write_anew.result ≡ false = sym c.is_err.ensures.value ∙ c.if-is_err.false in
+    let file : c.as_slice.result.now ≡ rows_file it.planned.own it.both.rows =
+    c.as_slice.ensures.value ∙ c.in-Ok.ensures ∙ ap (rows_file it.planned.own) c.as_slice-rows.ensures in
+    let has = subst (HasIfKnown (after.shelf.content name)) file
+    (written name c.as_slice.result.now before.shelf after.shelf c.write_anew.result c.write_anew.ensures.writes fine) in
+    let wrote = rw (c.as_slice-rows.ensures, c.batches.ensures.count) at c.in-Ok-write_merge.ensures.ok in
+    λ reads sound both. record {
+      ends = merge_written it reads name before sound both c.merges_are_lawful.ensures after has wrote;
+      others = c.write_anew.ensures.others;
+    }
+
+pub returns : goal.returns
+returns g c =
+    let it = c.args.merged.now in
+    let name = c.args.name.now in
+    let before : Outside = outside (g.F.Shelf.seen c.args.shelf.now) (g.O.Sink.seen c.args.out.now) in
+    let after : Outside = outside (g.F.Shelf.seen c.write_anew.new.shelf) (g.O.Sink.seen c.write_merge.new.out) in
+    let fine : is_err c.write_anew.result ≡ false = sym c.is_err.ensures.value ∙ c.if-is_err.false in
+    let file : c.as_slice.result.now ≡ rows_file it.planned.own it.both.rows =
+    c.as_slice.ensures.value ∙ c.in-Ok.ensures ∙ ap (rows_file it.planned.own) c.as_slice-rows.ensures in
+    let has = subst (HasIfKnown (after.shelf.content name)) file
+    (written name c.as_slice.result.now before.shelf after.shelf c.write_anew.result c.write_anew.ensures.writes fine) in
+    let line = merge_line (length it.both.rows) (batch_count it.planned.plan) in
+    let torn = rw (c.as_slice-rows.ensures, c.batches.ensures.count) at c.in-Err.ensures.failed in
+    λ reads sound both. record {
+      ends = (
+        line,
+        merge_written it reads name before sound both c.merges_are_lawful.ensures (had_written before after line) has (refl {a = with_more before.out.written line}),
+        torn,
+      );
+      others = c.write_anew.ensures.others;
+    }

@@ -1,0 +1,6 @@
+// The text of `classes`.
+#![tactic(auto)]
+
+mod table;
+
+pub use table::write_classes;

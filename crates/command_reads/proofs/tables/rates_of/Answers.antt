@@ -1,0 +1,7 @@
+use Rattle.command_line.specs.declared.command.Which.TheVariants.{Rates}
+use Rattle.command_reads.specs.Files.{reads_by}
+use Rattle.command_reads.proofs.Wholes.{short_whole}
+use Rattle.command_reads.proofs.tables.rates_of.Goals as goal
+
+pub rates_from-requires : goal.rates_from-requires
+rates_from-requires c = short_whole Rates (reads_by c.args.reads.now) c.in_ok-bytes.bytes.now c.requires c.in_ok-bytes.ensures

@@ -1,0 +1,4 @@
+pub mod Files
+pub mod FirstRefusal
+pub mod Answers
+pub mod Judging

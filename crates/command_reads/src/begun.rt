@@ -1,0 +1,87 @@
+// A campaign that was begun: its plan, and what is kept of its result file.
+ghost use Rattle.std.specs.Prelude.{◌≡◌, ◌≤◌, ◌^◌, IfOk, length};
+ghost use Rattle.campaign_plan.specs.Batches.{AreDistinct};
+ghost use Rattle.campaign_plan.specs.Kept.{AreSettings};
+ghost use Rattle.result_file.specs.KeptRows.{header_len, kept as kept_in, kept_entries};
+ghost use Rattle.refusals.specs.NetlistFile.{or_refuse};
+ghost use Rattle.command_reads.specs.Answers.{AnswersAs, BeginsAs, IsSound, status_of_rows};
+ghost use Rattle.command_reads.specs.Files.{AreShort, reads_by};
+ghost use Rattle.command_reads.specs.FirstRefusal.{rows_in};
+
+use crate::files::Reads;
+use crate::planned::{Planned, judge_plan};
+use campaign_plan::{Plan, Settings};
+use command_line::Which;
+use fm_base::{Line, Refusal};
+use refusals::refused::Refused;
+use refusals::status::Status;
+use result_file::{KeptRows, ResultRefusal, read_result};
+use std::alloc::Global;
+
+/// A plan, and the rows that are kept of its result file.
+#[derive(Drop)]
+pub struct Begun {
+    pub planned: Planned,
+    pub kept: KeptRows,
+}
+
+// The status of a refusal of a result file.
+fn rows_status(refusal: ResultRefusal) -> Status
+    ensures { result ≡ status_of_rows refusal }
+{
+    match refusal {
+        ResultRefusal::Foreign { found, own } => Status::Foreign { found, own },
+        ResultRefusal::BadRow { number, why } => Status::BadRow { number, why },
+    }
+}
+
+// The rows that are kept of a file's bytes.
+fn rows_from(alloc: Global, bytes: &[u8], plan: &Plan, own: &Line) -> Result<KeptRows, Status>
+    requires own { length own.now ≡ header_len }
+    requires few { length bytes.now ≤ 2 ^ 26 }
+    ensures { AnswersAs (or_refuse status_of_rows (kept_in own.now plan.now bytes.now)) result }
+{
+    match read_result(alloc, bytes, plan, own) {
+        Ok(kept) => Ok(kept),
+        Err(Refusal::Fault(fault)) => Err(rows_status(fault)),
+        Err(Refusal::Memory) => Err(Status::Memory),
+    }
+}
+
+/// The rows that are kept of a result file of a plan that was read, or why it isn't one of this plan.
+pub(crate) fn rows_of(
+    alloc: Global,
+    which: Which,
+    planned: &Planned,
+    reads: &Reads,
+) -> Result<KeptRows, Status>
+    requires sound { IsSound (reads_by reads.now) planned.now }
+    requires short { AreShort (reads_by reads.now) }
+    ensures answers { AnswersAs (rows_in which (reads_by reads.now) planned.now.plan) result }
+    ensures distinct { IfOk result (λ kept. AreDistinct planned.now.plan (kept_entries kept)) }
+{
+    let bytes = reads.whole(which)?;
+    rows_from(alloc, bytes, &planned.plan, &planned.own)
+}
+
+/// The plan of the four files that were read, and what is kept of its result file.
+pub(crate) fn judge_begun(
+    alloc: Global,
+    netlist: &str,
+    set: Settings,
+    reads: &Reads,
+) -> Result<Begun, Refused>
+    requires settings { AreSettings set }
+    requires short { AreShort (reads_by reads.now) }
+    ensures begins { BeginsAs netlist.now set (reads_by reads.now) result }
+    ensures sound { IfOk result (λ made. IsSound (reads_by reads.now) made.planned × AreDistinct made.planned.plan (kept_entries made.kept)) }
+{
+    let planned = judge_plan(alloc, netlist, set, reads)?;
+    match rows_of(alloc, Which::Result, &planned, reads) {
+        Ok(kept) => Ok(Begun { planned, kept }),
+        Err(status) => {
+            drop(planned);
+            Err(Refused::By(status))
+        }
+    }
+}

@@ -1,0 +1,13 @@
+// What a command reads of its files, and what they stand for or the first refusal, in the one order of all checks.
+#![tactic(auto)]
+
+pub mod begun;
+pub mod files;
+pub mod judge;
+pub mod merged;
+pub mod netlist;
+pub mod observed;
+pub mod planned;
+pub mod rated;
+mod sample;
+mod tables;

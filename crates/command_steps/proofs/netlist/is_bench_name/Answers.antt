@@ -1,6 +1,0 @@
-use Rattle.std.proofs.Common.{◌∙◌, ap}
-use Rattle.command_text.specs.NetlistFile.{is_bench}
-use Rattle.command_steps.proofs.netlist.is_bench_name.Goals as goal
-
-pub returns : goal.returns
-returns c = c.ends_with.ensures.value ∙ ap is_bench c.as_bytes.ensures.value

@@ -1,9 +1,0 @@
-use Rattle.std.proofs.Common.{sym, subst}
-use Rattle.command_text.specs.Said.{IsSaid}
-use Rattle.command_text.proofs.Saying.{loop_line}
-use Rattle.command_text.proofs.walk.refuse_loop.Goals as goal
-
-pub returns : goal.returns
-returns g c =
-    subst (IsSaid (g.O.Sink.seen c.args.out.now) (g.O.Sink.seen c.say_walk.new.out))
-    (sym (loop_line c.args.nets.now c.args.walk.now)) c.say_walk.ensures

@@ -1,0 +1,120 @@
+-- `audit` and `pairs`, by the rows that are kept.
+use Rattle.std.proofs.Common.{◌≡◌, ◌∙◌, ap, ap₂, sym, refl, subst, ℕ, ◌+◌, ◌<◌, List, [], ◌∷◌, suc, Bool, true, false, not, map, arith}
+use Rattle.std.specs.Prelude.{Option, Some, None, Err, find, option_map, ◌==◌, Contains}
+use Rattle.std.specs.List.{list_any}
+use Rattle.std.proofs.lemmas.Bool.Decides.{nat_tests}
+use Rattle.std.proofs.lemmas.List.Folds.{list_any_at}
+use Rattle.std.proofs.lemmas.List.FromFn.{length-range_with_len, get_or-range_with_len}
+use Rattle.fm_base.specs.Firsts.{given, first_answer}
+use Rattle.fm_base.specs.Lists.{below}
+use Rattle.fm_shelf.specs.Sink.{SinkState}
+use Rattle.metric_sums.specs.declared.Class.TheVariants.{Latent, Detected}
+use Rattle.campaign_plan.specs.declared.Outcome.{Outcome}
+use Rattle.campaign_plan.specs.Analysis.{Analysis, batch_count}
+use Rattle.campaign_plan.specs.Batches.{AreDistinct, AreTrue, batches, true_planes}
+use Rattle.result_file.specs.declared.KeptRows.{KeptRows}
+use Rattle.result_file.specs.declared.Row.{Row}
+use Rattle.result_file.specs.KeptRows.{entry_of, kept_entries}
+use Rattle.fmeda_report.specs.Report.{Planes}
+use Rattle.fmeda_report.specs.Rows.{HoldEachOnce, planes_in}
+use Rattle.pair_list.specs.declared.pairs.PairRefusal.{PairRefusal}
+use Rattle.pair_list.specs.declared.pairs.PairRefusal.TheVariants.{Incomplete, TooMany}
+use Rattle.pair_list.specs.Chosen.{AreFaults, Chosen, chosen, has_row, pair_refusal}
+use Rattle.pair_list.proofs.Placing.{under}
+use Rattle.pair_campaign.specs.Laws.{AllPairsAreTold}
+use Rattle.pair_campaign.specs.PairPlanes.{pair_planes}
+use Rattle.pair_campaign.specs.PairText.{pairs_text, text_by_planes}
+use Rattle.command_line.specs.declared.command.Task.TheVariants as task
+use Rattle.refusals.specs.declared.refused.Refused.{Refused}
+use Rattle.refusals.specs.declared.refused.Refused.TheVariants.{By, Looped}
+use Rattle.refusals.specs.declared.status.Status.{Status}
+use Rattle.refusals.specs.declared.status.Status.TheVariants as status
+use Rattle.refusals.specs.declared.status.What.TheVariants as what
+use Rattle.refusals.specs.Refusals.{IsPlain}
+use Rattle.classifier.specs.Simulated.{Simulated, planes_simulated, simulated_of}
+use Rattle.command_reads.specs.FirstRefusal.{Begun, audit_refusal, pairs_refusal}
+use Rattle.fmeda_top.specs.Doing.{ChecksAs, TellsAs, disagreement, is_wrong}
+
+-- ---- `audit`
+
+-- the first row that a simulator of the plan finds wrong is that of the definition
+pub rows_judged : (p : Analysis) (k : KeptRows) (s : Simulated) (rows : List Row) (found : Option Status) → s ≡ simulated_of p → rows ≡ k.rows
+    → found ≡ option_map (disagreement (planes_simulated s)) (find (is_wrong (planes_simulated s)) rows) → audit_refusal p k ≡ found
+rows_judged p k s rows found made same is =
+    sym (is ∙ ap₂ (λ (t : Simulated) (rs : List Row). option_map (disagreement (planes_simulated t)) (find (is_wrong (planes_simulated t)) rs)) made same)
+
+-- a row that disagrees is a plain refusal
+pub row_plain : (planes : ℕ → Outcome) (found : Option Row) (ended : Status) → Some ended ≡ option_map (disagreement planes) found → IsPlain ended
+row_plain planes None ended e = absurd (cc)
+row_plain planes (Some row) ended e = let same : disagreement planes row ≡ ended = cc in subst IsPlain same tt
+
+-- rows that weren't found to agree are told of nowhere but in the line of the refusal
+pub checks_tell : (p : Analysis) (k : KeptRows) (out : SinkState) (refused : Refused) → ChecksAs p k (Err refused)
+    → TellsAs task.Audit (Begun p k) out out (Err refused)
+checks_tell p k out (By ended) (why, plain) = (why, plain, refl)
+checks_tell p k out (Looped walk net) none = absurd none
+
+-- ---- `pairs`
+
+-- those that pair are faults of the plan
+pub chosen_are_faults : (p : Analysis) (planes : Planes) (c : Chosen) → c ≡ chosen p planes → AreFaults p c
+chosen_are_faults p planes c is =
+    subst (AreFaults p) (sym is) (record { latent = under p planes Latent; detected = under p planes Detected })
+
+-- the text of the pairs that were judged
+pub judged_text : AllPairsAreTold → (p : Analysis) (rows : List Row) (c : Chosen) (planes : List ℕ) → c ≡ chosen p (planes_in rows) → planes ≡ pair_planes p c
+    → text_by_planes p c planes ≡ pairs_text p (planes_in rows)
+judged_text law p rows c planes is judged =
+    ap (text_by_planes p c) judged ∙ ap (λ d. text_by_planes p d (pair_planes p d)) is ∙ (law p).told (planes_in rows)
+
+row_there : (rows : List Row) (batch : ℕ) → has_row rows batch ≡ true → Contains (batches (map entry_of rows)) batch
+row_there [] batch h = absurd (cc)
+row_there (row ∷ rows) batch h = by_test (row.batch == batch) refl h (λ rest. row_there rows batch rest)
+  where
+    by_test : (b : Bool) → (row.batch == batch) ≡ b → has_row (row ∷ rows) batch ≡ true
+        → (has_row rows batch ≡ true → Contains (batches (map entry_of rows)) batch) → Contains (batches (map entry_of (row ∷ rows))) batch
+    by_test true e h more = (0, omega arith, grind (arith, nat_tests, e))
+    by_test false e h more =
+        let rest : has_row rows batch ≡ true = rw e at h in
+        let there = more rest in
+        (suc there.0, omega (arith, there.1), there.2)
+
+-- each batch has a row
+each_batch : (p : Analysis) (rows : List Row) → pair_refusal p rows ≡ None → (batch : ℕ) → batch < batch_count p → Contains (batches (map entry_of rows)) batch
+unfolding pair_refusal below
+each_batch p rows none batch lt = by_row (has_row rows batch) refl
+  where
+    lacks : ℕ → Bool
+    lacks = λ other. not (has_row rows other)
+
+    no_lack : (b : Bool) (x y : PairRefusal) (c : Bool) → first_answer (given b x ∷ given c y ∷ []) ≡ None → b ≡ false
+    no_lack true x y c e = absurd (cc)
+    no_lack false x y c e = refl
+
+    by_row : (b : Bool) → has_row rows batch ≡ b → Contains (batches (map entry_of rows)) batch
+    by_row true e = row_there rows batch e
+    by_row false e =
+        let size = length-range_with_len 0 (batch_count p) in
+        let at = get_or-range_with_len 0 (batch_count p) batch 0 lt in
+        let zero_more : 0 + batch ≡ batch = omega arith in
+        let found : list_any lacks (below (batch_count p)) ≡ true =
+        list_any_at lacks (below (batch_count p)) batch 0 (omega (arith, size, lt)) (ap lacks (at ∙ zero_more) ∙ ap not e) in
+        let clash : true ≡ false = sym found ∙ no_lack _ _ _ _ none in
+        absurd (cc)
+
+-- the status of a refusal of the pairs
+abbrev told_as : PairRefusal → Status
+told_as = elim [ Incomplete have many ↦ status.Incomplete have many | TooMany ↦ status.TooLarge what.Pairs ]
+
+-- rows that pair hold each batch once
+pairs_hold : (p : Analysis) (k : KeptRows) → AreDistinct p (kept_entries k) → pairs_refusal p k ≡ None → HoldEachOnce p k.rows
+pairs_hold p k distinct free = by_why (pair_refusal p k.rows) refl free
+  where
+    by_why : (o : Option PairRefusal) → pair_refusal p k.rows ≡ o → option_map told_as o ≡ None → HoldEachOnce p k.rows
+    by_why (Some refusal) e h = absurd (cc)
+    by_why None e h = record { distinct = distinct; each = each_batch p k.rows e }
+
+-- where the rows have true planes, so have their pairs
+pub pairs_are_true : AllPairsAreTold → (p : Analysis) (k : KeptRows) → AreDistinct p (kept_entries k) → pairs_refusal p k ≡ None → AreTrue p (kept_entries k)
+    → pairs_text p (planes_in k.rows) ≡ pairs_text p (true_planes p)
+pairs_are_true law p k distinct free are = (law p).truly k.rows (pairs_hold p k distinct free) are

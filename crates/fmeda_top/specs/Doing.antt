@@ -1,0 +1,152 @@
+-- Shapes of private steps: what a command does of what its files stand for. Nothing public cites them.
+use Rattle.std.specs.Prelude.{◌≡◌, ◌⊎◌, ℕ, Bool, not, ◌&&◌, ◌==◌, ◌∷◌, [], Some, None, MatchOption, Result, Ok, Err, codes}
+use Rattle.fm_base.specs.Names.{Bytes}
+use Rattle.fm_shelf.specs.Content.{Content, HasIfKnown}
+use Rattle.fm_shelf.specs.Shelf.{CountRose, ShelfState}
+use Rattle.fm_shelf.specs.Sink.{SinkState, Wrote, WroteOrFailed, WrotePrefix}
+use Rattle.fm_shelf.specs.Outside.{Outside}
+use Rattle.campaign_plan.specs.declared.Settings.{Settings}
+use Rattle.campaign_plan.specs.declared.Outcome.{Outcome}
+use Rattle.campaign_plan.specs.Analysis.{Analysis}
+use Rattle.result_file.specs.declared.KeptRows.{KeptRows}
+use Rattle.result_file.specs.declared.Row.{Row}
+use Rattle.result_file.specs.KeptRows.{kept}
+use Rattle.result_merge.specs.Merged.{merged}
+use Rattle.fmeda_report.specs.Rows.{planes_in}
+use Rattle.pair_list.specs.Chosen.{Chosen, chosen}
+use Rattle.campaign_run.specs.declared.run.Text.{Text}
+use Rattle.campaign_run.specs.declared.run.Text.TheVariants.{Report, Summary}
+use Rattle.campaign_run.specs.declared.run.End.{End}
+use Rattle.campaign_run.specs.declared.run.End.TheVariants as end
+use Rattle.campaign_run.specs.Outside.{KeepsOthers, had_written}
+use Rattle.command_line.specs.declared.command.Kind.{Kind}
+use Rattle.command_line.specs.declared.command.Task.{Task}
+use Rattle.command_line.specs.declared.command.Task.TheVariants as task
+use Rattle.command_line.specs.declared.command.Which.{Which}
+use Rattle.command_line.specs.declared.command.Which.TheVariants as which
+use Rattle.command_line.specs.Commands.{Command, kind_of}
+use Rattle.refusals.specs.declared.refused.Refused.{Refused}
+use Rattle.refusals.specs.declared.refused.Refused.TheVariants.{By, Looped}
+use Rattle.refusals.specs.declared.status.Status.{Status}
+use Rattle.refusals.specs.declared.status.Status.TheVariants as status
+use Rattle.refusals.specs.declared.status.WriteTo.TheVariants as to
+use Rattle.refusals.specs.RefusalLines.{refused}
+use Rattle.refusals.specs.Refusals.{HasItsNets, IsPlain, IsSaidOf, status_of}
+use Rattle.command_reads.specs.declared.begun.Begun.{Begun as BegunOf}
+use Rattle.command_reads.specs.declared.merged.Merged.{Merged as MergedOf}
+use Rattle.command_reads.specs.declared.judge.Judged.{Judged as Made}
+use Rattle.command_reads.specs.declared.judge.Judged.TheVariants as made
+use Rattle.command_reads.specs.Files.{Reads, WereRead, bytes_of as bytes_read, known_by}
+use Rattle.command_reads.specs.FirstRefusal.{Judged, audit_refusal, pairs_refusal, task_refusal}
+use Rattle.command_reads.specs.Judging.{AreSound, IsOfKind, JudgesAs}
+use Rattle.fmeda_top.specs.Ends.{HasWritten, IsDoneOrFailed, MayLeave, RefusedAs, text_of}
+use Rattle.fmeda_top.specs.Promises.{CommandEnds, RanOut}
+
+-- the files of a command were read and judged, or there was no memory to read them
+abbrev pub PreparesAs : (before after : ShelfState) → (names : Which → Bytes) → Settings → Kind → Reads → Result Made Refused → Type 0
+PreparesAs before after names set kind reads made = WereRead before after names reads kind × JudgesAs (names which.Netlist) set reads kind made
+
+-- the text of a task went out, or a prefix of it where `out` failed; or it was refused, and nothing went out; want of memory is free
+abbrev pub TellsAs : Task → Judged → (before after : SinkState) → Result Status Refused → Type 0
+TellsAs own made before after (Ok ended) =
+    (task_refusal own made ≡ None) × ((text : Bytes) × (text_of own made ≡ Some text)
+    × (((ended ≡ status.Done) × Wrote before after text) ⊎ ((ended ≡ status.WriteFault to.Out) × WrotePrefix before after text)))
+TellsAs own made before after (Err (By ended)) =
+    ((ended ≡ status.Memory) ⊎ (task_refusal own made ≡ Some ended)) × IsPlain ended × (after ≡ before)
+TellsAs own made before after (Err (Looped walk net)) = ⊥
+
+-- how the campaign of a task has ended, before it is told
+abbrev pub EndsWith : End → Task → Judged → Reads → (name : Bytes) → (before after : Outside) → Type 0
+EndsWith end.Done own made reads name before after = HasWritten own made reads name before after
+EndsWith end.NoMemory own made reads name before after = after ≡ before
+EndsWith end.ResultFault own made reads name before after =
+    CountRose (before.shelf.write_faults name) (after.shelf.write_faults name)
+    × ((after.shelf.content name ≡ before.shelf.content name) ⊎ MayLeave own made reads (before.shelf.content name) (after.shelf.content name))
+    × (after.out ≡ before.out)
+EndsWith end.OutFault own made reads name before after =
+    (text : Bytes) × HasWritten own made reads name before (had_written before after text) × WrotePrefix before.out after.out text
+
+-- the same; and files of other names are as before
+pub record HasEnded (how : End) (own : Task) (made : Judged) (reads : Reads) (name : Bytes) (before after : Outside) : Type 0 where
+  pub ends : EndsWith how own made reads name before after
+  pub others : KeepsOthers before.shelf after.shelf name
+
+-- what a command says at the end of its campaign: nothing where it has written its text, or the line of a refusal
+abbrev pub EndSaid : End → Status → (before after : SinkState) → (names : Which → Bytes) → Type 0
+EndSaid end.Done ended before after names = (ended ≡ status.Done) × (after ≡ before)
+EndSaid end.OutFault ended before after names = (ended ≡ status.WriteFault to.Out) × (after ≡ before)
+EndSaid end.NoMemory ended before after names = (ended ≡ status.Memory) × WroteOrFailed before after (codes "refused: out of memory\n")
+EndSaid end.ResultFault ended before after names =
+    (ended ≡ status.WriteFault to.Result) × WroteOrFailed before after (refused (codes "cannot write" ∷ names which.Result ∷ []))
+
+-- the task prints, and waits for nobody
+abbrev pub Prints : Task → Type 0
+Prints own = elim own [
+  | task.Run _ ↦ ⊥
+  | task.Resume _ ↦ ⊥
+  | task.Gen _ _ ↦ ⊥
+  | task.Shard _ _ ↦ ⊥
+  | task.Merge ↦ ⊥
+  | task.Pairs _ ↦ ⊥
+  | _ ↦ Unit {0}
+]
+
+-- the files of the task were judged: its parts fit together
+abbrev pub IsJudged : Task → Made → Type 0
+IsJudged own made = IsOfKind (kind_of own) made × ((reads : Reads) × AreSound reads made)
+
+-- these rows are kept of what the file holds, where that is known
+abbrev pub IsHeld : Content → Reads → BegunOf → Type 0
+IsHeld held reads begun =
+    HasIfKnown held (bytes_read (reads which.Result))
+    × (kept begun.planned.own begun.planned.plan (bytes_read (reads which.Result)) ≡ Ok begun.kept)
+
+-- the rows are those of both files
+abbrev pub AreMerged : MergedOf → Type 0
+AreMerged it = merged it.planned.plan it.both.first.rows it.both.second.rows ≡ Ok it.both.rows
+
+-- what was made is ready to be worked on: its parts fit together, and its rows are kept of what was read; the result file holds this
+abbrev pub IsReady : Content → Reads → Made → Type 0
+IsReady held reads it = AreSound reads it × elim it [ made.Begun begun ↦ IsHeld held reads begun | made.Merged both ↦ AreMerged both | _ ↦ Unit {0} ]
+
+-- the task whose campaign writes this text
+abbrev pub task_of_text : Text → (workers : ℕ) → Task
+task_of_text Report workers = task.Run workers
+task_of_text (Summary stages) workers = task.Gen stages workers
+
+-- how a task that prints ends: as it told, or with the line of its refusal
+abbrev pub PrintedAs : Result Status Refused → Status → (before after : SinkState) → (names : Which → Bytes) → Type 0
+PrintedAs (Ok told) ended before after names = (ended ≡ told) × (after ≡ before)
+PrintedAs (Err refused) ended before after names =
+    (ended ≡ status_of refused)
+    × ((held : Content) → HasItsNets (names which.Netlist) held refused → IsSaidOf held before after names (status_of refused))
+
+-- a row keeps other planes than those that its batch is given
+abbrev pub is_wrong : (ℕ → Outcome) → Row → Bool
+is_wrong planes row = not ((row.danger == (planes row.batch).danger) && (row.noticed == (planes row.batch).noticed))
+
+-- the status of such a row
+abbrev pub disagreement : (ℕ → Outcome) → Row → Status
+disagreement planes row = status.Disagrees row.batch (record { danger = row.danger; noticed = row.noticed }) (planes row.batch)
+
+-- all rows have the planes that their batches truly have, or the first that hasn't is refused
+abbrev pub ChecksAs : Analysis → KeptRows → Result (Unit {0}) Refused → Type 0
+ChecksAs p k (Ok done) = audit_refusal p k ≡ None
+ChecksAs p k (Err (By ended)) = ((ended ≡ status.Memory) ⊎ (audit_refusal p k ≡ Some ended)) × IsPlain ended
+ChecksAs p k (Err (Looped walk net)) = ⊥
+
+-- the pairs are those by the rows that were kept, or the refusal says why there are none
+abbrev pub ChoosesAs : Analysis → KeptRows → Result Chosen Status → Type 0
+ChoosesAs p k (Ok c) = (pairs_refusal p k ≡ None) × (c ≡ chosen p (planes_in k.rows))
+ChoosesAs p k (Err ended) = ((ended ≡ status.Memory) ⊎ (pairs_refusal p k ≡ Some ended)) × IsPlain ended
+
+-- what a command does behind its checks: what its task refuses, or it is done or a write has failed; or memory ran out
+abbrev pub DoesAs : Command → Judged → Reads → Status → (before after : Outside) → Type 0
+DoesAs command made reads ended before after =
+    MatchOption (task_refusal command.task made) (IsDoneOrFailed command made reads ended before after)
+    (λ why. (ended ≡ why) × RefusedAs command.files (known_by (reads which.Netlist)) why before after)
+    ⊎ RanOut ended before after
+
+-- what a command has done, or memory ran out
+abbrev pub MayEnd : Command → Status → (before after : Outside) → Type 0
+MayEnd command ended before after = CommandEnds command ended before after ⊎ RanOut ended before after

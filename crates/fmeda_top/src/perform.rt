@@ -1,0 +1,243 @@
+// What a command does.
+ghost use Rattle.std.specs.Prelude.{◌≡◌};
+ghost use Rattle.fm_shelf.specs.Content.{Content};
+ghost use Rattle.fm_shelf.specs.Outside.{outside};
+ghost use Rattle.campaign_plan.specs.declared.Settings.{Settings};
+ghost use Rattle.command_line.specs.declared.command.Which.TheVariants as which;
+ghost use Rattle.command_line.specs.Commands.{HasFitNumbers, IsFit, name_by, told_by};
+ghost use Rattle.command_reads.specs.Files.{Reads};
+ghost use Rattle.command_reads.specs.Judging.{made_by};
+ghost use Rattle.fmeda_top.specs.Doing.{DoesAs, EndSaid, IsJudged, IsReady, MayEnd, PrintedAs, Prints, TellsAs};
+ghost use Rattle.fmeda_top.specs.Words.{WaitsForNobody};
+
+use crate::audit::tell_audit;
+use crate::check::tell_check;
+use crate::classes::tell_classes;
+use crate::ended::Ended;
+use crate::kept::{tell_faults, tell_progress};
+use crate::merge::merge;
+use crate::pairs::tell_pairs;
+use crate::parts::tell_parts;
+use crate::prepare::prepared;
+use crate::report::tell_report;
+use crate::run::{run_anew, run_on, run_share};
+use campaign_run::{End, Ran, Text};
+use campaign_shard::Shard;
+use command_line::{Asked, FileNames, Task};
+use command_reads::judge::Judged;
+use fm_shelf::shelf::{Shelf, Sink};
+use refusals::refuse::{refuse, say_refused};
+use refusals::refused::Refused;
+use refusals::status::{Status, WriteTo};
+use std::alloc::Global;
+use std::sync::Wait;
+use std::thread::Threads;
+use worker_gate::Gate;
+
+// Writes the line of how a campaign has ended, if it has one, and answers its status.
+fn say_end<O: Sink>(out: &mut O, names: &FileNames<'_>, end: End) -> Status
+    ensures { EndSaid end result (O.seen out.old) (O.seen out.new) (name_by names.now) }
+{
+    match end {
+        End::Done => Status::Done,
+        End::OutFault => Status::WriteFault(WriteTo::Out),
+        End::NoMemory => say_refused(out, names, Refused::By(Status::Memory)),
+        End::ResultFault => {
+            refuse(out, names, &[], &Status::WriteFault(WriteTo::Result));
+            Status::WriteFault(WriteTo::Result)
+        }
+    }
+}
+
+// Writes the line of how a campaign has ended, behind it.
+fn ended<F: Shelf + Drop, O: Sink>(ran: Ran<F>, names: &FileNames<'_>, out: &mut O) -> Ended<F>
+    ensures said { EndSaid ran.end result.status (O.seen out.old) (O.seen out.new) (name_by names.now) }
+    ensures shelf { result.shelf ≡ ran.shelf }
+{
+    Ended {
+        status: say_end(out, names, ran.end),
+        shelf: ran.shelf,
+    }
+}
+
+// Writes the text of a task that prints and waits for nobody, or refuses.
+fn print<O: Sink>(
+    alloc: Global,
+    task: Task,
+    judged: &Judged,
+    out: &mut O,
+) -> Result<Status, Refused>
+    requires prints { Prints task }
+    requires judged { IsJudged task judged.now }
+    ensures { TellsAs task (made_by judged.now) (O.seen out.old) (O.seen out.new) result }
+{
+    match task {
+        Task::Classes => tell_classes(alloc, judged.observed(), out),
+        Task::Check => tell_check(judged.planned(), out),
+        Task::Audit => tell_audit(alloc, judged.begun(), out),
+        Task::Report => tell_report(alloc, judged.planned(), out),
+        Task::Parts => tell_parts(alloc, judged.rated(), out),
+        Task::Faults => tell_faults(alloc, judged.begun(), out),
+        Task::Progress => tell_progress(alloc, judged.begun(), out),
+        Task::Run { .. }
+        | Task::Resume { .. }
+        | Task::Gen { .. }
+        | Task::Shard { .. }
+        | Task::Merge
+        | Task::Pairs { .. } => unreachable!(),
+    }
+}
+
+// Ends a task that prints: the line of a refusal is written where it has refused.
+fn printed<O: Sink>(names: &FileNames<'_>, told: Result<Status, Refused>, out: &mut O) -> Status
+    ensures { PrintedAs told result (O.seen out.old) (O.seen out.new) (name_by names.now) }
+{
+    match told {
+        Ok(status) => status,
+        Err(refused) => say_refused(out, names, refused),
+    }
+}
+
+// Does what a task asks that waits for nobody, over what its files stand for.
+fn do_alone<F: Shelf, O: Sink>(
+    alloc: Global,
+    names: &FileNames<'_>,
+    task: Task,
+    judged: &Judged,
+    shelf: &mut F,
+    out: &mut O,
+) -> Status
+    requires alone { WaitsForNobody task }
+    requires judged { IsJudged task judged.now }
+    ensures { (held : Content) (reads : Reads) (set : Settings) → IsReady held reads judged.now
+        → DoesAs (record { files = name_by names.now; settings = set; task = task }) (made_by judged.now) reads result
+        (outside (F.seen shelf.old) (O.seen out.old)) (outside (F.seen shelf.new) (O.seen out.new)) }
+{
+    if task == Task::Merge {
+        let end = merge(alloc, judged.merged(), names.result, shelf, out);
+        say_end(out, names, end)
+    } else {
+        let told = print(alloc, task, judged, out);
+        printed(names, told, out)
+    }
+}
+
+// Does what a task asks, over what its files stand for.
+fn do_task<R: Threads + Wait + Sync, F: Shelf + Send + Drop, O: Sink, G: Gate + Sync>(
+    rt: &R,
+    alloc: Global,
+    names: &FileNames<'_>,
+    task: Task,
+    judged: Judged,
+    shelf: F,
+    out: &mut O,
+    gate: &G,
+) -> Ended<F>
+    requires fit { HasFitNumbers task }
+    requires judged { IsJudged task judged }
+    requires ready { (reads : Reads) × IsReady ((F.seen shelf).content (name_by names.now which.Result)) reads judged }
+    ensures { (reads : Reads) (set : Settings) → IsReady ((F.seen shelf).content (name_by names.now which.Result)) reads judged
+        → DoesAs (record { files = name_by names.now; settings = set; task = task }) (made_by judged) reads result.status
+        (outside (F.seen shelf) (O.seen out.old)) (outside (F.seen result.shelf) (O.seen out.new)) }
+{
+    let name = names.result;
+    match task {
+        Task::Run { workers } => {
+            let plan = judged.planned();
+            let ran = run_anew(
+                rt,
+                alloc,
+                plan,
+                name,
+                Text::Report,
+                workers,
+                shelf,
+                out,
+                gate,
+            );
+            ended(ran, names, out)
+        }
+        Task::Gen { stages, workers } => {
+            let (plan, text) = (judged.planned(), Text::Summary(stages));
+            let ran = run_anew(rt, alloc, plan, name, text, workers, shelf, out, gate);
+            ended(ran, names, out)
+        }
+        Task::Resume { workers } => {
+            let begun = judged.into_begun();
+            let ran = run_on(rt, alloc, begun, name, workers, shelf, out, gate);
+            ended(ran, names, out)
+        }
+        Task::Shard { part, parts } => {
+            let part = Shard { part, parts };
+            let ran = run_share(rt, alloc, judged.planned(), name, part, shelf, out);
+            ended(ran, names, out)
+        }
+        Task::Pairs { workers } => {
+            let told = tell_pairs(rt, alloc, judged.begun(), out, workers);
+            Ended {
+                status: printed(names, told, out),
+                shelf,
+            }
+        }
+        alone => {
+            let mut shelf = shelf;
+            let status = do_alone(alloc, names, alone, &judged, &mut shelf, out);
+            Ended { status, shelf }
+        }
+    }
+}
+
+/// Does what a command asks: reads its files, judges them, says the refusal or does what its task asks.
+pub(crate) fn perform<R: Threads + Wait + Sync, F: Shelf + Send + Drop, O: Sink, G: Gate + Sync>(
+    rt: &R,
+    alloc: Global,
+    asked: Asked<'_>,
+    shelf: F,
+    out: &mut O,
+    gate: &G,
+) -> Ended<F>
+    requires fit { IsFit (told_by asked) }
+    ensures { MayEnd (told_by asked.entry) result.status
+        (outside (F.seen shelf) (O.seen out.old)) (outside (F.seen result.shelf) (O.seen out.new)) }
+{
+    let Asked {
+        names,
+        settings,
+        task,
+    } = asked;
+    let mut shelf = shelf;
+    match prepared(alloc, &mut shelf, &names, settings, task.kind()) {
+        Ok(judged) => do_task(rt, alloc, &names, task, judged, shelf, out, gate),
+        Err(refused) => Ended {
+            status: say_refused(out, &names, refused),
+            shelf,
+        },
+    }
+}
+
+/// Does what a command asks that waits for nobody, and so returns: it has no runtime to wait on.
+pub fn perform_alone<F: Shelf, O: Sink>(
+    alloc: Global,
+    asked: Asked<'_>,
+    shelf: &mut F,
+    out: &mut O,
+) -> Status
+    requires fit { IsFit (told_by asked) }
+    requires alone { WaitsForNobody asked.task }
+    ensures { MayEnd (told_by asked.entry) result
+        (outside (F.seen shelf.old) (O.seen out.old)) (outside (F.seen shelf.new) (O.seen out.new)) }
+{
+    let Asked {
+        names,
+        settings,
+        task,
+    } = asked;
+    match prepared(alloc, shelf, &names, settings, task.kind()) {
+        Ok(judged) => {
+            let status = do_alone(alloc, &names, task, &judged, shelf, out);
+            drop(judged);
+            status
+        }
+        Err(refused) => say_refused(out, &names, refused),
+    }
+}

@@ -1,0 +1,4 @@
+mod CheckText
+mod Saying
+mod Statuses
+pub mod Refusals

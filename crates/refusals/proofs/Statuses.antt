@@ -1,0 +1,24 @@
+-- The line of a status, from that of the case that it is.
+use Rattle.std.proofs.Common.{◌≡◌, sym, subst, List, [], arith, inl}
+use Rattle.circuit.specs.Circuit.{Circuit}
+use Rattle.fm_base.specs.Names.{Bytes}
+use Rattle.refusals.specs.Said.{IsSaid}
+use Rattle.refusals.specs.RefusalLines.{refused, refusal_line}
+use Rattle.refusals.specs.declared.status.Status.{Status}
+use Rattle.command_line.specs.declared.command.Which.{Which}
+use Rattle.fmeda_report.proofs.Sending.{written_none}
+use Rattle.fm_shelf.specs.Sink.{SinkState}
+
+-- the line of a status that is this one
+pub said_as : (before after : SinkState) (file : Which → Bytes) (c : Circuit) (ended is : Status) → ended ≡ is
+    → IsSaid before after (refusal_line file c is) → IsSaid before after (refusal_line file c ended)
+said_as before after file c ended is e said = subst (λ s. IsSaid before after (refusal_line file c s)) (sym e) said
+
+-- the line of words that are these
+pub words_said : (before after : SinkState) (words said : List Bytes) → words ≡ said
+    → IsSaid before after (refused words) → IsSaid before after (refused said)
+words_said before after words said e is = subst (λ ws. IsSaid before after (refused ws)) e is
+
+-- a status without a line
+pub nothing_said : (out : SinkState) → IsSaid out out []
+nothing_said out = (inl (written_none out.written), omega arith)

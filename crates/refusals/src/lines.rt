@@ -1,0 +1,264 @@
+// The line of each refusal.
+ghost use Rattle.std.specs.Prelude.{◌≡◌, ◌≤◌, ◌∷◌, ◌++◌, ◌==◌, [], map, length, take, codes, decimal, if◌then◌else◌};
+ghost use Rattle.std.specs.List.{before_first};
+ghost use Rattle.blif_text.specs.Lines.{is_feed};
+ghost use Rattle.fm_base.specs.Text.{hex};
+ghost use Rattle.circuit.specs.Circuit.{Circuit};
+ghost use Rattle.result_file.specs.ResultText.{sums_words};
+ghost use Rattle.refusals.specs.Said.{IsSaid};
+ghost use Rattle.command_line.specs.Commands.{name_by};
+ghost use Rattle.refusals.specs.RefusalLines.{refused, row_why, refusal_line};
+ghost use Rattle.refusals.specs.Steps.{planes_words, shown_byte, shown_start};
+
+use crate::refusal::say;
+use blif_text::places::feed_place;
+use campaign_plan::Outcome;
+use fm_base::Line;
+use fm_shelf::shelf::Sink;
+use itoa::Buffer;
+use metric_sums::Sums;
+use result_file::RowFault;
+
+// A line of one phrase.
+pub(crate) fn refuse_phrase<O: Sink>(out: &mut O, phrase: &[u8])
+    ensures { IsSaid (O.seen out.old) (O.seen out.new) (refused (phrase.now ∷ [])) }
+{
+    say(out, &[b"refused:", phrase])
+}
+
+// A line of two phrases.
+pub(crate) fn refuse_two<'a, O: Sink>(out: &mut O, first: &'a [u8], second: &'a [u8])
+    ensures { IsSaid (O.seen out.old) (O.seen out.new) (refused (first.now ∷ second.now ∷ [])) }
+{
+    say(out, &[b"refused:", first, second])
+}
+
+// A line of five phrases.
+pub(crate) fn refuse_five<'a, O: Sink>(
+    out: &mut O,
+    first: &'a [u8],
+    second: &'a [u8],
+    third: &'a [u8],
+    fourth: &'a [u8],
+    fifth: &'a [u8],
+)
+    ensures { IsSaid (O.seen out.old) (O.seen out.new)
+        (refused (first.now ∷ second.now ∷ third.now ∷ fourth.now ∷ fifth.now ∷ [])) }
+{
+    say(out, &[b"refused:", first, second, third, fourth, fifth])
+}
+
+fn hex16(v: u64) -> Line
+    ensures { result ≡ hex 16 v }
+{
+    let mut line = Line::new();
+    line.put_hex16(v);
+    line
+}
+
+// A line on a batch whose planes are others than those of its row.
+pub(crate) fn refuse_planes<'a, O: Sink>(
+    out: &mut O,
+    first: &'a [u8],
+    batch: u32,
+    second: &'a [u8],
+    kept: Outcome,
+    third: &'a [u8],
+    computed: Outcome,
+)
+    ensures { IsSaid (O.seen out.old) (O.seen out.new)
+        (refused (first.now ∷ decimal batch ∷ second.now ∷ planes_words kept ++ third.now ∷ planes_words computed)) }
+{
+    let mut digits = Buffer::new();
+    let kept_danger = hex16(kept.danger);
+    let kept_noticed = hex16(kept.noticed);
+    let danger = hex16(computed.danger);
+    let noticed = hex16(computed.noticed);
+    say(
+        out,
+        &[
+            b"refused:",
+            first,
+            digits.format(batch).as_bytes(),
+            second,
+            kept_danger.bytes(),
+            kept_noticed.bytes(),
+            third,
+            danger.bytes(),
+            noticed.bytes(),
+        ],
+    )
+}
+
+// A line on a row whose sums are others than those that were computed.
+pub(crate) fn refuse_sums<'a, O: Sink>(
+    out: &mut O,
+    first: &'a [u8],
+    number: u32,
+    second: &'a [u8],
+    kept: Sums,
+    third: &'a [u8],
+    computed: Sums,
+)
+    ensures { IsSaid (O.seen out.old) (O.seen out.new)
+        (refused (first.now ∷ decimal number ∷ second.now ∷ sums_words kept ++ third.now ∷ sums_words computed)) }
+{
+    let mut digits = Buffer::new();
+    let kept_all = hex16(kept.permanent_all);
+    let kept_danger = hex16(kept.permanent_danger);
+    let kept_latent = hex16(kept.latent);
+    let kept_transient = hex16(kept.transient_all);
+    let kept_transient_danger = hex16(kept.transient_danger);
+    let all = hex16(computed.permanent_all);
+    let danger = hex16(computed.permanent_danger);
+    let latent = hex16(computed.latent);
+    let transient = hex16(computed.transient_all);
+    let transient_danger = hex16(computed.transient_danger);
+    say(
+        out,
+        &[
+            b"refused:",
+            first,
+            digits.format(number).as_bytes(),
+            second,
+            kept_all.bytes(),
+            kept_danger.bytes(),
+            kept_latent.bytes(),
+            kept_transient.bytes(),
+            kept_transient_danger.bytes(),
+            third,
+            all.bytes(),
+            danger.bytes(),
+            latent.bytes(),
+            transient.bytes(),
+            transient_danger.bytes(),
+        ],
+    )
+}
+
+// A line on a row, and one word.
+pub(crate) fn refuse_number<'a, O: Sink>(out: &mut O, first: &'a [u8], number: u32, word: &'a [u8])
+    ensures { IsSaid (O.seen out.old) (O.seen out.new)
+        (refused (first.now ∷ decimal number ∷ word.now ∷ [])) }
+{
+    let mut digits = Buffer::new();
+    say(
+        out,
+        &[b"refused:", first, digits.format(number).as_bytes(), word],
+    )
+}
+
+// A line of two counts.
+pub(crate) fn refuse_counts<'a, O: Sink>(
+    out: &mut O,
+    first: &'a [u8],
+    have: u32,
+    second: &'a [u8],
+    all: u32,
+    third: &'a [u8],
+)
+    ensures { IsSaid (O.seen out.old) (O.seen out.new)
+        (refused (first.now ∷ decimal have ∷ second.now ∷ decimal all ∷ third.now ∷ [])) }
+{
+    let mut digits = Buffer::new();
+    let mut all_digits = Buffer::new();
+    say(
+        out,
+        &[
+            b"refused:",
+            first,
+            digits.format(have).as_bytes(),
+            second,
+            all_digits.format(all).as_bytes(),
+            third,
+        ],
+    )
+}
+
+// The line of a row that breaks a rule.
+pub(crate) fn refuse_bad_row<O: Sink>(out: &mut O, number: u32, why: RowFault)
+    ensures { IsSaid (O.seen out.old) (O.seen out.new)
+        (refused (codes "result row" ∷ decimal number ∷ row_why why)) }
+{
+    match why {
+        RowFault::Form => refuse_number(out, b"result row", number, b"Form"),
+        RowFault::Range => refuse_number(out, b"result row", number, b"Range"),
+        RowFault::Repeated => refuse_number(out, b"result row", number, b"Repeated"),
+        RowFault::UnusedLane => refuse_number(out, b"result row", number, b"UnusedLane"),
+        RowFault::Sums { kept, computed } => refuse_sums(
+            out,
+            b"result row",
+            number,
+            b"Sums kept",
+            kept,
+            b"computed",
+            computed,
+        ),
+    }
+}
+
+fn shown(byte: u8) -> u8
+    ensures { result ≡ shown_byte byte }
+{
+    if byte >= 32 && byte <= 126 {
+        byte
+    } else {
+        b'?'
+    }
+}
+
+// So many bytes, or all where there are fewer.
+fn first_bytes(bytes: &[u8], count: usize) -> &[u8]
+    ensures text { result.now ≡ take count bytes.now }
+    ensures len { length result.now ≤ count }
+{
+    if bytes.len() > count {
+        &bytes[..count]
+    } else {
+        bytes
+    }
+}
+
+// The first bytes of a text, as they are shown.
+fn shown_head(found: &[u8]) -> Line
+    ensures text { result ≡ map shown_byte (take 88 found.now) }
+    ensures len { length result ≤ 88 }
+{
+    let mut line = Line::new();
+    for byte in first_bytes(found, 88) {
+        line.put(&[shown(*byte)]);
+    }
+    line
+}
+
+// The bytes before the first line feed.
+fn first_line(bytes: &[u8]) -> &[u8]
+    ensures { result.now ≡ before_first is_feed bytes.now }
+{
+    &bytes[..feed_place(bytes)]
+}
+
+// The line of a result file under another header than the plan's own.
+pub(crate) fn refuse_foreign<'a, O: Sink>(
+    out: &mut O,
+    first: &'a [u8],
+    found: &'a [u8],
+    third: &'a [u8],
+    own: &'a [u8],
+)
+    ensures { IsSaid (O.seen out.old) (O.seen out.new)
+        (refused (first.now ∷ (shown_start found.now ++ 44 ∷ []) ∷ third.now ∷ take 88 own.now ∷ [])) }
+{
+    let mut shown = shown_head(first_line(found));
+    shown.put(b",");
+    say(
+        out,
+        &[
+            b"refused:",
+            first,
+            shown.bytes(),
+            third,
+            first_bytes(own, 88),
+        ],
+    )
+}
