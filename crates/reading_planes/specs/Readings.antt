@@ -1,0 +1,66 @@
+-- The readings of a plan, as code has them: goals and alarm points by their numbers.
+use Rattle.std.specs.Prelude.{◌≡◌, ℕ, ◌<◌, Bool, true, not, ◌==◌, List, [], ◌∷◌, ◌++◌, length, map, filter, Option, Some, None}
+use Rattle.std.specs.List.{All}
+use Rattle.circuit.specs.declared.parts.NetId.{NetId}
+use Rattle.fm_base.specs.Lists.{below}
+use Rattle.alarm_points.specs.declared.Points.{Points}
+use Rattle.campaign_plan.specs.Analysis.{Analysis}
+use Rattle.classifier.specs.Seen.{goal_at}
+use Rattle.shown_runs.specs.Record.{alarm_at}
+use Rattle.readings.specs.Breakdown.{Reading as PlanReading, readings}
+use Rattle.reading_planes.specs.declared.reading.Reading.{Reading}
+use Rattle.reading_planes.specs.declared.reading.Reading.TheVariants.{Whole, Goal, Without, Only, Interval}
+
+-- another net than this one, if there is one
+abbrev pub is_other : NetId → Option NetId → Bool
+is_other net None = true
+is_other net (Some out) = not (net.0 == out.0)
+
+-- the alarm points but for one
+abbrev pub others : Option NetId → List NetId → List NetId
+others out nets = filter (λ net. is_other net out) nets
+
+-- THE POINTS of a reading: those of the plan, or one goal alone, or without an alarm point, or that one alone
+abbrev pub points_by : Points → Reading → Points
+points_by points Whole = points
+points_by points (Goal g) = record points { goals = goal_at points.goals g ∷ [] }
+points_by points (Without a) = record points { alarm = others (Some (alarm_at points.alarm a)) points.alarm }
+points_by points (Only a) = record points { alarm = alarm_at points.alarm a ∷ [] }
+points_by points (Interval cycles) = points
+
+-- its interval for goals without one of their own: that of the settings, or its own
+abbrev pub ftti_by : ℕ → Reading → ℕ
+ftti_by ftti Whole = ftti
+ftti_by ftti (Goal g) = ftti
+ftti_by ftti (Without a) = ftti
+ftti_by ftti (Only a) = ftti
+ftti_by ftti (Interval cycles) = cycles
+
+-- its plan
+abbrev pub plan_by : Analysis → Reading → Analysis
+plan_by p reading = record p { points = points_by p.points reading; settings = record p.settings { ftti = ftti_by p.settings.ftti reading } }
+
+-- there are such a goal and such an alarm point
+abbrev pub IsReadingOf : Points → Reading → Type 0
+IsReadingOf points Whole = Unit {0}
+IsReadingOf points (Goal g) = g < length points.goals
+IsReadingOf points (Without a) = a < length points.alarm
+IsReadingOf points (Only a) = a < length points.alarm
+IsReadingOf points (Interval cycles) = Unit {0}
+
+abbrev pub AreReadingsOf : Points → List Reading → Type 0
+AreReadingsOf points readings = All (IsReadingOf points) readings
+
+-- all of them, in the order of `readings`
+abbrev pub reading_list : Points → List ℕ → List Reading
+reading_list points intervals =
+    Whole ∷ map (λ g. Goal g) (below (length points.goals)) ++ map (λ a. Without a) (below (length points.alarm))
+    ++ map (λ a. Only a) (below (length points.alarm)) ++ map (λ cycles. Interval cycles) intervals
+
+-- THE LIST is of readings of the points
+abbrev pub ListIsSound : Type 0
+ListIsSound = (points : Points) (intervals : List ℕ) → AreReadingsOf points (reading_list points intervals)
+
+-- and their plans are those of the readings of a plan, in order
+abbrev pub ListGivesReadings : Type 0
+ListGivesReadings = (p : Analysis) (intervals : List ℕ) → map (plan_by p) (reading_list p.points intervals) ≡ map (λ (reading : PlanReading). reading.plan) (readings p intervals)

@@ -1,0 +1,17 @@
+//! The planes of danger and of notice of every reading of a plan, by one simulation.
+#![tactic(auto)]
+
+mod danger;
+mod lane;
+mod late;
+mod law;
+mod notice;
+mod planes;
+pub mod reading;
+mod runs;
+
+pub use lane::LaneCycles;
+pub use law::list_gives_readings;
+pub use planes::ReadingPlanes;
+pub use reading::{Reading, reading_list};
+pub use runs::loaded_readings;
