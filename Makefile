@@ -15,7 +15,7 @@ MADE_OF := crates.txt HANDLES $(shell find crates -path '*/out' -prune -o -type 
 
 # The proved program, by all processors. Nothing is built of a crate that isn't proved.
 build/fmeda: $(MADE_OF)
-	tools/build
+	tools/dev/build
 	mkdir -p build
 	cp crates/fmeda_cli/out/fmeda_cli build/fmeda
 
@@ -60,7 +60,7 @@ cases: build/fmeda
 
 # Every edit that the prover must refuse, those that the gate leaves out too, in a copy of the repository; a verdict a line.
 edits:
-	tools/edits
+	tools/dev/edits
 
 # Wrong bodies that no clause can refuse: each is built without proof, and a test must catch it.
 mutants:
@@ -80,11 +80,12 @@ install: build/fmeda
 	install -D -m 644 docs/fmeda.1 $(INTO)/share/man/man1/fmeda.1
 	install -D -m 644 tools/completions/fmeda.bash $(INTO)/share/bash-completion/completions/fmeda
 	install -D -m 644 tools/completions/_fmeda $(INTO)/share/zsh/site-functions/_fmeda
-	mkdir -p $(foreach folder,build docs tools tests/reference,$(SHARE)/$(folder))
+	mkdir -p $(foreach folder,build docs/pictures tools tests/reference,$(SHARE)/$(folder))
 	install $(TOOLS:%=tools/%) $(SHARE)/tools
 	install -m 644 $(wildcard tools/*.py) tools/page.css tools/page.js $(SHARE)/tools
 	install -m 644 $(wildcard tests/reference/*.py) $(SHARE)/tests/reference
 	install -m 644 $(wildcard docs/*.md) $(SHARE)/docs
+	install -m 644 $(wildcard docs/pictures/*.svg) $(SHARE)/docs/pictures
 	install -m 644 README.md CHANGELOG.md $(SHARE)
 	tar -cf - --exclude=flow --exclude=result --exclude=__pycache__ examples | tar -xf - -C $(SHARE)
 	ln -sfn ../../../bin/fmeda $(SHARE)/build/fmeda
@@ -93,4 +94,4 @@ install: build/fmeda
 # An archive that needs neither kit nor make: what `install` installs, and RELEASE with the digest of the sources and the gate's last
 # line. It runs the gate.
 dist:
-	tools/dist
+	tools/dev/dist

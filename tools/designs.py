@@ -41,6 +41,14 @@ def clock_of(text):
     return (clocks[0], False) if clocks else (None, False)
 
 
+def unknown_starts(text, name):
+    """How many `.latch` lines of a BLIF file give no initial value that is known: these latches start at 0."""
+    if name.endswith(".bench"):
+        return 0
+    latches = [words for words in (line.partition("#")[0].split() for line in re.sub(r"\\\r?\n", " ", text.decode("latin-1")).splitlines()) if words[:1] == [".latch"]]
+    return sum(len(words) in (3, 5) or words[-1] in ("2", "3") for words in latches)
+
+
 def read(name):
     text, design = held(name), Design()
     try:
@@ -51,6 +59,7 @@ def read(name):
     design.inputs = [design.names[n] for n in design.net.inputs]
     design.outputs = [design.names[n] for n in design.net.outputs]
     design.clock, design.falling = clock_of(text)
+    design.unknown_starts = unknown_starts(text, name)
     return design
 
 

@@ -2,6 +2,7 @@
 from dataclasses import dataclass
 
 import designs
+import refusals
 from designs import campaign, tables
 
 CONSTANTS = ("$false", "$true", "$undef")
@@ -28,7 +29,8 @@ def read_points(name, design):
     try:
         return tables.read_points(designs.held(name), design.net)
     except tables.RowFault as fault:
-        raise designs.Refused(f"{name}: row {fault.row} {fault.kind}")
+        more = refusals.of_row(fault.kind, name, fault.row, design.names)
+        raise designs.Refused("; ".join([f"{name}: row {fault.row} {fault.kind}", *more]))
 
 
 def cycles(text):
@@ -76,7 +78,7 @@ ROWS = {
     "latches": "the latches are as many as in the design", "cycles": "the cycles of `--flips` and `--pulses` exist", "transient": "transient faults were asked for",
     "missions": "there is a run of kind `mission`", "mechanisms": "some part is a `mechanism`", "alarms": "the alarm is 0 in the golden run of the mission",
     "harm": "a mechanism has no residual or single-point faults", "golden": "the golden run is what the simulation of the RTL did", "safe": "few faults are `safe`",
-    "goals": "one safety goal", "end": "the report ends with `end`, and the status was 0", "kept": "the settings were kept",
+    "start": "latches of unknown initial value don't matter", "goals": "one safety goal", "end": "the report ends with `end`, and the status was 0", "kept": "the settings were kept",
 }
 # Those that make a metric untrue, or one that says nothing; what isn't here is worth a look. The first may be meant, for a reason; the others never.
 MAY_BE_MEANT = ("outside", "patterns", "rates", "weights", "mechanisms", "alarms", "harm", "goals")
@@ -108,6 +110,11 @@ def of_rates(design, asked):
         yield Hint("rates", f"The permanent rate of {', '.join(silent)} is 0: these stuck-at faults are classified, and weigh nothing.")
 
 
+def of_latches(design):
+    if design.unknown_starts:
+        yield Hint("start", f"{design.unknown_starts} .latch lines give no initial value, and these latches start at 0. Do the metrics stay where they start at 1?")
+
+
 def of_points(goals, alarms):
     if len(goals) > 1:
         yield Hint("goals", f"The points name {len(goals)} safety goals, and the metrics are of all of them together; the standard wants them for each.")
@@ -117,7 +124,7 @@ def of_points(goals, alarms):
 
 def of_files(design, asked):
     """What can be noticed before a campaign is run."""
-    return [*of_runs(designs.read_runs(asked.workload, design), asked), *of_rates(design, asked), *of_points(*read_points(asked.points, design))]
+    return [*of_runs(designs.read_runs(asked.workload, design), asked), *of_rates(design, asked), *of_latches(design), *of_points(*read_points(asked.points, design))]
 
 
 def of_report(report):

@@ -2,6 +2,7 @@
 import hashlib
 import pathlib
 
+FORM = "fmeda-manifest 1"
 INPUTS = ("netlist", "workload", "rates", "points")
 
 

@@ -1,4 +1,4 @@
-"""Pieces of the HTML pages that the tools make. A page needs nothing from outside."""
+"""Pieces of the HTML pages that the tools make. A page needs nothing from outside, and can be used by keyboard, on a narrow screen and on paper."""
 import hashlib
 import html
 import pathlib
@@ -9,10 +9,11 @@ import reports
 
 HERE = pathlib.Path(__file__).resolve().parent
 STYLE = (HERE / "page.css").read_text()
+HEAD = '<meta charset="utf-8"><meta name="viewport" content="width=device-width, initial-scale=1">'
 
 
 def tag(name, text, **attributes):
-    shown = "".join(f' {key.rstrip("_")}="{html.escape(str(value))}"' for key, value in attributes.items())
+    shown = "".join(f' {key.rstrip("_").replace("_", "-")}="{html.escape(str(value))}"' for key, value in attributes.items())
     return f"<{name}{shown}>{text}</{name}>"
 
 
@@ -21,13 +22,31 @@ def row(cells, name="td"):
 
 
 def table(head, rows, **attributes):
-    return tag("table", tag("thead", row(head, "th")) + tag("tbody", "".join(rows)), **attributes)
+    """A table that is wider than a narrow screen is moved by itself, by hand or by the arrow keys, and not the whole page."""
+    inner = tag("table", tag("thead", row(head, "th")) + tag("tbody", "".join(rows)), **attributes)
+    return tag("div", inner, class_="wide", tabindex="0")
 
 
 def bar(shares):
-    """Coloured pieces of (class, share of 1, words)."""
+    """Pieces of (class, share of 1, words), each class with a hatching of its own; the words say the same to who can't see it."""
     pieces = [tag("span", "", class_=f"piece {kind}", style=f"width:{100 * share:.3f}%", title=said) for kind, share, said in shares if share > 0]
-    return tag("div", "".join(pieces), class_="bar")
+    words = ", ".join(said for _, share, said in shares if share > 0 and said)
+    return tag("div", "".join(pieces), class_="bar", **({"role": "img", "aria_label": words} if words else {"aria_hidden": "true"}))
+
+
+def legend(kinds):
+    return tag("p", " ".join(tag("span", tag("span", "", class_=f"piece {kind}") + " " + kind, class_="key") for kind in kinds), class_="legend")
+
+
+def section(name, heading, *pieces):
+    return (name, heading, "".join(pieces))
+
+
+def whole(title, head, sections):
+    """A page of its title, a line below it, the list of its sections, and these."""
+    links = tag("ol", "".join(tag("li", tag("a", heading, href=f"#section-{name}")) for name, heading, _ in sections))
+    inner = "".join(tag("section", tag("h2", heading, id=f"section-{name}") + text) for name, heading, text in sections)
+    return tag("header", tag("h1", html.escape(title)) + tag("p", html.escape(head), class_="head")) + tag("nav", links, aria_label="Contents") + tag("main", inner)
 
 
 def metric_rows(report):
@@ -64,8 +83,7 @@ def hint_list(found, otherwise):
 
 def write(out, title, inner):
     """Writes the whole page to the file `out`, or to standard output."""
-    title = html.escape(title)
-    text = f'<!DOCTYPE html>\n<html lang="en"><head><meta charset="utf-8"><title>{title}</title><style>{STYLE}</style></head><body>{inner}</body></html>\n'
+    text = f'<!DOCTYPE html>\n<html lang="en"><head>{HEAD}<title>{html.escape(title)}</title><style>{STYLE}</style></head><body>{inner}</body></html>\n'
     if out:
         pathlib.Path(out).write_text(text, encoding="utf-8")
     else:

@@ -1,4 +1,4 @@
-"""A report as the tools need it, read from its text (docs/formats.md)."""
+"""A report as the tools need it, read from its text (docs/reading-the-report.md)."""
 import designs
 
 PER_CENT = {"B": (90, 60, 10**8), "C": (97, 80, 10**8), "D": (99, 90, 10**7)}

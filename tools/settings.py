@@ -10,7 +10,7 @@ import hints
 CYCLES = re.compile(r"none|[0-9]+(,[0-9]+)*")
 KEYS = {
     "design": ("verilog", "headers", "top", "netlist", "latches"),
-    "workload": ("file", "scope", "clock", "unknown", "nets", "skip"),
+    "workload": ("file", "scope", "clock", "unknown", "nets", "without", "skip"),
     "campaign": ("rates", "points", "interval", "flips", "pulses", "asil", "workers"),
     "output": ("folder", "title"),
 }
@@ -45,6 +45,7 @@ class Settings:
     clock: str = ""
     unknown: str = ""
     nets: str = "outputs"
+    without: str = ""
     skip: str = "0"
     interval: str = "0"
     flips: str = "none"

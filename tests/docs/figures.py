@@ -175,8 +175,8 @@ def of_from_verilog(made):
 
 
 def of_statement(_):
-    """What tools/statement counts, in place of a report's figures."""
-    done = subprocess.run([sys.executable, str(ROOT / "tools" / "statement")], stdout=subprocess.PIPE, text=True, check=True, timeout=60)
+    """What tools/dev/statement counts, in place of a report's figures."""
+    done = subprocess.run([sys.executable, str(ROOT / "tools" / "dev" / "statement")], stdout=subprocess.PIPE, text=True, check=True, timeout=60)
     lines, definitions, files = [int(it) for it in done.stdout.splitlines()[-1].split() if it.isdigit()][:3]
     yield f"{thousands(lines)} lines of {definitions} definitions in {files} files"
 

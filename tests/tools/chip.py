@@ -167,7 +167,7 @@ class _Cells(html.parser.HTMLParser):
         self.text, self.fetched = "", []
 
     def handle_starttag(self, name, attributes):
-        self.fetched += [value for key, value in attributes if key in ("src", "href", "srcset", "action")]
+        self.fetched += [value for key, value in attributes if key in ("src", "href", "srcset", "action") and not value.startswith("#")]
 
     def handle_data(self, data):
         self.text += data + "|"

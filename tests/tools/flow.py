@@ -253,6 +253,24 @@ def latches_that_were_merged(folder, program):
 
 def a_simulation_that_differs(folder, program):
     _stopped(folder, program, "stopped at golden: run drive cycle 3 net q: golden run 1, simulation 0", "the golden run is what the simulation of the RTL did", drive__vcd=_dump(3))
+    _design(folder, SETTINGS.replace("[runs]", "[workload]\nwithout = q\n[runs]"), drive__vcd=_dump(3))
+    printed, _ = _flow(folder, program)
+    assert "1 nets agree" in printed, printed
+
+
+def latches_that_start_at_an_unknown_value(folder, program):
+    _design(folder, design__blif=NETLIST.replace("re clk 0", "re clk 2", 1))
+    printed, _ = _flow(folder, program)
+    assert "look: 1 .latch lines give no initial value, and these latches start at 0" in printed, printed
+
+
+def what_a_refusal_names_is_shown(folder, program):
+    for changes, wanted in (({"points__csv": POINTS + "observe,AL\n"}, "row 4 of points.csv is observe,AL\n  the netlist has al\n"),
+                            ({"rates__csv": RATES.replace("pins,mission", "pins,Mission")}, "row 2 of rates.csv is d,pins,Mission,no,0.1,0\n"),
+                            ({"design__blif": NETLIST.replace("01 1", "01 0")}, "line 8 of design.blif is 01 0\n")):
+        _design(folder, SETTINGS.replace("[runs]\ndrive = mission drive.vcd", "[workload]\nfile = w.csv"), w__csv="workload,kind,d\nw,mission,0\nw,mission,1\nw,mission,1\n", **changes)
+        _, said = _flow(folder, program, status=3)
+        assert wanted in said, said
 
 
 def patterns_that_take_nothing(folder, program):

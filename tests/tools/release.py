@@ -76,7 +76,7 @@ def what_make_installs(folder, program):
     for name in ("bin/fmeda", "share/man/man1/fmeda.1", "share/bash-completion/completions/fmeda", "share/zsh/site-functions/_fmeda", "share/fmeda/README.md",
                  "share/fmeda/docs/before-you-believe.md", "share/fmeda/tools/page.css", "share/fmeda/examples/bridge/async_reset.v"):
         assert (installed / name).is_file(), name
-    for name in ("examples/lockstep/flow", "examples/lockstep/result", "tools/survey", "tools/unproved"):
+    for name in ("examples/lockstep/flow", "examples/lockstep/result", "tools/dev/survey", "tools/dev/unproved"):
         assert not (installed / "share" / "fmeda" / name).exists(), name
     assert installed.joinpath("bin", "fmeda").read_bytes() == pathlib.Path(program).read_bytes()
     _used(installed, folder)

@@ -1,0 +1,280 @@
+"""Cases of tools/page: what it says, what it does in a browser, and how it looks there, on a narrow screen, without colour and on paper."""
+import html.parser
+import json
+import os
+import pathlib
+import re
+import shutil
+import struct
+import subprocess
+import tempfile
+import zlib
+
+from common import EXAMPLES, Skipped, held, tool
+
+FILES = ("design.blif", "workload.csv", "rates.csv", "points.csv")
+
+
+class Outside(html.parser.HTMLParser):
+    """Whatever a page would fetch."""
+
+    def __init__(self):
+        super().__init__()
+        self.found = []
+
+    def handle_starttag(self, name, attributes):
+        self.found += [(name, key, value) for key, value in attributes if key in ("src", "href", "srcset", "action") and not value.startswith("#")]
+
+
+def _made_page(folder, example, *more):
+    copy = pathlib.Path(folder, example)
+    shutil.copytree(EXAMPLES / example, copy)
+    files = (copy / "words").read_text().split()[1:5]
+    tool("page", *files, "report.txt", *more, "-o", "page.html", folder=copy)
+    return copy / "page.html"
+
+
+def a_page_of_each_example(folder, _):
+    for example in sorted(it.parent.name for it in EXAMPLES.glob("*/design.blif")):
+        text = _made_page(folder, example).read_text()
+        outside = Outside()
+        outside.feed(text)
+        assert not outside.found and "@import" not in text and "url(" not in text, (example, outside.found)
+
+
+def what_the_page_says(folder, _):
+    text = _made_page(folder, "bridge").read_text()
+    for wanted in ("85.42 %", "at least 90 %", "3638933/4260000", "without the 22 heaviest faults", "u_control", "Nothing was noticed"):
+        assert wanted in text, wanted
+    text = _made_page(folder, "watchdog").read_text()
+    assert "2 safety goals" in text
+    text = _made_page(folder, "secded_fifo", "--flips", "20,45,5000").read_text()
+    assert "no mission run has the cycles 5000" in text and "No part has the role mechanism" in text
+
+
+def fewest_faults_by_hand(folder, _):
+    """SPFM 6/10 and 90 % wanted: three of four residual faults of 1 FIT must go; LFM 5/6: the one latent fault."""
+    copy = pathlib.Path(folder, "x")
+    shutil.copytree(EXAMPLES / "duplicated", copy)
+    text = copy.joinpath("report.txt").read_text().replace("asil D", "asil B").replace("target lfm missed", "target lfm met")
+    copy.joinpath("report.txt").write_text(text)
+    tool("page", "gate.blif", "vectors.csv", "rates.csv", "points.csv", "report.txt", "-o", "page.html", folder=copy)
+    shown = copy.joinpath("page.html").read_text()
+    assert "spfm permanent</b>: without the 3 heaviest" in shown and "lfm</b>: without" not in shown
+
+
+def a_page_of_a_refusal_or_half_a_report(folder, _):
+    copy = pathlib.Path(folder, "x")
+    shutil.copytree(EXAMPLES / "bridge", copy)
+    report = copy.joinpath("report.txt")
+    whole = report.read_text()
+    for text, wanted in ((whole[:-4], "cut off"), ("refused: usage\n", "refused: usage")):
+        report.write_text(text)
+        _, said = tool("page", *FILES, "report.txt", folder=copy, status=1)
+        assert wanted in said, said
+
+
+def names_are_no_markup(folder, _):
+    held(folder, n__blif=".model m\n.inputs <b>a\n.outputs y\n.names <b>a y\n1 1\n.end\n", w__csv="workload,kind,<b>a\nw,mission,1\n",
+         r__csv="pattern,part,role,covered,permanent,transient\n*,all,mission,no,1,0\n", p__csv="kind,net\nobserve,y\n")
+    words = ["fmeda-report 1", "nets 2 latches 0 faults 4 batches 1 workloads 1 cycles 1 ftti 0 asil D",
+             "part all mission uncovered permanent 1000000 transient 0 faults 4 safe 2 detected 0 residual 0 single-point 2 latent 0 outside 0 coverage 0/500000",
+             "permanent all 1000000 danger 500000 latent 0", "transient all 0 danger 0", "spfm permanent 500000/1000000", "spfm transient -", "lfm 500000/500000",
+             "term 500000", "target spfm permanent missed", "target spfm transient -", "target lfm met", "target term met",
+             "single-point <b>a/0 250000", "single-point y/0 250000", "end", ""]
+    held(folder, report__txt="\n".join(words))
+    text, _ = tool("page", "n.blif", "w.csv", "r.csv", "p.csv", "report.txt", folder=folder)
+    assert "<b>a" not in text and "\\u003cb>a/0" in text
+
+
+def _browser(*words):
+    browser = shutil.which("chromium") or shutil.which("chromium-browser")
+    if browser is None:
+        raise Skipped("chromium is not installed")
+    with tempfile.TemporaryDirectory() as home:
+        words = [browser, "--headless", "--no-sandbox", "--disable-gpu", "--hide-scrollbars", f"--user-data-dir={home}", *words]
+        return subprocess.run(words, capture_output=True, text=True, timeout=120, env={**os.environ, "HOME": home}).stdout
+
+
+def _dom_of(page, searched):
+    return _browser("--dump-dom", f"file://{page}#{searched}")
+
+
+def _unfiltered(kind, line, above, step):
+    """A line of a PNG file as it was before its filter of this kind."""
+    made = bytearray(line)
+    for at, byte in enumerate(line):
+        left, up, corner = (made[at - step] if at >= step else 0), above[at], (above[at - step] if at >= step else 0)
+        if kind == 4:
+            near = min((left, up, corner), key=lambda it: abs(left + up - corner - it))
+        made[at] = (byte + (0, left, up, (left + up) // 2, near if kind == 4 else 0)[kind]) & 255
+    return made
+
+
+def _picture(page, width, height, *words):
+    """The rows of the page's picture, each pixel as its grey."""
+    with tempfile.TemporaryDirectory() as room:
+        shot = pathlib.Path(room, "shot.png")
+        _browser(f"--window-size={width},{height}", f"--screenshot={shot}", *words, f"file://{page}")
+        data = shot.read_bytes()
+    wide, high, depth, kind = struct.unpack(">IIBB", data[16:26])
+    assert depth == 8 and kind in (2, 6), (depth, kind)
+    step, at, packed = {2: 3, 6: 4}[kind], 8, b""
+    while at < len(data):
+        length, name = struct.unpack(">I4s", data[at:at + 8])
+        packed += data[at + 8:at + 8 + length] if name == b"IDAT" else b""
+        at += 12 + length
+    plain, above, rows = zlib.decompress(packed), bytearray(wide * step), []
+    for k in range(high):
+        line = plain[k * (wide * step + 1):(k + 1) * (wide * step + 1)]
+        above = _unfiltered(line[0], line[1:], above, step)
+        rows.append([(299 * above[i] + 587 * above[i + 1] + 114 * above[i + 2]) // 1000 for i in range(0, wide * step, step)])
+    return rows
+
+
+class Rows(html.parser.HTMLParser):
+    """The texts of the cells of the table of faults, a list for each row."""
+
+    def __init__(self):
+        super().__init__()
+        self.inside, self.rows = False, []
+
+    def handle_starttag(self, name, attributes):
+        if name == "table":
+            self.inside = ("id", "faults") in attributes
+        elif self.inside and name == "tr":
+            self.rows.append([])
+        elif self.inside and name in ("td", "th"):
+            self.rows[-1].append("")
+
+    def handle_endtag(self, name):
+        if name == "table":
+            self.inside = False
+
+    def handle_data(self, data):
+        if self.inside and self.rows and self.rows[-1]:
+            self.rows[-1][-1] += data
+
+
+def _rows_in_the_browser(page, searched):
+    rows = Rows()
+    rows.feed(_dom_of(page, searched))
+    return rows.rows[1:]
+
+
+def the_page_in_a_browser(folder, _):
+    page = _made_page(folder, "lockstep")
+    lines = [line.split() for line in page.with_name("report.txt").read_text().splitlines()]
+    faults = [words for words in lines if words[0] in ("residual", "single-point", "latent")]
+    rows = _rows_in_the_browser(page, "")
+    assert sorted((row[0], row[1]) for row in rows) == sorted((words[0], words[1]) for words in faults), len(rows)
+    assert [float(row[3]) for row in rows] == sorted((int(words[2]) / 1e6 for words in faults), reverse=True)
+    rows = _rows_in_the_browser(page, "torque%20residual")
+    assert sorted(row[1] for row in rows) == sorted(words[1] for words in faults if words[0] == "residual" and "torque" in words[1]), rows
+
+
+def all_faults_in_a_browser(folder, program):
+    copy = pathlib.Path(folder, "bridge")
+    shutil.copytree(EXAMPLES / "bridge", copy)
+    words = copy.joinpath("words").read_text().split()
+    subprocess.run([program, *words], cwd=copy, check=True, stdout=subprocess.DEVNULL)
+    tool("page", *FILES, "report.txt", "--result", "result", "--flips", "61,98,130,250", "-o", "page.html", folder=copy)
+    rows = _rows_in_the_browser(copy / "page.html", "")
+    assert len(rows) == 716, len(rows)
+    assert sum(row[0] == "detected" for row in rows) == 183 + 112 + 29 + 48 + 87 + 1 + 46
+
+
+def what_was_asked_for_stands_on_the_page(folder, _):
+    text = _made_page(folder, "watchdog").read_text()
+    for wanted in ("<td>heater</td><td>16 cycles</td><td>heater_on</td>", "<td>lamp</td><td>", "alarms, of all goals"):
+        assert wanted in text, wanted
+    text = _made_page(folder, "bridge").read_text()
+    assert "not told to this page" in text
+    named = re.findall(r'<h2 id="(section-[a-z]+)">', text)
+    assert named == re.findall(r'<a href="#(section-[a-z]+)">', text) and len(named) == 7, named
+    assert 'name="viewport"' in text and text.index("<nav") < text.index("<main>")
+    assert f'<div class="wide" tabindex="0"><table id="parts">' in text
+
+
+def a_page_with_its_manifest(folder, program):
+    copy = pathlib.Path(folder, "x")
+    shutil.copytree(EXAMPLES / "duplicated", copy)
+    words = copy.joinpath("words").read_text().split()
+    tool("manifest", "run", "m.json", "--", program, *words, folder=copy)
+    files = (*words[1:5], "report.txt")
+    tool("page", *files, "--manifest", "m.json", "-o", "page.html", folder=copy)
+    text, kept = copy.joinpath("page.html").read_text(), json.loads(copy.joinpath("m.json").read_text())
+    for wanted in (kept["campaign"], kept["program"]["sha256"], f"fmeda {' '.join(words)}", "<td>cycles of flips (--flips)</td><td>none</td>", kept["started"]):
+        assert wanted in text, wanted
+    report = copy.joinpath("report.txt")
+    report.write_text(report.read_text().replace("target lfm missed", "target lfm met"))
+    _, said = tool("page", *files, "--manifest", "m.json", folder=copy, status=1)
+    assert "m.json is of another report than report.txt" in said, said
+    _, said = tool("page", *files, "--manifest", "report.txt", folder=copy, status=1)
+    assert "report.txt is no manifest" in said, said
+
+
+def a_link_to_a_section_is_no_search(folder, _):
+    page = _made_page(folder, "lockstep")
+    assert len(_rows_in_the_browser(page, "section-parts")) == len(_rows_in_the_browser(page, "")) == 234
+    assert 'aria-label="Contents"' in _dom_of(page, "")
+
+
+KEYS = """<script>
+const pressed = key => document.dispatchEvent(new KeyboardEvent("keydown", {key, bubbles: true, cancelable: true}));
+const first = () => document.querySelector("#faults tbody td:nth-child(2)").textContent;
+const said = [];
+pressed("/"); said.push(document.activeElement.id);
+search.value = "torque"; search.dispatchEvent(new Event("input")); said.push(count.textContent.split(",")[0]);
+pressed("Escape"); said.push(search.value + count.textContent.split(",")[0]);
+const name = document.querySelectorAll("#faults th button")[1];
+name.click(); said.push(first()); name.click(); said.push(first()); said.push(name.parentElement.getAttribute("aria-sort")); said.push(more.hidden);
+document.title = said.join("|");
+</script>"""
+
+
+def what_keys_and_buttons_do(folder, _):
+    page = _made_page(folder, "lockstep")
+    names = [line.split()[1] for line in page.with_name("report.txt").read_text().splitlines() if line.split()[0] in ("residual", "single-point", "latent")]
+    page.write_text(page.read_text().replace("</body>", KEYS + "</body>"))
+    found = re.search(r"<title>(.*?)</title>", _dom_of(page, ""))[1].split("|")
+    assert found == ["search", f"{sum('torque' in name for name in names)} faults", f"{len(names)} faults", min(names), max(names), "descending", "true"], found
+
+
+def _dark_columns(rows):
+    """Of a narrow page its last pixels, which are as light as the paper where nothing is cut off."""
+    return [number for number, row in enumerate(rows) if any(pixel < 200 for pixel in row[-4:])]
+
+
+def the_page_on_a_narrow_screen(folder, _):
+    rows = _picture(_made_page(folder, "bridge"), 500, 3000)
+    assert len(rows[0]) == 500 and not _dark_columns(rows), _dark_columns(rows)[:5]
+    assert sum(any(pixel < 120 for pixel in row) for row in rows) > 300
+
+
+def classes_are_told_apart_without_colour(folder, _):
+    """Each class has a grey of its own, or stripes: the least and the greatest grey of a piece, and which way its stripes go."""
+    page = pathlib.Path(folder, "bars.html")
+    made = _made_page(folder, "lockstep").read_text()
+    style = re.search(r"<style>.*?</style>", made, re.S)[0]
+    kinds = ("residual", "single-point", "latent", "detected", "safe", "outside")
+    pieces = "".join(f'<span class="piece {kind}" style="position:absolute;left:0;top:{40 * k}px;width:40px;height:40px"></span>' for k, kind in enumerate(kinds))
+    page.write_text(f"<!DOCTYPE html><html><head>{style}</head><body>{pieces}</body></html>")
+    rows, seen = _picture(page, 500, 300), set()
+    for k in range(len(kinds)):
+        inner = [row[4:36] for row in rows[40 * k + 4:40 * k + 36]]
+        across, down = len({row[0] for row in inner}) > 1, len(set(inner[0])) > 1
+        seen.add((across, down, inner[16][16] // 24 if not (across or down) else None))
+    assert len(seen) == len(kinds), seen
+
+
+def the_page_on_paper(folder, _):
+    page, paper = _made_page(folder, "lockstep"), pathlib.Path(folder, "page.pdf")
+    _browser("--no-pdf-header-footer", f"--print-to-pdf={paper}", f"file://{page}")
+    sheets = len(re.findall(rb"/Type\s*/Page\b", paper.read_bytes()))
+    assert 3 <= sheets <= 12, sheets
+    if shutil.which("pdftotext"):
+        text = subprocess.run(["pdftotext", "-layout", str(paper), "-"], capture_output=True, text=True, check=True).stdout
+        for wanted in ("Goals and settings", "SHA-256", "u_compare.turned[11]/1", "234 faults"):
+            assert wanted in text, wanted
+        assert "words of a fault" not in text and text.count("keeps missed") > 1

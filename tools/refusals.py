@@ -1,0 +1,53 @@
+"""What the one line of a refusal can't say: the row or the line that it names, and which nets have a name like an unknown one."""
+import pathlib
+import re
+
+import designs
+from designs import tables
+
+ROW = re.compile(r"^(?:refused: )?(workload|rates|points) row (\d+) (\w+)$", re.M)
+LINE = re.compile(r"^refused: (?:netlist|bench) line (\d+) ", re.M)
+MOST_NETS = 4
+
+
+def row_of(name, number):
+    """The fields of a row, counted from the header as the program does, or None."""
+    rows = tables.records(designs.held(name))
+    return [field.decode("utf-8", "replace") for field in rows[number - 1]] if 0 < number <= len(rows) else None
+
+
+def like(name, nets):
+    """The nets that an unknown name may have meant: other letters, or the bits of a bus."""
+    close = [net for net in nets if net.lower() == name.lower() or net.startswith(f"{name}[")]
+    return close[:MOST_NETS] + ([".."] if len(close) > MOST_NETS else [])
+
+
+def of_row(kind, name, number, nets):
+    row = row_of(name, number)
+    if row is None:
+        return []
+    found = like(row[-1], nets) if kind == "UnknownNet" else []
+    return [f"row {number} of {pathlib.Path(name).name} is {','.join(row)}", *([f"the netlist has {', '.join(found)}"] if found else [])]
+
+
+def of_line(name, number):
+    lines = pathlib.Path(name).read_text("latin-1").splitlines()
+    return [f"line {number} of {pathlib.Path(name).name} is {lines[number - 1].strip()[:200]}"] if 0 < number <= len(lines) else []
+
+
+def nets_of(netlist):
+    try:
+        return designs.read(netlist).names
+    except designs.Refused:
+        return []
+
+
+def explained(text, netlist, workload, rates, points):
+    """Lines that say more of a refusal, or none where there is no more to say."""
+    row, line = ROW.search(text), LINE.search(text)
+    try:
+        if row:
+            return of_row(row[3], {"workload": workload, "rates": rates, "points": points}[row[1]], int(row[2]), nets_of(netlist) if row[3] == "UnknownNet" else [])
+        return of_line(netlist, int(line[1])) if line else []
+    except (OSError, designs.Refused):
+        return []
