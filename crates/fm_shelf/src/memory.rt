@@ -56,13 +56,6 @@ impl MemorySink {
     {
         self.calls
     }
-
-    /// The number of writes that failed.
-    pub fn failures(&self) -> u64
-        ensures { result ≡ self.now.failures }
-    {
-        self.failures
-    }
 }
 
 impl Sink for MemorySink {
@@ -82,6 +75,10 @@ impl Sink for MemorySink {
                 Err(Failed)
             }
         }
+    }
+
+    fn failures(&self) -> u64 {
+        self.failures
     }
 }
 

@@ -142,4 +142,8 @@ impl<'a, R: Print> Sink for OutSink<'a, R> {
             }
         }
     }
+
+    fn failures(&self) -> u64 {
+        self.failures
+    }
 }

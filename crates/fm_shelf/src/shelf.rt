@@ -58,4 +58,8 @@ pub trait Sink {
         ensures nothing { OnErr result ((seen self.new).written ≡ (seen self.old).written) }
         ensures failed { OnErr result (CountRose (seen self.old).faults (seen self.new).faults) }
         ensures grows { (seen self.old).faults ≤ (seen self.new).faults };
+
+    /// How often a write has failed, up to the end of `u64`.
+    fn failures(&self) -> u64
+        ensures { result ≡ (seen self.now).faults };
 }

@@ -82,4 +82,8 @@ impl Sink for SureSink {
     fn write(&mut self, piece: &[u8]) -> Result<usize, Failed> {
         Ok(piece.len())
     }
+
+    fn failures(&self) -> u64 {
+        0
+    }
 }

@@ -74,6 +74,13 @@ impl<O: Sink + Drop> Paged<O> {
         self.sent = 0;
         Ok(())
     }
+
+    /// The sink behind it; what waits is given up.
+    pub fn into_sink(self) -> O
+        ensures { result ≡ self.out }
+    {
+        self.out
+    }
 }
 
 impl<O: Sink + Drop> Sink for Paged<O> {
@@ -88,5 +95,9 @@ impl<O: Sink + Drop> Sink for Paged<O> {
         }
         self.flush()?;
         self.out.write(piece)
+    }
+
+    fn failures(&self) -> u64 {
+        self.out.failures()
     }
 }

@@ -3,7 +3,7 @@ use crate::inputs::{POINTS, RATES, WORKLOAD};
 use fm_base::Seq;
 use fm_shelf::files::{Calls, File, Files};
 use fm_shelf::memory::{MemoryShelf, MemorySink};
-use fm_shelf::shelf::Shelf;
+use fm_shelf::shelf::{Shelf, Sink};
 use fm_shelf::whole::read_all;
 use fmeda_top::ended::Ended;
 use fmeda_top::top::fmeda;
