@@ -1,5 +1,6 @@
-"""Circuits that aren't synthesised from a source, for the benchmark of the kernel: a memory whose faults are seldom noticed, and
-registers that one reset reaches. Each function writes a netlist, a workload, rates and points into a folder."""
+"""Circuits that aren't synthesised from a source, for the benchmark of the kernel: a memory whose faults are seldom noticed, registers
+that one reset reaches, and a serial line with a monitor, whose counters differ for long. Each function writes a netlist, a workload, rates
+and points into a folder."""
 from netlists import RATES, put
 
 ROWS = {"and": ["11 1"], "or": ["1- 1", "-1 1"], "xor": ["10 1", "01 1"], "without": ["10 1"], "not": ["0 1"], "same": ["1 1"]}
@@ -21,6 +22,33 @@ class Netlist:
         """The nets of a list by `and`, `or` or `xor`, in a chain of tables of two inputs."""
         for i, net in enumerate(nets[1:], 1):
             self.table(kind, to if i == len(nets) - 1 else f"{to}.{i}", nets[0] if i == 1 else f"{to}.{i - 1}", net)
+        return to
+
+    def registers(self, name, to, enable, width):
+        """Latches that take new values where the enable is 1; `to` gives the net of each bit."""
+        for i in range(width):
+            kept = self.table("without", f"{name}.kept{i}", f"{name}{i}", enable)
+            given = self.table("and", f"{name}.given{i}", to(i), enable)
+            self.latch(self.table("or", f"{name}.next{i}", kept, given), f"{name}{i}")
+
+    def timer(self, name, width, clear):
+        """A counter that goes on in each cycle, and begins anew where `clear` is 1."""
+        carry = None
+        for i in range(width):
+            own = f"{name}{i}"
+            up = self.table("xor", f"{name}.up{i}", own, carry) if carry else self.table("not", f"{name}.up{i}", own)
+            self.latch(self.table("without", f"{name}.next{i}", up, clear), own)
+            carry = self.table("and", f"{name}.carry{i}", own, carry) if carry else own
+
+    def exceeds(self, to, nets, others):
+        """Whether a number is greater than another; the bits of both stand lowest first."""
+        more = None
+        for i, (net, other) in enumerate(zip(nets, others)):
+            above = self.table("without", f"{to}.above{i}", net, other)
+            if more:
+                kept = self.table("without", f"{to}.kept{i}", more, self.table("xor", f"{to}.apart{i}", net, other))
+                above = self.table("or", to if i + 1 == len(others) else f"{to}.more{i}", above, kept)
+            more = above
         return to
 
     def counter(self, name, width, enable):
@@ -92,3 +120,111 @@ def resettable(folder, blocks, width, cycles):
         n.all_of("xor", f"parity{b}", [f"b{b}.q{i}" for i in range(width)])
     n.table("xor", "alarm", "parity0", "parity1")
     written(folder, n, ["rst", *inputs], cycles, [f"parity{b}" for b in range(blocks)], ["alarm"], {"rst": lambda t: "01"[t < 2]})
+
+
+FRAME = 10
+
+
+def transmitter(n, name, width):
+    """Sends the byte on the bus where `send` is 1 and no frame is under way: a start bit, eight of data, a stop bit. A bit lasts two
+    cycles more than the number in its divisor. It gives its line, which is 1 at rest, and whether a frame is under way."""
+    bits = lambda part, count: [f"{name}.{part}{i}" for i in range(count)]
+    n.registers(f"{name}.divisor", lambda i: f"bus{i}", "set", width)
+    tick = n.exceeds(f"{name}.tick", bits("time", width), bits("divisor", width))
+    busy = n.all_of("or", f"{name}.busy", bits("left", 4))
+    load = n.table("without", f"{name}.load", "send", busy)
+    n.timer(f"{name}.time", width, n.table("or", f"{name}.clear", tick, load))
+    borrow = n.table("and", f"{name}.borrow", busy, tick)
+    for i in range(4):
+        fewer = n.table("xor", f"{name}.fewer{i}", f"{name}.left{i}", borrow)
+        borrow = n.table("without", f"{name}.borrow{i}", borrow, f"{name}.left{i}")
+        n.latch(n.table("or" if FRAME >> i & 1 else "without", f"{name}.leave{i}", fewer, load), f"{name}.left{i}")
+    for i in range(FRAME):
+        kept = n.table("without", f"{name}.kept{i}", f"{name}.frame{i}", tick)
+        moved = n.table("or", f"{name}.moved{i}", kept, n.table("and", f"{name}.shifted{i}", tick, f"{name}.frame{i + 1}") if i + 1 < FRAME else tick)
+        if 0 < i < FRAME - 1:
+            given = n.table("and", f"{name}.given{i}", load, f"bus{i - 1}")
+            to = n.table("or", f"{name}.next{i}", given, n.table("without", f"{name}.stay{i}", moved, load))
+        else:
+            to = n.table("or" if i else "without", f"{name}.next{i}", moved, load)
+        n.latch(to, f"{name}.frame{i}")
+    line = n.table("or", f"{name}.line", f"{name}.frame0", n.table("not", f"{name}.rest", busy))
+    return line, busy
+
+
+def receiver(n, name, divisor, width):
+    """Takes a frame off the net `rx`: half a bit after the start bit fell it begins to take a bit each bit's time. It gives the last byte
+    that it took, and whether that is new since `take` was 1."""
+    time, step = [f"{name}.time{i}" for i in range(width)], f"{name}.step"
+    state = [f"{name}.state{i}" for i in range(4)]
+    busy = n.all_of("or", f"{name}.busy", state)
+    for i, net in enumerate(state):
+        n.table("not", f"{name}.state.not{i}", net)
+    first, last = (n.is_number(f"{name}.is{k}", f"{name}.state", 4, k) for k in (1, FRAME))
+    tick = n.exceeds(f"{name}.tick", time, divisor)
+    half = n.table("and", f"{name}.half", first, n.exceeds(f"{name}.middle", time, divisor[1:]))
+    fell = n.table("not", f"{name}.fell", n.table("or", f"{name}.quiet", "rx", busy))
+    later = n.table("and", f"{name}.later", tick, n.table("without", f"{name}.behind", busy, first))
+    n.table("or", step, fell, n.table("or", f"{name}.goes", half, later))
+    n.timer(f"{name}.time", width, n.table("or", f"{name}.clear", step, n.table("not", f"{name}.rest", busy)))
+    done = n.table("and", f"{name}.done", tick, last)
+    carry = step
+    for i, net in enumerate(state):
+        up = n.table("xor", f"{name}.up{i}", net, carry)
+        carry = n.table("and", f"{name}.carry{i}", net, carry)
+        n.latch(n.table("without", f"{name}.next{i}", up, done), net)
+    n.registers(f"{name}.frame", lambda i: f"{name}.frame{i + 1}" if i < 7 else "rx", n.table("without", f"{name}.shift", later, last), 8)
+    n.registers(f"{name}.byte", lambda i: f"{name}.frame{i}", done, 8)
+    n.latch(n.table("or", f"{name}.fresh", done, n.table("without", f"{name}.waits", f"{name}.valid", "take")), f"{name}.valid")
+    return [f"{name}.byte{i}" for i in range(8)], f"{name}.valid", done
+
+
+def gauge(n, name, divisor, width):
+    """Whether the last stretch in which the net `rx` was 0 was longer than a number."""
+    n.timer(f"{name}.time", width, "rx")
+    n.latch(n.table("not", f"{name}.low", "rx"), f"{name}.was")
+    n.registers(f"{name}.length", lambda i: f"{name}.time{i}", n.table("and", f"{name}.rises", "rx", f"{name}.was"), width)
+    return n.exceeds(f"{name}.long", [f"{name}.length{i}" for i in range(width)], divisor)
+
+
+def uart(folder, width, cycles):
+    """A serial line with divisors of so many bits. A twin of the transmitter and a parity of the received byte are its monitor, so of the
+    receiver little is noticed. A fault of a counter or a divisor differs for long, most of them from the first frame on."""
+    n = Netlist()
+    (line, busy), (twin, also_busy) = (transmitter(n, name, width) for name in ("tx", "twin"))
+    divisor = [f"tx.divisor{i}" for i in range(width)]
+    data, valid, done = receiver(n, "rx", divisor, width)
+    slow = gauge(n, "gauge", divisor, width)
+    n.registers("parity", lambda i: n.all_of("xor", "frame.parity", [f"rx.frame{k}" for k in range(8)]), done, 1)
+    alarm = n.table("or", "alarm", n.table("xor", "line.apart", line, twin), n.table("xor", "busy.apart", busy, also_busy))
+    wrong = n.table("xor", "parity.alarm", "parity0", n.all_of("xor", "byte.parity", data))
+    strobes, bus = serial_strobes(cycles)
+    fixed = {name: lambda t, at=at: "01"[t in at] for name, at in strobes.items()}
+    fixed |= {f"bus{i}": lambda t, i=i: "01"[bus.get(t, 0) >> i & 1] for i in range(width)}
+    fixed["rx"] = received_line(cycles)
+    written(folder, n, ["set", "send", "take", "rx", *(f"bus{i}" for i in range(width))], cycles, [line, busy, *data, valid, slow], [alarm, wrong], fixed)
+
+
+DIVISORS = 20, 13
+
+
+def serial_strobes(cycles):
+    """In which cycles each strobe is 1, and the number on the bus in these; the divisor is changed once, half way."""
+    half, bits = cycles // 2, noise(2)
+    byte = lambda: sum((next(bits) == "1") << i for i in range(8))
+    sends = range(8, cycles, 260)
+    bus = {1: DIVISORS[0], half: DIVISORS[1]} | {t: byte() for t in sends}
+    return {"set": {1, half}, "send": set(sends), "take": set(range(300, cycles, 300))}, bus
+
+
+def received_line(cycles):
+    """What another station sends: the line is 1 but in frames, of which one begins each 290 cycles."""
+    bits, frames = noise(3), {}
+    for begin in range(40, cycles, 290):
+        frames[begin] = "0" + "".join(next(bits) for _ in range(8)) + "1"
+    levels = []
+    for t in range(cycles):
+        begin = t - (t - 40) % 290
+        at = (t - begin) // (DIVISORS[begin > cycles // 2] + 2)
+        levels.append(frames[begin][at] if begin in frames and at < FRAME else "1")
+    return lambda t: levels[t]

@@ -15,15 +15,9 @@ use Rattle.fm_base.proofs.Below.{some_below-true}
 use Rattle.fm_base.proofs.Tests.{clash, false_of}
 use Rattle.classifier.specs.OutOfReach.{IsDeaf, IsHarmless}
 use Rattle.classifier.specs.Seen.{is_noticed_by}
-use Rattle.classifier.proofs.Stillness.{not_raised, not_silenced, same_bits}
+use Rattle.classifier.proofs.Stillness.{same_bits}
 
 -- without faults
-pub bare_deaf : (c : Circuit) (points : Points) → IsDeaf c points []
-bare_deaf c points = record {
-  raise = λ run t. list_any_none (λ net. golden c run t net && not (golden c run t net)) points.alarm (λ i d lt. not_raised (golden c run t (get_or points.alarm i d)) _ refl);
-  silence = λ run t. list_any_none (λ net. not (golden c run t net) && golden c run t net) points.alarm (λ i d lt. not_silenced (golden c run t (get_or points.alarm i d)) _ refl);
-}
-
 pub bare_harmless : (c : Circuit) (points : Points) → IsHarmless c points []
 bare_harmless c points run t i d lt =
     let own = (get_or points.goals i d).observe in

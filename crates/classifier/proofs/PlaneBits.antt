@@ -2,6 +2,7 @@
 use Rattle.std.proofs.Common.{◌≡◌, ℕ, zero, suc, ◌^◌, ◌<◌, Bool, List, refl, ap, ap₂, sym, ◌∙◌, subst, arith}
 use Rattle.std.specs.Prelude.{◌==◌}
 use Rattle.std.specs.Int.{bit_at}
+use Rattle.std.proofs.lemmas.Bool.{true≢false}
 use Rattle.std.proofs.lemmas.Nat.Bits.{bit_at-lt, same_from_bits_below}
 use Rattle.fm_base.specs.Planes.{bit, plane_of}
 use Rattle.fm_base.proofs.Bits.{bit-plane_of, plane_small}
@@ -9,6 +10,7 @@ use Rattle.circuit.specs.declared.parts.Fault.{Fault}
 use Rattle.circuit.specs.Circuit.{Circuit}
 use Rattle.workload.specs.declared.run.Run.{Run}
 use Rattle.alarm_points.specs.declared.Points.{Points}
+use Rattle.alarm_points.proofs.Planes.{bit_of_none}
 use Rattle.campaign_plan.specs.declared.Outcome.{Outcome}
 use Rattle.campaign_plan.specs.Danger.{is_dangerous, is_noticed}
 use Rattle.classifier.specs.OutOfReach.{AreOutOfReach, IsDeaf, IsHarmless}
@@ -67,4 +69,11 @@ pub reach_alike : (c : Circuit) (points : Points) (faults others : ℕ → List 
 reach_alike c points faults others reach same is = record {
   alarm = λ k lane marked. subst (IsDeaf c points) (sym (same k lane)) (is.alarm k lane marked);
   observation = λ k lane marked. subst (IsHarmless c points) (sym (same k lane)) (is.observation k lane marked);
+}
+
+-- where no lane is marked, each that is marked is out of reach
+pub none_marked : (c : Circuit) (points : Points) (faults : ℕ → List Fault) → AreOutOfReach c points faults (record { alarm = 0; observation = 0 })
+none_marked c points faults = record {
+  alarm = λ k lane marked. absurd (true≢false (sym marked ∙ bit_of_none k));
+  observation = λ k lane marked. absurd (true≢false (sym marked ∙ bit_of_none k));
 }

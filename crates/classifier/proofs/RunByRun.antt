@@ -1,5 +1,5 @@
 -- The planes of one run more, and of none.
-use Rattle.std.proofs.Common.{◌≡◌, ℕ, ◌^◌, ◌<◌, Bool, true, false, ◌||◌, List, [], ◌∷◌, ◌++◌, ◌⊎◌, inl, inr, refl, ap, sym, ◌∙◌, subst, arith}
+use Rattle.std.proofs.Common.{◌≡◌, ℕ, ◌^◌, ◌<◌, Bool, true, false, ◌||◌, List, [], ◌∷◌, ◌++◌, inl, inr, refl, ap, sym, ◌∙◌, arith}
 use Rattle.std.proofs.lemmas.Bool.{or_left, true≢false}
 use Rattle.std.proofs.lemmas.Nat.{pow_pos}
 use Rattle.std.proofs.lemmas.List.Folds.{list_any-append}
@@ -22,7 +22,7 @@ use Rattle.classifier.specs.OutOfReach.{AreOutOfReach, IsDeaf, IsDecidedBy, IsHa
 use Rattle.classifier.specs.Seen.{Begins, is_decided}
 use Rattle.classifier.specs.declared.decided.Decided.{Decided}
 use Rattle.classifier.specs.declared.reached.OutOfReach.{OutOfReach}
-use Rattle.classifier.proofs.BareLanes.{bare_deaf, bare_harmless, deaf_in, harmless_in}
+use Rattle.classifier.proofs.BareLanes.{bare_harmless, deaf_in, harmless_in}
 use Rattle.classifier.proofs.Ends.{list_any_nowhere}
 use Rattle.std.proofs.Math.Bool.{or-false}
 
@@ -75,28 +75,21 @@ notice_decided : (kind : Kind) (decided : Decided) (k : ℕ) → is_decided kind
 notice_decided Mission decided k both = (and_both _ _ both).1
 notice_decided Test decided k is = is
 
--- a lane that begins is deaf where it was loaded so
-deaf_begins : (c : Circuit) (points : Points) (kind : Kind) (decided : Decided) (k : ℕ) (loaded x : List Fault) → Begins kind decided k loaded x → IsDeaf c points loaded → IsDeaf c points x
-deaf_begins c points kind decided k loaded x (inl same) deaf = subst (IsDeaf c points) (sym same) deaf
-deaf_begins c points kind decided k loaded x (inr out) deaf = subst (IsDeaf c points) (sym out.1) (bare_deaf c points)
-
 notice_same : (c : Circuit) (points : Points) (run : Run) (loaded x : List Fault) (old own : Outcome) (reach : OutOfReach) (decided : Decided) (k : ℕ)
     → IsDecidedBy old reach decided → (bit reach.alarm k ≡ true → IsDeaf c points loaded) → Begins run.kind decided k loaded x
-    → ((bit decided.notice k ≡ false) ⊎ IsDeaf c points x → bit own.noticed k ≡ is_noticed_in c points x run)
+    → (bit decided.notice k ≡ false → bit own.noticed k ≡ is_noticed_in c points x run) → (bit decided.notice k ≡ true → bit own.noticed k ≡ false)
     → (bit old.noticed k || bit own.noticed k) ≡ (bit old.noticed k || is_noticed_in c points loaded run)
-notice_same c points run loaded x old own reach decided k is beyond begins shows = by_known (bit decided.notice k) refl
+notice_same c points run loaded x old own reach decided k is beyond begins shows hides = by_known (bit decided.notice k) refl
   where
     by_known : (b : Bool) → bit decided.notice k ≡ b → (bit old.noticed k || bit own.noticed k) ≡ (bit old.noticed k || is_noticed_in c points loaded run)
     by_known true known =
         elim (or_cases (bit old.noticed k) (bit reach.alarm k) (sym (is.notice k) ∙ known)) [
           | inl noticed ↦ or_left (bit old.noticed k) (bit own.noticed k) noticed ∙ sym (or_left (bit old.noticed k) (is_noticed_in c points loaded run) noticed)
-          | inr out ↦
-              (let deaf : IsDeaf c points x = deaf_begins c points run.kind decided k loaded x begins (beyond out) in
-              ap (λ b. bit old.noticed k || b) (shows (inr deaf) ∙ deaf_in c points x run deaf ∙ sym (deaf_in c points loaded run (beyond out))))
+          | inr out ↦ ap (λ b. bit old.noticed k || b) (hides known ∙ sym (deaf_in c points loaded run (beyond out)))
         ]
     by_known false free =
         elim begins [
-          | inl same ↦ ap (λ b. bit old.noticed k || b) (shows (inl free) ∙ ap (λ fs. is_noticed_in c points fs run) same)
+          | inl same ↦ ap (λ b. bit old.noticed k || b) (shows free ∙ ap (λ fs. is_noticed_in c points fs run) same)
           | inr out ↦ absurd (true≢false (sym (notice_decided run.kind decided k out.0) ∙ free))
         ]
 
@@ -106,19 +99,20 @@ pub planes_more : (c : Circuit) (points : Points) (ftti : ℕ) (runs : List Run)
     → AreOutOfReach c points faults reach → IsDecidedBy old reach decided
     → ((k : ℕ) → k < 64 → Begins run.kind decided k (faults k) (followed k))
     → ((k : ℕ) → k < 64 → bit own.danger k ≡ is_dangerous_in c points ftti (followed k) run)
-    → ((k : ℕ) → k < 64 → (bit decided.notice k ≡ false) ⊎ IsDeaf c points (followed k) → bit own.noticed k ≡ is_noticed_in c points (followed k) run)
+    → ((k : ℕ) → k < 64 → bit decided.notice k ≡ false → bit own.noticed k ≡ is_noticed_in c points (followed k) run)
+    → ((k : ℕ) → k < 64 → bit decided.notice k ≡ true → bit own.noticed k ≡ false)
     → ((k : ℕ) → bit new.danger k ≡ (bit old.danger k || bit own.danger k))
     → ((k : ℕ) → bit new.noticed k ≡ (bit old.noticed k || bit own.noticed k))
     → (new.danger < 2 ^ 64) × (new.noticed < 2 ^ 64)
     → HasPlanes c points ftti (runs ++ run ∷ []) faults new
-planes_more c points ftti runs run faults followed old own new reach decided before beyond is begins danger noticed either also fits = record {
+planes_more c points ftti runs run faults followed old own new reach decided before beyond is begins danger noticed known either also fits = record {
   fits = fits;
   danger = λ k lane.
       either k ∙ ap (λ b. bit old.danger k || b) (danger k lane)
       ∙ danger_same c points ftti run (faults k) (followed k) old reach decided k is (beyond.observation k lane) (begins k lane)
       ∙ ap (λ b. b || is_dangerous_in c points ftti (faults k) run) (before.danger k lane) ∙ sym (danger_more c points ftti runs run (faults k));
   noticed = λ k lane.
-      also k ∙ notice_same c points run (faults k) (followed k) old own reach decided k is (beyond.alarm k lane) (begins k lane) (noticed k lane)
+      also k ∙ notice_same c points run (faults k) (followed k) old own reach decided k is (beyond.alarm k lane) (begins k lane) (noticed k lane) (known k lane)
       ∙ ap (λ b. b || is_noticed_in c points (faults k) run) (before.noticed k lane) ∙ sym (notice_more c points runs run (faults k));
 }
 

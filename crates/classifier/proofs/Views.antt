@@ -107,5 +107,4 @@ unseen c points run faults known windows made fresh = record {
       sees_none c points windows.ftti run faults known (goal_at points.goals g) (window_at windows g) (fresh g (subst (λ n. g < n) (sym (window_count points windows made)) lt));
   noticed_is = λ k lane free. bit_of_none k ∙ sym (noticed_none c points (faults k) run);
   stays = λ k lane stays. bit_of_none k;
-  deaf = λ k lane deaf. bit_of_none k;
 }

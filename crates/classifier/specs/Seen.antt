@@ -16,7 +16,7 @@ use Rattle.fm_base.specs.Lists.{some_below}
 use Rattle.fm_base.specs.Planes.{bit}
 use Rattle.campaign_plan.specs.Danger.{differs, is_raised, is_silenced}
 use Rattle.classifier.specs.Load.{Load, in_lane, lane_faults}
-use Rattle.classifier.specs.OutOfReach.{IsDeaf, decided_at}
+use Rattle.classifier.specs.OutOfReach.{decided_at}
 use Rattle.classifier.specs.declared.decided.Decided.{Decided}
 
 -- the goal of a number
@@ -49,14 +49,13 @@ pub record HasSeen (c : Circuit) (points : Points) (ftti : ℕ) (run : Run) (fau
   pub after : IsAfterPairs pairs w
   pub shown : (k t : ℕ) → k < 64 → t < n → has_left c points ftti (bit known k) (faults k) run t ≡ false → IsShown c points run (faults k) goal pairs k t
 
--- each goal's window has seen the first n cycles of the run. The lanes that are noticed in them are told, but that of a lane that left it isn't
--- told what came later
-pub record HaveSeen (c : Circuit) (points : Points) (run : Run) (faults : ℕ → List Fault) (known n : ℕ) (windows : Watches) (noticed : ℕ) : Type 0 where
+-- each goal's window has seen the first n cycles of the run. `left` are lanes that have left it in them: of those whose notice wasn't known
+-- before the run, the noticed ones
+pub record HaveSeen (c : Circuit) (points : Points) (run : Run) (faults : ℕ → List Fault) (known n : ℕ) (windows : Watches) (left : ℕ) : Type 0 where
   pub made : AreMadeFor points windows
   pub seen : (g : ℕ) → g < length points.goals → HasSeen c points windows.ftti run faults known (goal_at points.goals g) n (window_at windows g)
-  pub noticed_is : (k : ℕ) → k < 64 → bit known k ≡ false → bit noticed k ≡ is_noticed_by c points (faults k) run n
-  pub stays : (k : ℕ) → k < 64 → has_left c points windows.ftti (bit known k) (faults k) run n ≡ false → bit noticed k ≡ false
-  pub deaf : (k : ℕ) → k < 64 → IsDeaf c points (faults k) → bit noticed k ≡ false
+  pub noticed_is : (k : ℕ) → k < 64 → bit known k ≡ false → bit left k ≡ is_noticed_by c points (faults k) run n
+  pub stays : (k : ℕ) → k < 64 → has_left c points windows.ftti (bit known k) (faults k) run n ≡ false → bit left k ≡ false
 
 -- with these faults no point differs in this cycle
 pub record IsStill (c : Circuit) (points : Points) (run : Run) (x : List Fault) (t : ℕ) : Type 0 where
@@ -65,21 +64,19 @@ pub record IsStill (c : Circuit) (points : Points) (run : Run) (x : List Fault) 
   pub silence : is_silenced c points x run t ≡ false
 
 -- the run has been seen, up to a cycle from which on no point differs in any lane that hasn't left
-pub record HaveSeenRun (c : Circuit) (points : Points) (run : Run) (faults : ℕ → List Fault) (known : ℕ) (windows : Watches) (noticed : ℕ) : Type 0 where
+pub record HaveSeenRun (c : Circuit) (points : Points) (run : Run) (faults : ℕ → List Fault) (known : ℕ) (windows : Watches) (left : ℕ) : Type 0 where
   pub n : ℕ
   pub within : n ≤ cycles_of run
-  pub seen : HaveSeen c points run faults known n windows noticed
+  pub seen : HaveSeen c points run faults known n windows left
   pub still : (k t : ℕ) → k < 64 → has_left c points windows.ftti (bit known k) (faults k) run n ≡ false → n ≤ t → t < cycles_of run → IsStill c points run (faults k) t
 
--- after n cycles the faults of each lane that hasn't left are in force in this word, and in lanes that no alarm point can tell from the golden
--- run none that could
+-- after n cycles the faults of each lane that hasn't left are in force in this word
 pub record AreFollowed (c : Circuit) (points : Points) (ftti : ℕ) (run : Run) (faults : ℕ → List Fault) (known n : ℕ) (in_force : List (List (Option Fault))) (word : ℕ) : Type 0 where
   pub follow : (k : ℕ) → k < 64 → has_left c points ftti (bit known k) (faults k) run n ≡ false → in_lane in_force word k ≡ faults k
-  pub deaf : (k : ℕ) → k < 64 → IsDeaf c points (faults k) → IsDeaf c points (in_lane in_force word k)
 
--- the lanes that are noticed, in a word
-abbrev pub noticed_at : List ℕ → ℕ → ℕ
-noticed_at noticed word = slice_index_or noticed word 0
+-- the lanes that have left, in a word
+abbrev pub left_at : List ℕ → ℕ → ℕ
+left_at left word = slice_index_or left word 0
 
 -- the lanes whose notice is known before the run, in a word
 abbrev pub known_at : List Decided → ℕ → ℕ
@@ -87,13 +84,13 @@ known_at decided word = (decided_at decided word).notice
 
 -- the first n cycles have been seen in each word, where these faults are followed
 abbrev pub HaveAllSeen : Circuit → Points → Run → List (List (Option Fault)) → List Decided → ℕ → List Watches → List ℕ → Type 0
-HaveAllSeen c points run faults decided n windows noticed =
-    (word : ℕ) → word < length windows → HaveSeen c points run (in_lane faults word) (known_at decided word) n (windows_at windows word) (noticed_at noticed word)
+HaveAllSeen c points run faults decided n windows left =
+    (word : ℕ) → word < length windows → HaveSeen c points run (in_lane faults word) (known_at decided word) n (windows_at windows word) (left_at left word)
 
 -- the run has been seen in each word
 abbrev pub HaveAllSeenRun : Circuit → Points → Run → List (List (Option Fault)) → List Decided → List Watches → List ℕ → Type 0
-HaveAllSeenRun c points run faults decided windows noticed =
-    (word : ℕ) → word < length windows → HaveSeenRun c points run (in_lane faults word) (known_at decided word) (windows_at windows word) (noticed_at noticed word)
+HaveAllSeenRun c points run faults decided windows left =
+    (word : ℕ) → word < length windows → HaveSeenRun c points run (in_lane faults word) (known_at decided word) (windows_at windows word) (left_at left word)
 
 -- nothing that a run of this kind shows of the lane decides: its notice is decided before, and before a mission its danger too
 abbrev pub is_decided : Kind → Decided → ℕ → Bool
@@ -120,6 +117,6 @@ KeepSettings old new = (word : ℕ) → (windows_at new word).ftti ≡ (windows_
 
 -- ---- a step
 
--- the lane is dropped, by what its windows show and whether it is noticed
+-- the lane is dropped: it had left, or its windows show that it leaves now
 abbrev pub is_dropped : ℕ → Watches → ℕ → ℕ → Bool
-is_dropped known windows noticed k = bit noticed k || (bit known k && some_below (length windows.windows) (λ g. bit (window_at windows g).settled k))
+is_dropped known windows left k = bit left k || (bit known k && some_below (length windows.windows) (λ g. bit (window_at windows g).settled k))

@@ -6,6 +6,8 @@ ghost use Rattle.workload.specs.declared.run.Run.{Run};
 ghost use Rattle.workload.specs.Runs.{all_cycles};
 ghost use Rattle.alarm_points.specs.declared.Points.{Points as PointsValue};
 ghost use Rattle.alarm_points.specs.FourWatches.{AreFourMadeFor};
+ghost use Rattle.alarm_points.specs.Watch.{AreMadeFor};
+ghost use Rattle.campaign_plan.specs.Batches.{outcome_of};
 ghost use Rattle.golden_difference.specs.Lanes.{IsMadeFor};
 ghost use Rattle.lane_words.specs.Loads.{loaded_faults};
 ghost use Rattle.classifier.specs.Batch.{alone_in, batch_at, fault_in_lane, outcome_for};
@@ -13,13 +15,14 @@ ghost use Rattle.classifier.specs.Load.{load_of};
 ghost use Rattle.classifier.specs.OutOfReach.{AreAllOutOfReach};
 ghost use Rattle.classifier.specs.Planes.{HasPlanes, outcome_at};
 
-use crate::outcome::{NOTHING, loaded_quad};
+use crate::outcome::{NOTHING, loaded_quad, word_outcome};
 use crate::reached::{OutOfReach, WITHIN_REACH, out_of_reach};
 use crate::testbench::Testbench;
+use alarm_points::windows::Windows;
 use alarm_points::windows4::Windows4;
 use campaign_plan::Outcome;
 use circuit::parts::Fault;
-use differential_kernel::DifferentialLanes4;
+use differential_kernel::{DifferentialLanes, DifferentialLanes4};
 use fault_list::FaultList;
 use fm_base::Steps;
 use std::sync::ledger::Ledger;
@@ -64,6 +67,32 @@ fn of_batch(faults: &FaultList, batch: Option<u32>, loaded: Outcome) -> Outcome
         danger: loaded.danger & used,
         noticed: loaded.noticed & used,
     }
+}
+
+/// The planes of danger and of notice of a batch of 64 faults, each alone in its lane; bits of lanes that hold no fault are 0,
+/// as are all of a batch behind the last. What lanes and windows held before is no matter. It takes no memory, and at most
+/// one step for each table and cycle.
+pub fn batch_outcome<L: Ledger>(
+    bench: &Testbench<'_>,
+    faults: &FaultList,
+    batch: u32,
+    lanes: &mut DifferentialLanes,
+    windows: &mut Windows,
+    steps: &mut Steps<L>,
+) -> Outcome
+    requires lanes { IsMadeFor bench.now.circuit bench.now.order lanes.old }
+    requires windows { AreMadeFor bench.now.points windows.old }
+    ensures outcome { result ≡ outcome_of bench.now.circuit bench.now.points windows.old.ftti bench.now.runs faults.now batch }
+    ensures lanes { IsMadeFor bench.now.circuit bench.now.order lanes.new }
+    ensures windows { AreMadeFor bench.now.points windows.new }
+    ensures ftti { windows.new.ftti ≡ windows.old.ftti }
+    ensures cost { steps.new ≤ steps.old + all_cycles bench.now.runs * length bench.now.circuit.tables }
+{
+    let loads = loads_of(faults, Some(batch));
+    let reach = out_of_reach(bench, &loads);
+    lanes.load(0, &loads);
+    let loaded = word_outcome(bench, reach, lanes, windows, steps);
+    of_batch(faults, Some(batch), loaded)
 }
 
 // Loads each word with its batch, and tells in which lanes points are out of reach.

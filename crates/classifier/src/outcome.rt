@@ -1,5 +1,5 @@
 // What the faults in the lanes are found to be, over all runs.
-ghost use Rattle.std.specs.Prelude.{◌≡◌, ◌<◌, ◌≤◌, ◌⊎◌, ◌+◌, ◌*◌, ◌++◌, ◌∷◌, [], ◌||◌, false, ℕ, List, Option, length};
+ghost use Rattle.std.specs.Prelude.{◌≡◌, ◌<◌, ◌≤◌, ◌+◌, ◌*◌, ◌++◌, ◌∷◌, [], ◌||◌, false, true, ℕ, List, Option, length};
 ghost use Rattle.circuit.specs.declared.parts.Fault.{Fault};
 ghost use Rattle.circuit.specs.Circuit.{Circuit};
 ghost use Rattle.workload.specs.declared.run.Run.{Run};
@@ -8,17 +8,18 @@ ghost use Rattle.alarm_points.specs.declared.Points.{Points as PointsValue};
 ghost use Rattle.campaign_plan.specs.Danger.{is_dangerous_in, is_noticed_in};
 ghost use Rattle.fm_base.specs.Planes.{bit};
 ghost use Rattle.golden_difference.specs.Lanes.{IsMadeFor};
+ghost use Rattle.lane_words.specs.Loads.{loaded_faults};
 ghost use Rattle.classifier.specs.Load.{Load, lane_faults, load_of};
-ghost use Rattle.classifier.specs.OutOfReach.{AreAllDecidedBy, AreAllOutOfReach, IsDeaf};
-ghost use Rattle.classifier.specs.declared.decided.Decided.{Decided as DecidedValue};
+ghost use Rattle.classifier.specs.OutOfReach.{AreAllDecidedBy, AreAllOutOfReach, AreOutOfReach};
 ghost use Rattle.classifier.specs.declared.reached.OutOfReach.{OutOfReach as OutOfReachValue};
 ghost use Rattle.classifier.specs.Planes.{HasPlanes, outcome_at, planes_of};
 ghost use Rattle.alarm_points.specs.FourWatches.{AreAllMadeFor, AreFourMadeFor, windows_at};
+ghost use Rattle.alarm_points.specs.Watch.{AreMadeFor};
 ghost use Rattle.classifier.specs.Seen.{AllBegin, HaveAllSeenRun, HaveSeenRun, KeepSettings};
 
 use crate::decided::{Decided, OPEN, decide};
-use crate::points::either_lanes;
-use crate::reached::OutOfReach;
+use crate::points::{either_lanes, lanes_without};
+use crate::reached::{OutOfReach, WITHIN_REACH};
 use crate::run::watch_run;
 use crate::testbench::Testbench;
 use alarm_points::windows::Windows;
@@ -27,6 +28,7 @@ use campaign_plan::Outcome;
 use differential_kernel::{DifferentialLanes, DifferentialLanes4};
 use fm_base::Steps;
 use lane_words::Word;
+use std::slice::from_mut;
 use std::sync::ledger::Ledger;
 use workload::run::Kind;
 
@@ -38,15 +40,18 @@ pub const NOTHING: Outcome = Outcome {
     noticed: 0,
 };
 
-// What a run of a kind shows in a word: the lanes that go unalarmed are in danger in the mission alone.
-fn run_outcome(kind: Kind, windows: &Windows, noticed: u64) -> Outcome
-    ensures danger { (c : Circuit) (points : PointsValue) (run : Run) (faults : ℕ → List Fault) (known k : ℕ) → run.kind ≡ kind
-        → HaveSeenRun c points run faults known windows.now noticed → k < 64
+// What a run of a kind shows in a word: the lanes that go unalarmed are in danger in the mission alone, and those that have left are
+// noticed, but where that was `known` before.
+fn run_outcome(kind: Kind, windows: &Windows, known: u64, left: u64) -> Outcome
+    ensures danger { (c : Circuit) (points : PointsValue) (run : Run) (faults : ℕ → List Fault) (k : ℕ) → run.kind ≡ kind
+        → HaveSeenRun c points run faults known windows.now left → k < 64
         → bit result.danger k ≡ is_dangerous_in c points windows.now.ftti (faults k) run }
-    ensures noticed { (c : Circuit) (points : PointsValue) (run : Run) (faults : ℕ → List Fault) (known k : ℕ) → run.kind ≡ kind
-        → HaveSeenRun c points run faults known windows.now noticed → k < 64 → (bit known k ≡ false) ⊎ IsDeaf c points (faults k)
+    ensures noticed { (c : Circuit) (points : PointsValue) (run : Run) (faults : ℕ → List Fault) (k : ℕ) → run.kind ≡ kind
+        → HaveSeenRun c points run faults known windows.now left → k < 64 → bit known k ≡ false
         → bit result.noticed k ≡ is_noticed_in c points (faults k) run }
+    ensures known { (k : ℕ) → k < 64 → bit known k ≡ true → bit result.noticed k ≡ false }
 {
+    let noticed = lanes_without(left, known);
     match kind {
         Kind::Mission => Outcome {
             danger: windows.end(),
@@ -68,20 +73,27 @@ fn either(a: Outcome, b: Outcome) -> Outcome
 }
 
 // Adds a run to what the runs before it have shown in each word.
-fn add_run(kind: Kind, windows: &[Windows], noticed: &[u64], outcomes: &mut [Outcome])
+fn add_run(
+    kind: Kind,
+    windows: &[Windows],
+    decided: &[Decided],
+    left: &[u64],
+    outcomes: &mut [Outcome],
+)
     requires windows { length windows.now ≡ length outcomes.old }
-    requires noticed { length noticed.now ≡ length outcomes.old }
-    ensures { (c : Circuit) (points : PointsValue) (runs : List Run) (run : Run) (load : Load) (reach : List OutOfReachValue) (decided : List DecidedValue)
+    requires decided { length decided.now ≡ length outcomes.old }
+    requires left { length left.now ≡ length outcomes.old }
+    ensures { (c : Circuit) (points : PointsValue) (runs : List Run) (run : Run) (load : Load) (reach : List OutOfReachValue)
         (faults : List (List (Option Fault))) (word : ℕ) → run.kind ≡ kind
         → AreAllOutOfReach c points (length outcomes.old) load reach
-        → AreAllDecidedBy outcomes.old reach decided
-        → AllBegin kind (length outcomes.old) load decided faults
-        → HaveAllSeenRun c points run faults decided windows.now noticed.now → word < length outcomes.old
+        → AreAllDecidedBy outcomes.old reach decided.now
+        → AllBegin kind (length outcomes.old) load decided.now faults
+        → HaveAllSeenRun c points run faults decided.now windows.now left.now → word < length outcomes.old
         → HasPlanes c points (windows_at windows.now word).ftti runs (lane_faults load word) (outcome_at outcomes.old word)
         → HasPlanes c points (windows_at windows.now word).ftti (runs ++ run ∷ []) (lane_faults load word) (outcome_at outcomes.new word) }
 {
     for word in 0..outcomes.len() {
-        let own = run_outcome(kind, &windows[word], noticed[word]);
+        let own = run_outcome(kind, &windows[word], decided[word].notice, left[word]);
         outcomes[word] = either(outcomes[word], own);
     }
 }
@@ -92,7 +104,7 @@ fn judge_runs<W: Word, L: Ledger>(
     reach: &[OutOfReach],
     lanes: &mut DifferentialLanes<W>,
     windows: &mut [Windows],
-    noticed: &mut [u64],
+    left: &mut [u64],
     decided: &mut [Decided],
     outcomes: &mut [Outcome],
     steps: &mut Steps<L>,
@@ -103,7 +115,7 @@ fn judge_runs<W: Word, L: Ledger>(
     requires made { IsMadeFor bench.now.circuit bench.now.order lanes.old }
     requires windows { length windows.old ≡ W.words }
     requires windows_made { AreAllMadeFor bench.now.points windows.old }
-    requires noticed { length noticed.old ≡ W.words }
+    requires left { length left.old ≡ W.words }
     requires outcomes { length outcomes.old ≡ W.words }
     requires nothing { (word : ℕ) → word < W.words → outcome_at outcomes.old word ≡ record { danger = 0; noticed = 0 } }
     ensures load { load_of lanes.new ≡ load_of lanes.old }
@@ -115,8 +127,8 @@ fn judge_runs<W: Word, L: Ledger>(
 {
     for run in 0..bench.runs() {
         decide(outcomes, reach, decided);
-        watch_run(bench, run, decided, lanes, windows, noticed, steps);
-        add_run(bench.kind(run), windows, noticed, outcomes);
+        watch_run(bench, run, decided, lanes, windows, left, steps);
+        add_run(bench.kind(run), windows, decided, left, outcomes);
     }
 }
 
@@ -154,7 +166,7 @@ pub fn loaded_outcomes<W: Word, L: Ledger>(
     ensures ftti { KeepSettings windows.old windows.new }
     ensures cost { steps.new ≤ steps.old + all_cycles bench.now.runs * length bench.now.circuit.tables }
 {
-    let mut noticed = [0; MOST_WORDS];
+    let mut left = [0; MOST_WORDS];
     let mut decided = [OPEN; MOST_WORDS];
     let words = W::words() as usize;
     forget(outcomes);
@@ -163,11 +175,64 @@ pub fn loaded_outcomes<W: Word, L: Ledger>(
         reach,
         lanes,
         windows,
-        &mut noticed[..words],
+        &mut left[..words],
         &mut decided[..words],
         outcomes,
         steps,
     );
+}
+
+/// The planes of danger and of notice of one word of lanes, as they are loaded. `reach` tells in which of them points are out of
+/// reach. What it takes is as for `loaded_outcome`.
+pub fn word_outcome<L: Ledger>(
+    bench: &Testbench<'_>,
+    reach: OutOfReach,
+    lanes: &mut DifferentialLanes,
+    windows: &mut Windows,
+    steps: &mut Steps<L>,
+) -> Outcome
+    requires reach { AreOutOfReach bench.now.circuit bench.now.points (lane_faults (load_of lanes.old) 0) reach }
+    requires lanes { IsMadeFor bench.now.circuit bench.now.order lanes.old }
+    requires windows { AreMadeFor bench.now.points windows.old }
+    ensures outcome { result ≡ planes_of bench.now.circuit bench.now.points windows.old.ftti bench.now.runs (loaded_faults lanes.old.loads) }
+    ensures lanes { IsMadeFor bench.now.circuit bench.now.order lanes.new }
+    ensures loads { lanes.new.loads ≡ lanes.old.loads }
+    ensures windows { AreMadeFor bench.now.points windows.new }
+    ensures ftti { windows.new.ftti ≡ windows.old.ftti }
+    ensures cost { steps.new ≤ steps.old + all_cycles bench.now.runs * length bench.now.circuit.tables }
+{
+    let mut outcomes = [NOTHING];
+    loaded_outcomes(
+        bench,
+        &[reach],
+        lanes,
+        from_mut(windows),
+        &mut outcomes,
+        steps,
+    );
+    outcomes[0]
+}
+
+/// Simulates all runs in the 64 circuits of `lanes`, as they are loaded, and answers the planes of danger and of notice: bit
+/// k of each is that of the faults of lane k together. `windows` has the fault tolerant time intervals. What lanes and windows
+/// held of earlier runs is no matter. It takes no memory, and at most one step for each table and cycle. Lanes don't tell what they
+/// were loaded with, so none leaves a run because no path leads from its faults to a point, as with `batch_outcome`.
+pub fn loaded_outcome<L: Ledger>(
+    bench: &Testbench<'_>,
+    lanes: &mut DifferentialLanes,
+    windows: &mut Windows,
+    steps: &mut Steps<L>,
+) -> Outcome
+    requires lanes { IsMadeFor bench.now.circuit bench.now.order lanes.old }
+    requires windows { AreMadeFor bench.now.points windows.old }
+    ensures outcome { result ≡ planes_of bench.now.circuit bench.now.points windows.old.ftti bench.now.runs (loaded_faults lanes.old.loads) }
+    ensures lanes { IsMadeFor bench.now.circuit bench.now.order lanes.new }
+    ensures loads { lanes.new.loads ≡ lanes.old.loads }
+    ensures windows { AreMadeFor bench.now.points windows.new }
+    ensures ftti { windows.new.ftti ≡ windows.old.ftti }
+    ensures cost { steps.new ≤ steps.old + all_cycles bench.now.runs * length bench.now.circuit.tables }
+{
+    word_outcome(bench, WITHIN_REACH, lanes, windows, steps)
 }
 
 /// Simulates all runs in the 256 circuits of `lanes`, as they are loaded, and answers the planes of danger and of notice of each

@@ -39,6 +39,13 @@ pub fn either_lanes(a: u64, b: u64) -> u64
     a | b
 }
 
+/// The lanes of one plane that another lacks.
+pub fn lanes_without(plane: u64, other: u64) -> u64
+    ensures { (k : ℕ) → k < 64 → bit result k ≡ (bit plane k && not (bit other k)) }
+{
+    plane & !other
+}
+
 /// The lanes of a word in which a net differs from the golden run, in the last cycle of a run so far.
 pub fn differs_at<W: Word>(lanes: &DifferentialLanes<W>, word: u32, net: NetId) -> u64
     requires { word < W.words }

@@ -28,15 +28,15 @@ use std::sync::ledger::Ledger;
 use workload::run::Kind;
 
 // Forgets what was seen of earlier runs.
-fn start_windows(points: &Points, windows: &mut [Windows], noticed: &mut [u64])
-    requires noticed { length noticed.old ≡ length windows.old }
+fn start_windows(points: &Points, windows: &mut [Windows], left: &mut [u64])
+    requires left { length left.old ≡ length windows.old }
     requires made { AreAllMadeFor points.now windows.old }
-    ensures seen { (c : Circuit) (run : Run) (faults : List (List (Option Fault))) (decided : List DecidedValue) → HaveAllSeen c points.now run faults decided 0 windows.new noticed.new }
+    ensures seen { (c : Circuit) (run : Run) (faults : List (List (Option Fault))) (decided : List DecidedValue) → HaveAllSeen c points.now run faults decided 0 windows.new left.new }
     ensures ftti { KeepSettings windows.old windows.new }
 {
     for word in 0..windows.len() {
         windows[word].start();
-        noticed[word] = 0;
+        left[word] = 0;
     }
 }
 
@@ -56,12 +56,12 @@ fn drop_more<W: Word>(lanes: &mut DifferentialLanes<W>, word: u32, before: u64, 
     }
 }
 
-// The lanes of a word in which nothing more of a run decides: they are noticed; or their notice is decided before, and they are
+// The lanes of a word that have left a run: those that had, or are noticed; and those whose notice is decided before, and that are
 // dangerous whatever comes.
-fn left(decided: Decided, windows: &Windows, noticed: u64) -> u64
-    ensures { (k : ℕ) → bit result k ≡ is_dropped decided.notice windows.now noticed k }
+fn all_left(decided: Decided, windows: &Windows, left: u64) -> u64
+    ensures { (k : ℕ) → bit result k ≡ is_dropped decided.notice windows.now left k }
 {
-    either_lanes(noticed, decided.notice & windows.settled())
+    either_lanes(left, decided.notice & windows.settled())
 }
 
 // Shows the last cycle of a run of this kind to the windows of a word, and drops its lanes in which nothing more decides. `row` has
@@ -74,7 +74,7 @@ fn see_word<W: Word>(
     word: u32,
     lanes: &mut DifferentialLanes<W>,
     windows: &mut Windows,
-    noticed: &mut u64,
+    left: &mut u64,
 )
     requires word { word < W.words }
     requires points { ArePointsFor lanes.old.circuit points.now }
@@ -86,15 +86,16 @@ fn see_word<W: Word>(
     ensures seen { (run : Run) (faults : ℕ → List Fault) (t : ℕ) → run.kind ≡ kind → t < cycles_of run → AreBeside W.lanes W.lane_bit (take (t + 1) run.vectors) (bank_of lanes.old)
         → IsGoldenRow lanes.old.circuit run.vectors t row.now
         → AreFollowed lanes.old.circuit points.now windows.old.ftti run faults decided.notice t lanes.old.in_force word
-        → HaveSeen lanes.old.circuit points.now run faults decided.notice t windows.old noticed.old
-        → HaveSeen lanes.old.circuit points.now run faults decided.notice (t + 1) windows.new noticed.new
+        → HaveSeen lanes.old.circuit points.now run faults decided.notice t windows.old left.old
+        → HaveSeen lanes.old.circuit points.now run faults decided.notice (t + 1) windows.new left.new
         × AreFollowed lanes.old.circuit points.now windows.new.ftti run faults decided.notice (t + 1) lanes.new.in_force word }
     ensures others { (other k : ℕ) → other < W.words → k < 64 → other ≢ word → in_lane lanes.new.in_force other k ≡ in_lane lanes.old.in_force other k }
 {
-    let before = left(decided, windows, *noticed);
-    see_cycle(lanes, word, points, kind, row, windows, noticed);
-    let out = left(decided, windows, *noticed);
+    let before = *left;
+    see_cycle(lanes, word, points, kind, row, windows, left);
+    let out = all_left(decided, windows, *left);
     drop_more(lanes, word, before, out);
+    *left = out;
 }
 
 // Shows the last cycle of a run of this kind to the windows of each word, and drops the lanes in which nothing more decides. `row`
@@ -106,12 +107,12 @@ fn see_words<W: Word>(
     decided: &[Decided],
     lanes: &mut DifferentialLanes<W>,
     windows: &mut [Windows],
-    noticed: &mut [u64],
+    left: &mut [u64],
 )
     requires points { ArePointsFor lanes.old.circuit points.now }
     requires decided { length decided.now ≡ W.words }
     requires windows { length windows.old ≡ W.words }
-    requires noticed { length noticed.old ≡ W.words }
+    requires left { length left.old ≡ W.words }
     requires made { AreAllMadeFor points.now windows.old }
     ensures load { load_of lanes.new ≡ load_of lanes.old }
     ensures cycles { lanes.new.cycle ≡ lanes.old.cycle }
@@ -119,10 +120,10 @@ fn see_words<W: Word>(
     ensures seen { (run : Run) (faults : List (List (Option Fault))) (t : ℕ) → run.kind ≡ kind → t < cycles_of run → AreBeside W.lanes W.lane_bit (take (t + 1) run.vectors) (bank_of lanes.old)
         → IsGoldenRow lanes.old.circuit run.vectors t row.now
         → AreAllFollowed lanes.old.circuit points.now run W.words faults decided.now t windows.old lanes.old.in_force
-        → HaveAllSeen lanes.old.circuit points.now run faults decided.now t windows.old noticed.old
+        → HaveAllSeen lanes.old.circuit points.now run faults decided.now t windows.old left.old
         → AreBeside W.lanes W.lane_bit (take (t + 1) run.vectors) (bank_of lanes.new)
         × AreAllFollowed lanes.old.circuit points.now run W.words faults decided.now (t + 1) windows.new lanes.new.in_force
-        × HaveAllSeen lanes.old.circuit points.now run faults decided.now (t + 1) windows.new noticed.new }
+        × HaveAllSeen lanes.old.circuit points.now run faults decided.now (t + 1) windows.new left.new }
     ensures ftti { KeepSettings windows.old windows.new }
 {
     for word in 0..W::words() {
@@ -135,7 +136,7 @@ fn see_words<W: Word>(
             word,
             lanes,
             &mut windows[at],
-            &mut noticed[at],
+            &mut left[at],
         );
     }
 }
@@ -148,7 +149,7 @@ fn run_cycle<W: Word, L: Ledger>(
     decided: &[Decided],
     lanes: &mut DifferentialLanes<W>,
     windows: &mut [Windows],
-    noticed: &mut [u64],
+    left: &mut [u64],
     steps: &mut Steps<L>,
 )
     requires run { run < length bench.now.runs }
@@ -159,17 +160,17 @@ fn run_cycle<W: Word, L: Ledger>(
     requires cycles { lanes.old.cycle ≡ t }
     requires after { AreBeside W.lanes W.lane_bit (take t (run_at bench.now.runs run).vectors) (bank_of lanes.old) }
     requires windows { length windows.old ≡ W.words }
-    requires noticed { length noticed.old ≡ W.words }
+    requires left { length left.old ≡ W.words }
     requires windows_made { AreAllMadeFor bench.now.points windows.old }
     ensures load { load_of lanes.new ≡ load_of lanes.old }
     ensures cycles { lanes.new.cycle ≡ t + 1 }
     ensures windows_made { AreAllMadeFor bench.now.points windows.new }
     ensures seen { (faults : List (List (Option Fault)))
         → AreAllFollowed bench.now.circuit bench.now.points (run_at bench.now.runs run) W.words faults decided.now t windows.old lanes.old.in_force
-        → HaveAllSeen bench.now.circuit bench.now.points (run_at bench.now.runs run) faults decided.now t windows.old noticed.old
+        → HaveAllSeen bench.now.circuit bench.now.points (run_at bench.now.runs run) faults decided.now t windows.old left.old
         → AreBeside W.lanes W.lane_bit (take (t + 1) (run_at bench.now.runs run).vectors) (bank_of lanes.new)
         × AreAllFollowed bench.now.circuit bench.now.points (run_at bench.now.runs run) W.words faults decided.now (t + 1) windows.new lanes.new.in_force
-        × HaveAllSeen bench.now.circuit bench.now.points (run_at bench.now.runs run) faults decided.now (t + 1) windows.new noticed.new }
+        × HaveAllSeen bench.now.circuit bench.now.points (run_at bench.now.runs run) faults decided.now (t + 1) windows.new left.new }
     ensures ftti { KeepSettings windows.old windows.new }
     ensures cost { steps.new ≤ steps.old + length bench.now.circuit.tables }
 {
@@ -182,7 +183,7 @@ fn run_cycle<W: Word, L: Ledger>(
         decided,
         lanes,
         windows,
-        noticed,
+        left,
     );
 }
 
@@ -220,38 +221,39 @@ fn goes_on<W: Word>(lanes: &DifferentialLanes<W>, t: u32, cycles: u32) -> bool
     if t < cycles { !lanes.is_over() } else { false }
 }
 
-/// Simulates a run from its start in all lanes that aren't decided before, and shows each cycle to the windows of each word. `noticed`
-/// are then the lanes of each word that the run gives notice of. A lane is dropped once nothing more of the run decides: it is noticed;
-/// or its notice is decided before, and it is dangerous whatever comes. The run is left where it is over in all lanes. It takes at most one step for each table and cycle. What lanes,
-/// windows and `noticed` held before is no matter.
+/// Simulates a run from its start in all lanes that aren't decided before, and shows each cycle to the windows of each word. A lane
+/// leaves it, and is dropped, once nothing more of the run decides: it is noticed; or its notice is decided before, and it is dangerous
+/// whatever comes. `left` are then the lanes of each word that have left: of those whose notice isn't decided before, the ones that the run
+/// gives notice of. The run ends where it is over in all lanes. It takes at most one step for each table and cycle. What lanes, windows and
+/// `left` held before is no matter.
 pub fn watch_run<W: Word, L: Ledger>(
     bench: &Testbench<'_>,
     run: u32,
     decided: &[Decided],
     lanes: &mut DifferentialLanes<W>,
     windows: &mut [Windows],
-    noticed: &mut [u64],
+    left: &mut [u64],
     steps: &mut Steps<L>,
 )
     requires run { run < length bench.now.runs }
     requires decided { length decided.now ≡ W.words }
     requires made { IsMadeFor bench.now.circuit bench.now.order lanes.old }
     requires windows { length windows.old ≡ W.words }
-    requires noticed { length noticed.old ≡ W.words }
+    requires left { length left.old ≡ W.words }
     requires windows_made { AreAllMadeFor bench.now.points windows.old }
     ensures load { load_of lanes.new ≡ load_of lanes.old }
     ensures seen { (faults : List (List (Option Fault)))
         × AllBegin (run_at bench.now.runs run).kind W.words (load_of lanes.old) decided.now faults
-        × HaveAllSeenRun bench.now.circuit bench.now.points (run_at bench.now.runs run) faults decided.now windows.new noticed.new }
+        × HaveAllSeenRun bench.now.circuit bench.now.points (run_at bench.now.runs run) faults decided.now windows.new left.new }
     ensures ftti { KeepSettings windows.old windows.new }
     ensures cost { steps.new ≤ steps.old + cycles_of (run_at bench.now.runs run) * length bench.now.circuit.tables }
 {
     lanes.start();
-    start_windows(bench.points(), windows, noticed);
+    start_windows(bench.points(), windows, left);
     drop_decided(bench.kind(run), decided, lanes);
     let mut t = 0;
     'clock: while goes_on(lanes, t, bench.cycles(run)) {
-        run_cycle(bench, run, t, decided, lanes, windows, noticed, steps);
+        run_cycle(bench, run, t, decided, lanes, windows, left, steps);
         t += 1;
     }
 }

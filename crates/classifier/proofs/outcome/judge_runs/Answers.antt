@@ -68,7 +68,7 @@ loop-run-preserved g c =
           subst (λ f. HasPlanes net points f (take (n + 1) runs) (lane_faults load word) (outcome_at outcomes word)) same
           (subst (λ (rs : List Run). HasPlanes net points (windows_at c.watch_run.new.windows word).ftti rs (lane_faults load word) (outcome_at outcomes word)) (sym (take_more runs n none within))
           (subst (λ (l : Load). HasPlanes net points (windows_at c.watch_run.new.windows word).ftti (take n runs ++ run ∷ []) (lane_faults l word) (outcome_at outcomes word)) inv.load
-          (c.add_run.ensures net points (take n runs) run before c.args.reach.now c.decide.new.decided watched.seen.0 word (sym c.kind.ensures)
+          (c.add_run.ensures net points (take n runs) run before c.args.reach.now watched.seen.0 word (sym c.kind.ensures)
           (subst (λ m. AreAllOutOfReach net points m before c.args.reach.now) words
           (subst (λ (l : Load). AreAllOutOfReach net points g.W.Word.words l c.args.reach.now) (sym inv.load) c.requires.reach))
           c.decide.ensures

@@ -32,7 +32,7 @@ returns g c =
     let made = c.requires.made.circuit in
     let words = g.W.Word.words in
     let windows = c.args.windows.now in
-    let noticed = c.args.noticed.now in
+    let left = c.args.left.now in
     let decided = c.args.decided.now in
     let golden : IsGoldenRow net run.vectors t row = c.row-row.ensures in
     let shown = c.points.result.now in
@@ -54,16 +54,16 @@ returns g c =
           (subst (λ (m : Circuit). AreAllFollowed m shown run words faults decided t windows c.advance.new.lanes.in_force) (sym made)
           (subst (λ (ps : Points). AreAllFollowed net ps run words faults decided t windows c.advance.new.lanes.in_force) (sym same)
           (subst (λ (fs : List (List (Option Fault))). AreAllFollowed net points run words faults decided t windows fs) (sym c.advance.ensures.in_force) followed))))
-          (subst (λ (l : Load). HaveAllSeen l.circuit shown run faults decided t windows noticed) (sym keeps)
-          (subst (λ (m : Circuit). HaveAllSeen m shown run faults decided t windows noticed) (sym made)
-          (subst (λ (ps : Points). HaveAllSeen net ps run faults decided t windows noticed) (sym same) seen))) in (
+          (subst (λ (l : Load). HaveAllSeen l.circuit shown run faults decided t windows left) (sym keeps)
+          (subst (λ (m : Circuit). HaveAllSeen m shown run faults decided t windows left) (sym made)
+          (subst (λ (ps : Points). HaveAllSeen net ps run faults decided t windows left) (sym same) seen))) in (
             all.0,
             subst (λ (ps : Points). AreAllFollowed net ps run words faults decided (t + 1) c.see_words.new.windows c.see_words.new.lanes.in_force) same
                 (subst (λ (m : Circuit). AreAllFollowed m shown run words faults decided (t + 1) c.see_words.new.windows c.see_words.new.lanes.in_force) made
                 (subst (λ (l : Load). AreAllFollowed l.circuit shown run words faults decided (t + 1) c.see_words.new.windows c.see_words.new.lanes.in_force) keeps all.1)),
-            subst (λ (ps : Points). HaveAllSeen net ps run faults decided (t + 1) c.see_words.new.windows c.see_words.new.noticed) same
-                (subst (λ (m : Circuit). HaveAllSeen m shown run faults decided (t + 1) c.see_words.new.windows c.see_words.new.noticed) made
-                (subst (λ (l : Load). HaveAllSeen l.circuit shown run faults decided (t + 1) c.see_words.new.windows c.see_words.new.noticed) keeps all.2)),
+            subst (λ (ps : Points). HaveAllSeen net ps run faults decided (t + 1) c.see_words.new.windows c.see_words.new.left) same
+                (subst (λ (m : Circuit). HaveAllSeen m shown run faults decided (t + 1) c.see_words.new.windows c.see_words.new.left) made
+                (subst (λ (l : Load). HaveAllSeen l.circuit shown run faults decided (t + 1) c.see_words.new.windows c.see_words.new.left) keeps all.2)),
           );
       ftti = c.see_words.ensures.ftti;
       cost = c.advance.ensures.cost;

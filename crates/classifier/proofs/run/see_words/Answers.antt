@@ -9,7 +9,7 @@ use Rattle.classifier.specs.Load.{Load, in_lane, load_of}
 use Rattle.std.specs.Prelude.{Option}
 use Rattle.circuit.specs.declared.parts.Fault.{Fault}
 use Rattle.circuit.specs.Circuit.{Circuit}
-use Rattle.classifier.specs.Seen.{AreFollowed, HaveSeen, known_at, noticed_at}
+use Rattle.classifier.specs.Seen.{AreFollowed, HaveSeen, known_at, left_at}
 use Rattle.classifier.proofs.EachWord.{each_set, each_set_one}
 use Rattle.classifier.proofs.Following.{followed_alike}
 use Rattle.classifier.proofs.WindowCounts.{window_count}
@@ -31,7 +31,7 @@ pub loop-word-preserved : goal.loop-word-preserved
 loop-word-preserved g c =
     let i = c.loop-word.word in
     let ws = c.loop-word.windows in
-    let ns = c.loop-word.noticed in
+    let ns = c.loop-word.left in
     let inv = c.loop-word.invariant in
     let decided = c.args.decided.now in
     let held_force = c.loop-word.lanes.in_force in
@@ -42,7 +42,7 @@ loop-word-preserved g c =
     let new = c.see_word.new in
     let none : Watches = windows_at [] 0 in
     let inside : i < length ws = omega (arith, c.loop-word-test.true, c.loop-word.auto.windows, c.requires.windows) in
-    let also : i < length ns = omega (arith, c.loop-word-test.true, c.loop-word.auto.noticed, c.requires.noticed) in
+    let also : i < length ns = omega (arith, c.loop-word-test.true, c.loop-word.auto.left, c.requires.left) in
     let word_of : i < g.W.Word.words = omega (arith, c.loop-word-test.true, c.words-word-end.ensures.count) in
     let old : get_or ws i c.index-windows-at.result ≡ windows_at ws i = get_or_default ws i c.index-windows-at.result none inside in
     let made : AreMadeFor points new.windows =
@@ -58,31 +58,31 @@ loop-word-preserved g c =
           let known = known_at decided i in
           let both = λ (known n : ℕ) (force : List (List (Option Fault))) (net : Circuit) (j : ℕ) (w : Watches) (m : ℕ).
           HaveSeen net points run (in_lane faults j) known n w m × AreFollowed net points w.ftti run (in_lane faults j) known n force j in
-          let waits : both known t held_force load.circuit i (get_or ws i c.index-windows-at.result) (noticed_at ns i) =
-          subst (λ (w : Watches). both known t held_force load.circuit i w (noticed_at ns i)) (sym old) (before.2 i (omega arith) inside) in
-          let first : both known t held_force held.circuit i (get_or ws i c.index-windows-at.result) (noticed_at ns i) =
-          subst (λ (l : Load). both known t held_force l.circuit i (get_or ws i c.index-windows-at.result) (noticed_at ns i)) (sym inv.load) waits in
-          let now : both known (t + 1) new_force held.circuit i new.windows new.noticed =
+          let waits : both known t held_force load.circuit i (get_or ws i c.index-windows-at.result) (left_at ns i) =
+          subst (λ (w : Watches). both known t held_force load.circuit i w (left_at ns i)) (sym old) (before.2 i (omega arith) inside) in
+          let first : both known t held_force held.circuit i (get_or ws i c.index-windows-at.result) (left_at ns i) =
+          subst (λ (l : Load). both known t held_force l.circuit i (get_or ws i c.index-windows-at.result) (left_at ns i)) (sym inv.load) waits in
+          let now : both known (t + 1) new_force held.circuit i new.windows new.left =
           c.see_word.ensures.seen run (in_lane faults i) t kind lt before.0
           (subst (λ (l : Load). IsGoldenRow l.circuit run.vectors t c.args.row.now) (sym inv.load) row) first.1 first.0 in
-          let here : both known (t + 1) new_force load.circuit i new.windows new.noticed =
-          subst (λ (l : Load). both known (t + 1) new_force l.circuit i new.windows new.noticed) inv.load now in
+          let here : both known (t + 1) new_force load.circuit i new.windows new.left =
+          subst (λ (l : Load). both known (t + 1) new_force l.circuit i new.windows new.left) inv.load now in
           let others : (j n : ℕ) → j ≢ i → j < g.W.Word.words → (w : Watches) (m : ℕ) → both (known_at decided j) n held_force load.circuit j w m → both (known_at decided j) n new_force load.circuit j w m =
           λ j n apart less w m is.
           (is.0, followed_alike load.circuit points w.ftti run (in_lane faults j) (known_at decided j) n j held_force new_force (λ k lane. c.see_word.ensures.others j k less lane apart) is.1) in (
             c.see_word.ensures.after (take (t + 1) run.vectors) before.0,
             λ word less.
-                each_set (λ j w m. both (known_at decided j) (t + 1) new_force load.circuit j w m) ws ns i new.windows none new.noticed 0 inside also here word
+                each_set (λ j w m. both (known_at decided j) (t + 1) new_force load.circuit j w m) ws ns i new.windows none new.left 0 inside also here word
                 (λ apart.
                 let early : word < i = omega (arith, apart, less) in
-                others word (t + 1) apart (omega (arith, early, word_of)) (windows_at ws word) (noticed_at ns word) (before.1 word early)),
+                others word (t + 1) apart (omega (arith, early, word_of)) (windows_at ws word) (left_at ns word) (before.1 word early)),
             λ word le within.
                 let apart : word ≢ i = omega (arith, le) in
                 let less : word < length ws = subst (λ n. word < n) (length-set ws i new.windows) within in
-                each_set (λ j w m. j ≢ i → both (known_at decided j) t new_force load.circuit j w m) ws ns i new.windows none new.noticed 0 inside also
+                each_set (λ j w m. j ≢ i → both (known_at decided j) t new_force load.circuit j w m) ws ns i new.windows none new.left 0 inside also
                 (λ same. absurd (same refl)) word
                 (λ other away.
-                others word t away (omega (arith, less, c.loop-word.auto.windows, c.requires.windows)) (windows_at ws word) (noticed_at ns word) (before.2 word (omega (arith, le)) less)) apart,
+                others word t away (omega (arith, less, c.loop-word.auto.windows, c.requires.windows)) (windows_at ws word) (left_at ns word) (before.2 word (omega (arith, le)) less)) apart,
           );
       ftti = λ word.
           each_set_one (λ j w. w.ftti ≡ (windows_at c.args.windows.now j).ftti) ws i new.windows none inside

@@ -13,12 +13,12 @@ pub loop-word-preserved : goal.loop-word-preserved
 loop-word-preserved c =
     let i = c.loop-word.word in
     let ws = c.loop-word.windows in
-    let ns = c.loop-word.noticed in
+    let ns = c.loop-word.left in
     let inv = c.loop-word.invariant in
     let points = c.args.points.now in
     let new = c.start.new.self in
     let inside : i < length ws = omega (arith, c.loop-word-test.true, c.loop-word.auto.windows) in
-    let also : i < length ns = omega (arith, inside, c.loop-word.auto.windows, c.loop-word.auto.noticed, c.requires.noticed) in
+    let also : i < length ns = omega (arith, inside, c.loop-word.auto.windows, c.loop-word.auto.left, c.requires.left) in
     let none : Watches = windows_at [] 0 in
     let silent : ℕ = 0 in
     let old : get_or ws i c.index-windows-word.result ≡ windows_at ws i = get_or_default ws i c.index-windows-word.result none inside in

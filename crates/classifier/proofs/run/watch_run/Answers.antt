@@ -12,7 +12,7 @@ use Rattle.alarm_points.specs.FourWatches.{windows_at}
 use Rattle.classifier.specs.Load.{Load, in_lane, lane_faults, load_of}
 use Rattle.workload.specs.declared.run.Kind.{Kind}
 use Rattle.classifier.specs.OutOfReach.{decided_at}
-use Rattle.classifier.specs.Seen.{Begins, HaveAllSeen, HaveSeen, known_at, noticed_at}
+use Rattle.classifier.specs.Seen.{Begins, HaveAllSeen, HaveSeen, known_at, left_at}
 use Rattle.classifier.proofs.Stillness.{over_still}
 use Rattle.classifier.proofs.Kept.{load_kept}
 use Rattle.classifier.proofs.run.watch_run.Goals as goal
@@ -30,7 +30,7 @@ clock-init g c =
     let run = run_at c.args.bench.now.runs c.args.run in
     let faults = c.drop_decided.new.lanes.in_force in
     let none =
-    subst (λ (ps : Points). HaveAllSeen net ps run faults c.args.decided.now 0 c.start_windows.new.windows c.start_windows.new.noticed) c.points.ensures.points
+    subst (λ (ps : Points). HaveAllSeen net ps run faults c.args.decided.now 0 c.start_windows.new.windows c.start_windows.new.left) c.points.ensures.points
     (c.start_windows.ensures.seen net run faults c.args.decided.now) in
     record {
       load = refl;
@@ -38,7 +38,7 @@ clock-init g c =
       after = c.drop_decided.ensures.after [] c.start.ensures.start;
       made = λ word lt. (none word lt).made;
       seen = none;
-      followed = λ word lt. record { follow = λ k lane stays. refl; deaf = λ k lane deaf. deaf };
+      followed = λ word lt. record { follow = λ k lane stays. refl };
       ftti = λ word. refl;
       within = omega arith;
       cost = omega arith;
@@ -81,7 +81,7 @@ returns-clause-seen g c =
           (ap (λ (fs : List (List (Option Fault))). in_lane fs word k) c.start.ensures.in_force ∙ ap (λ (l : Load). lane_faults l word k) (load_kept c.args.lanes.now c.start.new.self c.start.ensures.keeps))
           (c.drop_decided.ensures.begin word k lt lane)),
       λ word lt.
-          let own : HaveSeen net points run (in_lane faults word) (known_at c.args.decided.now word) t (windows_at c.clock.windows word) (noticed_at c.clock.noticed word) = inv.seen word lt in
+          let own : HaveSeen net points run (in_lane faults word) (known_at c.args.decided.now word) t (windows_at c.clock.windows word) (left_at c.clock.left word) = inv.seen word lt in
           let in_words : word < g.W.Word.words = omega (arith, lt, c.clock.auto.windows, c.start_windows.auto.windows, c.requires.windows) in
           record {
             n = t;

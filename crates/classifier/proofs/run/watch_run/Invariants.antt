@@ -15,7 +15,7 @@ invariant-clock g l = record {
   cycles : l.lanes.cycle ≡ l.t;
   after : AreBeside g.W.Word.lanes g.W.Word.lane_bit (take l.t (run_at l.bench.runs l.run).vectors) (bank_of l.lanes);
   made : AreAllMadeFor l.bench.points l.windows;
-  seen : HaveAllSeen l.bench.circuit l.bench.points (run_at l.bench.runs l.run) l.initial.lanes.in_force l.decided l.t l.windows l.noticed;
+  seen : HaveAllSeen l.bench.circuit l.bench.points (run_at l.bench.runs l.run) l.initial.lanes.in_force l.decided l.t l.windows l.left;
   followed : AreAllFollowed l.bench.circuit l.bench.points (run_at l.bench.runs l.run) g.W.Word.words l.initial.lanes.in_force l.decided l.t l.windows l.lanes.in_force;
   ftti : KeepSettings l.initial.windows l.windows;
   cost : l.steps ≤ l.initial.steps + l.t * length l.bench.circuit.tables;

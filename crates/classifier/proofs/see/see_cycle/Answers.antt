@@ -1,7 +1,6 @@
 use Rattle.std.proofs.Common.{◌≡◌, ◌+◌, ◌<◌, ◌&&◌, ◌||◌, ℕ, false, List, [], length, map, not, ap, ap₂, sym, ◌∙◌, subst}
 use Rattle.std.specs.List.{All, list_any}
 use Rattle.std.proofs.lemmas.Bool.{or_parts}
-use Rattle.std.proofs.Math.Bool.{and-false}
 use Rattle.fm_base.proofs.Tests.{both_false}
 use Rattle.circuit.specs.declared.parts.Fault.{Fault}
 use Rattle.circuit.specs.declared.parts.NetId.{NetId}
@@ -15,7 +14,6 @@ use Rattle.campaign_plan.specs.Danger.{golden, is_raised, is_silenced, with_faul
 use Rattle.fm_base.specs.Planes.{bit}
 use Rattle.classifier.specs.Load.{in_lane, load_of}
 use Rattle.classifier.specs.Seen.{HasSeen, goal_at, has_left, is_noticed_by}
-use Rattle.classifier.specs.OutOfReach.{IsDeaf}
 use Rattle.classifier.proofs.Leaving.{left_stays, open_stays}
 use Rattle.classifier.proofs.Notice.{notice_after, noticed_more}
 use Rattle.classifier.proofs.see.see_cycle.Goals as goal
@@ -81,11 +79,4 @@ returns-clause-seen g c = λ run faults known t kind within at row followed seen
           c.either_lanes.ensures k
           ∙ both_false (bit old k) (bit c.noticed_by.result k) (seen.stays k lane before)
           (own k lane before ∙ (or_parts _ _ (sym (noticed_more load.circuit points (faults k) run t) ∙ none)).1);
-      deaf = λ k lane deaf.
-          let force : IsDeaf load.circuit points (in_force k) = followed.deaf k lane deaf in
-          c.either_lanes.ensures k
-          ∙ both_false (bit old k) (bit c.noticed_by.result k) (seen.deaf k lane deaf)
-          (c.noticed_by.ensures k
-          ∙ both_false (bit found.raised k) (is_test c.args.kind && bit found.silenced k) (raised_bit k lane ∙ force.raise run t)
-          (ap (λ b. is_test c.args.kind && b) (silenced_bit k lane ∙ force.silence run t) ∙ and-false (is_test c.args.kind)));
     }
