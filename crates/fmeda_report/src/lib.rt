@@ -14,5 +14,6 @@ mod tally;
 pub mod words;
 
 pub use law::rows_report_truly;
+pub use metrics::write_metrics;
 pub use report::{write_report, write_report_of_rows, write_summary};
 pub use space::{ReportSpace, Tallies};

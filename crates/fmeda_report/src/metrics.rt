@@ -63,8 +63,8 @@ fn write_targets<O: Sink>(targets: &Targets, out: &mut O) -> Result<(), Failed>
     write_line(out, &[b"target", b"term", target_word(Some(targets.term))])
 }
 
-// Writes the sums, the metrics and whether the targets of a level are met.
-pub(crate) fn write_metrics<O: Sink>(asil: Asil, sums: &Sums, out: &mut O) -> Result<(), Failed>
+/// Writes the ten lines of the sums, the metrics and whether the targets of a level are met. It takes no memory.
+pub fn write_metrics<O: Sink>(asil: Asil, sums: &Sums, out: &mut O) -> Result<(), Failed>
     requires { AreConsistent sums.now }
     ensures { Sends (O.seen out.old) (O.seen out.new) (metric_lines asil sums.now) result }
 {

@@ -1,5 +1,5 @@
 -- The list of readings is that of the plan.
-use Rattle.std.proofs.Common.{◌≡◌, ℕ, List, [], ◌∷◌, ◌++◌, length, map, refl, ap, ap₂, sym, ◌∙◌}
+use Rattle.std.proofs.Common.{◌≡◌, ℕ, List, [], ◌∷◌, ◌++◌, length, map, refl, ap, ap₂, ◌∙◌}
 use Rattle.std.specs.Prelude.{None, codes, decimal}
 use Rattle.std.specs.List.{All}
 use Rattle.std.proofs.lemmas.List.{map-append}
@@ -10,7 +10,7 @@ use Rattle.fm_base.specs.Lists.{below}
 use Rattle.fm_base.proofs.Below.{below_small}
 use Rattle.alarm_points.specs.declared.Goal.{Goal}
 use Rattle.readings.specs.Breakdown.{Reading as PlanReading, goal_word, readings, with_alarms, with_goals, with_interval, other_alarms}
-use Rattle.reading_planes.specs.Readings.{IsReadingOf, ListGivesReadings, ListIsSound, plan_by}
+use Rattle.reading_planes.specs.Readings.{IsReadingOf, ListGivesReadings, ListIsSound, reading_by}
 use Rattle.reading_planes.specs.declared.reading.Reading.{Reading}
 use Rattle.reading_planes.specs.declared.reading.Reading.TheVariants.{Goal as GoalAlone, Interval, Only, Whole, Without}
 use Rattle.reading_planes.proofs.Lists.{by_numbers}
@@ -25,42 +25,30 @@ four f x a b c d y a' b' c' d' here ea eb ec ed =
     map-append f (x ∷ a ++ b ++ c) d
     ∙ ap₂ (λ u v. u ++ v) (map-append f (x ∷ a ++ b) c ∙ ap₂ (λ u v. u ++ v) (map-append f (x ∷ a) b ∙ ap₂ (λ u v. u ++ v) (ap₂ (λ u v. u ∷ v) here ea) eb) ec) ed
 
--- the plans of the readings of the list are those of `readings`
-pub plans_are : ListGivesReadings
+-- the readings of the list are those of the plan
+pub readings_are : ListGivesReadings
 unfolding readings
-plans_are p intervals =
-    four (plan_by p) Whole (map (λ g. GoalAlone g) (below (length p.points.goals))) (map (λ a. Without a) (below (length p.points.alarm)))
-    (map (λ a. Only a) (below (length p.points.alarm))) (map (λ cycles. Interval cycles) intervals) p
-    (map (λ (goal : Goal). with_goals p (goal ∷ [])) p.points.goals) (map (λ (net : NetId). with_alarms p (other_alarms p net)) p.points.alarm)
-    (map (λ (net : NetId). with_alarms p (net ∷ [])) p.points.alarm) (map (with_interval p) intervals)
+readings_are p intervals =
+    four (reading_by p) Whole (map (λ g. GoalAlone g) (below (length p.points.goals))) (map (λ a. Without a) (below (length p.points.alarm)))
+    (map (λ a. Only a) (below (length p.points.alarm))) (map (λ cycles. Interval cycles) intervals) (record { words = codes "all" ∷ []; plan = p })
+    (map goal p.points.goals) (map without p.points.alarm) (map only p.points.alarm) (map each intervals)
     refl
-    (map_twice (plan_by p) (λ g. GoalAlone g) (below (length p.points.goals)) ∙ by_numbers (λ (goal : Goal). with_goals p (goal ∷ [])) p.points.goals (record { name = []; ftti = None; observe = [] }))
-    (map_twice (plan_by p) (λ a. Without a) (below (length p.points.alarm)) ∙ by_numbers (λ (net : NetId). with_alarms p (other_alarms p net)) p.points.alarm (record { 0 = 0 }))
-    (map_twice (plan_by p) (λ a. Only a) (below (length p.points.alarm)) ∙ by_numbers (λ (net : NetId). with_alarms p (net ∷ [])) p.points.alarm (record { 0 = 0 }))
-    (map_twice (plan_by p) (λ cycles. Interval cycles) intervals)
-    ∙ sym plain
+    (map_twice (reading_by p) (λ g. GoalAlone g) (below (length p.points.goals)) ∙ by_numbers goal p.points.goals (record { name = []; ftti = None; observe = [] }))
+    (map_twice (reading_by p) (λ a. Without a) (below (length p.points.alarm)) ∙ by_numbers without p.points.alarm (record { 0 = 0 }))
+    (map_twice (reading_by p) (λ a. Only a) (below (length p.points.alarm)) ∙ by_numbers only p.points.alarm (record { 0 = 0 }))
+    (map_twice (reading_by p) (λ cycles. Interval cycles) intervals)
   where
-    plain : map (λ (reading : PlanReading). reading.plan) (readings p intervals)
-        ≡ p ∷ map (λ (goal : Goal). with_goals p (goal ∷ [])) p.points.goals ++ map (λ (net : NetId). with_alarms p (other_alarms p net)) p.points.alarm
-        ++ map (λ (net : NetId). with_alarms p (net ∷ [])) p.points.alarm ++ map (with_interval p) intervals
-    plain =
-        four (λ (reading : PlanReading). reading.plan) (record { words = codes "all" ∷ []; plan = p }) (map goal p.points.goals) (map without p.points.alarm) (map only p.points.alarm)
-        (map each intervals) p (map (λ (g : Goal). with_goals p (g ∷ [])) p.points.goals) (map (λ (net : NetId). with_alarms p (other_alarms p net)) p.points.alarm)
-        (map (λ (net : NetId). with_alarms p (net ∷ [])) p.points.alarm) (map (with_interval p) intervals) refl
-        (map_twice (λ (reading : PlanReading). reading.plan) goal p.points.goals) (map_twice (λ (reading : PlanReading). reading.plan) without p.points.alarm)
-        (map_twice (λ (reading : PlanReading). reading.plan) only p.points.alarm) (map_twice (λ (reading : PlanReading). reading.plan) each intervals)
-      where
-        goal : Goal → PlanReading
-        goal g = record { words = codes "goal" ∷ goal_word g ∷ []; plan = with_goals p (g ∷ []) }
+    goal : Goal → PlanReading
+    goal g = record { words = codes "goal" ∷ goal_word g ∷ []; plan = with_goals p (g ∷ []) }
 
-        without : NetId → PlanReading
-        without net = record { words = codes "without" ∷ net_name p.circuit net.0 ∷ []; plan = with_alarms p (other_alarms p net) }
+    without : NetId → PlanReading
+    without net = record { words = codes "without" ∷ net_name p.circuit net.0 ∷ []; plan = with_alarms p (other_alarms p net) }
 
-        only : NetId → PlanReading
-        only net = record { words = codes "only" ∷ net_name p.circuit net.0 ∷ []; plan = with_alarms p (net ∷ []) }
+    only : NetId → PlanReading
+    only net = record { words = codes "only" ∷ net_name p.circuit net.0 ∷ []; plan = with_alarms p (net ∷ []) }
 
-        each : ℕ → PlanReading
-        each ftti = record { words = codes "ftti" ∷ decimal ftti ∷ []; plan = with_interval p ftti }
+    each : ℕ → PlanReading
+    each ftti = record { words = codes "ftti" ∷ decimal ftti ∷ []; plan = with_interval p ftti }
 
 -- all of them are readings of the points
 pub list_sound : ListIsSound

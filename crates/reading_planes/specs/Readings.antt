@@ -1,13 +1,15 @@
 -- The readings of a plan, as code has them: goals and alarm points by their numbers.
-use Rattle.std.specs.Prelude.{◌≡◌, ℕ, ◌<◌, Bool, true, not, ◌==◌, List, [], ◌∷◌, ◌++◌, length, map, filter, Option, Some, None}
+use Rattle.std.specs.Prelude.{◌≡◌, ℕ, ◌<◌, Bool, true, not, ◌==◌, List, [], ◌∷◌, ◌++◌, length, map, filter, Option, Some, None, codes, decimal}
 use Rattle.std.specs.List.{All}
 use Rattle.circuit.specs.declared.parts.NetId.{NetId}
+use Rattle.circuit.specs.Names.{net_name}
 use Rattle.fm_base.specs.Lists.{below}
+use Rattle.fm_base.specs.Names.{Bytes}
 use Rattle.alarm_points.specs.declared.Points.{Points}
 use Rattle.campaign_plan.specs.Analysis.{Analysis}
 use Rattle.classifier.specs.Seen.{goal_at}
 use Rattle.shown_runs.specs.Record.{alarm_at}
-use Rattle.readings.specs.Breakdown.{Reading as PlanReading, readings}
+use Rattle.readings.specs.Breakdown.{Reading as PlanReading, goal_word, readings}
 use Rattle.reading_planes.specs.declared.reading.Reading.{Reading}
 use Rattle.reading_planes.specs.declared.reading.Reading.TheVariants.{Whole, Goal, Without, Only, Interval}
 
@@ -40,6 +42,18 @@ ftti_by ftti (Interval cycles) = cycles
 abbrev pub plan_by : Analysis → Reading → Analysis
 plan_by p reading = record p { points = points_by p.points reading; settings = record p.settings { ftti = ftti_by p.settings.ftti reading } }
 
+-- its words in the text
+abbrev pub words_by : Analysis → Reading → List Bytes
+words_by p Whole = codes "all" ∷ []
+words_by p (Goal g) = codes "goal" ∷ goal_word (goal_at p.points.goals g) ∷ []
+words_by p (Without a) = codes "without" ∷ net_name p.circuit (alarm_at p.points.alarm a).0 ∷ []
+words_by p (Only a) = codes "only" ∷ net_name p.circuit (alarm_at p.points.alarm a).0 ∷ []
+words_by p (Interval cycles) = codes "ftti" ∷ decimal cycles ∷ []
+
+-- the reading of the plan that it stands for
+abbrev pub reading_by : Analysis → Reading → PlanReading
+reading_by p reading = record { words = words_by p reading; plan = plan_by p reading }
+
 -- there are such a goal and such an alarm point
 abbrev pub IsReadingOf : Points → Reading → Type 0
 IsReadingOf points Whole = Unit {0}
@@ -61,6 +75,6 @@ reading_list points intervals =
 abbrev pub ListIsSound : Type 0
 ListIsSound = (points : Points) (intervals : List ℕ) → AreReadingsOf points (reading_list points intervals)
 
--- and their plans are those of the readings of a plan, in order
+-- and they are the readings of a plan, with their words, in order
 abbrev pub ListGivesReadings : Type 0
-ListGivesReadings = (p : Analysis) (intervals : List ℕ) → map (plan_by p) (reading_list p.points intervals) ≡ map (λ (reading : PlanReading). reading.plan) (readings p intervals)
+ListGivesReadings = (p : Analysis) (intervals : List ℕ) → map (reading_by p) (reading_list p.points intervals) ≡ readings p intervals

@@ -1,6 +1,7 @@
 //! The planes of danger and of notice of every reading of a plan, by one simulation.
 #![tactic(auto)]
 
+mod batches;
 mod danger;
 mod lane;
 mod late;
@@ -9,9 +10,11 @@ mod notice;
 mod planes;
 pub mod reading;
 mod runs;
+mod simulator;
 
 pub use lane::LaneCycles;
 pub use law::list_gives_readings;
 pub use planes::ReadingPlanes;
 pub use reading::{Reading, reading_list};
 pub use runs::loaded_readings;
+pub use simulator::ReadingSimulator;

@@ -1,0 +1,166 @@
+// Batches of faults, simulated four at once for all readings.
+ghost use Rattle.std.specs.Prelude.{◌≡◌, ◌<◌, ◌≤◌, ◌+◌, ◌*◌, ◌^◌, [], IfOk, length, slice_index_or};
+ghost use Rattle.workload.specs.Runs.{all_cycles};
+ghost use Rattle.shown_runs.specs.Record.{AreRecordsFor};
+ghost use Rattle.reading_planes.specs.Folded.{ArePlanesFor};
+ghost use Rattle.reading_planes.specs.Readings.{AreReadingsOf};
+ghost use Rattle.reading_planes.specs.Simulator.{HasFound, IsSimulatorFor};
+
+use crate::batches::load_batches;
+use crate::lane::LaneCycles;
+use crate::planes::ReadingPlanes;
+use crate::reading::Reading;
+use crate::runs::loaded_readings;
+use alarm_points::Points;
+use campaign_plan::Outcome;
+use classifier::Testbench;
+use differential_kernel::DifferentialLanes4;
+use fault_list::FaultList;
+use fm_base::Steps;
+use shown_runs::record::RunRecord;
+use std::alloc::{AllocError, Global};
+use std::marker::Brand;
+use std::sync::ledger::{Blank, Ledger};
+
+const WORDS: u32 = 4;
+
+/// What simulates four batches of 64 faults on a testbench at once, and finds their planes by each reading. What it has
+/// simulated before is no matter. No call but `new` takes memory.
+#[derive(Drop)]
+pub struct ReadingSimulator {
+    pub(crate) lanes: DifferentialLanes4,
+    pub(crate) records: Vec<RunRecord>,
+    pub(crate) cycles: LaneCycles,
+    pub(crate) planes: Vec<ReadingPlanes>,
+}
+
+// A record for each word.
+fn word_records(alloc: Global, points: &Points) -> Result<Vec<RunRecord>, AllocError>
+    ensures words { IfOk result (λ records. length records.items ≡ 4) }
+    ensures fit { IfOk result (λ records. AreRecordsFor points.now records.items) }
+{
+    let mut records = Vec::new(alloc);
+    for _ in 0..WORDS {
+        records.push(RunRecord::new(alloc, points)?)?;
+    }
+    Ok(records)
+}
+
+// Planes of each reading for each word.
+fn word_planes(alloc: Global, readings: &[Reading]) -> Result<Vec<ReadingPlanes>, AllocError>
+    ensures words { IfOk result (λ planes. length planes.items ≡ 4) }
+    ensures fit { IfOk result (λ planes. ArePlanesFor readings.now planes.items) }
+{
+    let mut planes = Vec::new(alloc);
+    for _ in 0..WORDS {
+        planes.push(ReadingPlanes::new(alloc, readings.len())?)?;
+    }
+    Ok(planes)
+}
+
+impl ReadingSimulator {
+    /// A simulator of a testbench, for as many readings as these.
+    pub fn new(
+        alloc: Global,
+        bench: &Testbench<'_>,
+        readings: &[Reading],
+    ) -> Result<Self, AllocError>
+        ensures { IfOk result (IsSimulatorFor bench.now readings.now) }
+    {
+        let lanes = DifferentialLanes4::new(alloc, bench.net(), bench.order())?;
+        let records = word_records(alloc, bench.points())?;
+        let cycles = LaneCycles::new(alloc, bench.points())?;
+        let planes = word_planes(alloc, readings)?;
+        Ok(ReadingSimulator {
+            lanes,
+            records,
+            cycles,
+            planes,
+        })
+    }
+
+    /// The planes of a word by each reading, in the order of the readings.
+    pub fn planes(&self, word: u32) -> &[Outcome]
+        requires { word < length self.now.planes.items }
+        ensures { result.now ≡ slice_index_or self.now.planes.items word [] }
+    {
+        self.planes[word as usize].outcomes()
+    }
+
+    /// Simulates four batches of 64 faults, the first and each `apart` further, each fault alone, and finds their planes by each of
+    /// these readings; there is no fault in the lanes behind the last. `ftti` is the fault tolerant time interval of the settings in cycles, for the goals without
+    /// one of their own and the readings that name none.
+    pub fn batches(
+        &mut self,
+        bench: &Testbench<'_>,
+        ftti: u32,
+        readings: &[Reading],
+        faults: &FaultList,
+        first: u32,
+        apart: u32,
+    )
+        requires made { IsSimulatorFor bench.now readings.now self.old }
+        requires readings { AreReadingsOf bench.now.points readings.now }
+        requires few { first + 4 * apart < 2 ^ 32 }
+        ensures made { IsSimulatorFor bench.now readings.now self.new }
+        ensures found { HasFound bench.now ftti readings.now faults.now first apart self.new }
+    {
+        self.batches_by::<Brand>(bench, ftti, readings, faults, first, apart, Blank::new(1));
+    }
+
+    // The same, with a counter of steps that nobody reads.
+    fn batches_by<L: Ledger>(
+        &mut self,
+        bench: &Testbench<'_>,
+        ftti: u32,
+        readings: &[Reading],
+        faults: &FaultList,
+        first: u32,
+        apart: u32,
+        blank: Blank,
+    )
+        requires made { IsSimulatorFor bench.now readings.now self.old }
+        requires readings { AreReadingsOf bench.now.points readings.now }
+        requires few { first + 4 * apart < 2 ^ 32 }
+        requires blank { (blank.name ≡ L.name) × (blank.parts ≡ L.parts) × (0 < blank.parts) }
+        ensures made { IsSimulatorFor bench.now readings.now self.new }
+        ensures found { HasFound bench.now ftti readings.now faults.now first apart self.new }
+    {
+        let mut steps: Steps<L> = Steps::fresh(blank);
+        self.counted_batches(bench, ftti, readings, faults, first, apart, &mut steps);
+    }
+
+    /// The same, and it counts its steps: at most one for each table and cycle, for all words together and whatever the number of
+    /// readings.
+    pub fn counted_batches<L: Ledger>(
+        &mut self,
+        bench: &Testbench<'_>,
+        ftti: u32,
+        readings: &[Reading],
+        faults: &FaultList,
+        first: u32,
+        apart: u32,
+        steps: &mut Steps<L>,
+    )
+        requires made { IsSimulatorFor bench.now readings.now self.old }
+        requires readings { AreReadingsOf bench.now.points readings.now }
+        requires few { first + 4 * apart < 2 ^ 32 }
+        ensures made { IsSimulatorFor bench.now readings.now self.new }
+        ensures found { HasFound bench.now ftti readings.now faults.now first apart self.new }
+        ensures cost { steps.new ≤ steps.old + all_cycles bench.now.runs * length bench.now.circuit.tables }
+    {
+        load_batches(faults, first, apart, &mut self.lanes);
+        let records = self.records.as_mut_slice();
+        let planes = self.planes.as_mut_slice();
+        loaded_readings(
+            bench,
+            ftti,
+            readings,
+            &mut self.lanes,
+            records,
+            &mut self.cycles,
+            planes,
+            steps,
+        );
+    }
+}
