@@ -1,2 +1,2 @@
-mod Quoting
+pub mod Quoting
 mod Keeping

@@ -70,7 +70,8 @@ after_comma field = 44 ∷ csv_field field
 abbrev pub next_field : Bor (List ℕ) → Bytes
 next_field field = after_comma field.now
 
-joined : (first : Bytes) (fields : List Bytes) → join_with_byte 44 (map csv_field (first ∷ fields)) ≡ csv_field first ++ flat_map after_comma fields
+-- a row, from its first field and the fields with a comma before each
+pub joined : (first : Bytes) (fields : List Bytes) → join_with_byte 44 (map csv_field (first ∷ fields)) ≡ csv_field first ++ flat_map after_comma fields
 joined first [] = sym (append-nil (csv_field first))
 joined first (next ∷ fields) = ap (λ t. csv_field first ++ (44 ∷ t)) (joined next fields)
 

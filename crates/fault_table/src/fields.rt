@@ -95,7 +95,7 @@ fn write_next<O: Sink>(field: &[u8], out: &mut O) -> Result<(), Failed>
 }
 
 /// Writes fields with a comma before each.
-pub(crate) fn write_fields<O: Sink>(fields: &[&[u8]], out: &mut O) -> Result<(), Failed>
+pub fn write_fields<O: Sink>(fields: &[&[u8]], out: &mut O) -> Result<(), Failed>
     ensures { Sends (O.seen out.old) (O.seen out.new)
         (flat_map (λ field. byte "," ∷ csv_field field.now) fields.now) result }
 {

@@ -1,8 +1,8 @@
 //! The table of faults, as a CSV text.
 #![tactic(auto)]
 
-mod fields;
-mod row;
+pub mod fields;
+pub mod row;
 mod table;
 pub mod words;
 

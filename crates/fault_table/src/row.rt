@@ -31,8 +31,8 @@ fn write_cycle<O: Sink>(name: &[u8], sign: &[u8], cycle: u32, out: &mut O) -> Re
     write_field(&[name, sign, number_word(u64::from(cycle)).bytes()], out)
 }
 
-// Writes the name of a fault, as a field.
-fn write_name<O: Sink>(net: &Netlist, fault: Fault, out: &mut O) -> Result<(), Failed>
+/// Writes the name of a fault, as a field.
+pub fn write_name<O: Sink>(net: &Netlist, fault: Fault, out: &mut O) -> Result<(), Failed>
     ensures { Sends (O.seen out.old) (O.seen out.new)
         (csv_field (fault_name net.now fault)) result }
 {

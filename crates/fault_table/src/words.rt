@@ -24,7 +24,7 @@ pub fn covered_word(part: &Part) -> &[u8]
 }
 
 /// The bit of a lane in a plane.
-pub(crate) fn bit_word(bit: &bool) -> &[u8]
+pub fn bit_word(bit: &bool) -> &[u8]
     ensures { result.now ≡ word_of_bit bit.now }
 {
     if *bit { b"1" } else { b"0" }

@@ -1,6 +1,8 @@
 mod Telling
 pub mod Intervals
 mod Exciting
+mod Pulsing
+mod Transients
 mod Rows
 mod Files
 mod AlarmRows

@@ -1,9 +1,11 @@
 -- Laws of readings: one simulation of each fault gives all of them.
-use Rattle.std.specs.Prelude.{◌≡◌, ℕ, Bool, false, not, ◌==◌, List, [], ◌∷◌, length, map, find, Option, Some, None, option_map, option_and_then, if◌then◌else◌}
+use Rattle.std.specs.Prelude.{◌≡◌, ℕ, Bool, false, not, ◌==◌, ◌<◌, nat_lt, List, [], ◌∷◌, length, map, find, Option, Some, None, option_map, option_and_then, if◌then◌else◌}
 use Rattle.std.specs.List.{list_any}
 use Rattle.circuit.specs.declared.parts.Fault.{Fault}
-use Rattle.circuit.specs.declared.parts.Fault.TheVariants.{Stuck}
+use Rattle.circuit.specs.declared.parts.Fault.TheVariants.{Flip, Pulse, Stuck}
 use Rattle.circuit.specs.declared.parts.NetId.{NetId}
+use Rattle.circuit.specs.Order.{IsOrder}
+use Rattle.circuit.specs.Sound.{IsNet, IsNetlist}
 use Rattle.fm_base.specs.Firsts.{first_where}
 use Rattle.fm_base.specs.Lists.{below, same_bit, some_below}
 use Rattle.workload.specs.Runs.{cycles_of, is_mission, run_at}
@@ -52,3 +54,16 @@ AllSightingsAreShown = (p : Analysis) (f : Fault) → SightingsAreShown p f
 abbrev pub StuckAtIsExcited : Type 0
 StuckAtIsExcited = (p : Analysis) (n : NetId) (value : Bool)
     → is_excited p (Stuck n value) ≡ list_any (λ run. some_below (cycles_of run) (λ t. not (same_bit value (with_faults p.circuit [] run t n)))) p.runs
+
+-- some run has this cycle
+abbrev pub some_run_has : Analysis → ℕ → Bool
+some_run_has p t = list_any (λ run. nat_lt t (cycles_of run)) p.runs
+
+-- A FLIP IS EXCITED where some run has its cycle: there the latch has the other value, and before it nothing differs
+abbrev pub FlipIsExcited : Type 0
+FlipIsExcited = (p : Analysis) (latch t : ℕ) → IsNetlist p.circuit → latch < length p.circuit.latches → is_excited p (Flip latch t) ≡ some_run_has p t
+
+-- A PULSE IS EXCITED where some run has its cycle, where no table lies on a loop: there its net has the other value
+abbrev pub PulseIsExcited : Type 0
+PulseIsExcited = (p : Analysis) (order : List NetId) (n : NetId) (t : ℕ) → IsNetlist p.circuit → IsOrder p.circuit order → IsNet p.circuit n
+    → is_excited p (Pulse n t) ≡ some_run_has p t

@@ -3,4 +3,6 @@
 
 mod law;
 
-pub use law::{one_simulation_gives_all, rows_give_readings, stuck_at_is_excited};
+pub use law::{
+    one_simulation_gives_all, rows_give_readings, stuck_at_is_excited, transients_are_excited,
+};
