@@ -16,29 +16,27 @@ use Rattle.result_file.specs.declared.Row.{Row}
 use Rattle.result_merge.specs.Merged.{merged}
 use Rattle.command_line.specs.declared.command.Kind.TheVariants as kind
 use Rattle.command_line.specs.declared.command.Which.TheVariants as which
-use Rattle.command_line.specs.Commands.{settings_of}
 use Rattle.refusals.specs.declared.refused.Refused.{Refused}
 use Rattle.refusals.specs.declared.refused.Refused.TheVariants.{By}
 use Rattle.refusals.specs.declared.status.Status.{Status}
 use Rattle.refusals.specs.declared.status.Status.TheVariants as status
-use Rattle.refusals.specs.declared.status.What.TheVariants as what
 use Rattle.refusals.specs.NetlistFile.{or_refuse}
-use Rattle.command_reads.specs.Answers.{AnswersAs, TakesAs, both_behind, classes_plan, outputs_step, status_of_merge}
+use Rattle.command_reads.specs.Answers.{AnswersAs, BothAs, TakesAs, both_behind, classes_plan, outputs_step}
 use Rattle.command_reads.specs.Files.{Reads}
-use Rattle.command_reads.specs.FirstRefusal.{Judged, Observed, Rated, Begun, Merged, classes_plan_of, judge, netlist_step, plan_of, read_as, rows_in, unless, ◌>>=◌}
+use Rattle.command_reads.specs.FirstRefusal.{Judged, Planned, Rated, Begun, Merged, classes_plan_of, judge, netlist_step, plan_of, read_as, rows_in, unless, ◌>>=◌}
 use Rattle.command_reads.proofs.Steps.{first_refused, next_answers, taken_refused, taken_next, taken_next_refused}
 
 -- ---- two result files behind a plan
 
 -- the rows of both
 abbrev both_rows : Analysis → (first second : KeptRows) → Result (List Row) Status
-both_rows p first second = or_refuse status_of_merge (merged p first.rows second.rows)
+both_rows p first second = or_refuse status.Merge (merged p first.rows second.rows)
 
-abbrev behind_second : Analysis → (first second : KeptRows) → Result Judged Status
-behind_second p first second = both_rows p first second >>= (λ both. Ok (Merged p first second both))
+abbrev merged_by : Analysis → List Row → Result Judged Status
+merged_by p both = Ok (Merged p both)
 
 abbrev behind_first : Analysis → Reads → KeptRows → Result Judged Status
-behind_first p reads first = rows_in which.Second reads p >>= behind_second p first
+behind_first p reads first = rows_in which.Second reads p >>= (λ second. both_rows p first second >>= merged_by p)
 
 module _ (p : Analysis) (reads : Reads) where
   -- the first is refused
@@ -53,20 +51,20 @@ module _ (p : Analysis) (reads : Reads) where
 
     -- the second is refused
     pub both_second : (ended : Status) → AnswersAs (rows_in which.Second reads p) (Err ended) → AnswersAs (both_behind p reads) (Err ended)
-    both_second ended refused = after_first (Err ended) (first_refused (rows_in which.Second reads p) (behind_second p first) ended refused)
+    both_second ended refused = after_first (Err ended) (first_refused (rows_in which.Second reads p) (λ second. both_rows p first second >>= merged_by p) ended refused)
 
-    module _ (second : KeptRows) (two : rows_in which.Second reads p ≡ Ok second) where
-      after_second : (result : Result Judged Status) → AnswersAs (behind_second p first second) result → AnswersAs (both_behind p reads) result
-      after_second result answer = after_first result (next_answers (rows_in which.Second reads p) second (behind_second p first) result two answer)
+    -- both are read: their rows, or a batch that stands in both with other planes
+    pub both_answer : (second : KeptRows) → rows_in which.Second reads p ≡ Ok second → (result : Result (List Row) Status) → AnswersAs (both_rows p first second) result
+        → BothAs p reads result
+    both_answer second two result answer = by_result result answer
+      where
+        after_second : (made : Result Judged Status) → AnswersAs (both_rows p first second >>= merged_by p) made → AnswersAs (both_behind p reads) made
+        after_second made own =
+            after_first made (next_answers (rows_in which.Second reads p) second (λ other. both_rows p first other >>= merged_by p) made two own)
 
-      -- some batch stands in both with other planes
-      pub both_differ : (ended : Status) → AnswersAs (both_rows p first second) (Err ended) → AnswersAs (both_behind p reads) (Err ended)
-      both_differ ended refused =
-          after_second (Err ended) (first_refused (both_rows p first second) (λ both. Ok (Merged p first second both)) ended refused)
-
-      -- the rows of both
-      pub both_merged : (rows : List Row) → both_rows p first second ≡ Ok rows → both_behind p reads ≡ Ok (Merged p first second rows)
-      both_merged rows made = after_second (Ok (Merged p first second rows)) (ap (λ r. r >>= (λ both. Ok (Merged p first second both))) made)
+        by_result : (r : Result (List Row) Status) → AnswersAs (both_rows p first second) r → BothAs p reads r
+        by_result (Ok rows) is = after_second (Ok (Merged p rows)) (ap (λ r. r >>= merged_by p) is)
+        by_result (Err ended) refused = after_second (Err ended) (first_refused (both_rows p first second) (merged_by p) ended refused)
 
 -- ---- behind a plan
 module _ (netlist : Bytes) (set : Settings) (reads : Reads) where
@@ -115,10 +113,9 @@ module _ (netlist : Bytes) (set : Settings) (reads : Reads) where
       → TakesAs netlist reads merges (Err (By ended))
   merged_refused p ended planned refused = taken_next_refused netlist reads plans merged_next merges merged_is p ended planned refused
 
-  pub merged_made : (p : Analysis) (first second : KeptRows) (rows : List Row) → TakesAs netlist reads plans (Ok p)
-      → both_behind p reads ≡ Ok (Merged p first second rows) → TakesAs netlist reads merges (Ok (Merged p first second rows))
-  merged_made p first second rows planned both =
-      taken_next netlist reads plans merged_next merges merged_is p (Merged p first second rows) planned both
+  pub merged_made : (p : Analysis) (rows : List Row) → TakesAs netlist reads plans (Ok p) → both_behind p reads ≡ Ok (Merged p rows)
+      → TakesAs netlist reads merges (Ok (Merged p rows))
+  merged_made p rows planned both = taken_next netlist reads plans merged_next merges merged_is p (Merged p rows) planned both
 
 -- ---- behind a netlist
 
@@ -141,13 +138,13 @@ unless_answers : {A B : Type 0} (refusal : Option Status) (x : A) (y : B) (ended
 unless_answers refusal x y ended (inl memory, plain) = (inl memory, plain)
 unless_answers refusal x y ended (inr is, plain) = (inr (unless_err refusal x y ended is), plain)
 
-module _ (netlist : Bytes) (reads : Reads) where
+module _ (netlist : Bytes) (set : Settings) (reads : Reads) where
   abbrev nets : Option (List NetId) → Result Circuit Status
   nets walk = netlist_step netlist walk reads
 
   -- `parts`
   abbrev rates_in_order : Option (List NetId) → Result Judged Status
-  rates_in_order walk = judge netlist walk (settings_of [] []) reads kind.Rated
+  rates_in_order walk = judge netlist walk set reads kind.Rated
 
   abbrev rated_next : Circuit → Result Judged Status
   rated_next c = read_as which.Rates status.Rates rates_of reads >>= (λ table. Ok (Rated c table))
@@ -175,7 +172,7 @@ module _ (netlist : Bytes) (reads : Reads) where
   classes walk = classes_plan_of netlist walk reads
 
   abbrev too_many : Circuit → Option Status
-  too_many c = if nat_lt 1024 (length c.outputs) then Some (status.TooLarge what.Outputs) else None
+  too_many c = if nat_lt 1024 (length c.outputs) then Some status.ManyOutputs else None
 
   abbrev runs_next : Circuit → Result Analysis Status
   runs_next c = read_as which.Workload status.Workload (workload_of c) reads >>= (λ runs. Ok (classes_plan c runs))
@@ -189,10 +186,10 @@ module _ (netlist : Bytes) (reads : Reads) where
 
   -- and what is judged of it
   abbrev observes : Option (List NetId) → Result Judged Status
-  observes walk = judge netlist walk (settings_of [] []) reads kind.Observed
+  observes walk = judge netlist walk set reads kind.Observed
 
   abbrev observed_next : Analysis → Result Judged Status
-  observed_next p = Ok (Observed p)
+  observed_next p = Ok (Planned p)
 
   observed_is : (walk : Option (List NetId)) → observes walk ≡ (classes walk >>= observed_next)
   unfolding judge
@@ -224,8 +221,8 @@ module _ (netlist : Bytes) (reads : Reads) where
           (first_refused (read_as which.Workload status.Workload (workload_of c) reads) (λ runs. Ok (classes_plan c runs)) ended refused)))
 
       pub observed_made : (runs : List Run) → read_as which.Workload status.Workload (workload_of c) reads ≡ Ok runs
-          → TakesAs netlist reads observes (Ok (Observed (classes_plan c runs)))
+          → TakesAs netlist reads observes (Ok (Planned (classes_plan c runs)))
       observed_made runs read =
-          taken_next netlist reads classes observed_next observes observed_is (classes_plan c runs) (Observed (classes_plan c runs))
+          taken_next netlist reads classes observed_next observes observed_is (classes_plan c runs) (Planned (classes_plan c runs))
           (taken_next netlist reads nets classes_next classes classes_is c (classes_plan c runs) taken
           (next_answers (unless (too_many c) c) c runs_next (Ok (classes_plan c runs)) counted (ap (λ r. r >>= (λ it. Ok (classes_plan c it))) read))) refl

@@ -20,7 +20,8 @@ use Rattle.fm_base.proofs.Options.{none_both, none_mapped}
 use Rattle.refusals.specs.declared.status.Status.{Status}
 use Rattle.refusals.specs.NetlistFile.{or_refuse}
 use Rattle.refusals.proofs.Refusals.{ok_same}
-use Rattle.command_reads.specs.Answers.{AnswersAs, status_of_rows}
+use Rattle.command_reads.specs.Answers.{AnswersAs}
+use Rattle.refusals.specs.declared.status.Status.TheVariants as status
 
 abbrev AreOnce : Analysis → List Row → Type 0
 AreOnce p rows = AreDistinct p (map entry_of rows)
@@ -82,7 +83,7 @@ told_given told (Ok y) x e = ap (λ z. Ok z) (ok_same (Ok y) y x refl e)
 told_given told (Err fault) x e = let bad : Err (told fault) ≡ Ok x = e in cc bad
 
 -- what was answered of a file
-pub rows_distinct : (own : Bytes) (p : Analysis) (bytes : Bytes) (result : Result KeptRows Status) → AnswersAs (or_refuse status_of_rows (kept own p bytes)) result
+pub rows_distinct : (own : Bytes) (p : Analysis) (bytes : Bytes) (result : Result KeptRows Status) → AnswersAs (or_refuse status.Result (kept own p bytes)) result
     → IfOk result (λ k. AreDistinct p (kept_entries k))
-rows_distinct own p bytes (Ok k) answer = kept_distinct own p bytes k (told_given status_of_rows (kept own p bytes) k answer)
+rows_distinct own p bytes (Ok k) answer = kept_distinct own p bytes k (told_given status.Result (kept own p bytes) k answer)
 rows_distinct own p bytes (Err ended) answer = tt

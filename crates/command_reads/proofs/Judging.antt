@@ -3,91 +3,49 @@ use Rattle.std.proofs.Common.{◌≡◌, refl, subst, sym, ℕ, List}
 use Rattle.std.specs.Prelude.{Option, Result, Ok, Err}
 use Rattle.fm_base.specs.Names.{Bytes}
 use Rattle.circuit.specs.declared.parts.NetId.{NetId}
-use Rattle.campaign_plan.specs.Analysis.{Analysis}
-use Rattle.campaign_plan.specs.Batches.{AreDistinct}
 use Rattle.campaign_plan.specs.declared.Settings.{Settings}
-use Rattle.result_file.specs.KeptRows.{kept_entries}
 use Rattle.command_line.specs.declared.command.Kind.{Kind}
 use Rattle.command_line.specs.declared.command.Kind.TheVariants as kind
 use Rattle.refusals.specs.declared.refused.Refused.{Refused}
 use Rattle.refusals.specs.declared.status.Status.{Status}
-use Rattle.command_reads.specs.declared.begun.Begun.{Begun}
+use Rattle.command_reads.specs.declared.judge.Judged.{Judged as Made}
 use Rattle.command_reads.specs.declared.judge.Judged.TheVariants as made
-use Rattle.command_reads.specs.declared.merged.Merged.{Merged}
-use Rattle.command_reads.specs.declared.observed.Observed.{Observed}
-use Rattle.command_reads.specs.declared.planned.Planned.{Planned}
-use Rattle.command_reads.specs.declared.rated.Rated.{Rated}
+use Rattle.command_reads.specs.declared.planned.Planned.{Planned as PlannedOf}
 use Rattle.command_reads.specs.Files.{Reads}
-use Rattle.command_reads.specs.FirstRefusal.{Judged, Planned as StandsPlanned, generated_settings, judge, plan_of, ◌>>=◌}
-use Rattle.command_reads.specs.Answers.{BeginsAs, IsObserved, IsSound, MergesAs, ObservesAs, PlansAs, RatesAs}
-use Rattle.command_reads.specs.Judging.{JudgesAs}
+use Rattle.command_reads.specs.FirstRefusal.{Judged, Planned, judge, plan_of, ◌>>=◌}
+use Rattle.command_reads.specs.Answers.{IsSound, PlansAs, TakesAs, generated_settings}
+use Rattle.command_reads.specs.Judging.{AreSound, IsOfKind, JudgesAs, made_by}
 use Rattle.command_reads.proofs.Steps.{taken_refused, taken_next}
 
-module _ (netlist : Bytes) (set : Settings) (reads : Reads) (own : Kind) where
-  -- the settings of `classes` and of `parts` decide nothing
-  module _ (is : own ≡ kind.Observed) where
-    pub observed_refused : (refused : Refused) → ObservesAs netlist reads (Err refused) → JudgesAs netlist set reads own (Err refused)
-    unfolding judge
-    observed_refused refused observes = subst (λ k. JudgesAs netlist set reads k (Err refused)) (sym is) observes
+-- the plan is what is judged
+pub planned_is : (netlist : Bytes) (set : Settings) (reads : Reads) (walk : Option (List NetId))
+    → judge netlist walk set reads kind.Planned ≡ (plan_of netlist walk set reads >>= (λ p. Ok (Planned p)))
+unfolding judge
+planned_is netlist set reads walk = refl
 
-    pub observed_judged : (o : Observed) → ObservesAs netlist reads (Ok o) → IsObserved o → JudgesAs netlist set reads own (Ok (made.Observed o))
-    unfolding judge
-    observed_judged o observes sound = subst (λ k. JudgesAs netlist set reads k (Ok (made.Observed o))) (sym is) (observes, tt, sound)
+pub generated_is : (netlist : Bytes) (set : Settings) (reads : Reads) (stages : ℕ) (walk : Option (List NetId))
+    → judge netlist walk set reads (kind.Generated stages) ≡ (plan_of netlist walk generated_settings reads >>= (λ p. Ok (Planned p)))
+unfolding judge
+generated_is netlist set reads stages walk = refl
 
-  module _ (is : own ≡ kind.Rated) where
-    pub rated_refused : (refused : Refused) → RatesAs netlist reads (Err refused) → JudgesAs netlist set reads own (Err refused)
-    unfolding judge
-    rated_refused refused rates = subst (λ k. JudgesAs netlist set reads k (Err refused)) (sym is) rates
+module _ (netlist : Bytes) (set : Settings) (reads : Reads) (own as_own : Kind) (is : own ≡ as_own) where
+  abbrev judges : Option (List NetId) → Result Judged Status
+  judges walk = judge netlist walk set reads as_own
 
-    pub rated_judged : (r : Rated) → RatesAs netlist reads (Ok r) → JudgesAs netlist set reads own (Ok (made.Rated r))
-    unfolding judge
-    rated_judged r rates = subst (λ k. JudgesAs netlist set reads k (Ok (made.Rated r))) (sym is) (rates, tt, tt)
+  -- it is refused, or made, as one of this kind
+  pub refused_as : (refused : Refused) → TakesAs netlist reads judges (Err refused) → JudgesAs netlist set reads own (Err refused)
+  refused_as refused takes = subst (λ k. JudgesAs netlist set reads k (Err refused)) (sym is) takes
 
-  -- a plan, by settings that may be other ones than the words'
-  abbrev plans : Settings → Option (List NetId) → Result Analysis Status
-  plans by walk = plan_of netlist walk by reads
+  pub made_as : (it : Made) → TakesAs netlist reads judges (Ok (made_by it)) → IsOfKind as_own it → AreSound reads it → JudgesAs netlist set reads own (Ok it)
+  made_as it takes of sound = subst (λ k. JudgesAs netlist set reads k (Ok it)) (sym is) (takes, of, sound)
 
-  abbrev judges : Kind → Option (List NetId) → Result Judged Status
-  judges k walk = judge netlist walk set reads k
+  -- the plan by these settings
+  module _ (by : Settings) (plans : (walk : Option (List NetId)) → judges walk ≡ (plan_of netlist walk by reads >>= (λ p. Ok (Planned p)))) where
+    pub unplanned_as : (refused : Refused) → PlansAs netlist by reads (Err refused) → JudgesAs netlist set reads own (Err refused)
+    unplanned_as refused planned =
+        refused_as refused (taken_refused netlist reads (λ walk. plan_of netlist walk by reads) (λ p. Ok (Planned p)) judges plans refused planned)
 
-  abbrev stands : Analysis → Result Judged Status
-  stands p = Ok (StandsPlanned p)
-
-  module _ (is : own ≡ kind.Planned) where
-    plans_are : (walk : Option (List NetId)) → judges kind.Planned walk ≡ (plans set walk >>= stands)
-    unfolding judge
-    plans_are walk = refl
-
-    pub planned_refused : (refused : Refused) → PlansAs netlist set reads (Err refused) → JudgesAs netlist set reads own (Err refused)
-    planned_refused refused planned =
-        subst (λ k. JudgesAs netlist set reads k (Err refused)) (sym is)
-        (taken_refused netlist reads (plans set) stands (judges kind.Planned) plans_are refused planned)
-
-    pub planned_judged : (d : Planned) → PlansAs netlist set reads (Ok d) → IsSound reads d → JudgesAs netlist set reads own (Ok (made.Planned d))
-    planned_judged d planned sound =
-        subst (λ k. JudgesAs netlist set reads k (Ok (made.Planned d))) (sym is)
-        (taken_next netlist reads (plans set) stands (judges kind.Planned) plans_are d.plan (StandsPlanned d.plan) planned refl, tt, sound)
-
-  module _ {stages : ℕ} (is : own ≡ kind.Generated stages) where
-    samples_are : (walk : Option (List NetId)) → judges (kind.Generated stages) walk ≡ (plans generated_settings walk >>= stands)
-    unfolding judge
-    samples_are walk = refl
-
-    pub generated_refused : (refused : Refused) → PlansAs netlist generated_settings reads (Err refused) → JudgesAs netlist set reads own (Err refused)
-    generated_refused refused planned =
-        subst (λ k. JudgesAs netlist set reads k (Err refused)) (sym is)
-        (taken_refused netlist reads (plans generated_settings) stands (judges (kind.Generated stages)) samples_are refused planned)
-
-    pub generated_judged : (d : Planned) → PlansAs netlist generated_settings reads (Ok d) → IsSound reads d
+    pub planned_as : (d : PlannedOf) → PlansAs netlist by reads (Ok d) → IsOfKind as_own (made.Planned d) → IsSound reads d
         → JudgesAs netlist set reads own (Ok (made.Planned d))
-    generated_judged d planned sound =
-        subst (λ k. JudgesAs netlist set reads k (Ok (made.Planned d))) (sym is)
-        (taken_next netlist reads (plans generated_settings) stands (judges (kind.Generated stages)) samples_are d.plan (StandsPlanned d.plan) planned refl, tt, sound)
-
-  pub begun_judged : own ≡ kind.Begun → (b : Begun) → BeginsAs netlist set reads (Ok b) → IsSound reads b.planned × AreDistinct b.planned.plan (kept_entries b.kept)
-      → JudgesAs netlist set reads own (Ok (made.Begun b))
-  begun_judged is b begins sound = subst (λ k. JudgesAs netlist set reads k (Ok (made.Begun b))) (sym is) (begins, tt, sound)
-
-  pub merged_judged : own ≡ kind.Merged → (m : Merged) → MergesAs netlist set reads (Ok m) → IsSound reads m.planned
-      → JudgesAs netlist set reads own (Ok (made.Merged m))
-  merged_judged is m merges sound = subst (λ k. JudgesAs netlist set reads k (Ok (made.Merged m))) (sym is) (merges, tt, sound)
+    planned_as d planned of sound =
+        made_as (made.Planned d) (taken_next netlist reads (λ walk. plan_of netlist walk by reads) (λ p. Ok (Planned p)) judges plans d.plan (Planned d.plan) planned refl) of sound

@@ -20,16 +20,16 @@ use Rattle.refusals.specs.declared.status.Status.TheVariants as status
 use Rattle.refusals.proofs.Refusals.{ok_same}
 use Rattle.command_reads.specs.declared.tables.Tables.{Tables}
 use Rattle.command_reads.specs.Files.{Reads}
-use Rattle.command_reads.specs.FirstRefusal.{netlist_step, plan_of, read_as, status_of_plan, unless, ◌>>=◌}
+use Rattle.command_reads.specs.FirstRefusal.{netlist_step, plan_of, read_as, unless, ◌>>=◌}
 use Rattle.command_reads.specs.Answers.{AnswersAs, TablesAs, plan_behind, plan_step}
 
 -- a plan that was made is of what it was made of
 pub plan_same : (p made : Analysis) → plan_step p ≡ Ok made → made ≡ p
 plan_same p made e = by_refusal (plan_refusal p) e
   where
-    by_refusal : (r : Option PlanRefusal) → unless (option_map status_of_plan r) p ≡ Ok made → made ≡ p
+    by_refusal : (r : Option PlanRefusal) → unless (option_map status.Plan r) p ≡ Ok made → made ≡ p
     by_refusal None is = ok_same (Ok made) made p refl (sym is)
-    by_refusal (Some refusal) is = let bad : Err (status_of_plan refusal) ≡ Ok made = is in cc bad
+    by_refusal (Some refusal) is = let bad : Err (status.Plan refusal) ≡ Ok made = is in cc bad
 
 -- the plan of four files is the netlist's step, and then the plan behind it
 pub plan_is : (netlist : Bytes) (walk : Option (List NetId)) (set : Settings) (reads : Reads)

@@ -5,7 +5,6 @@ use Rattle.fm_base.specs.Names.{Bytes}
 use Rattle.fm_shelf.specs.Content.{Held, greatest}
 use Rattle.command_line.specs.declared.command.Which.{Which}
 use Rattle.refusals.specs.declared.status.Status.TheVariants as status
-use Rattle.refusals.specs.declared.status.What.TheVariants as what
 use Rattle.refusals.proofs.Refusals.{ok_same}
 use Rattle.command_reads.specs.declared.files.FileRead.{FileRead}
 use Rattle.command_reads.specs.declared.files.FileRead.TheVariants.{Whole, TooLong, Failed}
@@ -15,7 +14,7 @@ use Rattle.command_reads.specs.FirstRefusal.{whole}
 of_whole : {P : Bytes → Type 0} (file : Which) (read : FileRead) (bytes : Bytes) → ((held : Bytes) → read ≡ Whole held → P held)
     → whole file (λ other. read) ≡ Ok bytes → P bytes
 of_whole {P = P} file (Whole held) bytes holds is = subst P (ok_same (Ok held) held bytes refl is) (holds held refl)
-of_whole file TooLong bytes holds is = let bad : Err (status.TooLarge (what.File file)) ≡ Ok bytes = is in cc bad
+of_whole file TooLong bytes holds is = let bad : Err (status.TooLong file) ≡ Ok bytes = is in cc bad
 of_whole file Failed bytes holds is = let bad : Err (status.ReadFault file) ≡ Ok bytes = is in cc bad
 
 -- its bytes are those that are known

@@ -4,7 +4,7 @@ use Rattle.fm_base.specs.Names.{Bytes}
 use Rattle.metric_sums.specs.declared.Role.TheVariants.{Mission}
 use Rattle.circuit.specs.declared.parts.NetId.{NetId}
 use Rattle.circuit.specs.Circuit.{Circuit}
-use Rattle.circuit.specs.Loop.{HasNoLoop, IsShownLoop}
+use Rattle.circuit.specs.Loop.{AnswersLoops, HasNoLoop, IsShownLoop}
 use Rattle.circuit.specs.Order.{IsOrder}
 use Rattle.workload.specs.declared.run.Run.{Run}
 use Rattle.workload.specs.WorkloadFile.{workload_of}
@@ -18,10 +18,7 @@ use Rattle.campaign_plan.specs.declared.Settings.{Settings}
 use Rattle.campaign_plan.specs.Analysis.{Analysis}
 use Rattle.campaign_plan.specs.Kept.{IsPlan}
 use Rattle.campaign_plan.specs.PlanFaults.{plan_refusal}
-use Rattle.result_file.specs.declared.ResultRefusal.{ResultRefusal}
-use Rattle.result_file.specs.declared.ResultRefusal.TheVariants.{Foreign, BadRow}
-use Rattle.result_merge.specs.declared.merge.MergeRefusal.{MergeRefusal}
-use Rattle.result_merge.specs.declared.merge.MergeRefusal.TheVariants.{Differs}
+use Rattle.result_file.specs.declared.Row.{Row}
 use Rattle.result_merge.specs.Merged.{merged}
 use Rattle.command_line.specs.declared.command.Kind.TheVariants as kind
 use Rattle.command_line.specs.declared.command.Which.TheVariants as which
@@ -30,11 +27,9 @@ use Rattle.refusals.specs.declared.refused.Refused.{Refused}
 use Rattle.refusals.specs.declared.refused.Refused.TheVariants.{By, Looped}
 use Rattle.refusals.specs.declared.status.Status.{Status}
 use Rattle.refusals.specs.declared.status.Status.TheVariants as status
-use Rattle.refusals.specs.declared.status.What.TheVariants as what
 use Rattle.refusals.specs.NetlistFile.{or_refuse}
 use Rattle.refusals.specs.Refusals.{HasItsNets, IsPlain, status_of}
 use Rattle.command_reads.specs.declared.begun.Begun.{Begun}
-use Rattle.command_reads.specs.declared.merged.Both.{Both}
 use Rattle.command_reads.specs.declared.merged.Merged.{Merged}
 use Rattle.command_reads.specs.declared.netlist.Ordered.{Ordered}
 use Rattle.command_reads.specs.declared.observed.Observed.{Observed}
@@ -42,19 +37,23 @@ use Rattle.command_reads.specs.declared.planned.Planned.{Planned}
 use Rattle.command_reads.specs.declared.rated.Rated.{Rated}
 use Rattle.command_reads.specs.declared.tables.Tables.{Tables}
 use Rattle.command_reads.specs.Files.{Reads, known_by}
-use Rattle.command_reads.specs.FirstRefusal.{IsLoopAnswer, Judged, Observed as StandsObserved, Rated as StandsRated, Begun as StandsBegun, Merged as StandsMerged, judge, netlist_step, own_header, plan_of, read_as, rows_in, status_of_plan, unless, ◌>>=◌}
+use Rattle.command_reads.specs.FirstRefusal.{Judged, Planned as StandsPlanned, Rated as StandsRated, Begun as StandsBegun, Merged as StandsMerged, judge, netlist_read, netlist_step, own_header, plan_of, read_as, rows_in, unless, ◌>>=◌}
 
 -- a step over bytes: it gives this, or refuses by a status that names no net; want of memory is free
 abbrev pub AnswersAs : {A : Type 0} → Result A Status → Result A Status → Type 0
 AnswersAs expected (Ok x) = expected ≡ Ok x
 AnswersAs expected (Err ended) = ((ended ≡ status.Memory) ⊎ (expected ≡ Err ended)) × IsPlain ended
 
+-- `walk` is what is answered of the netlist's loops, where it was read
+abbrev pub LoopsAnswered : (netlist : Bytes) → Reads → Option (List NetId) → Type 0
+LoopsAnswered netlist reads walk = (c : Circuit) → netlist_read netlist reads ≡ Ok c → AnswersLoops c walk
+
 -- steps from the netlist on, by what is answered of loops: they give this, or refuse; the nets of a loop are those of the netlist
 abbrev pub TakesAs : {A : Type 0} → (netlist : Bytes) → Reads → (Option (List NetId) → Result A Status) → Result A Refused → Type 0
-TakesAs netlist reads step (Ok x) = (step None ≡ Ok x) × IsLoopAnswer netlist reads None
+TakesAs netlist reads step (Ok x) = (step None ≡ Ok x) × LoopsAnswered netlist reads None
 TakesAs netlist reads step (Err refused) =
     ((status_of refused ≡ status.Memory)
-    ⊎ ((walk : Option (List NetId)) × IsLoopAnswer netlist reads walk × (step walk ≡ Err (status_of refused))))
+    ⊎ ((walk : Option (List NetId)) × LoopsAnswered netlist reads walk × (step walk ≡ Err (status_of refused))))
     × HasItsNets netlist (known_by (reads which.Netlist)) refused
 
 -- an order of the netlist's tables, or a loop
@@ -70,7 +69,7 @@ NetTakenAs netlist reads (Err refused) = TakesAs netlist reads (λ walk. netlist
 
 -- TOO MANY FAULTS, MISSING RATE, IDLE RATE
 abbrev pub plan_step : Analysis → Result Analysis Status
-plan_step p = unless (option_map status_of_plan (plan_refusal p)) p
+plan_step p = unless (option_map status.Plan (plan_refusal p)) p
 
 -- the plan behind a netlist
 unfoldable pub plan_behind : Circuit → Settings → Reads → Result Analysis Status
@@ -99,15 +98,14 @@ pub record IsSound (reads : Reads) (made : Planned) : Type 0 where
   pub own : made.own ≡ own_header reads made.plan
   pub header : length made.own ≡ 89
 
+-- the settings of `gen`
+abbrev pub generated_settings : Settings
+generated_settings = settings_of (1 ∷ []) []
+
 -- the plan of the four files
 abbrev pub PlansAs : (netlist : Bytes) → Settings → Reads → Result Planned Refused → Type 0
 PlansAs netlist set reads (Ok made) = TakesAs netlist reads (λ walk. plan_of netlist walk set reads) (Ok made.plan)
 PlansAs netlist set reads (Err refused) = TakesAs netlist reads (λ walk. plan_of netlist walk set reads) (Err refused)
-
--- the status of a refusal of a result file
-abbrev pub status_of_rows : ResultRefusal → Status
-status_of_rows (Foreign found own) = status.Foreign found own
-status_of_rows (BadRow number why) = status.BadRow number why
 
 -- a plan and what is kept of its result file
 abbrev pub BeginsAs : (netlist : Bytes) → Settings → Reads → Result Begun Refused → Type 0
@@ -115,31 +113,27 @@ BeginsAs netlist set reads (Ok made) =
     TakesAs netlist reads (λ walk. judge netlist walk set reads kind.Begun) (Ok (StandsBegun made.planned.plan made.kept))
 BeginsAs netlist set reads (Err refused) = TakesAs netlist reads (λ walk. judge netlist walk set reads kind.Begun) (Err refused)
 
--- the status of a refusal to merge
-abbrev pub status_of_merge : MergeRefusal → Status
-status_of_merge (Differs batch one two) = status.Differs batch one two
-
 -- the two result files behind a plan
 unfoldable pub both_behind : Analysis → Reads → Result Judged Status
 both_behind p reads = do
   first ← rows_in which.First reads p
   second ← rows_in which.Second reads p
-  both ← or_refuse status_of_merge (merged p first.rows second.rows)
-  Ok (StandsMerged p first second both)
+  both ← or_refuse status.Merge (merged p first.rows second.rows)
+  Ok (StandsMerged p both)
 
-abbrev pub BothAs : Analysis → Reads → Result Both Status → Type 0
-BothAs p reads (Ok made) = AnswersAs (both_behind p reads) (Ok (StandsMerged p made.first made.second made.rows))
+abbrev pub BothAs : Analysis → Reads → Result (List Row) Status → Type 0
+BothAs p reads (Ok rows) = AnswersAs (both_behind p reads) (Ok (StandsMerged p rows))
 BothAs p reads (Err ended) = AnswersAs (both_behind p reads) (Err ended)
 
 -- a plan and two of its result files
 abbrev pub MergesAs : (netlist : Bytes) → Settings → Reads → Result Merged Refused → Type 0
 MergesAs netlist set reads (Ok made) =
-    TakesAs netlist reads (λ walk. judge netlist walk set reads kind.Merged) (Ok (StandsMerged made.planned.plan made.both.first made.both.second made.both.rows))
+    TakesAs netlist reads (λ walk. judge netlist walk set reads kind.Merged) (Ok (StandsMerged made.planned.plan made.rows))
 MergesAs netlist set reads (Err refused) = TakesAs netlist reads (λ walk. judge netlist walk set reads kind.Merged) (Err refused)
 
 -- at most 1,024 outputs, in `classes`, all of which are observed
 abbrev pub outputs_step : Circuit → Result Points Status
-outputs_step c = unless (if nat_lt 1024 (length c.outputs) then Some (status.TooLarge what.Outputs) else None) (all_outputs c)
+outputs_step c = unless (if nat_lt 1024 (length c.outputs) then Some status.ManyOutputs else None) (all_outputs c)
 
 -- the plan of `classes`: all outputs observed, no alarm, no flips, no pulses, and for all nets one part of role mission that isn't covered
 abbrev pub classes_plan : Circuit → List Run → Analysis
@@ -155,12 +149,12 @@ pub record IsObserved (made : Observed) : Type 0 where
   pub points : made.points ≡ all_outputs made.ordered.net
   pub fit : ArePointsFor made.ordered.net made.points
 
-abbrev pub ObservesAs : (netlist : Bytes) → Reads → Result Observed Refused → Type 0
-ObservesAs netlist reads (Ok made) =
-    TakesAs netlist reads (λ walk. judge netlist walk (settings_of [] []) reads kind.Observed) (Ok (StandsObserved (classes_plan made.ordered.net made.work)))
-ObservesAs netlist reads (Err refused) = TakesAs netlist reads (λ walk. judge netlist walk (settings_of [] []) reads kind.Observed) (Err refused)
+abbrev pub ObservesAs : (netlist : Bytes) → Settings → Reads → Result Observed Refused → Type 0
+ObservesAs netlist set reads (Ok made) =
+    TakesAs netlist reads (λ walk. judge netlist walk set reads kind.Observed) (Ok (StandsPlanned (classes_plan made.ordered.net made.work)))
+ObservesAs netlist set reads (Err refused) = TakesAs netlist reads (λ walk. judge netlist walk set reads kind.Observed) (Err refused)
 
-abbrev pub RatesAs : (netlist : Bytes) → Reads → Result Rated Refused → Type 0
-RatesAs netlist reads (Ok made) =
-    TakesAs netlist reads (λ walk. judge netlist walk (settings_of [] []) reads kind.Rated) (Ok (StandsRated made.ordered.net made.rates))
-RatesAs netlist reads (Err refused) = TakesAs netlist reads (λ walk. judge netlist walk (settings_of [] []) reads kind.Rated) (Err refused)
+abbrev pub RatesAs : (netlist : Bytes) → Settings → Reads → Result Rated Refused → Type 0
+RatesAs netlist set reads (Ok made) =
+    TakesAs netlist reads (λ walk. judge netlist walk set reads kind.Rated) (Ok (StandsRated made.ordered.net made.rates))
+RatesAs netlist set reads (Err refused) = TakesAs netlist reads (λ walk. judge netlist walk set reads kind.Rated) (Err refused)

@@ -41,14 +41,7 @@ WereRead before after names reads kind = ForEach (λ file. WasRead before after 
 -- the bytes that were read
 abbrev pub bytes_of : FileRead → Bytes
 bytes_of (Whole bytes) = bytes
-bytes_of TooLong = []
-bytes_of Failed = []
-
--- what is known of a file by what was read of it
-abbrev pub known_by : FileRead → Content
-known_by (Whole bytes) = Held bytes
-known_by TooLong = Unknown
-known_by Failed = Unknown
+bytes_of _ = []
 
 -- ---- what the code has of it
 
@@ -56,11 +49,15 @@ known_by Failed = Unknown
 abbrev pub reads_by : ReadsOf → Reads
 reads_by reads = by_file reads.netlist reads.workload reads.rates reads.points reads.result reads.first reads.second
 
+-- what is known of a file by what was read of it
+abbrev pub known_by : FileRead → Content
+known_by (Whole bytes) = Held bytes
+known_by _ = Unknown
+
 -- what was read is of at most 2^26 bytes
 abbrev pub IsShort : FileRead → Type 0
 IsShort (Whole bytes) = length bytes ≤ greatest
-IsShort TooLong = Unit {0}
-IsShort Failed = Unit {0}
+IsShort _ = Unit {0}
 
 abbrev pub AreShort : Reads → Type 0
 AreShort reads = (file : Which) → IsShort (reads file)

@@ -10,16 +10,16 @@ use Rattle.refusals.specs.declared.refused.Refused.{Refused}
 use Rattle.command_reads.specs.declared.judge.Judged.{Judged as Made}
 use Rattle.command_reads.specs.declared.judge.Judged.TheVariants as made
 use Rattle.command_reads.specs.Files.{Reads}
-use Rattle.command_reads.specs.FirstRefusal.{Judged, Observed, Rated, Planned, Begun, Merged, judge}
+use Rattle.command_reads.specs.FirstRefusal.{Judged, Rated, Planned, Begun, Merged, judge}
 use Rattle.command_reads.specs.Answers.{IsObserved, IsSound, TakesAs, classes_plan}
 
 -- what was made, as the definition has it
 abbrev pub made_by : Made → Judged
-made_by (made.Observed o) = Observed (classes_plan o.ordered.net o.work)
+made_by (made.Observed o) = Planned (classes_plan o.ordered.net o.work)
 made_by (made.Rated r) = Rated r.ordered.net r.rates
 made_by (made.Planned d) = Planned d.plan
 made_by (made.Begun b) = Begun b.planned.plan b.kept
-made_by (made.Merged m) = Merged m.planned.plan m.both.first m.both.second m.both.rows
+made_by (made.Merged m) = Merged m.planned.plan m.rows
 
 -- it is what a command of this kind works on
 abbrev pub IsOfKind : Kind → Made → Type 0

@@ -4,7 +4,7 @@ ghost use Rattle.campaign_plan.specs.Batches.{AreDistinct};
 ghost use Rattle.campaign_plan.specs.Kept.{AreSettings};
 ghost use Rattle.result_file.specs.KeptRows.{header_len, kept as kept_in, kept_entries};
 ghost use Rattle.refusals.specs.NetlistFile.{or_refuse};
-ghost use Rattle.command_reads.specs.Answers.{AnswersAs, BeginsAs, IsSound, status_of_rows};
+ghost use Rattle.command_reads.specs.Answers.{AnswersAs, BeginsAs, IsSound};
 ghost use Rattle.command_reads.specs.Files.{AreShort, reads_by};
 ghost use Rattle.command_reads.specs.FirstRefusal.{rows_in};
 
@@ -15,7 +15,7 @@ use command_line::Which;
 use fm_base::{Line, Refusal};
 use refusals::refused::Refused;
 use refusals::status::Status;
-use result_file::{KeptRows, ResultRefusal, read_result};
+use result_file::{KeptRows, read_result};
 use std::alloc::Global;
 
 /// A plan, and the rows that are kept of its result file.
@@ -25,25 +25,15 @@ pub struct Begun {
     pub kept: KeptRows,
 }
 
-// The status of a refusal of a result file.
-fn rows_status(refusal: ResultRefusal) -> Status
-    ensures { result ≡ status_of_rows refusal }
-{
-    match refusal {
-        ResultRefusal::Foreign { found, own } => Status::Foreign { found, own },
-        ResultRefusal::BadRow { number, why } => Status::BadRow { number, why },
-    }
-}
-
 // The rows that are kept of a file's bytes.
 fn rows_from(alloc: Global, bytes: &[u8], plan: &Plan, own: &Line) -> Result<KeptRows, Status>
     requires own { length own.now ≡ header_len }
     requires few { length bytes.now ≤ 2 ^ 26 }
-    ensures { AnswersAs (or_refuse status_of_rows (kept_in own.now plan.now bytes.now)) result }
+    ensures { AnswersAs (or_refuse Status.Result (kept_in own.now plan.now bytes.now)) result }
 {
     match read_result(alloc, bytes, plan, own) {
         Ok(kept) => Ok(kept),
-        Err(Refusal::Fault(fault)) => Err(rows_status(fault)),
+        Err(Refusal::Fault(fault)) => Err(Status::Result(fault)),
         Err(Refusal::Memory) => Err(Status::Memory),
     }
 }

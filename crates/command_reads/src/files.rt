@@ -13,7 +13,7 @@ use command_line::{FileNames, Kind, Which};
 use fm_base::Bytes;
 use fm_shelf::shelf::Shelf;
 use fm_shelf::whole::{ReadRefusal, read_all};
-use refusals::status::{Status, What};
+use refusals::status::Status;
 use std::alloc::{AllocError, Global};
 
 /// What was read of a file.
@@ -92,7 +92,7 @@ impl Reads {
     {
         match self.of(which) {
             FileRead::Whole(bytes) => Ok(bytes.as_slice()),
-            FileRead::TooLong => Err(Status::TooLarge(What::File(which))),
+            FileRead::TooLong => Err(Status::TooLong(which)),
             FileRead::Failed => Err(Status::ReadFault(which)),
         }
     }

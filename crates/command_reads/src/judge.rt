@@ -4,8 +4,7 @@ ghost use Rattle.campaign_plan.specs.Kept.{AreSettings};
 ghost use Rattle.command_line.specs.declared.command.Kind.TheVariants as kind;
 ghost use Rattle.command_reads.specs.declared.judge.Judged.TheVariants as made;
 ghost use Rattle.command_reads.specs.Files.{AreShort, reads_by};
-ghost use Rattle.command_reads.specs.FirstRefusal.{generated_settings};
-ghost use Rattle.command_reads.specs.Answers.{IsSound, PlansAs};
+ghost use Rattle.command_reads.specs.Answers.{IsSound, PlansAs, generated_settings};
 ghost use Rattle.command_reads.specs.Judging.{IsOfKind, JudgesAs};
 
 use crate::begun::{Begun, judge_begun};

@@ -5,7 +5,7 @@ ghost use Rattle.campaign_plan.specs.Kept.{AreSettings};
 ghost use Rattle.result_file.specs.KeptRows.{kept_entries};
 ghost use Rattle.result_merge.specs.Merged.{merged as merged_rows};
 ghost use Rattle.refusals.specs.NetlistFile.{or_refuse};
-ghost use Rattle.command_reads.specs.Answers.{AnswersAs, BothAs, IsSound, MergesAs, status_of_merge};
+ghost use Rattle.command_reads.specs.Answers.{AnswersAs, BothAs, IsSound, MergesAs};
 ghost use Rattle.command_reads.specs.Files.{AreShort, reads_by};
 
 use crate::begun::rows_of;
@@ -17,22 +17,14 @@ use fm_base::Refusal;
 use refusals::refused::Refused;
 use refusals::status::Status;
 use result_file::{KeptRows, RowList};
-use result_merge::{MergeRefusal, merge_rows};
+use result_merge::merge_rows;
 use std::alloc::Global;
 
-/// What is kept of two result files of a plan, and the rows of both.
-#[derive(Drop)]
-pub struct Both {
-    pub first: KeptRows,
-    pub second: KeptRows,
-    pub rows: RowList,
-}
-
-/// A plan, and two of its result files, merged.
+/// A plan, and the rows of two of its result files.
 #[derive(Drop)]
 pub struct Merged {
     pub planned: Planned,
-    pub both: Both,
+    pub rows: RowList,
 }
 
 // The rows of both files, unless some batch stands in both with other planes.
@@ -44,41 +36,24 @@ fn rows_of_both(
 ) -> Result<RowList, Status>
     requires first { AreDistinct plan.now (kept_entries first.now) }
     requires second { AreDistinct plan.now (kept_entries second.now) }
-    ensures { AnswersAs (or_refuse status_of_merge (merged_rows plan.now first.now.rows second.now.rows)) result }
+    ensures { AnswersAs (or_refuse Status.Merge (merged_rows plan.now first.now.rows second.now.rows)) result }
 {
     match merge_rows(alloc, plan, first.rows.as_slice(), second.rows.as_slice()) {
         Ok(rows) => Ok(rows),
-        Err(
-            Refusal::Fault(
-                MergeRefusal::Differs {
-                    batch,
-                    first,
-                    second,
-                },
-            ),
-        ) => Err(Status::Differs {
-            batch,
-            first,
-            second,
-        }),
+        Err(Refusal::Fault(differ)) => Err(Status::Merge(differ)),
         Err(Refusal::Memory) => Err(Status::Memory),
     }
 }
 
 // The rows of two result files of a plan, the first judged whole before the second.
-fn both_of(alloc: Global, planned: &Planned, reads: &Reads) -> Result<Both, Status>
+fn both_of(alloc: Global, planned: &Planned, reads: &Reads) -> Result<RowList, Status>
     requires sound { IsSound (reads_by reads.now) planned.now }
     requires short { AreShort (reads_by reads.now) }
     ensures { BothAs planned.now.plan (reads_by reads.now) result }
 {
     let first = rows_of(alloc, Which::First, planned, reads)?;
     let second = rows_of(alloc, Which::Second, planned, reads)?;
-    let rows = rows_of_both(alloc, &planned.plan, &first, &second)?;
-    Ok(Both {
-        first,
-        second,
-        rows,
-    })
+    rows_of_both(alloc, &planned.plan, &first, &second)
 }
 
 /// The plan of the four files that were read, and the rows of two of its result files, or why they aren't merged.
@@ -95,7 +70,7 @@ pub(crate) fn judge_merged(
 {
     let planned = judge_plan(alloc, netlist, set, reads)?;
     match both_of(alloc, &planned, reads) {
-        Ok(both) => Ok(Merged { planned, both }),
+        Ok(rows) => Ok(Merged { planned, rows }),
         Err(status) => {
             drop(planned);
             Err(Refused::By(status))

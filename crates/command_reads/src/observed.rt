@@ -3,6 +3,7 @@ ghost use Rattle.std.specs.Prelude.{◌≡◌, IfOk};
 ghost use Rattle.alarm_points.specs.PointsFile.{all_outputs as outputs_of};
 ghost use Rattle.alarm_points.specs.PointsKept.{ArePointsFor};
 ghost use Rattle.circuit.specs.Order.{IsOrder};
+ghost use Rattle.campaign_plan.specs.declared.Settings.{Settings};
 ghost use Rattle.command_reads.specs.Answers.{AnswersAs, IsObserved, ObservesAs, outputs_step};
 ghost use Rattle.command_reads.specs.Files.{AreShort, reads_by};
 
@@ -13,7 +14,7 @@ use alarm_points::Points;
 use alarm_points::outputs::{OutputsRefusal, all_outputs};
 use circuit::netlist::Netlist;
 use refusals::refused::Refused;
-use refusals::status::{Status, What};
+use refusals::status::Status;
 use std::alloc::Global;
 use workload::run::Workload;
 
@@ -32,7 +33,7 @@ fn observe_outputs(alloc: Global, net: &Netlist) -> Result<Points, Status>
 {
     match all_outputs(alloc, net) {
         Ok(points) => Ok(points),
-        Err(OutputsRefusal::TooMany) => Err(Status::TooLarge(What::Outputs)),
+        Err(OutputsRefusal::TooMany) => Err(Status::ManyOutputs),
         Err(OutputsRefusal::Memory) => Err(Status::Memory),
     }
 }
@@ -44,7 +45,7 @@ pub(crate) fn judge_observed(
     reads: &Reads,
 ) -> Result<Observed, Refused>
     requires { AreShort (reads_by reads.now) }
-    ensures observes { ObservesAs netlist.now (reads_by reads.now) result }
+    ensures observes { (set : Settings) → ObservesAs netlist.now set (reads_by reads.now) result }
     ensures sound { IfOk result IsObserved }
 {
     let ordered = judge_netlist(alloc, netlist, reads)?;

@@ -20,7 +20,7 @@ use fm_base::Line;
 use netlist_levels::Order;
 use rate_table::Rates;
 use refusals::refused::Refused;
-use refusals::status::{Status, What};
+use refusals::status::Status;
 use result_file::{header, own_digest};
 use std::alloc::Global;
 use workload::run::Workload;
@@ -50,10 +50,8 @@ fn plan_from(
 {
     match Plan::new(alloc, net, work, rates, points, set) {
         Ok(plan) => Ok(plan),
-        Err(PlanRefusal::TooManyFaults) => Err(Status::TooLarge(What::Faults)),
-        Err(PlanRefusal::MissingRate(net, name)) => Err(Status::MissingRate(net, name)),
-        Err(PlanRefusal::IdleRate { part, permanent }) => Err(Status::IdleRate { part, permanent }),
         Err(PlanRefusal::Memory) => Err(Status::Memory),
+        Err(refusal) => Err(Status::Plan(refusal)),
     }
 }
 

@@ -1,5 +1,6 @@
 // What `parts` reads.
 ghost use Rattle.std.specs.Prelude.{◌≡◌};
+ghost use Rattle.campaign_plan.specs.declared.Settings.{Settings};
 ghost use Rattle.command_reads.specs.Answers.{RatesAs};
 ghost use Rattle.command_reads.specs.Files.{AreShort, reads_by};
 
@@ -20,7 +21,7 @@ pub struct Rated {
 /// The netlist and the rates of `parts`, as they were read. Nets without a part are no refusal.
 pub(crate) fn judge_rated(alloc: Global, netlist: &str, reads: &Reads) -> Result<Rated, Refused>
     requires { AreShort (reads_by reads.now) }
-    ensures { RatesAs netlist.now (reads_by reads.now) result }
+    ensures { (set : Settings) → RatesAs netlist.now set (reads_by reads.now) result }
 {
     let ordered = judge_netlist(alloc, netlist, reads)?;
     let rates = rates_of(alloc, reads)?;

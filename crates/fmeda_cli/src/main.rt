@@ -9,7 +9,7 @@ use fm_shelf::real::{FileShelf, OutSink};
 use fm_shelf::shelf::Sink;
 use fmeda_top::top::fmeda;
 use paged_sink::Paged;
-use refusals::status::{Status, WriteTo};
+use refusals::status::Status;
 use std::process::ExitCode;
 use std::{env, io};
 use worker_gate::NoGate;
@@ -37,7 +37,7 @@ fn code_after<O: Sink + Drop>(status: &Status, out: &mut Paged<O>) -> u8
 {
     let code = status.code();
     match status {
-        Status::WriteFault(WriteTo::Out) => code,
+        Status::OutFault => code,
         _ => match out.flush() {
             Ok(()) => code,
             Err(_) => { if code == 0 { OUT_FAULT } else { code } }

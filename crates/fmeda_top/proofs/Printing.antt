@@ -1,52 +1,24 @@
 -- A task that prints has done what it promises.
-use Rattle.std.proofs.Common.{◌≡◌, refl, sym, subst, Ok, Err, inl, inr}
+use Rattle.std.proofs.Common.{◌≡◌, ◌∙◌, refl, sym, subst, Ok, Err, inl, inr}
 use Rattle.std.specs.Prelude.{◌⊎◌, Option, Some, Result, MatchOption}
 use Rattle.fm_base.specs.Names.{Bytes}
-use Rattle.fm_shelf.specs.Content.{Content, Held, Unknown}
+use Rattle.fm_shelf.specs.Content.{Content, Unknown}
 use Rattle.fm_shelf.specs.Outside.{Outside, outside}
 use Rattle.fm_shelf.specs.Shelf.{ShelfState}
-use Rattle.fm_shelf.specs.Sink.{SinkState, Wrote, WroteOrFailed, WrotePrefix}
-use Rattle.circuit.specs.Circuit.{Circuit}
+use Rattle.fm_shelf.specs.Sink.{SinkState, Wrote, WrotePrefix}
 use Rattle.campaign_run.specs.Outside.{KeepsOthers}
-use Rattle.command_line.specs.declared.command.Which.{Which}
 use Rattle.command_line.specs.declared.command.Which.TheVariants as which
-use Rattle.command_line.specs.Commands.{Command, no_names}
+use Rattle.command_line.specs.Commands.{Command}
 use Rattle.refusals.specs.declared.refused.Refused.{Refused}
 use Rattle.refusals.specs.declared.refused.Refused.TheVariants.{By, Looped}
 use Rattle.refusals.specs.declared.status.Status.{Status}
 use Rattle.refusals.specs.declared.status.Status.TheVariants as status
-use Rattle.refusals.specs.declared.status.WriteTo.TheVariants as to
-use Rattle.refusals.specs.RefusalLines.{refusal_line}
 use Rattle.refusals.specs.Refusals.{IsSaidOf}
 use Rattle.command_reads.specs.Files.{Reads, known_by}
 use Rattle.command_reads.specs.FirstRefusal.{Judged, task_refusal}
-use Rattle.fmeda_top.specs.Ends.{IsDoneOrFailed, PrintsAs, RefusedAs, WritesAs}
-use Rattle.fmeda_top.specs.Promises.{RanOut}
-use Rattle.fmeda_top.specs.Doing.{DoesAs, PrintedAs, TellsAs}
-
--- the line of want of memory names no file
-memory_line : (names : Which → Bytes) (c : Circuit) → refusal_line names c status.Memory ≡ refusal_line no_names c status.Memory
-unfolding refusal_line
-memory_line names c = refl
-
--- a line was said, and no file has changed
-said_refused : (names : Which → Bytes) (held : Content) (shelf : ShelfState) (out now : SinkState) (why : Status) → IsSaidOf held out now names why
-    → RefusedAs names held why (outside shelf out) (outside shelf now)
-said_refused names held shelf out now why (c, circuit, said) = record { files = refl; c = c; circuit = circuit; line = said.0 }
-
--- memory ran out, and its line was said
-pub said_memory : (names : Which → Bytes) (shelf : ShelfState) (out now : SinkState) (ended : Status) → ended ≡ status.Memory
-    → IsSaidOf Unknown out now names status.Memory → RanOut ended (outside shelf out) (outside shelf now)
-said_memory names shelf out now ended is (c, circuit, said) = (
-  is,
-  record {
-    files = refl;
-    c = c;
-    circuit = λ bytes e. let bad : Unknown ≡ Held bytes = e in absurd (cc);
-    line = subst (λ s. WroteOrFailed out now (refusal_line no_names c s)) (sym is)
-        (subst (WroteOrFailed out now) (memory_line names c) said.0);
-  },
-)
+use Rattle.fmeda_top.specs.Ends.{IsDoneOrFailed, PrintsAs, WritesAs}
+use Rattle.fmeda_top.specs.Doing.{DoesAs, HasRefused, PrintedAs, TellsAs}
+use Rattle.fmeda_top.proofs.Ending.{memory_said}
 
 module _ (command : Command) (made : Judged) (reads : Reads) (shelf : ShelfState) (out mid now : SinkState) (ended : Status) where
   abbrev before : Outside
@@ -59,7 +31,7 @@ module _ (command : Command) (made : Judged) (reads : Reads) (shelf : ShelfState
   abbrev DoesUnless : Option Status → Type 0
   DoesUnless refusal =
       MatchOption refusal (IsDoneOrFailed command made reads ended before after)
-      (λ why. (ended ≡ why) × RefusedAs command.files (known_by (reads which.Netlist)) why before after)
+      (λ why. (ended ≡ why) × HasRefused command.files (known_by (reads which.Netlist)) why before after)
 
   -- what it has done, where its text is so
   abbrev HasTold : Option Bytes → Type 0
@@ -74,8 +46,8 @@ module _ (command : Command) (made : Judged) (reads : Reads) (shelf : ShelfState
   does_print how (free, (text, is, sent)) (same, kept) =
       inl (subst DoesUnless (sym free) (subst HasTold (sym is) (refl, by_sent sent)))
     where
-      by_sent : ((how ≡ status.Done) × Wrote out mid text) ⊎ ((how ≡ status.WriteFault to.Out) × WrotePrefix out mid text)
-          → ((ended ≡ status.Done) × Wrote out now text) ⊎ ((ended ≡ status.WriteFault to.Out) × WrotePrefix out now text)
+      by_sent : ((how ≡ status.Done) × Wrote out mid text) ⊎ ((how ≡ status.OutFault) × WrotePrefix out mid text)
+          → ((ended ≡ status.Done) × Wrote out now text) ⊎ ((ended ≡ status.OutFault) × WrotePrefix out now text)
       by_sent (inl (done, wrote)) = inl (rw same done, rw kept wrote)
       by_sent (inr (torn, wrote)) = inr (rw same torn, rw kept wrote)
 
@@ -88,11 +60,8 @@ module _ (command : Command) (made : Judged) (reads : Reads) (shelf : ShelfState
       said held = subst (λ s. IsSaidOf held s now command.files why) kept (line held plain)
 
       by_cause : (why ≡ status.Memory) ⊎ (task_refusal command.task made ≡ Some why) → DoesAs command made reads ended before after
-      by_cause (inl memory) =
-          inr (said_memory command.files shelf out now ended (rw is memory) (subst (IsSaidOf Unknown out now command.files) memory (said Unknown)))
-      by_cause (inr refusal) =
-          let netlist = known_by (reads which.Netlist) in
-          inl (subst DoesUnless (sym refusal) (is, said_refused command.files netlist shelf out now why (said netlist)))
+      by_cause (inl memory) = inr (memory_said ended why command.files Unknown before after (is ∙ memory) memory refl (said Unknown))
+      by_cause (inr refusal) = inl (subst DoesUnless (sym refusal) (is, record { files = refl; said = said (known_by (reads which.Netlist)) }))
 
   -- A TASK THAT PRINTS has done what it promises, where it told its text or the line of its refusal
   pub printed_does : (told : Result Status Refused) → TellsAs command.task made out mid told → PrintedAs told ended mid now command.files

@@ -18,7 +18,6 @@ use Rattle.result_file.specs.KeptRows.{entry_of, kept_entries}
 use Rattle.fmeda_report.specs.Report.{Planes}
 use Rattle.fmeda_report.specs.Rows.{HoldEachOnce, planes_in}
 use Rattle.pair_list.specs.declared.pairs.PairRefusal.{PairRefusal}
-use Rattle.pair_list.specs.declared.pairs.PairRefusal.TheVariants.{Incomplete, TooMany}
 use Rattle.pair_list.specs.Chosen.{AreFaults, Chosen, chosen, has_row, pair_refusal}
 use Rattle.pair_list.proofs.Placing.{under}
 use Rattle.pair_campaign.specs.Laws.{AllPairsAreTold}
@@ -29,10 +28,9 @@ use Rattle.refusals.specs.declared.refused.Refused.{Refused}
 use Rattle.refusals.specs.declared.refused.Refused.TheVariants.{By, Looped}
 use Rattle.refusals.specs.declared.status.Status.{Status}
 use Rattle.refusals.specs.declared.status.Status.TheVariants as status
-use Rattle.refusals.specs.declared.status.What.TheVariants as what
 use Rattle.refusals.specs.Refusals.{IsPlain}
 use Rattle.classifier.specs.Simulated.{Simulated, planes_simulated, simulated_of}
-use Rattle.command_reads.specs.FirstRefusal.{Begun, audit_refusal, pairs_refusal}
+use Rattle.command_reads.specs.FirstRefusal.{Begun, audit_refusal}
 use Rattle.fmeda_top.specs.Doing.{ChecksAs, TellsAs, disagreement, is_wrong}
 
 -- ---- `audit`
@@ -102,19 +100,11 @@ each_batch p rows none batch lt = by_row (has_row rows batch) refl
         let clash : true ≡ false = sym found ∙ no_lack _ _ _ _ none in
         absurd (cc)
 
--- the status of a refusal of the pairs
-abbrev told_as : PairRefusal → Status
-told_as = elim [ Incomplete have many ↦ status.Incomplete have many | TooMany ↦ status.TooLarge what.Pairs ]
-
 -- rows that pair hold each batch once
-pairs_hold : (p : Analysis) (k : KeptRows) → AreDistinct p (kept_entries k) → pairs_refusal p k ≡ None → HoldEachOnce p k.rows
-pairs_hold p k distinct free = by_why (pair_refusal p k.rows) refl free
-  where
-    by_why : (o : Option PairRefusal) → pair_refusal p k.rows ≡ o → option_map told_as o ≡ None → HoldEachOnce p k.rows
-    by_why (Some refusal) e h = absurd (cc)
-    by_why None e h = record { distinct = distinct; each = each_batch p k.rows e }
+pairs_hold : (p : Analysis) (k : KeptRows) → AreDistinct p (kept_entries k) → pair_refusal p k.rows ≡ None → HoldEachOnce p k.rows
+pairs_hold p k distinct none = record { distinct = distinct; each = each_batch p k.rows none }
 
 -- where the rows have true planes, so have their pairs
-pub pairs_are_true : AllPairsAreTold → (p : Analysis) (k : KeptRows) → AreDistinct p (kept_entries k) → pairs_refusal p k ≡ None → AreTrue p (kept_entries k)
+pub pairs_are_true : AllPairsAreTold → (p : Analysis) (k : KeptRows) → AreDistinct p (kept_entries k) → pair_refusal p k.rows ≡ None → AreTrue p (kept_entries k)
     → pairs_text p (planes_in k.rows) ≡ pairs_text p (true_planes p)
 pairs_are_true law p k distinct free are = (law p).truly k.rows (pairs_hold p k distinct free) are

@@ -1,8 +1,9 @@
 -- What a task has written, by how its campaign has run.
-use Rattle.std.proofs.Common.{ℕ, List, ◌≡◌, ◌∙◌, ap, ap₂, sym, subst, Ok, inl, inr, length, arith}
-use Rattle.std.specs.Prelude.{◌⊎◌, Option, Some, None, MatchOption, ◌∷◌, [], codes, map}
+use Rattle.std.proofs.Common.{ℕ, List, ◌≡◌, ◌∙◌, ap, sym, subst, Ok, inl, inr, length, arith}
+use Rattle.std.specs.Prelude.{◌⊎◌, Option, Some, None, MatchOption, ◌∷◌, [], ◌++◌, codes, flat_map, map}
 use Rattle.std.proofs.lemmas.List.{take_all}
 use Rattle.fm_base.specs.Names.{Bytes}
+use Rattle.fm_base.specs.Text.{line}
 use Rattle.fm_shelf.specs.Content.{Held, HasIfKnown}
 use Rattle.fm_shelf.specs.Shelf.{ShelfState}
 use Rattle.fm_shelf.specs.Sink.{SinkState, Wrote, WroteOrFailed}
@@ -11,10 +12,10 @@ use Rattle.campaign_plan.specs.declared.Outcome.{Outcome}
 use Rattle.campaign_plan.specs.declared.Settings.{Settings}
 use Rattle.campaign_plan.specs.Analysis.{Analysis, batch_count}
 use Rattle.campaign_plan.specs.Batches.{AreTrue, Entry, true_planes}
+use Rattle.result_file.specs.declared.KeptRows.{KeptRows}
 use Rattle.result_file.specs.declared.Row.{Row}
-use Rattle.result_file.specs.ResultText.{result_rows, result_text}
+use Rattle.result_file.specs.ResultText.{result_rows, result_text, row_text}
 use Rattle.result_file.specs.KeptRows.{entry_of, kept, kept_entries}
-use Rattle.result_file.proofs.WrittenBack.{length-result_rows}
 use Rattle.result_merge.specs.Merged.{first_other, merged, merged_entries, merged_unless}
 use Rattle.result_merge.specs.PlanLaws.{MergesAreLawful}
 use Rattle.fmeda_report.specs.Report.{report, summary, true_report}
@@ -36,8 +37,6 @@ use Rattle.command_line.specs.declared.command.Which.TheVariants as which
 use Rattle.command_line.specs.Commands.{Command}
 use Rattle.refusals.specs.declared.status.Status.{Status}
 use Rattle.refusals.specs.declared.status.Status.TheVariants as status
-use Rattle.refusals.specs.declared.status.WriteTo.TheVariants as to
-use Rattle.refusals.specs.RefusalLines.{refused}
 use Rattle.refusals.specs.Texts.{merge_line}
 use Rattle.command_reads.specs.declared.begun.Begun.{Begun as BegunOf}
 use Rattle.command_reads.specs.declared.merged.Merged.{Merged as MergedOf}
@@ -47,11 +46,10 @@ use Rattle.command_reads.specs.Answers.{IsSound}
 use Rattle.command_reads.specs.Judging.{made_by}
 use Rattle.command_reads.specs.Files.{Reads, bytes_of as bytes_read, known_by}
 use Rattle.command_reads.specs.FirstRefusal.{Judged, Begun, Merged, Planned, own_header, task_refusal}
-use Rattle.fmeda_top.specs.Doing.{AreMerged, DoesAs, EndSaid, HasEnded, IsHeld, task_of_text}
-use Rattle.fmeda_top.specs.Ends.{HasWritten, IsDoneOrFailed, MayLeave, PrintsAs, RefusedAs, WritesAs, text_of}
+use Rattle.fmeda_top.specs.Doing.{DoesAs, EndSaid, HasEnded, HasRefused, IsHeld, task_of_text}
+use Rattle.fmeda_top.specs.Ends.{HasWritten, IsDoneOrFailed, MayLeave, PrintsAs, WritesAs, text_of}
 use Rattle.fmeda_top.specs.Ends.WritesAs.{All, OutFailed, ResultFailed}
 use Rattle.fmeda_top.specs.Written.{rows_file}
-use Rattle.fmeda_top.proofs.Ending.{ran_out}
 
 -- ---- the end of a campaign, told
 
@@ -68,7 +66,7 @@ module _ (command : Command) (it : Judged) (reads : Reads) (before after : Outsi
   writes_end ended others writes =
       inl (subst
       (λ refusal. MatchOption refusal (IsDoneOrFailed command it reads ended before at_end)
-      (λ why. (ended ≡ why) × RefusedAs command.files (known_by (reads which.Netlist)) why before at_end))
+      (λ why. (ended ≡ why) × HasRefused command.files (known_by (reads which.Netlist)) why before at_end))
       (sym no_refusal)
       (subst
       (λ text. MatchOption text (KeepsOthers before.shelf after.shelf name × WritesAs command.task it reads name before at_end ended)
@@ -88,14 +86,19 @@ module _ (command : Command) (it : Judged) (reads : Reads) (before after : Outsi
       → DoesAs command it reads ended before at_end
   told_ends end.Done ended ran (is, same) = silent_end ended status.Done is same ran.others (All ran.ends)
   told_ends end.OutFault ended ran (is, same) =
-      silent_end ended (status.WriteFault to.Out) is same ran.others (OutFailed ran.ends.0 ran.ends.2 ran.ends.1)
+      silent_end ended status.OutFault is same ran.others (OutFailed ran.ends.0 ran.ends.2 ran.ends.1)
   told_ends end.ResultFault ended ran (is, said) =
       writes_end ended ran.others
       (subst (λ s. WritesAs command.task it reads name before at_end s) (sym is)
-      (ResultFailed ran.ends.0 ran.ends.1 (subst (λ from. WroteOrFailed from out (refused (codes "cannot write" ∷ name ∷ []))) ran.ends.2 said)))
+      (ResultFailed ran.ends.0 ran.ends.1 (subst (λ from. WroteOrFailed from out (line (codes "refused: cannot write" ∷ name ∷ []))) ran.ends.2 said)))
   told_ends end.NoMemory ended ran (is, said) =
-      inr (ran_out ended before at_end is (ap (λ (s : Outside). s.shelf.content) ran.ends)
-      (subst (λ from. WroteOrFailed from out (codes "refused: out of memory\n")) (ap (λ (s : Outside). s.out) ran.ends) said))
+      inr (
+        is,
+        (
+          ap (λ (s : Outside). s.shelf.content) ran.ends,
+          subst (λ from. WroteOrFailed from out (codes "refused: out of memory\n")) (ap (λ (s : Outside). s.out) ran.ends) said,
+        ),
+      )
 
 -- ---- where the task is this one, and what was made is this
 
@@ -135,10 +138,9 @@ module _ (planned : PlannedOf) (reads : Reads) (name : Bytes) (workers : ℕ) (b
 
   anew_left : (text : Text) (after : Outside) → IsTruncatedResult (begun_anew planned name text) before.shelf after.shelf
       → (after.shelf.content name ≡ before.shelf.content name)
-      ⊎ MayLeave (task_of_text text workers) (Planned planned.plan) reads (before.shelf.content name) (after.shelf.content name)
+      ⊎ MayLeave (Planned planned.plan) reads (before.shelf.content name) (after.shelf.content name)
   anew_left text after (inl same) = inl same
-  anew_left Report after (inr left) = inr (subst (λ own. LeftPrefix own planned.plan (true_planes planned.plan) (after.shelf.content name)) sound.own left.0)
-  anew_left (Summary stages) after (inr left) = inr (subst (λ own. LeftPrefix own planned.plan (true_planes planned.plan) (after.shelf.content name)) sound.own left.0)
+  anew_left text after (inr left) = inr (subst (λ own. LeftPrefix own planned.plan (true_planes planned.plan) (after.shelf.content name)) sound.own left.0)
 
   pub anew_ended : (how : End) (text : Text) (after : Outside) → HasRun how (begun_anew planned name text) before after
       → HasEnded how (task_of_text text workers) (Planned planned.plan) reads name before after
@@ -185,7 +187,7 @@ module _ (law : StoppedAreTakenUp) (begun : BegunOf) (reads : Reads) (name : Byt
 
   on_left : (after : Outside) → IsTruncatedResult (going_on begun name) before.shelf after.shelf
       → (after.shelf.content name ≡ before.shelf.content name)
-      ⊎ MayLeave (task.Resume workers) (Begun p begun.kept) reads (before.shelf.content name) (after.shelf.content name)
+      ⊎ MayLeave (Begun p begun.kept) reads (before.shelf.content name) (after.shelf.content name)
   on_left after (inl same) = inl same
   on_left after (inr left) = inr (subst (λ own. LeftPrefix own p planes (after.shelf.content name)) sound.own left.0, left.1)
 
@@ -207,50 +209,36 @@ union_rows p a b rows is = by_first (first_other (batch_count p) (map entry_of a
     by_first (Some batch) e = absurd (cc)
     by_first None e = cc
 
-module _ (it : MergedOf) (reads : Reads) (name : Bytes) (before : Outside) (sound : IsSound reads it.planned) (merged_rows : AreMerged it) where
-  abbrev pm : Analysis
-  pm = it.planned.plan
+-- OF MERGING
+pub merged_stopped : MergesAreLawful → (own : Bytes) (p : Analysis) (first second : KeptRows) (both : List Row) → merged p first.rows second.rows ≡ Ok both
+    → AreTrue p (kept_entries first) → AreTrue p (kept_entries second) → LeftPrefix own p (true_planes p) (Held (own ++ flat_map row_text both))
+merged_stopped laws own p first second both is one_true two_true =
+    let law = (laws p).0 in
+    let entries : List Entry = merged_entries p (kept_entries first) (kept_entries second) in
+    let text : Bytes = result_text own p entries in
+    let same : text ≡ rows_file own both = ap (rows_file own) (sym (union_rows p first.rows second.rows both is)) in
+    record {
+      entries = entries;
+      part = record {
+        distinct = law.distinct (kept_entries first) (kept_entries second);
+        have = law.have (true_planes p) (kept_entries first) (kept_entries second) one_true two_true;
+      };
+      prefix = subst (λ bytes. IsPrefixOf (Held bytes) text) same (length text, sym (take_all (length text) text (omega arith)));
+    }
 
-  abbrev both : List Entry
-  both = merged_entries pm (kept_entries it.both.first) (kept_entries it.both.second)
-
-  rows_are : it.both.rows ≡ result_rows pm both
-  rows_are = union_rows pm it.both.first.rows it.both.second.rows it.both.rows merged_rows
-
+module _ (it : MergedOf) (reads : Reads) (name : Bytes) (before : Outside) (sound : IsSound reads it.planned) where
   -- the bytes of the file that is written
-  file_is : rows_file it.planned.own it.both.rows ≡ result_text (own_header reads pm) pm both
-  file_is = ap₂ rows_file sound.own rows_are
+  file_is : rows_file it.planned.own it.rows ≡ rows_file (own_header reads it.planned.plan) it.rows
+  file_is = ap (λ own. rows_file own it.rows) sound.own
 
-  many : length it.both.rows ≡ length both
-  many = ap length rows_are ∙ length-result_rows pm both
-
-  merge_stopped : MergesAreLawful → AreTrue pm (kept_entries it.both.first) → AreTrue pm (kept_entries it.both.second)
-      → LeftPrefix (own_header reads pm) pm (true_planes pm) (Held (result_text (own_header reads pm) pm both))
-  merge_stopped laws one_true two_true =
-      let law = (laws pm).0 in
-      let text : Bytes = result_text (own_header reads pm) pm both in
-      record {
-        entries = both;
-        part = record {
-          distinct = law.distinct (kept_entries it.both.first) (kept_entries it.both.second);
-          have = law.have (true_planes pm) (kept_entries it.both.first) (kept_entries it.both.second) one_true two_true;
-        };
-        prefix = (length text, sym (take_all (length text) text (omega arith)));
-      }
-
-  abbrev stands : Judged
-  stands = Merged pm it.both.first it.both.second it.both.rows
-
-  pub merge_written : MergesAreLawful → (after : Outside) → HasIfKnown (after.shelf.content name) (rows_file it.planned.own it.both.rows)
-      → Wrote before.out after.out (merge_line (length it.both.rows) (batch_count pm)) → HasWritten task.Merge stands reads name before after
-  merge_written laws after has wrote = (
-    subst (HasIfKnown (after.shelf.content name)) file_is has,
-    subst (λ rows. Wrote before.out after.out (merge_line rows (batch_count pm))) many wrote,
-    merge_stopped laws,
-  )
+  pub merge_written : (after : Outside) → HasIfKnown (after.shelf.content name) (rows_file it.planned.own it.rows)
+      → Wrote before.out after.out (merge_line (length it.rows) (batch_count it.planned.plan))
+      → HasWritten task.Merge (Merged it.planned.plan it.rows) reads name before after
+  merge_written after has wrote = (subst (HasIfKnown (after.shelf.content name)) file_is has, wrote)
 
   pub merge_left : (after : Outside)
-      → (after.shelf.content name ≡ before.shelf.content name) ⊎ IsPrefixOf (after.shelf.content name) (rows_file it.planned.own it.both.rows)
-      → (after.shelf.content name ≡ before.shelf.content name) ⊎ MayLeave task.Merge stands reads (before.shelf.content name) (after.shelf.content name)
+      → (after.shelf.content name ≡ before.shelf.content name) ⊎ IsPrefixOf (after.shelf.content name) (rows_file it.planned.own it.rows)
+      → (after.shelf.content name ≡ before.shelf.content name)
+      ⊎ MayLeave (Merged it.planned.plan it.rows) reads (before.shelf.content name) (after.shelf.content name)
   merge_left after (inl same) = inl same
   merge_left after (inr prefix) = inr (subst (IsPrefixOf (after.shelf.content name)) file_is prefix)

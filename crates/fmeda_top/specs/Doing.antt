@@ -1,25 +1,23 @@
 -- Shapes of private steps: what a command does of what its files stand for. Nothing public cites them.
-use Rattle.std.specs.Prelude.{◌≡◌, ◌⊎◌, ℕ, Bool, not, ◌&&◌, ◌==◌, ◌∷◌, [], Some, None, MatchOption, Result, Ok, Err, codes}
+use Rattle.std.specs.Prelude.{◌≡◌, ◌⊎◌, ℕ, Bool, not, ◌&&◌, ◌==◌, ◌∷◌, [], Some, None, option_map, MatchOption, Result, Ok, Err, codes}
 use Rattle.fm_base.specs.Names.{Bytes}
+use Rattle.fm_base.specs.Text.{line}
 use Rattle.fm_shelf.specs.Content.{Content, HasIfKnown}
 use Rattle.fm_shelf.specs.Shelf.{CountRose, ShelfState}
 use Rattle.fm_shelf.specs.Sink.{SinkState, Wrote, WroteOrFailed, WrotePrefix}
 use Rattle.fm_shelf.specs.Outside.{Outside}
-use Rattle.campaign_plan.specs.declared.Settings.{Settings}
 use Rattle.campaign_plan.specs.declared.Outcome.{Outcome}
 use Rattle.campaign_plan.specs.Analysis.{Analysis}
 use Rattle.result_file.specs.declared.KeptRows.{KeptRows}
 use Rattle.result_file.specs.declared.Row.{Row}
 use Rattle.result_file.specs.KeptRows.{kept}
-use Rattle.result_merge.specs.Merged.{merged}
 use Rattle.fmeda_report.specs.Rows.{planes_in}
-use Rattle.pair_list.specs.Chosen.{Chosen, chosen}
+use Rattle.pair_list.specs.Chosen.{Chosen, chosen, pair_refusal}
 use Rattle.campaign_run.specs.declared.run.Text.{Text}
 use Rattle.campaign_run.specs.declared.run.Text.TheVariants.{Report, Summary}
 use Rattle.campaign_run.specs.declared.run.End.{End}
 use Rattle.campaign_run.specs.declared.run.End.TheVariants as end
 use Rattle.campaign_run.specs.Outside.{KeepsOthers, had_written}
-use Rattle.command_line.specs.declared.command.Kind.{Kind}
 use Rattle.command_line.specs.declared.command.Task.{Task}
 use Rattle.command_line.specs.declared.command.Task.TheVariants as task
 use Rattle.command_line.specs.declared.command.Which.{Which}
@@ -29,28 +27,31 @@ use Rattle.refusals.specs.declared.refused.Refused.{Refused}
 use Rattle.refusals.specs.declared.refused.Refused.TheVariants.{By, Looped}
 use Rattle.refusals.specs.declared.status.Status.{Status}
 use Rattle.refusals.specs.declared.status.Status.TheVariants as status
-use Rattle.refusals.specs.declared.status.WriteTo.TheVariants as to
-use Rattle.refusals.specs.RefusalLines.{refused}
 use Rattle.refusals.specs.Refusals.{HasItsNets, IsPlain, IsSaidOf, status_of}
 use Rattle.command_reads.specs.declared.begun.Begun.{Begun as BegunOf}
-use Rattle.command_reads.specs.declared.merged.Merged.{Merged as MergedOf}
 use Rattle.command_reads.specs.declared.judge.Judged.{Judged as Made}
 use Rattle.command_reads.specs.declared.judge.Judged.TheVariants as made
 use Rattle.command_reads.specs.Files.{Reads, WereRead, bytes_of as bytes_read, known_by}
-use Rattle.command_reads.specs.FirstRefusal.{Judged, audit_refusal, pairs_refusal, task_refusal}
+use Rattle.command_reads.specs.FirstRefusal.{Judged, audit_refusal, task_refusal}
 use Rattle.command_reads.specs.Judging.{AreSound, IsOfKind, JudgesAs}
-use Rattle.fmeda_top.specs.Ends.{HasWritten, IsDoneOrFailed, MayLeave, RefusedAs, text_of}
+use Rattle.fmeda_top.specs.Ends.{HasWritten, IsDoneOrFailed, MayLeave, text_of}
 use Rattle.fmeda_top.specs.Promises.{CommandEnds, RanOut}
 
--- the files of a command were read and judged, or there was no memory to read them
-abbrev pub PreparesAs : (before after : ShelfState) → (names : Which → Bytes) → Settings → Kind → Reads → Result Made Refused → Type 0
-PreparesAs before after names set kind reads made = WereRead before after names reads kind × JudgesAs (names which.Netlist) set reads kind made
+-- the files of a command were read and judged
+abbrev pub PreparesAs : Command → (before after : ShelfState) → Reads → Result Made Refused → Type 0
+PreparesAs command before after reads made =
+    WereRead before after command.files reads (kind_of command.task)
+    × JudgesAs (command.files which.Netlist) command.settings reads (kind_of command.task) made
+
+-- the same, or there was no memory to read them
+abbrev pub IsPrepared : Command → (before after : ShelfState) → Result Made Refused → Type 0
+IsPrepared command before after it = (it ≡ Err (By status.Memory)) ⊎ ((reads : Reads) × PreparesAs command before after reads it)
 
 -- the text of a task went out, or a prefix of it where `out` failed; or it was refused, and nothing went out; want of memory is free
 abbrev pub TellsAs : Task → Judged → (before after : SinkState) → Result Status Refused → Type 0
 TellsAs own made before after (Ok ended) =
     (task_refusal own made ≡ None) × ((text : Bytes) × (text_of own made ≡ Some text)
-    × (((ended ≡ status.Done) × Wrote before after text) ⊎ ((ended ≡ status.WriteFault to.Out) × WrotePrefix before after text)))
+    × (((ended ≡ status.Done) × Wrote before after text) ⊎ ((ended ≡ status.OutFault) × WrotePrefix before after text)))
 TellsAs own made before after (Err (By ended)) =
     ((ended ≡ status.Memory) ⊎ (task_refusal own made ≡ Some ended)) × IsPlain ended × (after ≡ before)
 TellsAs own made before after (Err (Looped walk net)) = ⊥
@@ -61,7 +62,7 @@ EndsWith end.Done own made reads name before after = HasWritten own made reads n
 EndsWith end.NoMemory own made reads name before after = after ≡ before
 EndsWith end.ResultFault own made reads name before after =
     CountRose (before.shelf.write_faults name) (after.shelf.write_faults name)
-    × ((after.shelf.content name ≡ before.shelf.content name) ⊎ MayLeave own made reads (before.shelf.content name) (after.shelf.content name))
+    × ((after.shelf.content name ≡ before.shelf.content name) ⊎ MayLeave made reads (before.shelf.content name) (after.shelf.content name))
     × (after.out ≡ before.out)
 EndsWith end.OutFault own made reads name before after =
     (text : Bytes) × HasWritten own made reads name before (had_written before after text) × WrotePrefix before.out after.out text
@@ -74,12 +75,12 @@ pub record HasEnded (how : End) (own : Task) (made : Judged) (reads : Reads) (na
 -- what a command says at the end of its campaign: nothing where it has written its text, or the line of a refusal
 abbrev pub EndSaid : End → Status → (before after : SinkState) → (names : Which → Bytes) → Type 0
 EndSaid end.Done ended before after names = (ended ≡ status.Done) × (after ≡ before)
-EndSaid end.OutFault ended before after names = (ended ≡ status.WriteFault to.Out) × (after ≡ before)
+EndSaid end.OutFault ended before after names = (ended ≡ status.OutFault) × (after ≡ before)
 EndSaid end.NoMemory ended before after names = (ended ≡ status.Memory) × WroteOrFailed before after (codes "refused: out of memory\n")
 EndSaid end.ResultFault ended before after names =
-    (ended ≡ status.WriteFault to.Result) × WroteOrFailed before after (refused (codes "cannot write" ∷ names which.Result ∷ []))
+    (ended ≡ status.ResultFault) × WroteOrFailed before after (line (codes "refused: cannot write" ∷ names which.Result ∷ []))
 
--- the task prints, and waits for nobody
+-- the task prints
 abbrev pub Prints : Task → Type 0
 Prints own = elim own [
   | task.Run _ ↦ ⊥
@@ -87,7 +88,6 @@ Prints own = elim own [
   | task.Gen _ _ ↦ ⊥
   | task.Shard _ _ ↦ ⊥
   | task.Merge ↦ ⊥
-  | task.Pairs _ ↦ ⊥
   | _ ↦ Unit {0}
 ]
 
@@ -101,13 +101,9 @@ IsHeld held reads begun =
     HasIfKnown held (bytes_read (reads which.Result))
     × (kept begun.planned.own begun.planned.plan (bytes_read (reads which.Result)) ≡ Ok begun.kept)
 
--- the rows are those of both files
-abbrev pub AreMerged : MergedOf → Type 0
-AreMerged it = merged it.planned.plan it.both.first.rows it.both.second.rows ≡ Ok it.both.rows
-
 -- what was made is ready to be worked on: its parts fit together, and its rows are kept of what was read; the result file holds this
 abbrev pub IsReady : Content → Reads → Made → Type 0
-IsReady held reads it = AreSound reads it × elim it [ made.Begun begun ↦ IsHeld held reads begun | made.Merged both ↦ AreMerged both | _ ↦ Unit {0} ]
+IsReady held reads it = AreSound reads it × elim it [ made.Begun begun ↦ IsHeld held reads begun | _ ↦ Unit {0} ]
 
 -- the task whose campaign writes this text
 abbrev pub task_of_text : Text → (workers : ℕ) → Task
@@ -137,14 +133,19 @@ ChecksAs p k (Err (Looped walk net)) = ⊥
 
 -- the pairs are those by the rows that were kept, or the refusal says why there are none
 abbrev pub ChoosesAs : Analysis → KeptRows → Result Chosen Status → Type 0
-ChoosesAs p k (Ok c) = (pairs_refusal p k ≡ None) × (c ≡ chosen p (planes_in k.rows))
-ChoosesAs p k (Err ended) = ((ended ≡ status.Memory) ⊎ (pairs_refusal p k ≡ Some ended)) × IsPlain ended
+ChoosesAs p k (Ok c) = (option_map status.Pairs (pair_refusal p k.rows) ≡ None) × (c ≡ chosen p (planes_in k.rows))
+ChoosesAs p k (Err ended) = ((ended ≡ status.Memory) ⊎ (option_map status.Pairs (pair_refusal p k.rows) ≡ Some ended)) × IsPlain ended
+
+-- no file has changed, and the line of a refusal went out, by the nets of the netlist as far as it is known
+pub record HasRefused (names : Which → Bytes) (netlist : Content) (why : Status) (before after : Outside) : Type 0 where
+  pub files : after.shelf.content ≡ before.shelf.content
+  pub said : IsSaidOf netlist before.out after.out names why
 
 -- what a command does behind its checks: what its task refuses, or it is done or a write has failed; or memory ran out
 abbrev pub DoesAs : Command → Judged → Reads → Status → (before after : Outside) → Type 0
 DoesAs command made reads ended before after =
     MatchOption (task_refusal command.task made) (IsDoneOrFailed command made reads ended before after)
-    (λ why. (ended ≡ why) × RefusedAs command.files (known_by (reads which.Netlist)) why before after)
+    (λ why. (ended ≡ why) × HasRefused command.files (known_by (reads which.Netlist)) why before after)
     ⊎ RanOut ended before after
 
 -- what a command has done, or memory ran out

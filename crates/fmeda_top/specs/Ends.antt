@@ -1,17 +1,17 @@
 -- What a command has done when it ends: of what its files stand for, `made`, and of the bytes that were read of them, `reads`.
-use Rattle.std.specs.Prelude.{◌≡◌, ◌⊎◌, ℕ, List, [], ◌∷◌, length, take, Option, Some, None, Ok, MatchOption, codes}
+use Rattle.std.specs.Prelude.{◌≡◌, ◌⊎◌, ℕ, List, [], ◌∷◌, ◌++◌, length, take, flat_map, Option, Some, None, MatchOption, codes}
 use Rattle.fm_base.specs.Names.{Bytes}
+use Rattle.fm_base.specs.Text.{line}
 use Rattle.fm_shelf.specs.Content.{Content, Held, HasIfKnown, IsIfKnown, bytes_of}
 use Rattle.fm_shelf.specs.Shelf.{CountRose}
 use Rattle.fm_shelf.specs.Sink.{Wrote, WroteOrFailed, WrotePrefix}
 use Rattle.fm_shelf.specs.Outside.{Outside}
-use Rattle.circuit.specs.Circuit.{Circuit}
 use Rattle.campaign_plan.specs.Analysis.{Analysis, batch_count}
-use Rattle.campaign_plan.specs.Batches.{Entry, AreTrue, true_planes}
+use Rattle.campaign_plan.specs.Batches.{Entry, true_planes}
 use Rattle.result_file.specs.declared.KeptRows.{KeptRows}
-use Rattle.result_file.specs.ResultText.{result_text}
+use Rattle.result_file.specs.declared.Row.{Row}
+use Rattle.result_file.specs.ResultText.{result_text, row_text}
 use Rattle.result_file.specs.KeptRows.{kept_entries}
-use Rattle.result_merge.specs.Merged.{merged_entries}
 use Rattle.result_merge.specs.Parts.{HasPart}
 use Rattle.fmeda_report.specs.Rows.{planes_in}
 use Rattle.fmeda_report.specs.Report.{report, true_report, summary}
@@ -25,24 +25,20 @@ use Rattle.campaign_run.specs.Reported.{BeginsWith, HasReported, ResumedAs}
 use Rattle.campaign_run.specs.Left.{IsPrefixOf, LeftPrefix}
 use Rattle.command_line.specs.declared.command.Task.{Task}
 use Rattle.command_line.specs.declared.command.Task.TheVariants as task
-use Rattle.command_line.specs.declared.command.Which.{Which}
 use Rattle.command_line.specs.declared.command.Which.TheVariants as which
 use Rattle.command_line.specs.Commands.{Command}
 use Rattle.refusals.specs.declared.status.Status.{Status}
 use Rattle.refusals.specs.declared.status.Status.TheVariants as status
-use Rattle.refusals.specs.declared.status.WriteTo.TheVariants as to
-use Rattle.refusals.specs.NetlistFile.{netlist_in}
-use Rattle.refusals.specs.RefusalLines.{refusal_line, refused}
 use Rattle.class_table.specs.ClassTable.{classes_text}
 use Rattle.refusals.specs.Texts.{check_text, audit_line, shard_line, merge_line}
 use Rattle.command_reads.specs.Files.{Reads, bytes_of as bytes_read}
-use Rattle.command_reads.specs.FirstRefusal.{Judged, Observed, Rated, Planned, Begun, Merged, own_header}
+use Rattle.command_reads.specs.FirstRefusal.{Judged, Rated, Planned, Begun, Merged, own_header}
 
 -- ---- commands that print
 
 -- the text that a task prints; none where it writes a result file
 abbrev pub text_of : Task → Judged → Option Bytes
-text_of task.Classes (Observed p) = Some (classes_text p)
+text_of task.Classes (Planned p) = Some (classes_text p)
 text_of task.Check (Planned p) = Some (check_text p)
 text_of task.Report (Planned p) = Some (true_report p)
 text_of task.Audit (Begun p k) = Some (audit_line (length k.rows) (batch_count p))
@@ -56,7 +52,7 @@ text_of _ _ = None
 abbrev pub PrintsAs : (text : Bytes) → Status → (before after : Outside) → Type 0
 PrintsAs text ended before after =
     (after.shelf.content ≡ before.shelf.content)
-    × (((ended ≡ status.Done) × Wrote before.out after.out text) ⊎ ((ended ≡ status.WriteFault to.Out) × WrotePrefix before.out after.out text))
+    × (((ended ≡ status.Done) × Wrote before.out after.out text) ⊎ ((ended ≡ status.OutFault) × WrotePrefix before.out after.out text))
 
 -- ---- commands that write a result file
 
@@ -72,49 +68,39 @@ HasShard part parts own p name before after =
     (entries : List Entry) × HasPart p (true_planes p) part parts entries
     × HasIfKnown (after.shelf.content name) (result_text own p entries) × Wrote before.out after.out (shard_line part parts (length entries))
 
--- MERGING: the file holds the union of both files' rows, with sums from scratch; and where both have true planes, it is such a file as a
--- campaign leaves that was stopped, so that `resume` reports the campaign
-abbrev pub HasMerged : (own : Bytes) → Analysis → (one two : List Entry) → (name : Bytes) → (before after : Outside) → Type 0
-HasMerged own p one two name before after =
-    let both : List Entry = merged_entries p one two in
-    HasIfKnown (after.shelf.content name) (result_text own p both) × Wrote before.out after.out (merge_line (length both) (batch_count p))
-    × (AreTrue p one → AreTrue p two → LeftPrefix own p (true_planes p) (Held (result_text own p both)))
+-- MERGING: the file holds the rows of both files
+abbrev pub HasMerged : (own : Bytes) → Analysis → List Row → (name : Bytes) → (before after : Outside) → Type 0
+HasMerged own p both name before after =
+    HasIfKnown (after.shelf.content name) (own ++ flat_map row_text both) × Wrote before.out after.out (merge_line (length both) (batch_count p))
 
 -- WHAT A TASK HAS WRITTEN to the result file of this name and to `out`
 abbrev pub HasWritten : Task → Judged → Reads → (name : Bytes) → (before after : Outside) → Type 0
-HasWritten (task.Run workers) (Planned p) reads name before after =
-    HasReported (own_header reads p) (true_report p) p (true_planes p) name before after
-HasWritten (task.Gen stages workers) (Planned p) reads name before after =
-    HasReported (own_header reads p) (summary stages p (true_planes p)) p (true_planes p) name before after
-HasWritten (task.Resume workers) (Begun p k) reads name before after =
-    Resumed (own_header reads p) p k (bytes_read (reads which.Result)) name before after
-HasWritten (task.Shard part parts) (Planned p) reads name before after = HasShard part parts (own_header reads p) p name before after
-HasWritten task.Merge (Merged p first second both) reads name before after =
-    HasMerged (own_header reads p) p (kept_entries first) (kept_entries second) name before after
-HasWritten _ _ reads name before after = ⊥
+HasWritten (task.Run workers) (Planned p) reads = HasReported (own_header reads p) (true_report p) p (true_planes p)
+HasWritten (task.Gen stages workers) (Planned p) reads = HasReported (own_header reads p) (summary stages p (true_planes p)) p (true_planes p)
+HasWritten (task.Resume workers) (Begun p k) reads = Resumed (own_header reads p) p k (bytes_read (reads which.Result))
+HasWritten (task.Shard part parts) (Planned p) reads = HasShard part parts (own_header reads p) p
+HasWritten task.Merge (Merged p both) reads = HasMerged (own_header reads p) p both
+HasWritten _ _ reads = λ name before after. ⊥
 
--- what a task may leave of its result file when it can't write it: a byte prefix of one of the plan; of a campaign that was resumed, it
--- begins with the bytes that were kept; of `merge`, a byte prefix of the file that Done would leave
-abbrev pub MayLeave : Task → Judged → Reads → (before after : Content) → Type 0
-MayLeave (task.Run workers) (Planned p) reads before after = LeftPrefix (own_header reads p) p (true_planes p) after
-MayLeave (task.Gen stages workers) (Planned p) reads before after = LeftPrefix (own_header reads p) p (true_planes p) after
-MayLeave (task.Resume workers) (Begun p k) reads before after =
+-- what may be left of a result file that can't be written: a byte prefix of one of the plan; of a campaign that was resumed, it begins with
+-- the bytes that were kept; of `merge`, a byte prefix of the file that Done would leave
+abbrev pub MayLeave : Judged → Reads → (before after : Content) → Type 0
+MayLeave (Planned p) reads before after = LeftPrefix (own_header reads p) p (true_planes p) after
+MayLeave (Begun p k) reads before after =
     LeftPrefix (own_header reads p) p (checkpointed_or_true p k) after × IsIfKnown after (λ bytes. BeginsWith bytes (take k.whole (bytes_of before)))
-MayLeave (task.Shard part parts) (Planned p) reads before after = LeftPrefix (own_header reads p) p (true_planes p) after
-MayLeave task.Merge (Merged p first second both) reads before after =
-    IsPrefixOf after (result_text (own_header reads p) p (merged_entries p (kept_entries first) (kept_entries second)))
-MayLeave _ _ reads before after = ⊥
+MayLeave (Merged p both) reads before after = IsPrefixOf after (own_header reads p ++ flat_map row_text both)
+MayLeave (Rated c table) reads before after = ⊥
 
 -- a command that writes the result file of this name: files of other names are as before. All was written; or `out` failed, and all is as
 -- then but for a part of a text; or a write to the file failed: it is as before, or so, and the line of this fault went out
 pub data WritesAs (own : Task) (made : Judged) (reads : Reads) (name : Bytes) (before after : Outside) : Status → Type 0 where
   All : HasWritten own made reads name before after → WritesAs own made reads name before after status.Done
   OutFailed : (text : Bytes) → WrotePrefix before.out after.out text → HasWritten own made reads name before (had_written before after text)
-      → WritesAs own made reads name before after (status.WriteFault to.Out)
+      → WritesAs own made reads name before after status.OutFault
   ResultFailed : CountRose (before.shelf.write_faults name) (after.shelf.write_faults name)
-      → (after.shelf.content name ≡ before.shelf.content name) ⊎ MayLeave own made reads (before.shelf.content name) (after.shelf.content name)
-      → WroteOrFailed before.out after.out (refused (codes "cannot write" ∷ name ∷ []))
-      → WritesAs own made reads name before after (status.WriteFault to.Result)
+      → (after.shelf.content name ≡ before.shelf.content name) ⊎ MayLeave made reads (before.shelf.content name) (after.shelf.content name)
+      → WroteOrFailed before.out after.out (line (codes "refused: cannot write" ∷ name ∷ []))
+      → WritesAs own made reads name before after status.ResultFault
 
 -- ---- how a command ends
 
@@ -126,10 +112,6 @@ IsDoneOrFailed command made reads ended before after =
     (KeepsOthers before.shelf after.shelf name × WritesAs command.task made reads name before after ended)
     (λ text. PrintsAs text ended before after)
 
--- AFTER A REFUSAL: no file has changed, and the refusal's line was written, or a prefix of it where `out` failed. A line that names nets has
--- those of the netlist, as far as it is known
-pub record RefusedAs (names : Which → Bytes) (netlist : Content) (ended : Status) (before after : Outside) : Type 0 where
-  pub files : after.shelf.content ≡ before.shelf.content
-  pub c : Circuit
-  pub circuit : (bytes : Bytes) → netlist ≡ Held bytes → (d : Circuit) → netlist_in (names which.Netlist) bytes ≡ Ok d → c ≡ d
-  pub line : WroteOrFailed before.out after.out (refusal_line names c ended)
+-- AFTER A REFUSAL: no file has changed, and its line was written, or a prefix of it where `out` failed
+abbrev pub RefusedAs : (line : Bytes) → (before after : Outside) → Type 0
+RefusedAs line before after = (after.shelf.content ≡ before.shelf.content) × WroteOrFailed before.out after.out line

@@ -1,5 +1,5 @@
 -- Laws under the promises of a call.
-use Rattle.std.specs.Prelude.{◌≡◌, ◌⊎◌, ◌↔◌, List, Option, None, Ok}
+use Rattle.std.specs.Prelude.{◌≡◌, ◌⊎◌, ◌↔◌, ◌++◌, List, flat_map, Option, None, Ok}
 use Rattle.std.specs.List.{AllByRecursion as ForEach}
 use Rattle.fm_base.specs.Names.{Bytes}
 use Rattle.fm_shelf.specs.Content.{Held}
@@ -11,9 +11,14 @@ use Rattle.circuit.specs.Loop.{HasNoLoop}
 use Rattle.campaign_plan.specs.Analysis.{Analysis}
 use Rattle.campaign_plan.specs.Batches.{AreDistinct, AreTrue, true_planes}
 use Rattle.result_file.specs.declared.KeptRows.{KeptRows}
+use Rattle.result_file.specs.declared.Row.{Row}
+use Rattle.result_file.specs.ResultText.{row_text}
 use Rattle.result_file.specs.KeptRows.{kept_entries}
 use Rattle.fmeda_report.specs.Rows.{planes_in}
+use Rattle.pair_list.specs.Chosen.{pair_refusal}
 use Rattle.pair_campaign.specs.PairText.{pairs_text}
+use Rattle.campaign_run.specs.Left.{LeftPrefix}
+use Rattle.result_merge.specs.Merged.{merged}
 use Rattle.command_line.specs.declared.command.Kind.{Kind}
 use Rattle.command_line.specs.declared.command.Which.{Which}
 use Rattle.command_line.specs.declared.command.Which.TheVariants as which
@@ -23,16 +28,15 @@ use Rattle.refusals.specs.declared.status.Status.{Status}
 use Rattle.refusals.specs.declared.status.Status.TheVariants as status
 use Rattle.command_reads.specs.declared.files.FileRead.TheVariants.{Failed}
 use Rattle.command_reads.specs.Files.{Reads, WereRead, given}
-use Rattle.command_reads.specs.FirstRefusal.{IsLoopAnswer, Judged, Observed, Rated, Planned, Begun, Merged, judged, pairs_refusal}
+use Rattle.command_reads.specs.FirstRefusal.{IsLoopAnswer, Judged, Rated, Planned, Begun, Merged, judged}
 use Rattle.fmeda_top.specs.Promises.{CommandEnds, Promises, RanOut}
 
 -- the circuit that is worked on
 abbrev pub circuit_in : Judged → Circuit
-circuit_in (Observed p) = p.circuit
 circuit_in (Planned p) = p.circuit
 circuit_in (Rated c table) = c
 circuit_in (Begun p k) = p.circuit
-circuit_in (Merged p first second both) = p.circuit
+circuit_in (Merged p both) = p.circuit
 
 -- OF THE COMMAND: who knows which command the words are has what is promised of it, or memory has run out
 abbrev pub AreOfTheCommand : Type 0
@@ -62,11 +66,18 @@ ReadFaultsRose =
 -- OF LOOPS: what wasn't refused has a netlist without a loop
 abbrev pub HaveNoLoop : Type 0
 HaveNoLoop =
-    (command : Command) (walk : Option (List NetId)) (reads : Reads) (made : Judged)
-    → IsLoopAnswer (command.files which.Netlist) reads walk → judged walk command reads ≡ Ok made → HasNoLoop (circuit_in made)
+    (command : Command) (c : Circuit) (walk : Option (List NetId)) (reads : Reads) (made : Judged)
+    → IsLoopAnswer (command.files which.Netlist) reads c walk → judged walk command reads ≡ Ok made → HasNoLoop (circuit_in made)
 
 -- OF PAIRS: where the rows that are kept have true planes, their pairs are those of the true planes
 abbrev pub PairsAreTrue : Type 0
 PairsAreTrue =
-    (p : Analysis) (k : KeptRows) → AreDistinct p (kept_entries k) → pairs_refusal p k ≡ None → AreTrue p (kept_entries k)
+    (p : Analysis) (k : KeptRows) → AreDistinct p (kept_entries k) → pair_refusal p k.rows ≡ None → AreTrue p (kept_entries k)
     → pairs_text p (planes_in k.rows) ≡ pairs_text p (true_planes p)
+
+-- OF MERGING: where both files have true planes, the merged one is such a file as a campaign leaves that was stopped, so that `resume` reports
+-- the campaign
+abbrev pub MergedAreStopped : Type 0
+MergedAreStopped =
+    (own : Bytes) (p : Analysis) (first second : KeptRows) (both : List Row) → merged p first.rows second.rows ≡ Ok both
+    → AreTrue p (kept_entries first) → AreTrue p (kept_entries second) → LeftPrefix own p (true_planes p) (Held (own ++ flat_map row_text both))

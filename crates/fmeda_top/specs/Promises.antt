@@ -1,15 +1,16 @@
 -- WHAT IS PROMISED OF A CALL OF THE PROGRAM, of the command that its words are. Counts of faults are compared with the call's own entry.
-use Rattle.std.specs.Prelude.{◌≡◌, ◌⊎◌, List, Option, MatchResult}
+use Rattle.std.specs.Prelude.{◌≡◌, ◌⊎◌, List, Option, MatchResult, codes}
 use Rattle.fm_base.specs.Names.{Bytes}
-use Rattle.fm_shelf.specs.Content.{Unknown}
 use Rattle.fm_shelf.specs.Outside.{Outside}
 use Rattle.circuit.specs.declared.parts.NetId.{NetId}
+use Rattle.circuit.specs.Circuit.{Circuit}
 use Rattle.command_line.specs.declared.command.Which.TheVariants as which
-use Rattle.command_line.specs.Commands.{Command, kind_of, no_names}
+use Rattle.command_line.specs.Commands.{Command, kind_of}
 use Rattle.command_line.specs.Words.{IsAlone, IsCommand, IsNoCommand}
 use Rattle.refusals.specs.declared.status.Status.{Status}
 use Rattle.refusals.specs.declared.status.Status.TheVariants as status
-use Rattle.command_reads.specs.Files.{Reads, WereRead, known_by}
+use Rattle.refusals.specs.RefusalLines.{refusal_line}
+use Rattle.command_reads.specs.Files.{Reads, WereRead}
 use Rattle.command_reads.specs.FirstRefusal.{IsLoopAnswer, judged}
 use Rattle.fmeda_top.specs.Ends.{IsDoneOrFailed, RefusedAs}
 
@@ -18,19 +19,19 @@ use Rattle.fmeda_top.specs.Ends.{IsDoneOrFailed, RefusedAs}
 abbrev pub CommandEnds : Command → Status → (before after : Outside) → Type 0
 CommandEnds command ended before after =
     (reads : Reads) × WereRead before.shelf after.shelf command.files reads (kind_of command.task)
-    × ((walk : Option (List NetId)) × IsLoopAnswer (command.files which.Netlist) reads walk
+    × ((c : Circuit) × (walk : Option (List NetId)) × IsLoopAnswer (command.files which.Netlist) reads c walk
     × MatchResult (judged walk command reads)
     (λ made. IsDoneOrFailed command made reads ended before after)
-    (λ why. (ended ≡ why) × RefusedAs command.files (known_by (reads which.Netlist)) why before after))
+    (λ why. (ended ≡ why) × RefusedAs (refusal_line command.files c why) before after))
 
 -- MEMORY may run out at any time before a file is changed; no file has changed then, and the line of this was written
 abbrev pub RanOut : Status → (before after : Outside) → Type 0
-RanOut ended before after = (ended ≡ status.Memory) × RefusedAs no_names Unknown ended before after
+RanOut ended before after = (ended ≡ status.Memory) × RefusedAs (codes "refused: out of memory\n") before after
 
 -- WHAT IS PROMISED OF A CALL: its words are a command, and no other, and this is promised of it; or they are none, which is Usage; or memory
 -- ran out
 abbrev pub Promises : (words : List Bytes) → (ended : Status) → (before after : Outside) → Type 0
 Promises words ended before after =
     ((command : Command) × IsCommand words command × IsAlone words command × CommandEnds command ended before after)
-    ⊎ ((IsNoCommand words × (ended ≡ status.Usage) × RefusedAs no_names Unknown ended before after)
+    ⊎ ((IsNoCommand words × (ended ≡ status.Usage) × RefusedAs (codes "refused: usage\n") before after)
     ⊎ RanOut ended before after)

@@ -4,13 +4,12 @@ use Rattle.command_line.specs.declared.command.Task.TheVariants as task
 use Rattle.refusals.specs.declared.status.Status.{Status}
 use Rattle.refusals.specs.declared.status.Status.TheVariants as status
 
--- a task that uses no thread beside its own, and waits for nobody
+-- a task that waits for nobody, but for threads of its own that it joins
 abbrev pub WaitsForNobody : Task → Type 0
 WaitsForNobody (task.Run workers) = ⊥
 WaitsForNobody (task.Resume workers) = ⊥
 WaitsForNobody (task.Gen stages workers) = ⊥
 WaitsForNobody (task.Shard part parts) = ⊥
-WaitsForNobody (task.Pairs workers) = ⊥
 WaitsForNobody _ = Unit {0}
 
 -- a refusal of the words themselves

@@ -1,11 +1,13 @@
 // Laws of the promises, for those who read them.
-ghost use Rattle.fmeda_top.specs.Laws.{AreOfTheCommand, HaveNoLoop, HeldIsRead, PairsAreTrue, ReadFaultsRose, UsageIsOfTheWords};
+ghost use Rattle.fmeda_top.specs.Laws.{AreOfTheCommand, HaveNoLoop, HeldIsRead, MergedAreStopped, PairsAreTrue, ReadFaultsRose, UsageIsOfTheWords};
 
 use pair_campaign::pairs_are_told;
+use result_merge::merges_are_lawful;
 
 /// What is promised of a call is promised of the command that its words are, and Usage is the answer exactly where they are none;
 /// but where memory has run out. Where a shelf is known to hold bytes of all inputs, these are what was read. A file can't be read only
-/// where a read of it has failed, what wasn't refused has no loop, and pairs by true rows are true. It computes nothing.
+/// where a read of it has failed, what wasn't refused has no loop, pairs by true rows are true, and true rows that are merged are those of a
+/// stopped campaign. It computes nothing.
 pub fn promises_are_of_the_command()
     ensures command { AreOfTheCommand }
     ensures usage { UsageIsOfTheWords }
@@ -13,6 +15,8 @@ pub fn promises_are_of_the_command()
     ensures faults { ReadFaultsRose }
     ensures loops { HaveNoLoop }
     ensures pairs { PairsAreTrue }
+    ensures merged { MergedAreStopped }
 {
     pairs_are_told();
+    merges_are_lawful();
 }

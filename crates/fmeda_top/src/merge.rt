@@ -5,7 +5,7 @@ ghost use Rattle.command_line.specs.declared.command.Task.TheVariants as task;
 ghost use Rattle.command_reads.specs.Answers.{IsSound};
 ghost use Rattle.command_reads.specs.Files.{Reads};
 ghost use Rattle.command_reads.specs.FirstRefusal.{Merged as StandsMerged};
-ghost use Rattle.fmeda_top.specs.Doing.{AreMerged, HasEnded};
+ghost use Rattle.fmeda_top.specs.Doing.{HasEnded};
 ghost use Rattle.fmeda_top.specs.Written.{IsWrittenAnew, rows_file};
 
 use campaign_run::End;
@@ -15,7 +15,6 @@ use fm_shelf::shelf::{Failed, Shelf, Sink};
 use fm_shelf::whole::append_all;
 use refusals::share_text::write_merge;
 use result_file::{Row, row_line};
-use result_merge::merges_are_lawful;
 use std::alloc::{AllocError, Global};
 
 // The bytes of a result file with this header and these rows.
@@ -46,12 +45,11 @@ pub(crate) fn merge<F: Shelf, O: Sink>(
     shelf: &mut F,
     out: &mut O,
 ) -> End
-    ensures { (reads : Reads) → IsSound reads merged.now.planned → AreMerged merged.now
-        → HasEnded result task.Merge (StandsMerged merged.now.planned.plan merged.now.both.first merged.now.both.second merged.now.both.rows) reads name.now
+    ensures { (reads : Reads) → IsSound reads merged.now.planned
+        → HasEnded result task.Merge (StandsMerged merged.now.planned.plan merged.now.rows) reads name.now
         (outside (F.seen shelf.old) (O.seen out.old)) (outside (F.seen shelf.new) (O.seen out.new)) }
 {
-    merges_are_lawful();
-    let (plan, rows) = (&merged.planned.plan, merged.both.rows.as_slice());
+    let (plan, rows) = (&merged.planned.plan, merged.rows.as_slice());
     let Ok(file) = file_with(alloc, &merged.planned.own, rows) else {
         return End::NoMemory;
     };

@@ -12,12 +12,11 @@ use command_reads::begun::Begun;
 use fm_base::Refusal;
 use fm_shelf::shelf::Sink;
 use pair_campaign::{PairCrew, judge, pairs_are_told, write_pairs};
-use pair_list::{PairRefusal, Pairs};
+use pair_list::Pairs;
 use refusals::refused::Refused;
-use refusals::status::{Status, What, after_text};
+use refusals::status::{Status, after_text};
 use result_file::KeptRows;
 use std::alloc::Global;
-use std::sync::Wait;
 use std::thread::Threads;
 
 // The pairs of a plan by the rows that are kept, or why there are none.
@@ -27,16 +26,13 @@ fn pairs_from(alloc: Global, plan: &Plan, kept: &KeptRows) -> Result<Pairs, Stat
 {
     match Pairs::new(alloc, plan, kept.rows.as_slice()) {
         Ok(pairs) => Ok(pairs),
-        Err(Refusal::Fault(PairRefusal::Incomplete { have, batches })) => {
-            Err(Status::Incomplete { have, batches })
-        }
-        Err(Refusal::Fault(PairRefusal::TooMany)) => Err(Status::TooLarge(What::Pairs)),
+        Err(Refusal::Fault(refusal)) => Err(Status::Pairs(refusal)),
         Err(Refusal::Memory) => Err(Status::Memory),
     }
 }
 
 /// Judges the pairs of what is kept, and writes their text, or says why there are none.
-pub(crate) fn tell_pairs<R: Threads + Wait + Sync, O: Sink>(
+pub(crate) fn tell_pairs<R: Threads + Sync, O: Sink>(
     rt: &R,
     alloc: Global,
     begun: &Begun,

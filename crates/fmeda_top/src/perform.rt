@@ -28,7 +28,7 @@ use command_reads::judge::Judged;
 use fm_shelf::shelf::{Shelf, Sink};
 use refusals::refuse::{refuse, say_refused};
 use refusals::refused::Refused;
-use refusals::status::{Status, WriteTo};
+use refusals::status::Status;
 use std::alloc::Global;
 use std::sync::Wait;
 use std::thread::Threads;
@@ -40,11 +40,11 @@ fn say_end<O: Sink>(out: &mut O, names: &FileNames<'_>, end: End) -> Status
 {
     match end {
         End::Done => Status::Done,
-        End::OutFault => Status::WriteFault(WriteTo::Out),
+        End::OutFault => Status::OutFault,
         End::NoMemory => say_refused(out, names, Refused::By(Status::Memory)),
         End::ResultFault => {
-            refuse(out, names, &[], &Status::WriteFault(WriteTo::Result));
-            Status::WriteFault(WriteTo::Result)
+            refuse(out, names, &[], &Status::ResultFault);
+            Status::ResultFault
         }
     }
 }
@@ -60,13 +60,15 @@ fn ended<F: Shelf + Drop, O: Sink>(ran: Ran<F>, names: &FileNames<'_>, out: &mut
     }
 }
 
-// Writes the text of a task that prints and waits for nobody, or refuses.
-fn print<O: Sink>(
+// Writes the text of a task that prints, or refuses.
+fn print<R: Threads + Sync, O: Sink>(
+    rt: &R,
     alloc: Global,
     task: Task,
     judged: &Judged,
     out: &mut O,
 ) -> Result<Status, Refused>
+    requires fit { HasFitNumbers task }
     requires prints { Prints task }
     requires judged { IsJudged task judged.now }
     ensures { TellsAs task (made_by judged.now) (O.seen out.old) (O.seen out.new) result }
@@ -76,6 +78,7 @@ fn print<O: Sink>(
         Task::Check => tell_check(judged.planned(), out),
         Task::Audit => tell_audit(alloc, judged.begun(), out),
         Task::Report => tell_report(alloc, judged.planned(), out),
+        Task::Pairs { workers } => tell_pairs(rt, alloc, judged.begun(), out, workers),
         Task::Parts => tell_parts(alloc, judged.rated(), out),
         Task::Faults => tell_faults(alloc, judged.begun(), out),
         Task::Progress => tell_progress(alloc, judged.begun(), out),
@@ -83,8 +86,7 @@ fn print<O: Sink>(
         | Task::Resume { .. }
         | Task::Gen { .. }
         | Task::Shard { .. }
-        | Task::Merge
-        | Task::Pairs { .. } => unreachable!(),
+        | Task::Merge => unreachable!(),
     }
 }
 
@@ -99,7 +101,8 @@ fn printed<O: Sink>(names: &FileNames<'_>, told: Result<Status, Refused>, out: &
 }
 
 // Does what a task asks that waits for nobody, over what its files stand for.
-fn do_alone<F: Shelf, O: Sink>(
+fn do_alone<R: Threads + Sync, F: Shelf, O: Sink>(
+    rt: &R,
     alloc: Global,
     names: &FileNames<'_>,
     task: Task,
@@ -107,6 +110,7 @@ fn do_alone<F: Shelf, O: Sink>(
     shelf: &mut F,
     out: &mut O,
 ) -> Status
+    requires fit { HasFitNumbers task }
     requires alone { WaitsForNobody task }
     requires judged { IsJudged task judged.now }
     ensures { (held : Content) (reads : Reads) (set : Settings) → IsReady held reads judged.now
@@ -117,7 +121,7 @@ fn do_alone<F: Shelf, O: Sink>(
         let end = merge(alloc, judged.merged(), names.result, shelf, out);
         say_end(out, names, end)
     } else {
-        let told = print(alloc, task, judged, out);
+        let told = print(rt, alloc, task, judged, out);
         printed(names, told, out)
     }
 }
@@ -172,16 +176,9 @@ fn do_task<R: Threads + Wait + Sync, F: Shelf + Send + Drop, O: Sink, G: Gate + 
             let ran = run_share(rt, alloc, judged.planned(), name, part, shelf, out);
             ended(ran, names, out)
         }
-        Task::Pairs { workers } => {
-            let told = tell_pairs(rt, alloc, judged.begun(), out, workers);
-            Ended {
-                status: printed(names, told, out),
-                shelf,
-            }
-        }
         alone => {
             let mut shelf = shelf;
-            let status = do_alone(alloc, names, alone, &judged, &mut shelf, out);
+            let status = do_alone(rt, alloc, names, alone, &judged, &mut shelf, out);
             Ended { status, shelf }
         }
     }
@@ -206,7 +203,7 @@ pub(crate) fn perform<R: Threads + Wait + Sync, F: Shelf + Send + Drop, O: Sink,
         task,
     } = asked;
     let mut shelf = shelf;
-    match prepared(alloc, &mut shelf, &names, settings, task.kind()) {
+    match prepared(alloc, &mut shelf, &names, settings, task) {
         Ok(judged) => do_task(rt, alloc, &names, task, judged, shelf, out, gate),
         Err(refused) => Ended {
             status: say_refused(out, &names, refused),
@@ -215,8 +212,9 @@ pub(crate) fn perform<R: Threads + Wait + Sync, F: Shelf + Send + Drop, O: Sink,
     }
 }
 
-/// Does what a command asks that waits for nobody, and so returns: it has no runtime to wait on.
-pub fn perform_alone<F: Shelf, O: Sink>(
+/// Does what a command asks that waits for nobody, and so returns: its runtime can start threads and join them, and no more.
+pub fn perform_alone<R: Threads + Sync, F: Shelf, O: Sink>(
+    rt: &R,
     alloc: Global,
     asked: Asked<'_>,
     shelf: &mut F,
@@ -232,9 +230,9 @@ pub fn perform_alone<F: Shelf, O: Sink>(
         settings,
         task,
     } = asked;
-    match prepared(alloc, shelf, &names, settings, task.kind()) {
+    match prepared(alloc, shelf, &names, settings, task) {
         Ok(judged) => {
-            let status = do_alone(alloc, &names, task, &judged, shelf, out);
+            let status = do_alone(rt, alloc, &names, task, &judged, shelf, out);
             drop(judged);
             status
         }

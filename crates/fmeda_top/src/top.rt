@@ -30,9 +30,9 @@ pub fn refuse_words<O: Sink>(out: &mut O, status: Status) -> Status
 
 /// Does what the words ask for; the first of them is the program's name. What is promised of the content of a file is of one whose
 /// content the shelf tells, and what is promised of what was written is of a sink that tells it. A fault of the outside is the answer
-/// only where its count rose in this call. In `run`, `resume`, `gen`, `shard` and `pairs` it waits: for the workers of a campaign, each
-/// of which tells the gate after each draw, for the one seat of a part, or for those that judge pairs. The other commands wait for
-/// nobody: they can be had by `perform_alone`.
+/// only where its count rose in this call. In `run`, `resume`, `gen` and `shard` it waits: for the workers of a campaign, each of which
+/// tells the gate after each draw, or for the one seat of a part. The other commands wait for nobody, but that `pairs` joins its threads:
+/// they can be had by `perform_alone`.
 pub fn fmeda<R: Threads + Wait + Sync, F: Shelf + Send + Drop, O: Sink, G: Gate + Sync>(
     rt: &R,
     alloc: Global,

@@ -13,7 +13,6 @@ use campaign_plan::Plan;
 use classifier::Testbench;
 use fm_base::Seq;
 use pair_list::Pairs;
-use std::sync::Wait;
 use std::thread;
 use std::thread::Threads;
 
@@ -76,9 +75,9 @@ fn judge_all<R: Threads + Sync>(
     put_together(workers, planes);
 }
 
-/// Judges each pair with both of its faults at once, in a thread for each worker, and waits for them. Worker w of W takes each
+/// Judges each pair with both of its faults at once, in a thread for each worker, and joins them. Worker w of W takes each
 /// plane q with q mod W = w, in its own state. It takes no memory.
-pub fn judge<R: Threads + Wait + Sync>(
+pub fn judge<R: Threads + Sync>(
     rt: &R,
     plan: &Plan,
     pairs: &Pairs,

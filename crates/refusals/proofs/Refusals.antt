@@ -47,25 +47,8 @@ some_circuit netlist (Held held) = by_netlist (netlist_in netlist held) refl
 -- the line of a plain refusal is the same for every circuit
 plain_line : (file : Which → Bytes) (c d : Circuit) (ended : Status) → IsPlain ended → refusal_line file c ended ≡ refusal_line file d ended
 unfolding refusal_line
-plain_line file c d status.Done plain = refl
-plain_line file c d status.Usage plain = refl
-plain_line file c d (status.Netlist fault) plain = refl
-plain_line file c d (status.Bench fault) plain = refl
 plain_line file c d (status.Loop walk) plain = absurd plain
-plain_line file c d (status.Rates fault) plain = refl
-plain_line file c d (status.MissingRate net name) plain = refl
-plain_line file c d (status.IdleRate part permanent) plain = refl
-plain_line file c d (status.Points fault) plain = refl
-plain_line file c d (status.Workload fault) plain = refl
-plain_line file c d (status.TooLarge large) plain = refl
-plain_line file c d (status.Foreign found own) plain = refl
-plain_line file c d (status.BadRow number why) plain = refl
-plain_line file c d (status.Disagrees batch kept computed) plain = refl
-plain_line file c d (status.Differs batch first second) plain = refl
-plain_line file c d (status.Incomplete have batches) plain = refl
-plain_line file c d (status.ReadFault own) plain = refl
-plain_line file c d (status.WriteFault place) plain = refl
-plain_line file c d status.Memory plain = refl
+plain_line file c d _ plain = refl
 
 -- the line of a plain refusal, whatever the circuit
 pub said_plain : (held : Content) (before after : SinkState) (file : Which → Bytes) (ended : Status) → IsPlain ended

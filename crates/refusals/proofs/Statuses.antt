@@ -1,10 +1,14 @@
 -- The line of a status, from that of the case that it is.
-use Rattle.std.proofs.Common.{◌≡◌, sym, subst, List, [], arith, inl}
+use Rattle.std.proofs.Common.{◌≡◌, refl, sym, subst, ℕ, List, [], arith, inl}
 use Rattle.circuit.specs.Circuit.{Circuit}
 use Rattle.fm_base.specs.Names.{Bytes}
 use Rattle.refusals.specs.Said.{IsSaid}
 use Rattle.refusals.specs.RefusalLines.{refused, refusal_line}
 use Rattle.refusals.specs.declared.status.Status.{Status}
+use Rattle.refusals.specs.declared.status.Status.TheVariants as status
+use Rattle.campaign_plan.specs.declared.Outcome.{Outcome}
+use Rattle.result_merge.specs.declared.merge.MergeRefusal.{MergeRefusal}
+use Rattle.result_merge.specs.declared.merge.MergeRefusal.TheVariants.{Differs}
 use Rattle.command_line.specs.declared.command.Which.{Which}
 use Rattle.fmeda_report.proofs.Sending.{written_none}
 use Rattle.fm_shelf.specs.Sink.{SinkState}
@@ -22,3 +26,9 @@ words_said before after words said e is = subst (λ ws. IsSaid before after (ref
 -- a status without a line
 pub nothing_said : (out : SinkState) → IsSaid out out []
 nothing_said out = (inl (written_none out.written), omega arith)
+
+-- the line of rows that aren't merged, by what stands in the refusal
+pub merge_said : (before after : SinkState) (file : Which → Bytes) (c : Circuit) (cause : MergeRefusal)
+    → ((n : ℕ) (one two : Outcome) → cause ≡ Differs n one two → IsSaid before after (refusal_line file c (status.Merge (Differs n one two))))
+    → IsSaid before after (refusal_line file c (status.Merge cause))
+merge_said before after file c (Differs n one two) said = said n one two refl

@@ -14,16 +14,18 @@ use Rattle.rate_table.specs.declared.RatesKind.TheVariants as rates
 use Rattle.alarm_points.specs.declared.PointsKind.{PointsKind}
 use Rattle.alarm_points.specs.declared.PointsKind.TheVariants as points
 use Rattle.campaign_plan.specs.declared.Outcome.{Outcome}
+use Rattle.campaign_plan.specs.declared.PlanRefusal.TheVariants as plan
+use Rattle.result_file.specs.declared.ResultRefusal.TheVariants.{Foreign, BadRow}
 use Rattle.result_file.specs.declared.RowFault.{RowFault}
 use Rattle.result_file.specs.declared.RowFault.TheVariants.{Form, Range, Repeated, UnusedLane, Sums}
 use Rattle.result_file.specs.ResultText.{sums_words}
+use Rattle.result_merge.specs.declared.merge.MergeRefusal.TheVariants.{Differs}
+use Rattle.pair_list.specs.declared.pairs.PairRefusal.TheVariants.{Incomplete, TooMany}
 use Rattle.fm_base.specs.Text.{line, hex}
 use Rattle.refusals.specs.declared.status.Status.{Status}
 use Rattle.refusals.specs.declared.status.Status.TheVariants as status
 use Rattle.command_line.specs.declared.command.Which.{Which}
 use Rattle.command_line.specs.declared.command.Which.TheVariants as which
-use Rattle.refusals.specs.declared.status.What.TheVariants as what
-use Rattle.refusals.specs.declared.status.WriteTo.TheVariants as to
 use Rattle.std.specs.Str.{byte}
 use Rattle.fm_base.specs.Names.{Bytes}
 
@@ -111,20 +113,21 @@ refusal_line file c ended =
       | status.Rates fault ↦ line (codes "refused: rates row" ∷ decimal fault.row ∷ rates_kind fault.kind ∷ [])
       | status.Points fault ↦ line (codes "refused: points row" ∷ decimal fault.row ∷ points_kind fault.kind ∷ [])
       | status.Workload fault ↦ line (codes "refused: workload row" ∷ decimal fault.row ∷ workload_kind fault.kind ∷ [])
-      | status.MissingRate net name ↦ line (codes "refused: no rate for net" ∷ name ∷ [])
-      | status.IdleRate part permanent ↦ line (codes "refused: part" ∷ part
+      | status.Plan (plan.MissingRate net name) ↦ line (codes "refused: no rate for net" ∷ name ∷ [])
+      | status.Plan (plan.IdleRate part permanent) ↦ line (codes "refused: part" ∷ part
           ∷ codes "has a" ∷ (if permanent then codes "permanent" else codes "transient") ∷ codes "rate and no such fault" ∷ [])
-      | status.TooLarge (what.File which) ↦ line (codes "refused:" ∷ file which ∷ codes "is longer than 67108864 bytes" ∷ [])
-      | status.TooLarge what.Faults ↦ codes "refused: more than 1048576 faults\n"
-      | status.TooLarge what.Outputs ↦ codes "refused: more than 1024 outputs\n"
-      | status.TooLarge what.Pairs ↦ codes "refused: more than 1048576 pairs\n"
-      | status.Foreign it own ↦ line (codes "refused: foreign result file, found" ∷ (head it ++ codes ",") ∷ codes "own" ∷ take 88 own ∷ [])
-      | status.BadRow number why ↦ line (codes "refused: result row" ∷ decimal number ∷ row_why why)
+      | status.Plan plan.TooManyFaults ↦ codes "refused: more than 1048576 faults\n"
+      | status.Plan plan.Memory ↦ codes "refused: out of memory\n"
+      | status.ManyOutputs ↦ codes "refused: more than 1024 outputs\n"
+      | status.TooLong which ↦ line (codes "refused:" ∷ file which ∷ codes "is longer than 67108864 bytes" ∷ [])
+      | status.Result (Foreign it own) ↦ line (codes "refused: foreign result file, found" ∷ (head it ++ codes ",") ∷ codes "own" ∷ take 88 own ∷ [])
+      | status.Result (BadRow number why) ↦ line (codes "refused: result row" ∷ decimal number ∷ row_why why)
       | status.Disagrees n kept own ↦ line (codes "refused: batch" ∷ decimal n ∷ both (codes "kept") kept ++ both (codes "computed") own)
-      | status.Differs n one two ↦ line (codes "refused: batch" ∷ decimal n ∷ both (codes "first") one ++ both (codes "second") two)
-      | status.Incomplete n all ↦ line (codes "refused: result file has" ∷ decimal n ∷ codes "of" ∷ decimal all ∷ codes "batches" ∷ [])
+      | status.Merge (Differs n one two) ↦ line (codes "refused: batch" ∷ decimal n ∷ both (codes "first") one ++ both (codes "second") two)
+      | status.Pairs (Incomplete n all) ↦ line (codes "refused: result file has" ∷ decimal n ∷ codes "of" ∷ decimal all ∷ codes "batches" ∷ [])
+      | status.Pairs TooMany ↦ codes "refused: more than 1048576 pairs\n"
       | status.ReadFault which ↦ line (codes "refused: cannot read" ∷ file which ∷ [])
-      | status.WriteFault to.Result ↦ line (codes "refused: cannot write" ∷ file which.Result ∷ [])
+      | status.ResultFault ↦ line (codes "refused: cannot write" ∷ file which.Result ∷ [])
       | status.Memory ↦ codes "refused: out of memory\n"
       | _ ↦ []
     ]
@@ -137,18 +140,23 @@ code_of (status.Netlist fault) = 3
 code_of (status.Bench fault) = 14
 code_of (status.Loop walk) = 4
 code_of (status.Rates fault) = 5
-code_of (status.MissingRate net name) = 6
-code_of (status.IdleRate part permanent) = 7
+code_of (status.Plan (plan.MissingRate net name)) = 6
+code_of (status.Plan (plan.IdleRate part permanent)) = 7
+code_of (status.Plan plan.TooManyFaults) = 10
+code_of (status.Plan plan.Memory) = 30
 code_of (status.Points fault) = 8
 code_of (status.Workload fault) = 9
-code_of (status.TooLarge what) = 10
-code_of (status.Foreign found own) = 11
-code_of (status.BadRow number why) = 12
+code_of status.ManyOutputs = 10
+code_of (status.TooLong which) = 10
+code_of (status.Result (Foreign found own)) = 11
+code_of (status.Result (BadRow number why)) = 12
 code_of (status.Disagrees batch kept computed) = 13
-code_of (status.Differs batch first second) = 15
-code_of (status.Incomplete have batches) = 16
+code_of (status.Merge refusal) = 15
+code_of (status.Pairs (Incomplete have batches)) = 16
+code_of (status.Pairs TooMany) = 10
 code_of (status.ReadFault which) = 20
-code_of (status.WriteFault to) = 21
+code_of status.ResultFault = 21
+code_of status.OutFault = 21
 code_of status.Memory = 30
 
 -- ---- a shape of private steps

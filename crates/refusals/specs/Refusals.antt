@@ -27,7 +27,8 @@ status_of (Looped walk net) = status.Loop walk
 abbrev pub IsPlain : Status → Type 0
 IsPlain (status.Loop walk) = ⊥
 IsPlain status.Done = ⊥
-IsPlain (status.WriteFault to) = ⊥
+IsPlain status.ResultFault = ⊥
+IsPlain status.OutFault = ⊥
 IsPlain _ = Unit {0}
 
 -- the nets of a loop are those of the netlist that the file of this name holds

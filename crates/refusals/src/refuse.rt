@@ -4,6 +4,7 @@ ghost use Rattle.circuit.specs.Circuit.{Circuit};
 ghost use Rattle.fm_shelf.specs.Content.{Content};
 ghost use Rattle.refusals.specs.Said.{IsSaid};
 ghost use Rattle.refusals.specs.Refusals.{status_of, HasItsNets, IsSaidOf};
+ghost use Rattle.fm_base.specs.Names.{Bytes};
 ghost use Rattle.command_line.specs.Commands.{name_by};
 ghost use Rattle.refusals.specs.RefusalLines.{refusal_line};
 
@@ -15,11 +16,15 @@ use crate::refusal::{
     points_kind, rates_kind, refuse_bench, refuse_netlist, refuse_row, workload_kind,
 };
 use crate::refused::Refused;
-use crate::status::{Status, What, WriteTo};
+use crate::status::Status;
 use crate::walk::refuse_loop;
+use campaign_plan::PlanRefusal;
 use circuit::parts::Name;
 use command_line::{FileNames, Which};
 use fm_shelf::shelf::Sink;
+use pair_list::PairRefusal;
+use result_file::ResultRefusal;
+use result_merge::MergeRefusal;
 
 // The name of one of the files.
 fn file_name<'a>(names: &FileNames<'a>, which: Which) -> &'a [u8]
@@ -38,31 +43,68 @@ fn rate_word(permanent: bool) -> &'static [u8]
     }
 }
 
-// The line of what is too large.
-fn refuse_large<O: Sink>(out: &mut O, names: &FileNames, what: What)
-    ensures { (c : Circuit) → IsSaid (O.seen out.old) (O.seen out.new)
-        (refusal_line (name_by names.now) c (Status.TooLarge what)) }
+// The line of what makes no plan.
+fn refuse_plan<O: Sink>(out: &mut O, cause: &PlanRefusal)
+    ensures { (file : Which → Bytes) (c : Circuit) → IsSaid (O.seen out.old) (O.seen out.new) (refusal_line file c (Status.Plan cause.now)) }
 {
-    match what {
-        What::File(which) => refuse_two(
+    match cause {
+        PlanRefusal::TooManyFaults => refuse_phrase(out, b"more than 1048576 faults"),
+        PlanRefusal::MissingRate(_, net) => refuse_two(out, b"no rate for net", net.as_slice()),
+        PlanRefusal::IdleRate { part, permanent } => refuse_five(
             out,
-            file_name(names, which),
-            b"is longer than 67108864 bytes",
+            b"part",
+            part.as_slice(),
+            b"has a",
+            rate_word(*permanent),
+            b"rate and no such fault",
         ),
-        What::Faults => refuse_phrase(out, b"more than 1048576 faults"),
-        What::Outputs => refuse_phrase(out, b"more than 1024 outputs"),
-        What::Pairs => refuse_phrase(out, b"more than 1048576 pairs"),
+        PlanRefusal::Memory => refuse_phrase(out, b"out of memory"),
     }
 }
 
-// The line of a fault of writing; a fault of `out` has none.
-fn refuse_write<O: Sink>(out: &mut O, names: &FileNames, to: WriteTo)
-    ensures { (c : Circuit) → IsSaid (O.seen out.old) (O.seen out.new)
-        (refusal_line (name_by names.now) c (Status.WriteFault to)) }
+// The line of what is no result file of the plan.
+fn refuse_result<O: Sink>(out: &mut O, cause: &ResultRefusal)
+    ensures { (file : Which → Bytes) (c : Circuit) → IsSaid (O.seen out.old) (O.seen out.new) (refusal_line file c (Status.Result cause.now)) }
 {
-    match to {
-        WriteTo::Result => refuse_two(out, b"cannot write", file_name(names, Which::Result)),
-        WriteTo::Out => (),
+    match cause {
+        ResultRefusal::Foreign { found, own } => refuse_foreign(
+            out,
+            b"foreign result file, found",
+            found.bytes(),
+            b"own",
+            own.bytes(),
+        ),
+        ResultRefusal::BadRow { number, why } => refuse_bad_row(out, *number, *why),
+    }
+}
+
+// The line of rows that aren't merged.
+fn refuse_merge<O: Sink>(out: &mut O, cause: MergeRefusal)
+    ensures { (file : Which → Bytes) (c : Circuit) → IsSaid (O.seen out.old) (O.seen out.new) (refusal_line file c (Status.Merge cause)) }
+{
+    match cause {
+        MergeRefusal::Differs {
+            batch,
+            first,
+            second,
+        } => refuse_planes(out, b"batch", batch, b"first", first, b"second", second),
+    }
+}
+
+// The line of rows that make no pairs.
+fn refuse_pairs<O: Sink>(out: &mut O, cause: PairRefusal)
+    ensures { (file : Which → Bytes) (c : Circuit) → IsSaid (O.seen out.old) (O.seen out.new) (refusal_line file c (Status.Pairs cause)) }
+{
+    match cause {
+        PairRefusal::Incomplete { have, batches } => refuse_counts(
+            out,
+            b"result file has",
+            have,
+            b"of",
+            batches,
+            b"batches",
+        ),
+        PairRefusal::TooMany => refuse_phrase(out, b"more than 1048576 pairs"),
     }
 }
 
@@ -73,10 +115,16 @@ pub fn refuse<O: Sink>(out: &mut O, names: &FileNames, nets: &[Name], status: &S
 {
     match status {
         Status::Done => (),
-        Status::WriteFault(to) => refuse_write(out, names, *to),
+        Status::OutFault => (),
+        Status::ResultFault => refuse_two(out, b"cannot write", file_name(names, Which::Result)),
         Status::Usage => refuse_phrase(out, b"usage"),
         Status::Memory => refuse_phrase(out, b"out of memory"),
-        Status::TooLarge(what) => refuse_large(out, names, *what),
+        Status::ManyOutputs => refuse_phrase(out, b"more than 1024 outputs"),
+        Status::TooLong(which) => refuse_two(
+            out,
+            file_name(names, *which),
+            b"is longer than 67108864 bytes",
+        ),
         Status::ReadFault(which) => refuse_two(out, b"cannot read", file_name(names, *which)),
         Status::Netlist(fault) => refuse_netlist(out, fault),
         Status::Bench(fault) => refuse_bench(out, fault),
@@ -89,23 +137,8 @@ pub fn refuse<O: Sink>(out: &mut O, names: &FileNames, nets: &[Name], status: &S
             fault.row,
             workload_kind(fault.kind),
         ),
-        Status::MissingRate(_, net) => refuse_two(out, b"no rate for net", net.as_slice()),
-        Status::IdleRate { part, permanent } => refuse_five(
-            out,
-            b"part",
-            part.as_slice(),
-            b"has a",
-            rate_word(*permanent),
-            b"rate and no such fault",
-        ),
-        Status::Foreign { found, own } => refuse_foreign(
-            out,
-            b"foreign result file, found",
-            found.bytes(),
-            b"own",
-            own.bytes(),
-        ),
-        Status::BadRow { number, why } => refuse_bad_row(out, *number, *why),
+        Status::Plan(cause) => refuse_plan(out, cause),
+        Status::Result(cause) => refuse_result(out, cause),
         Status::Disagrees {
             batch,
             kept,
@@ -119,19 +152,8 @@ pub fn refuse<O: Sink>(out: &mut O, names: &FileNames, nets: &[Name], status: &S
             b"computed",
             *computed,
         ),
-        Status::Differs {
-            batch,
-            first,
-            second,
-        } => refuse_planes(out, b"batch", *batch, b"first", *first, b"second", *second),
-        Status::Incomplete { have, batches } => refuse_counts(
-            out,
-            b"result file has",
-            *have,
-            b"of",
-            *batches,
-            b"batches",
-        ),
+        Status::Merge(cause) => refuse_merge(out, *cause),
+        Status::Pairs(cause) => refuse_pairs(out, *cause),
     }
 }
 

@@ -5,31 +5,15 @@ ghost use Rattle.refusals.specs.RefusalLines.{code_of};
 use alarm_points::PointsFault;
 use bench_reader::BenchFault;
 use blif_text::NetlistFault;
-use campaign_plan::Outcome;
-use circuit::parts::{Name, NetId};
+use campaign_plan::{Outcome, PlanRefusal};
 use command_line::Which;
-use fm_base::Line;
 use fm_shelf::shelf::Failed;
 use netlist_levels::Walk;
+use pair_list::PairRefusal;
 use rate_table::RatesFault;
-use result_file::RowFault;
+use result_file::ResultRefusal;
+use result_merge::MergeRefusal;
 use workload::file::WorkloadFault;
-
-/// What is too large.
-#[derive(Clone, Copy, Debug, PartialEq, Eq)]
-pub enum What {
-    File(Which),
-    Faults,
-    Outputs,
-    Pairs,
-}
-
-/// Where a write has failed.
-#[derive(Clone, Copy, Debug, PartialEq, Eq)]
-pub enum WriteTo {
-    Result,
-    Out,
-}
 
 /// How a call ends: done, or the one refusal.
 #[derive(Drop)]
@@ -40,38 +24,22 @@ pub enum Status {
     Bench(BenchFault),
     Loop(Walk),
     Rates(RatesFault),
-    MissingRate(NetId, Name),
-    IdleRate {
-        part: Name,
-        permanent: bool,
-    },
     Points(PointsFault),
     Workload(WorkloadFault),
-    TooLarge(What),
-    Foreign {
-        found: Line,
-        own: Line,
-    },
-    BadRow {
-        number: u32,
-        why: RowFault,
-    },
+    Plan(PlanRefusal),
+    ManyOutputs,
+    TooLong(Which),
+    Result(ResultRefusal),
     Disagrees {
         batch: u32,
         kept: Outcome,
         computed: Outcome,
     },
-    Differs {
-        batch: u32,
-        first: Outcome,
-        second: Outcome,
-    },
-    Incomplete {
-        have: u32,
-        batches: u32,
-    },
+    Merge(MergeRefusal),
+    Pairs(PairRefusal),
     ReadFault(Which),
-    WriteFault(WriteTo),
+    ResultFault,
+    OutFault,
     Memory,
 }
 
@@ -88,19 +56,21 @@ impl Status {
             Status::Bench(_) => 14,
             Status::Loop(_) => 4,
             Status::Rates(_) => 5,
-            Status::MissingRate(_, _) => 6,
-            Status::IdleRate { .. } => 7,
             Status::Points(_) => 8,
             Status::Workload(_) => 9,
-            Status::TooLarge(_) => 10,
-            Status::Foreign { .. } => 11,
-            Status::BadRow { .. } => 12,
+            Status::Plan(PlanRefusal::MissingRate(_, _)) => 6,
+            Status::Plan(PlanRefusal::IdleRate { .. }) => 7,
+            Status::Plan(PlanRefusal::TooManyFaults) => 10,
+            Status::ManyOutputs | Status::TooLong(_) => 10,
+            Status::Result(ResultRefusal::Foreign { .. }) => 11,
+            Status::Result(ResultRefusal::BadRow { .. }) => 12,
             Status::Disagrees { .. } => 13,
-            Status::Differs { .. } => 15,
-            Status::Incomplete { .. } => 16,
+            Status::Merge(_) => 15,
+            Status::Pairs(PairRefusal::Incomplete { .. }) => 16,
+            Status::Pairs(PairRefusal::TooMany) => 10,
             Status::ReadFault(_) => 20,
-            Status::WriteFault(_) => 21,
-            Status::Memory => 30,
+            Status::ResultFault | Status::OutFault => 21,
+            Status::Plan(PlanRefusal::Memory) | Status::Memory => 30,
         }
     }
 }
@@ -108,10 +78,10 @@ impl Status {
 /// How a command ends after its text.
 pub fn after_text(written: Result<(), Failed>) -> Status
     ensures done { OnOk written (result ≡ Status.Done) }
-    ensures failed { OnErr written (result ≡ Status.WriteFault WriteTo.Out) }
+    ensures failed { OnErr written (result ≡ Status.OutFault) }
 {
     match written {
         Ok(()) => Status::Done,
-        Err(Failed) => Status::WriteFault(WriteTo::Out),
+        Err(Failed) => Status::OutFault,
     }
 }

@@ -1,6 +1,6 @@
 use Rattle.std.proofs.lemmas.Result.{err_from_is_err_and}
 use Rattle.command_reads.specs.Files.{reads_by}
-use Rattle.command_reads.proofs.Behind.{both_first, both_second, both_differ, both_merged}
+use Rattle.command_reads.proofs.Behind.{both_first, both_second, both_answer}
 use Rattle.command_reads.proofs.merged.both_of.Goals as goal
 
 pub returns-in_err-first : goal.returns-in_err-first
@@ -13,13 +13,7 @@ returns-in_err-second c =
     let p = err_from_is_err_and c.from_residual-in_err-second.result c.from_residual-in_err-second.ensures.1 in
     rw (p.1, p.2) (both_second c.args.planned.now.plan (reads_by c.args.reads.now) c.in_ok-first.first c.in_ok-first.ensures.answers _ c.in_err-second.ensures.answers)
 
-pub returns-in_err-rows : goal.returns-in_err-rows
-returns-in_err-rows c =
-    let p = err_from_is_err_and c.from_residual-in_err-rows.result c.from_residual-in_err-rows.ensures.1 in
-    rw (p.1, p.2) (both_differ c.args.planned.now.plan (reads_by c.args.reads.now) c.in_ok-first.first c.in_ok-first.ensures.answers
-    c.in_ok-second.second c.in_ok-second.ensures.answers _ c.in_err-rows.ensures)
-
 pub returns : goal.returns
 returns c =
-    both_merged c.args.planned.now.plan (reads_by c.args.reads.now) c.in_ok-first.first c.in_ok-first.ensures.answers
-    c.in_ok-second.second c.in_ok-second.ensures.answers c.in_ok-rows.rows c.in_ok-rows.ensures
+    both_answer c.args.planned.now.plan (reads_by c.args.reads.now) c.in_ok-first.first c.in_ok-first.ensures.answers
+    c.in_ok-second.second c.in_ok-second.ensures.answers _ c.rows_of_both.ensures

@@ -14,4 +14,4 @@ returns-in-Err-clause-merges c =
 
 pub returns-in-Ok-clause-merges : goal.returns-in-Ok-clause-merges
 returns-in-Ok-clause-merges c =
-    merged_made c.args.netlist.now c.args.set (reads_by c.args.reads.now) c.in_ok-planned.planned.plan _ _ _ c.in_ok-planned.ensures.plans c.in-Ok.ensures
+    merged_made c.args.netlist.now c.args.set (reads_by c.args.reads.now) c.in_ok-planned.planned.plan _ c.in_ok-planned.ensures.plans c.in-Ok.ensures

@@ -1,5 +1,6 @@
 use Rattle.fmeda_top.proofs.Causing.{have_no_loop, held_read, of_the_command, read_fault_rose, usage_of_words}
 use Rattle.fmeda_top.proofs.RowTexts.{pairs_are_true}
+use Rattle.fmeda_top.proofs.Writing.{merged_stopped}
 use Rattle.fmeda_top.proofs.law.promises_are_of_the_command.Goals as goal
 
 pub returns-clause-command : goal.returns-clause-command
@@ -19,3 +20,6 @@ returns-clause-loops c = have_no_loop
 
 pub returns-clause-pairs : goal.returns-clause-pairs
 returns-clause-pairs c = pairs_are_true c.pairs_are_told.ensures
+
+pub returns-clause-merged : goal.returns-clause-merged
+returns-clause-merged c = merged_stopped c.merges_are_lawful.ensures

@@ -18,11 +18,11 @@ returns-then-is_err g c =
     let before : Outside = outside (g.F.Shelf.seen c.args.shelf.now) (g.O.Sink.seen c.args.out.now) in
     let after : Outside = outside (g.F.Shelf.seen c.write_anew.new.shelf) (g.O.Sink.seen c.args.out.now) in
     let failed : is_err c.write_anew.result ≡ true = sym c.is_err.ensures.value ∙ c.if-is_err.true in
-    let file : c.as_slice.result.now ≡ rows_file it.planned.own it.both.rows =
+    let file : c.as_slice.result.now ≡ rows_file it.planned.own it.rows =
     c.as_slice.ensures.value ∙ c.in-Ok.ensures ∙ ap (rows_file it.planned.own) c.as_slice-rows.ensures in
     let left = not_written name c.as_slice.result.now before.shelf after.shelf c.write_anew.result c.write_anew.ensures.writes failed in
-    λ reads sound both. record {
-      ends = (left.1, merge_left it reads name before sound both after (rw file at left.0), refl {a = after.out});
+    λ reads sound. record {
+      ends = (left.1, merge_left it reads name before sound after (rw file at left.0), refl {a = after.out});
       others = c.write_anew.ensures.others;
     }
 
@@ -33,13 +33,13 @@ returns-in-Ok-write_merge g c =
     let before : Outside = outside (g.F.Shelf.seen c.args.shelf.now) (g.O.Sink.seen c.args.out.now) in
     let after : Outside = outside (g.F.Shelf.seen c.write_anew.new.shelf) (g.O.Sink.seen c.write_merge.new.out) in
     let fine : is_err c.write_anew.result ≡ false = sym c.is_err.ensures.value ∙ c.if-is_err.false in
-    let file : c.as_slice.result.now ≡ rows_file it.planned.own it.both.rows =
+    let file : c.as_slice.result.now ≡ rows_file it.planned.own it.rows =
     c.as_slice.ensures.value ∙ c.in-Ok.ensures ∙ ap (rows_file it.planned.own) c.as_slice-rows.ensures in
     let has = subst (HasIfKnown (after.shelf.content name)) file
     (written name c.as_slice.result.now before.shelf after.shelf c.write_anew.result c.write_anew.ensures.writes fine) in
     let wrote = rw (c.as_slice-rows.ensures, c.batches.ensures.count) at c.in-Ok-write_merge.ensures.ok in
-    λ reads sound both. record {
-      ends = merge_written it reads name before sound both c.merges_are_lawful.ensures after has wrote;
+    λ reads sound. record {
+      ends = merge_written it reads name before sound after has wrote;
       others = c.write_anew.ensures.others;
     }
 
@@ -50,16 +50,16 @@ returns g c =
     let before : Outside = outside (g.F.Shelf.seen c.args.shelf.now) (g.O.Sink.seen c.args.out.now) in
     let after : Outside = outside (g.F.Shelf.seen c.write_anew.new.shelf) (g.O.Sink.seen c.write_merge.new.out) in
     let fine : is_err c.write_anew.result ≡ false = sym c.is_err.ensures.value ∙ c.if-is_err.false in
-    let file : c.as_slice.result.now ≡ rows_file it.planned.own it.both.rows =
+    let file : c.as_slice.result.now ≡ rows_file it.planned.own it.rows =
     c.as_slice.ensures.value ∙ c.in-Ok.ensures ∙ ap (rows_file it.planned.own) c.as_slice-rows.ensures in
     let has = subst (HasIfKnown (after.shelf.content name)) file
     (written name c.as_slice.result.now before.shelf after.shelf c.write_anew.result c.write_anew.ensures.writes fine) in
-    let line = merge_line (length it.both.rows) (batch_count it.planned.plan) in
+    let line = merge_line (length it.rows) (batch_count it.planned.plan) in
     let torn = rw (c.as_slice-rows.ensures, c.batches.ensures.count) at c.in-Err.ensures.failed in
-    λ reads sound both. record {
+    λ reads sound. record {
       ends = (
         line,
-        merge_written it reads name before sound both c.merges_are_lawful.ensures (had_written before after line) has (refl {a = with_more before.out.written line}),
+        merge_written it reads name before sound (had_written before after line) has (refl {a = with_more before.out.written line}),
         torn,
       );
       others = c.write_anew.ensures.others;

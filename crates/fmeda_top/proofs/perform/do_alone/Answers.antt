@@ -21,7 +21,7 @@ returns-then-eq g c =
     λ held reads set ready.
     let own = subst (IsReady held reads) c.merged.ensures ready in
     told_does names set c.args.task task.Merge c.args.judged.now (made.Merged both) reads c.say_end.result before is c.merged.ensures
-    after shelf out c.merge-end.result refl refl (c.merge-end.ensures reads own.0 own.1) c.say_end.ensures refl
+    after shelf out c.merge-end.result refl refl (c.merge-end.ensures reads own.0) c.say_end.ensures refl
 
 pub returns-else-eq : goal.returns-else-eq
 returns-else-eq g c =

@@ -4,10 +4,8 @@ use Rattle.command_line.specs.declared.command.Task.TheVariants as task
 use Rattle.command_line.specs.declared.command.Which.TheVariants as which
 use Rattle.command_line.specs.Commands.{name_by}
 use Rattle.command_reads.specs.declared.judge.Judged.TheVariants as made
-use Rattle.command_reads.specs.FirstRefusal.{Begun}
 use Rattle.fmeda_top.specs.Doing.{IsReady}
-use Rattle.fmeda_top.proofs.Printing.{printed_does}
-use Rattle.fmeda_top.proofs.Writing.{does_by, told_does}
+use Rattle.fmeda_top.proofs.Writing.{told_does}
 use Rattle.fmeda_top.proofs.perform.do_task.Goals as goal
 
 pub run_on-ran-requires-clause-held : goal.run_on-ran-requires-clause-held
@@ -63,20 +61,6 @@ returns-in-Shard g c =
     told_does names set c.args.task (task.Shard c.in-Shard.part c.in-Shard.parts) c.args.judged (made.Planned c.planned.result.now) reads c.ended-in-Shard.result.status before c.in-Shard.is c.planned.ensures
     after (g.F.Shelf.seen c.ended-in-Shard.result.shelf) (g.O.Sink.seen c.ended-in-Shard.new.out) c.run_share-ran.result.end refl refl (c.run_share-ran.ensures reads own.0) c.ended-in-Shard.ensures.said
     (ap g.F.Shelf.seen c.ended-in-Shard.ensures.shelf)
-
-pub returns-in-Pairs : goal.returns-in-Pairs
-returns-in-Pairs g c =
-    let names = name_by c.args.names.now in
-    let begun = c.begun.result.now in
-    let own = task.Pairs c.in-Pairs.workers in
-    let shelf = g.F.Shelf.seen c.args.shelf in
-    let out = g.O.Sink.seen c.args.out.now in
-    let mid = g.O.Sink.seen c.tell_pairs-told.new.out in
-    let now = g.O.Sink.seen c.printed.new.out in
-    λ reads set ready.
-    does_by names set c.args.task own c.args.judged (made.Begun begun) reads c.printed.result (outside shelf out) c.in-Pairs.is c.begun.ensures (outside shelf now)
-    (printed_does (record { files = names; settings = set; task = own }) (Begun begun.planned.plan begun.kept) reads shelf out mid now c.printed.result
-    c.tell_pairs-told.result c.tell_pairs-told.ensures c.printed.ensures)
 
 pub returns-in_default : goal.returns-in_default
 returns-in_default g c =

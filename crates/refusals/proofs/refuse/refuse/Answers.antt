@@ -1,9 +1,8 @@
 use Rattle.std.proofs.Common.{ap, ap₂, sym, map, List, [], ◌∷◌, ◌++◌}
-use Rattle.std.specs.Prelude.{codes, decimal, slice_index_or, take}
+use Rattle.std.specs.Prelude.{codes, decimal, slice_index_or}
 use Rattle.circuit.specs.declared.parts.NetId.{NetId}
 use Rattle.command_line.specs.Commands.{name_by}
 use Rattle.refusals.specs.RefusalLines.{refusal_line}
-use Rattle.refusals.specs.Steps.{shown_start}
 use Rattle.fm_base.specs.Names.{Bytes}
 use Rattle.refusals.proofs.Statuses.{said_as, words_said, nothing_said}
 use Rattle.refusals.proofs.refuse.refuse.Goals as goal
@@ -22,7 +21,7 @@ returns-in-Memory g c = λ k names. said_as _ _ (name_by c.args.names.now) k c.a
 
 pub returns-in-ReadFault : goal.returns-in-ReadFault
 unfolding refusal_line
-returns-in-ReadFault g c = λ k names. said_as _ _ (name_by c.args.names.now) k c.args.status.now _ c.in-ReadFault.is (words_said _ _ _ _ (ap (λ (n : Bytes). codes "cannot read" ∷ n ∷ []) c.file_name.ensures) c.refuse_two.ensures)
+returns-in-ReadFault g c = λ k names. said_as _ _ (name_by c.args.names.now) k c.args.status.now _ c.in-ReadFault.is (words_said _ _ _ _ (ap (λ (n : Bytes). codes "cannot read" ∷ n ∷ []) c.file_name-in-ReadFault.ensures) c.refuse_two-in-ReadFault.ensures)
 
 pub returns-in-Netlist : goal.returns-in-Netlist
 unfolding refusal_line
@@ -49,38 +48,34 @@ pub returns-in-Workload : goal.returns-in-Workload
 unfolding refusal_line
 returns-in-Workload g c = λ k names. said_as _ _ (name_by c.args.names.now) k c.args.status.now _ c.in-Workload.is (words_said _ _ _ _ (ap (λ (w : Bytes). codes "workload row" ∷ decimal c.in-Workload.fault.row ∷ w ∷ []) c.workload_kind.ensures) c.refuse_row-in-Workload.ensures)
 
-pub returns-in-MissingRate : goal.returns-in-MissingRate
-unfolding refusal_line
-returns-in-MissingRate g c = λ k names. said_as _ _ (name_by c.args.names.now) k c.args.status.now _ c.in-MissingRate.is (words_said _ _ _ _ (ap (λ (n : Bytes). codes "no rate for net" ∷ n ∷ []) c.as_slice-in-MissingRate.ensures) c.refuse_two-in-MissingRate.ensures)
-
-pub returns-in-IdleRate : goal.returns-in-IdleRate
-unfolding refusal_line
-returns-in-IdleRate g c = λ k names. said_as _ _ (name_by c.args.names.now) k c.args.status.now _ c.in-IdleRate.is (words_said _ _ _ _ (ap₂ (λ (n w : Bytes). codes "part" ∷ n ∷ codes "has a" ∷ w ∷ codes "rate and no such fault" ∷ []) c.as_slice-in-IdleRate.ensures c.rate_word.ensures) c.refuse_five.ensures)
-
-pub returns-in-Foreign : goal.returns-in-Foreign
-unfolding refusal_line
-returns-in-Foreign g c = λ k names. said_as _ _ (name_by c.args.names.now) k c.args.status.now _ c.in-Foreign.is (words_said _ _ _ _ (ap₂ (λ (f o : Bytes). codes "foreign result file, found" ∷ (shown_start f ++ codes ",") ∷ codes "own" ∷ take 88 o ∷ []) c.bytes.ensures c.bytes-in-Foreign.ensures) c.refuse_foreign.ensures)
-
-pub returns-in-BadRow : goal.returns-in-BadRow
-unfolding refusal_line
-returns-in-BadRow g c = λ k names. said_as _ _ (name_by c.args.names.now) k c.args.status.now _ c.in-BadRow.is (c.refuse_bad_row.ensures)
-
 pub returns-in-Disagrees : goal.returns-in-Disagrees
 unfolding refusal_line
 returns-in-Disagrees g c = λ k names. said_as _ _ (name_by c.args.names.now) k c.args.status.now _ c.in-Disagrees.is (c.refuse_planes.ensures)
 
-pub returns-in-WriteFault : goal.returns-in-WriteFault
+pub returns-in-OutFault : goal.returns-in-OutFault
 unfolding refusal_line
-returns-in-WriteFault g c = λ k names. said_as _ _ (name_by c.args.names.now) k c.args.status.now _ c.in-WriteFault.is (c.refuse_write.ensures k)
+returns-in-OutFault g c = λ k names. said_as _ _ (name_by c.args.names.now) k c.args.status.now _ c.in-OutFault.is (nothing_said _)
 
-pub returns-in-TooLarge : goal.returns-in-TooLarge
+pub returns-in-ResultFault : goal.returns-in-ResultFault
 unfolding refusal_line
-returns-in-TooLarge g c = λ k names. said_as _ _ (name_by c.args.names.now) k c.args.status.now _ c.in-TooLarge.is (c.refuse_large.ensures k)
+returns-in-ResultFault g c = λ k names. said_as _ _ (name_by c.args.names.now) k c.args.status.now _ c.in-ResultFault.is (words_said _ _ _ _ (ap (λ (n : Bytes). codes "cannot write" ∷ n ∷ []) c.file_name.ensures) c.refuse_two.ensures)
 
-pub returns-in-Differs : goal.returns-in-Differs
+pub returns-in-TooLong : goal.returns-in-TooLong
 unfolding refusal_line
-returns-in-Differs g c = λ k names. said_as _ _ (name_by c.args.names.now) k c.args.status.now _ c.in-Differs.is (c.refuse_planes-in-Differs.ensures)
+returns-in-TooLong g c = λ k names. said_as _ _ (name_by c.args.names.now) k c.args.status.now _ c.in-TooLong.is (words_said _ _ _ _ (ap (λ (n : Bytes). n ∷ codes "is longer than 67108864 bytes" ∷ []) c.file_name-in-TooLong.ensures) c.refuse_two-in-TooLong.ensures)
 
-pub returns-in-Incomplete : goal.returns-in-Incomplete
+pub returns-in-ManyOutputs : goal.returns-in-ManyOutputs
 unfolding refusal_line
-returns-in-Incomplete g c = λ k names. said_as _ _ (name_by c.args.names.now) k c.args.status.now _ c.in-Incomplete.is (c.refuse_counts.ensures)
+returns-in-ManyOutputs g c = λ k names. said_as _ _ (name_by c.args.names.now) k c.args.status.now _ c.in-ManyOutputs.is (c.refuse_phrase-in-ManyOutputs.ensures)
+
+pub returns-in-Plan : goal.returns-in-Plan
+returns-in-Plan g c = λ k names. said_as _ _ (name_by c.args.names.now) k c.args.status.now _ c.in-Plan.is (c.refuse_plan.ensures (name_by c.args.names.now) k)
+
+pub returns-in-Result : goal.returns-in-Result
+returns-in-Result g c = λ k names. said_as _ _ (name_by c.args.names.now) k c.args.status.now _ c.in-Result.is (c.refuse_result.ensures (name_by c.args.names.now) k)
+
+pub returns-in-Merge : goal.returns-in-Merge
+returns-in-Merge g c = λ k names. said_as _ _ (name_by c.args.names.now) k c.args.status.now _ c.in-Merge.is (c.refuse_merge.ensures (name_by c.args.names.now) k)
+
+pub returns-in-Pairs : goal.returns-in-Pairs
+returns-in-Pairs g c = λ k names. said_as _ _ (name_by c.args.names.now) k c.args.status.now _ c.in-Pairs.is (c.refuse_pairs.ensures (name_by c.args.names.now) k)
