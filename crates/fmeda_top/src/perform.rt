@@ -212,7 +212,7 @@ pub(crate) fn perform<R: Threads + Wait + Sync, F: Shelf + Send + Drop, O: Sink,
     }
 }
 
-/// Does what a command asks that waits for nobody, and so returns: its runtime can start threads and join them, and no more.
+/// Does what a command asks that waits for no other process: its runtime can start threads and join them, and no more.
 pub fn perform_alone<R: Threads + Sync, F: Shelf, O: Sink>(
     rt: &R,
     alloc: Global,
