@@ -26,14 +26,14 @@ use Rattle.classifier.proofs.BareLanes.{bare_harmless, deaf_in, harmless_in}
 use Rattle.classifier.proofs.Ends.{list_any_nowhere}
 use Rattle.std.proofs.Math.Bool.{or-false}
 
-danger_more : (c : Circuit) (points : Points) (ftti : ℕ) (runs : List Run) (run : Run) (faults : List Fault)
+pub danger_more : (c : Circuit) (points : Points) (ftti : ℕ) (runs : List Run) (run : Run) (faults : List Fault)
     → is_dangerous c points ftti (runs ++ run ∷ []) faults ≡ (is_dangerous c points ftti runs faults || is_dangerous_in c points ftti faults run)
 unfolding is_dangerous goes_unalarmed
 danger_more c points ftti runs run faults =
     let test = is_dangerous_in c points ftti faults in
     list_any-append test runs (run ∷ []) ∙ ap (λ b. is_dangerous c points ftti runs faults || b) (or-false (test run))
 
-notice_more : (c : Circuit) (points : Points) (runs : List Run) (run : Run) (faults : List Fault)
+pub notice_more : (c : Circuit) (points : Points) (runs : List Run) (run : Run) (faults : List Fault)
     → is_noticed c points (runs ++ run ∷ []) faults ≡ (is_noticed c points runs faults || is_noticed_in c points faults run)
 unfolding is_noticed
 notice_more c points runs run faults =

@@ -1,7 +1,6 @@
 //! The planes of danger and of notice of every reading of a plan, by one simulation.
 #![tactic(auto)]
 
-mod batches;
 mod danger;
 mod lane;
 mod late;

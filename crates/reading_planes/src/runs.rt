@@ -26,13 +26,10 @@ use classifier::Testbench;
 use differential_kernel::DifferentialLanes;
 use fm_base::Steps;
 use lane_words::Word;
-use shown_runs::follow_run;
-use shown_runs::leaving::NoneLeaves;
+use shown_runs::follow_whole;
 use shown_runs::record::RunRecord;
 use std::sync::ledger::Ledger;
 use workload::run::Kind;
-
-const MOST_WORDS: usize = 4;
 
 // Adds what a run of a kind has shown of danger: there is none but in the mission.
 fn add_danger_of(
@@ -119,37 +116,6 @@ fn add_run(
             &mut planes[word],
         );
     }
-}
-
-// Follows a whole run in all lanes.
-fn follow_whole<W: Word, L: Ledger>(
-    bench: &Testbench<'_>,
-    run: u32,
-    lanes: &mut DifferentialLanes<W>,
-    records: &mut [RunRecord],
-    steps: &mut Steps<L>,
-)
-    requires run { run < length bench.now.runs }
-    requires made { IsMadeFor bench.now.circuit bench.now.order lanes.old }
-    requires records { length records.old ≡ W.words }
-    requires fit { AreRecordsFor bench.now.points records.old }
-    ensures load { load_of lanes.new ≡ load_of lanes.old }
-    ensures fit { AreRecordsFor bench.now.points records.new }
-    ensures seen { (word k : ℕ) → word < W.words → k < 64
-        → HasSeen bench.now.circuit bench.now.points (run_at bench.now.runs run) (lane_faults (load_of lanes.old) word k) (cycles_of (run_at bench.now.runs run)) k (record_at records.new word) }
-    ensures cost { steps.new ≤ steps.old + cycles_of (run_at bench.now.runs run) * length bench.now.circuit.tables }
-{
-    let mut left = [0; MOST_WORDS];
-    let words = W::words() as usize;
-    follow_run(
-        bench,
-        run,
-        &NoneLeaves,
-        lanes,
-        records,
-        &mut left[..words],
-        steps,
-    );
 }
 
 // Simulates all runs in all lanes, and adds what each shows in each word; nothing has been found before.

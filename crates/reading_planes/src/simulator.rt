@@ -6,7 +6,6 @@ ghost use Rattle.reading_planes.specs.Folded.{ArePlanesFor};
 ghost use Rattle.reading_planes.specs.Readings.{AreReadingsOf};
 ghost use Rattle.reading_planes.specs.Simulator.{HasFound, IsSimulatorFor};
 
-use crate::batches::load_batches;
 use crate::lane::LaneCycles;
 use crate::planes::ReadingPlanes;
 use crate::reading::Reading;
@@ -17,6 +16,7 @@ use classifier::Testbench;
 use differential_kernel::DifferentialLanes4;
 use fault_list::FaultList;
 use fm_base::Steps;
+use shown_runs::load_batches;
 use shown_runs::record::RunRecord;
 use std::alloc::{AllocError, Global};
 use std::marker::Brand;
