@@ -1,0 +1,6 @@
+mod Lists
+mod Showing
+mod Adding
+mod Loaded
+mod Exciting
+mod Rows

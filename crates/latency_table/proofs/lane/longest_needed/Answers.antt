@@ -1,0 +1,17 @@
+use Rattle.std.proofs.Common.{◌≤◌, List, length, map, ap, ap₂, ◌∙◌, take_all}
+use Rattle.first_cycles.specs.Shown.{longer, longest, needed}
+use Rattle.shown_runs.specs.declared.first.FirstCycles.{FirstCycles}
+use Rattle.shown_runs.specs.First.{first_in}
+use Rattle.latency_table.proofs.Lists.{longest_more}
+use Rattle.latency_table.proofs.lane.longest_needed.Goals as goal
+
+pub loop-goal-preserved : goal.loop-goal-preserved
+loop-goal-preserved c =
+    c.longer-interval.ensures ∙ ap₂ longer c.loop-goal.invariant (c.needed.ensures ∙ ap (λ d. needed d c.args.alarm) c.first.ensures)
+    ∙ longest_more (λ (goal : FirstCycles). needed (first_in goal c.args.lane) c.args.alarm) c.args.goals.now c.loop-goal.goal-index _ c.loop-goal-test.true
+
+pub returns : goal.returns
+returns c =
+    let done : length c.args.goals.now ≤ c.loop-goal.goal-index = c.loop-goal-test.false in
+    c.loop-goal.invariant
+    ∙ ap (λ (goals : List FirstCycles). longest (map (λ goal. needed (first_in goal c.args.lane) c.args.alarm) goals)) (take_all c.loop-goal.goal-index c.args.goals.now done)

@@ -1,0 +1,30 @@
+use Rattle.std.proofs.Common.{◌≡◌, ◌<◌, length, ap, ◌∙◌, arith}
+use Rattle.std.specs.List.{flat_map}
+use Rattle.std.proofs.lemmas.Result.{err_from_is_err_and}
+use Rattle.fm_base.specs.Lists.{below}
+use Rattle.campaign_plan.specs.Analysis.{fault_count}
+use Rattle.fmeda_report.proofs.Sending.{sends_as, sends_no_number, sends_number, sends_number_torn}
+use Rattle.readings.specs.Latencies.{latency_row, least_interval}
+use Rattle.latency_table.proofs.table.write_rows.Goals as goal
+
+pub loop-i-init : goal.loop-i-init
+loop-i-init g c = sends_no_number (latency_row (least_interval c.args.plan.now) c.args.plan.now) _
+
+pub loop-i-preserved : goal.loop-i-preserved
+loop-i-preserved g c =
+    sends_number (latency_row (least_interval c.args.plan.now) c.args.plan.now) c.loop-i.i c.loop-i.invariant c.in_ok-write_fault.ensures
+
+pub returns-in_err-write_fault : goal.returns-in_err-write_fault
+returns-in_err-write_fault g c =
+    let p = err_from_is_err_and c.from_residual.result c.from_residual.ensures.1 in
+    let plan = c.args.plan.now in
+    let count : c.len-i-end.result ≡ fault_count plan = c.len-i-end.ensures.count ∙ ap length c.faults.ensures.value in
+    let lt : c.loop-i.i < fault_count plan = omega (arith, count, c.loop-i-test.true) in
+    rw p.1 (sends_number_torn (latency_row (least_interval plan) plan) (fault_count plan) c.loop-i.i p.0 lt c.loop-i.invariant c.in_err-write_fault.ensures)
+
+pub returns : goal.returns
+returns g c =
+    let plan = c.args.plan.now in
+    let count : c.len-i-end.result ≡ fault_count plan = c.len-i-end.ensures.count ∙ ap length c.faults.ensures.value in
+    let end : c.loop-i.i ≡ fault_count plan = omega (arith, count, c.loop-i-test.false, c.loop-i.auto.i-end) in
+    sends_as (ap (λ n. flat_map (latency_row (least_interval plan) plan) (below n)) end) c.loop-i.invariant

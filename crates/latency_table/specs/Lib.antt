@@ -1,0 +1,4 @@
+pub mod Latency
+pub mod Golden
+pub mod Work
+pub mod Fields

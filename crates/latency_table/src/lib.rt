@@ -1,0 +1,13 @@
+//! The table of latencies, as a CSV text: of each fault whether it is excited, when it is first seen, and which interval would do.
+#![tactic(auto)]
+
+mod fan_out;
+mod golden;
+mod lane;
+mod latency;
+mod row;
+mod runs;
+mod table;
+mod worker;
+
+pub use table::write_latencies;

@@ -1,0 +1,186 @@
+// A worker, and the faults that it simulates.
+ghost use Rattle.std.specs.Prelude.{◌≡◌, ◌+◌, ◌*◌, ◌<◌, ◌≤◌, ◌^◌, ℕ, IfOk, length};
+ghost use Rattle.golden_difference.specs.Lanes.{IsMadeFor};
+ghost use Rattle.classifier.specs.Testbench.{IsTestbenchFor};
+ghost use Rattle.latency_table.specs.Latency.{IsLatencyFor, latency_at};
+ghost use Rattle.campaign_plan.specs.Analysis.{fault_count};
+ghost use Rattle.shown_runs.specs.Record.{AreRecordsFor};
+ghost use Rattle.latency_table.specs.Work.{HasWorked, IsEquippedFor, group_at};
+
+use crate::latency::{Latency, NOTHING};
+use crate::runs::follow_runs;
+use alarm_points::Points;
+use campaign_plan::Plan;
+use classifier::Testbench;
+use differential_kernel::DifferentialLanes4;
+use fm_base::Steps;
+use shown_runs::load_batches;
+use shown_runs::record::RunRecord;
+use std::alloc::{AllocError, Global};
+use std::marker::{Brand, Model};
+use std::sync::ledger::{Blank, Ledger};
+
+/// The number of batches that are simulated at once, one in each word of lanes.
+pub(crate) const WORDS: u32 = 4;
+
+/// The number of faults of a group, which are simulated at once.
+pub(crate) const GROUP: usize = 256;
+
+/// What is kept of the faults of a group, in the order of their lanes.
+#[derive(Drop)]
+pub struct Group {
+    pub(crate) latencies: Vec<Latency>,
+}
+
+impl Model for Group {
+    ghost use Rattle.std.specs.Prelude.{List};
+    ghost use Rattle.latency_table.specs.declared.latency.Latency.{Latency};
+
+    ghost Value = { List Latency };
+
+    ghost view = { λ g. g.latencies.items };
+}
+
+/// What a worker simulates with, and what it keeps of the faults of each of its rounds.
+#[derive(Drop)]
+pub struct LatencyWorker {
+    pub(crate) lanes: DifferentialLanes4,
+    pub(crate) records: Vec<RunRecord>,
+    pub(crate) groups: Vec<Group>,
+}
+
+// A record for each word.
+fn records_for(alloc: Global, points: &Points) -> Result<Vec<RunRecord>, AllocError>
+    ensures count { IfOk result (λ records. length records.items ≡ 4) }
+    ensures fit { IfOk result (λ records. AreRecordsFor points.now records.items) }
+{
+    let mut records = Vec::new(alloc);
+    for _ in 0..WORDS {
+        records.push(RunRecord::new(alloc, points)?)?;
+    }
+    Ok(records)
+}
+
+// Room for so many groups.
+fn groups_for(alloc: Global, rounds: u32) -> Result<Vec<Group>, AllocError>
+    ensures count { IfOk result (λ groups. length groups.items ≡ rounds) }
+    ensures room { IfOk result (λ groups. (round : ℕ) → round < rounds → length (group_at groups.items round) ≡ 256) }
+{
+    let mut groups = Vec::new(alloc);
+    for _ in 0..rounds {
+        groups.push(Group {
+            latencies: vec![in alloc; NOTHING; GROUP]?,
+        })?;
+    }
+    Ok(groups)
+}
+
+impl LatencyWorker {
+    /// A worker with room for so many rounds.
+    pub(crate) fn new(
+        alloc: Global,
+        bench: &Testbench<'_>,
+        rounds: u32,
+    ) -> Result<LatencyWorker, AllocError>
+        ensures { IfOk result (IsEquippedFor bench.now rounds) }
+    {
+        Ok(LatencyWorker {
+            lanes: DifferentialLanes4::new(alloc, bench.net(), bench.order())?,
+            records: records_for(alloc, bench.points())?,
+            groups: groups_for(alloc, rounds)?,
+        })
+    }
+}
+
+// Simulates four batches, the first of them being this one, and keeps what is found of each of their faults.
+fn simulate_group<L: Ledger>(
+    plan: &Plan,
+    bench: &Testbench<'_>,
+    first: u32,
+    lanes: &mut DifferentialLanes4,
+    records: &mut [RunRecord],
+    group: &mut Group,
+    steps: &mut Steps<L>,
+)
+    requires bench { IsTestbenchFor plan.now bench.now }
+    requires few { first + 4 < 2 ^ 32 }
+    requires made { IsMadeFor bench.now.circuit bench.now.order lanes.old }
+    requires records { length records.old ≡ 4 }
+    requires fit { AreRecordsFor bench.now.points records.old }
+    requires room { length group.old ≡ 256 }
+    ensures made { IsMadeFor bench.now.circuit bench.now.order lanes.new }
+    ensures fit { AreRecordsFor bench.now.points records.new }
+    ensures room { length group.new ≡ 256 }
+    ensures kept { (lane : ℕ) → lane < 256 → first * 64 + lane < fault_count plan.now → IsLatencyFor plan.now (first * 64 + lane) (latency_at group.new lane) }
+{
+    load_batches(plan.faults(), first, 1, lanes);
+    follow_runs(
+        bench,
+        plan.settings().ftti,
+        lanes,
+        records,
+        group.latencies.as_mut_slice(),
+        steps,
+    );
+}
+
+// Simulates the groups of one of so many workers.
+fn simulate_groups<L: Ledger>(
+    plan: &Plan,
+    bench: &Testbench<'_>,
+    number: u32,
+    workers: u32,
+    rounds: u32,
+    lanes: &mut DifferentialLanes4,
+    records: &mut [RunRecord],
+    groups: &mut [Group],
+    blank: Blank,
+)
+    requires bench { IsTestbenchFor plan.now bench.now }
+    requires number { number < workers }
+    requires few { workers ≤ 32 }
+    requires rounds { rounds ≤ 2 ^ 20 }
+    requires made { IsMadeFor bench.now.circuit bench.now.order lanes.old }
+    requires records { length records.old ≡ 4 }
+    requires fit { AreRecordsFor bench.now.points records.old }
+    requires count { length groups.old ≡ rounds }
+    requires room { (round : ℕ) → round < rounds → length (group_at groups.old round) ≡ 256 }
+    requires blank { (blank.name ≡ L.name) × (blank.parts ≡ L.parts) × (0 < blank.parts) }
+    ensures { HasWorked plan.now workers number rounds groups.new }
+{
+    let mut steps: Steps<L> = Steps::fresh(blank);
+    for round in 0..rounds {
+        let first = (round * workers + number) * WORDS;
+        let group = &mut groups[round as usize];
+        simulate_group(plan, bench, first, lanes, records, group, &mut steps);
+    }
+}
+
+/// Simulates the faults of one of so many workers: in round r the group of number r * workers + number.
+pub(crate) fn work(
+    plan: &Plan,
+    bench: &Testbench<'_>,
+    number: u32,
+    workers: u32,
+    rounds: u32,
+    worker: &mut LatencyWorker,
+)
+    requires bench { IsTestbenchFor plan.now bench.now }
+    requires number { number < workers }
+    requires few { workers ≤ 32 }
+    requires rounds { rounds ≤ 2 ^ 20 }
+    requires equipped { IsEquippedFor bench.now rounds worker.old }
+    ensures { HasWorked plan.now workers number rounds worker.new.groups.items }
+{
+    simulate_groups::<Brand>(
+        plan,
+        bench,
+        number,
+        workers,
+        rounds,
+        &mut worker.lanes,
+        worker.records.as_mut_slice(),
+        worker.groups.as_mut_slice(),
+        Blank::new(1),
+    );
+}

@@ -1,0 +1,4 @@
+pub mod Dividing
+pub mod Adding
+pub mod Showing
+pub mod Telling

@@ -1,0 +1,7 @@
+use Rattle.std.proofs.Common.{length}
+use Rattle.metric_breakdown.specs.Turns.{HaveSums, turns_for}
+use Rattle.metric_breakdown.proofs.fan_out.gather.Given as goal
+
+-- the sums of the workers so far
+abbrev pub invariant-loop-worker : goal.invariant-loop-worker
+invariant-loop-worker l = HaveSums l.plan l.readings (length l.workers) (turns_for l.plan (length l.workers)) l.worker-index l.sums

@@ -1,0 +1,123 @@
+// A worker, which simulates its share of the batches and adds up what they show.
+ghost use Rattle.std.specs.Prelude.{◌≡◌, ◌<◌, ◌≤◌, ◌+◌, ◌^◌, ℕ, [], IfOk, length, slice_index_or};
+ghost use Rattle.campaign_plan.specs.Analysis.{Analysis};
+ghost use Rattle.classifier.specs.Testbench.{IsTestbenchFor};
+ghost use Rattle.reading_planes.specs.Readings.{AreReadingsOf};
+ghost use Rattle.reading_planes.specs.Simulator.{IsSimulatorFor};
+ghost use Rattle.metric_breakdown.specs.Turns.{HasSums, ShowsBatch, batch_of_turn, turns_for};
+ghost use Rattle.metric_breakdown.specs.Work.{IsEquippedFor};
+
+use crate::share::{Share, WORDS, rounds};
+use crate::sums::{add_turn, no_sums};
+use campaign_plan::Plan;
+use classifier::Testbench;
+use metric_sums::Sums;
+use reading_planes::{Reading, ReadingSimulator};
+use std::alloc::{AllocError, Global};
+
+/// What a worker simulates with, and its sums by each reading.
+#[derive(Drop)]
+pub(crate) struct Worker {
+    pub(crate) simulator: ReadingSimulator,
+    pub(crate) sums: Vec<Sums>,
+}
+
+impl Worker {
+    /// A worker for these readings, with nothing added up yet.
+    pub(crate) fn new(
+        alloc: Global,
+        bench: &Testbench<'_>,
+        readings: &[Reading],
+    ) -> Result<Self, AllocError>
+        ensures { IfOk result (λ worker. (p : Analysis) → IsEquippedFor p bench.now readings.now worker) }
+    {
+        let simulator = ReadingSimulator::new(alloc, bench, readings)?;
+        let sums = no_sums(alloc, readings.len())?;
+        Ok(Worker { simulator, sums })
+    }
+}
+
+// Simulates the batches of four turns.
+fn simulate(
+    plan: &Plan,
+    bench: &Testbench<'_>,
+    readings: &[Reading],
+    share: Share,
+    turn: u32,
+    simulator: &mut ReadingSimulator,
+)
+    requires bench { IsTestbenchFor plan.now bench.now }
+    requires readings { AreReadingsOf plan.now.points readings.now }
+    requires turn { turn + 4 < 2 ^ 23 }
+    requires workers { (share.number < share.workers) × (share.workers ≤ 32) }
+    requires made { IsSimulatorFor bench.now readings.now simulator.old }
+    ensures made { IsSimulatorFor bench.now readings.now simulator.new }
+    ensures shown { (word : ℕ) → word < 4 → ShowsBatch plan.now readings.now (batch_of_turn share (turn + word)) (slice_index_or simulator.new.planes.items word []) }
+{
+    let ftti = plan.settings().ftti;
+    let first = share.batch(turn);
+    simulator.batches(bench, ftti, readings, plan.faults(), first, share.workers);
+}
+
+// Adds what the batches of four turns show by each reading.
+fn add_turns(
+    plan: &Plan,
+    readings: &[Reading],
+    share: Share,
+    turn: u32,
+    simulator: &ReadingSimulator,
+    sums: &mut [Sums],
+)
+    requires turn { turn + 4 < 2 ^ 23 }
+    requires workers { (share.number < share.workers) × (share.workers ≤ 32) }
+    requires words { length simulator.now.planes.items ≡ 4 }
+    requires shown { (word : ℕ) → word < 4 → ShowsBatch plan.now readings.now (batch_of_turn share (turn + word)) (slice_index_or simulator.now.planes.items word []) }
+    requires sums { HasSums plan.now readings.now share turn sums.old }
+    ensures { HasSums plan.now readings.now share (turn + 4) sums.new }
+{
+    for word in 0..WORDS {
+        let found = simulator.planes(word);
+        add_turn(plan, readings, share, turn + word, found, sums);
+    }
+}
+
+// Simulates all batches of a share, four at once, and adds up what they show by each reading.
+fn add_share(
+    plan: &Plan,
+    bench: &Testbench<'_>,
+    readings: &[Reading],
+    share: Share,
+    simulator: &mut ReadingSimulator,
+    sums: &mut [Sums],
+)
+    requires bench { IsTestbenchFor plan.now bench.now }
+    requires readings { AreReadingsOf plan.now.points readings.now }
+    requires workers { (share.number < share.workers) × (share.workers ≤ 32) }
+    requires made { IsSimulatorFor bench.now readings.now simulator.old }
+    requires sums { HasSums plan.now readings.now share 0 sums.old }
+    ensures { HasSums plan.now readings.now share (turns_for plan.now share.workers) sums.new }
+{
+    for round in 0..rounds(plan, share.workers) {
+        let turn = WORDS * round;
+        simulate(plan, bench, readings, share, turn, simulator);
+        add_turns(plan, readings, share, turn, simulator, sums);
+    }
+}
+
+/// Does the work of one of so many workers.
+pub(crate) fn work(
+    plan: &Plan,
+    bench: &Testbench<'_>,
+    readings: &[Reading],
+    share: Share,
+    worker: &mut Worker,
+)
+    requires bench { IsTestbenchFor plan.now bench.now }
+    requires readings { AreReadingsOf plan.now.points readings.now }
+    requires workers { (share.number < share.workers) × (share.workers ≤ 32) }
+    requires equipped { IsEquippedFor plan.now bench.now readings.now worker.old }
+    ensures { HasSums plan.now readings.now share (turns_for plan.now share.workers) worker.new.sums.items }
+{
+    let sums = worker.sums.as_mut_slice();
+    add_share(plan, bench, readings, share, &mut worker.simulator, sums);
+}

@@ -1,0 +1,23 @@
+use Rattle.std.proofs.Common.{◌≡◌, ◌+◌, ◌<◌, ◌&&◌, ℕ, not, take}
+use Rattle.std.specs.List.{list_any}
+use Rattle.circuit.specs.declared.parts.NetId.{NetId}
+use Rattle.workload.specs.declared.run.Run.{Run}
+use Rattle.workload.specs.Runs.{cycles_of}
+use Rattle.campaign_plan.specs.Danger.{golden, with_faults}
+use Rattle.fm_base.specs.Planes.{bit}
+use Rattle.row_audit.proofs.points.alarms_in.Given as goal
+
+-- the lanes in which some alarm so far is raised, and those in which some is silenced
+abbrev pub invariant-loop-net : goal.invariant-loop-net
+invariant-loop-net g l = record {
+  raised : (run : Run) (t k : ℕ) → t < cycles_of run → g.B.Circuits.IsAfter l.circuits (take (t + 1) run.vectors) → k < 64
+      → bit l.found.raised k
+      ≡ list_any (λ (net : NetId).
+      with_faults (g.B.Circuits.loaded l.circuits).circuit ((g.B.Circuits.loaded l.circuits).faults l.word k) run t net && not (golden (g.B.Circuits.loaded l.circuits).circuit run t net))
+      (take l.net-index l.nets);
+  silenced : (run : Run) (t k : ℕ) → t < cycles_of run → g.B.Circuits.IsAfter l.circuits (take (t + 1) run.vectors) → k < 64
+      → bit l.found.silenced k
+      ≡ list_any (λ (net : NetId).
+      not (with_faults (g.B.Circuits.loaded l.circuits).circuit ((g.B.Circuits.loaded l.circuits).faults l.word k) run t net) && golden (g.B.Circuits.loaded l.circuits).circuit run t net)
+      (take l.net-index l.nets);
+}

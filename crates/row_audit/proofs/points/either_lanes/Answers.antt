@@ -1,0 +1,5 @@
+use Rattle.alarm_points.proofs.Planes.{bit_of_or}
+use Rattle.row_audit.proofs.points.either_lanes.Goals as goal
+
+pub returns : goal.returns
+returns c = λ k. bit_of_or c.args.a c.args.b k

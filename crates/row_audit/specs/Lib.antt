@@ -1,0 +1,5 @@
+pub mod Audited
+pub mod Laws
+pub mod Loaded
+pub mod Alone
+pub mod Watched

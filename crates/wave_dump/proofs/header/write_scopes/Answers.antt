@@ -1,0 +1,17 @@
+use Rattle.std.proofs.Common.{arith}
+use Rattle.std.proofs.lemmas.Result.{err_from_is_err_and}
+use Rattle.fmeda_report.proofs.Sending.{sends_no_number, sends_number, sends_number_torn}
+use Rattle.wave_dump.specs.Dump.{declared_scope}
+use Rattle.wave_dump.proofs.header.write_scopes.Goals as goal
+
+pub loop-scope-init : goal.loop-scope-init
+loop-scope-init g c = sends_no_number (declared_scope c.args.scene.now) _
+
+pub loop-scope-preserved : goal.loop-scope-preserved
+loop-scope-preserved g c =
+    sends_number (declared_scope c.args.scene.now) c.loop-scope.scope c.loop-scope.invariant c.in_ok-write_scope.ensures
+
+pub returns-in_err-write_scope : goal.returns-in_err-write_scope
+returns-in_err-write_scope g c =
+    let p = err_from_is_err_and c.from_residual.result c.from_residual.ensures.1 in
+    rw p.1 (sends_number_torn (declared_scope c.args.scene.now) _ c.loop-scope.scope p.0 (omega (arith, c.loop-scope-test.true, c.scopes-scope-end.ensures)) c.loop-scope.invariant c.in_err-write_scope.ensures)

@@ -1,0 +1,4 @@
+pub mod Dump
+pub mod Asked
+pub mod Laws
+pub mod Steps

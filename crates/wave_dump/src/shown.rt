@@ -1,0 +1,73 @@
+// The nets that are shown.
+ghost use Rattle.std.specs.Prelude.{◌≡◌, ◌≤◌, ◌^◌, IfOk, false, filter, length, map, slice_index_or};
+ghost use Rattle.circuit.specs.Order.{IsOrder};
+ghost use Rattle.circuit.specs.Sound.{IsNetlist};
+ghost use Rattle.fm_base.specs.Lists.{below};
+ghost use Rattle.rate_table.specs.Table.{matches};
+ghost use Rattle.wave_dump.specs.Asked.{nets_shown as shown_by, name_pattern};
+ghost use Rattle.wave_dump.specs.Steps.{MarksShown};
+
+use crate::changed::changed_nets;
+use crate::named::{is_all, is_differing, is_match};
+use crate::scene::Scene;
+use circuit::netlist::Netlist;
+use netlist_levels::Order;
+use std::alloc::{AllocError, Global};
+
+// For each net whether a pattern matches its name.
+fn matching_nets(alloc: Global, net: &Netlist, pattern: &[u8]) -> Result<Vec<bool>, AllocError>
+    ensures marks { IfOk result (λ marks. marks.items ≡ map (matches (name_pattern pattern.now)) net.now.names) }
+    ensures sound { IsNetlist net.now }
+{
+    net.names()
+        .iter()
+        .map(|name| is_match(pattern, name.as_slice()))
+        .collect(alloc)
+}
+
+// For each net whether it is shown.
+fn shown_marks(
+    alloc: Global,
+    scene: &Scene<'_>,
+    order: &Order,
+    word: &[u8],
+) -> Result<Vec<bool>, AllocError>
+    requires { IsOrder scene.now.circuit order.now }
+    ensures { IfOk result (λ marks. MarksShown scene.now word.now marks.items) }
+{
+    if is_all(scene.fault(), word) {
+        vec![in alloc; true; scene.netlist().nets()]
+    } else if is_differing(scene.fault(), word) {
+        changed_nets(alloc, scene, order)
+    } else {
+        matching_nets(alloc, scene.netlist(), word)
+    }
+}
+
+// The numbers of the marked nets.
+fn marked(alloc: Global, marks: &[bool]) -> Result<Vec<u32>, AllocError>
+    requires { length marks.now ≤ 2 ^ 18 }
+    ensures { IfOk result (λ nets. nets.items ≡ filter (λ n. slice_index_or marks.now n false) (below (length marks.now))) }
+{
+    let mut nets = Vec::new(alloc);
+    for (n, is_marked) in marks.iter().enumerate() {
+        if *is_marked {
+            nets.push(n as u32)?;
+        }
+    }
+    Ok(nets)
+}
+
+/// The nets that are shown of this run and with this fault.
+pub(crate) fn nets_shown(
+    alloc: Global,
+    scene: &Scene<'_>,
+    order: &Order,
+    word: &[u8],
+) -> Result<Vec<u32>, AllocError>
+    requires { IsOrder scene.now.circuit order.now }
+    ensures { IfOk result (λ nets. nets.items ≡ shown_by scene.now.circuit scene.now.run scene.now.fault word.now) }
+{
+    let marks = shown_marks(alloc, scene, order, word)?;
+    marked(alloc, &marks)
+}
