@@ -1,6 +1,6 @@
 -- Words are one command at most.
-use Rattle.std.proofs.Common.{◌≡◌, ◌∙◌, ℕ, List, [], sym, refl, ap, subst, Option, codes}
-use Rattle.std.specs.Prelude.{bytes_eq, false}
+use Rattle.std.proofs.Common.{◌≡◌, ◌∙◌, ℕ, List, [], sym, refl, ap, subst, Option, arith, codes}
+use Rattle.std.specs.Prelude.{Some, bytes_eq, false, find}
 use Rattle.fm_base.proofs.Distinct.{is_same}
 use Rattle.fm_base.proofs.Tests.{clash}
 use Rattle.clap.specs.Words.{Row, Text, subcommand_of}
@@ -8,13 +8,15 @@ use Rattle.campaign_plan.specs.declared.Settings.{Settings}
 use Rattle.metric_sums.specs.declared.Asil.{Asil}
 use Rattle.metric_sums.specs.declared.Asil.TheVariants.{B, C, D}
 use Rattle.fmeda_report.specs.Words.{asil_word}
-use Rattle.command_line.specs.declared.command.Task.{Task}
-use Rattle.command_line.specs.declared.command.Task.TheVariants as task
-use Rattle.command_line.specs.Commands.{Command}
-use Rattle.command_line.specs.Words.{text_or, HasNumber, HasOwn, HasSettings, IsCommand, Says}
+use Rattle.commands.specs.declared.command.AuditBy.{AuditBy}
+use Rattle.commands.specs.declared.command.AuditBy.TheVariants.{Lanes, Alone}
+use Rattle.commands.specs.declared.command.Task.{Task}
+use Rattle.commands.specs.declared.command.Task.TheVariants as task
+use Rattle.commands.specs.Commands.{Command}
+use Rattle.command_line.specs.Words.{alone_word, text_or, HasNumber, HasOwn, HasSettings, IsCommand, Says}
 use Rattle.command_line.specs.WordsSteps.{IsMet}
-use Rattle.command_line.specs.Table.{fmeda_app, word_of}
-use Rattle.command_line.proofs.CycleLists.{same_cycles}
+use Rattle.command_line.specs.Table.{fmeda_app, tasks, word_of}
+use Rattle.command_line.proofs.CycleLists.{same_cycles, same_numbers}
 use Rattle.command_line.proofs.Numbers.{same_number}
 use Rattle.std.proofs.lemmas.Option.{same_Some}
 
@@ -29,6 +31,33 @@ same_asil C C e = refl
 same_asil D D e = refl
 same_asil a b e = absurd (apart (asil_word a) (asil_word b) refl e)
 
+-- a manner of an audit has a word of its own
+same_manner : (a b : AuditBy) → alone_word a ≡ alone_word b → a ≡ b
+same_manner Lanes Lanes e = refl
+same_manner Alone Alone e = refl
+same_manner a b e = absurd (apart (alone_word a) (alone_word b) refl e)
+
+-- a task without what is its own
+abbrev plain : Task → Task
+plain (task.Run n) = task.Run 0
+plain (task.Resume n) = task.Resume 0
+plain (task.Audit n by) = task.Audit 0 Lanes
+plain (task.Gen k n) = task.Gen 0 0
+plain (task.Shard k n) = task.Shard 0 0
+plain (task.Pairs n) = task.Pairs 0
+plain (task.Breakdown ns n) = task.Breakdown [] 0
+plain (task.Latencies n) = task.Latencies 0
+plain (task.Trace n f ns) = task.Trace 0 [] []
+plain other = other
+
+-- which the table has in one place alone, by its word
+found : (own : Task) → find (λ t. bytes_eq (word_of t) (word_of own)) tasks ≡ Some (plain own)
+found task.Classes = refl
+found own = refl
+
+same_plain : (a b : Task) → word_of a ≡ word_of b → plain a ≡ plain b
+same_plain a b e = same_Some (plain a) (plain b) (sym (found a) ∙ ap (λ word. find (λ t. bytes_eq (word_of t) word) tasks) e ∙ found b)
+
 module _ (rows : List Row) where
   same_settings : (a b : Settings) → HasSettings rows a → HasSettings rows b → a ≡ b
   same_settings a b p q =
@@ -41,28 +70,39 @@ module _ (rows : List Row) where
   same_workers : (a b : ℕ) → HasNumber rows [] (codes "workers") 1 32 a → HasNumber rows [] (codes "workers") 1 32 b → a ≡ b
   same_workers = same_number rows [] (codes "workers") 1 32
 
-  -- one task of a word is said
-  pub same_task : (a b : Task) → word_of a ≡ word_of b → HasOwn rows a → HasOwn rows b → a ≡ b
-  same_task task.Classes task.Classes e p q = refl
-  same_task task.Check task.Check e p q = refl
-  same_task (task.Run n) (task.Run m) e p q = ap task.Run (same_workers n m p q)
-  same_task (task.Resume n) (task.Resume m) e p q = ap task.Resume (same_workers n m p q)
-  same_task task.Audit task.Audit e p q = refl
-  same_task (task.Gen k n) (task.Gen l m) e p q =
+  -- one task of each is said
+  same_own : (a b : Task) → plain a ≡ plain b → HasOwn rows a → HasOwn rows b → a ≡ b
+  same_own (task.Run n) (task.Run m) e p q = ap task.Run (same_workers n m p q)
+  same_own (task.Resume n) (task.Resume m) e p q = ap task.Resume (same_workers n m p q)
+  same_own (task.Audit n by) (task.Audit m other) e p q =
+      let every : n ≡ m = same_number rows [] (codes "every") 1 16384 n m p.0 q.0 in
+      let manner : by ≡ other = same_manner by other (sym p.1 ∙ q.1) in
+      λ i. task.Audit (every i) (manner i)
+  same_own (task.Gen k n) (task.Gen l m) e p q =
       let stages : k ≡ l = same_number rows [] (codes "stages") 1 1000 k l p.0 q.0 in
       let workers : n ≡ m = same_workers n m p.1 q.1 in
       λ i. task.Gen (stages i) (workers i)
-  same_task task.Report task.Report e p q = refl
-  same_task (task.Shard k n) (task.Shard l m) e p q =
+  same_own (task.Shard k n) (task.Shard l m) e p q =
       let part : k ≡ l = same_number rows [] (codes "part") 0 1023 k l p.0 q.0 in
       let parts : n ≡ m = same_number rows [] (codes "of") 1 1024 n m p.1 q.1 in
       λ i. task.Shard (part i) (parts i)
-  same_task task.Merge task.Merge e p q = refl
-  same_task (task.Pairs n) (task.Pairs m) e p q = ap task.Pairs (same_workers n m p q)
-  same_task task.Parts task.Parts e p q = refl
-  same_task task.Faults task.Faults e p q = refl
-  same_task task.Progress task.Progress e p q = refl
-  same_task a b e p q = absurd (apart (word_of a) (word_of b) refl e)
+  same_own (task.Pairs n) (task.Pairs m) e p q = ap task.Pairs (same_workers n m p q)
+  same_own (task.Breakdown ks n) (task.Breakdown ls m) e p q =
+      let workers : n ≡ m = same_workers n m p.0 q.0 in
+      let intervals : ks ≡ ls = same_numbers 4096 (omega arith) 16 (text_or rows (codes "none") (codes "intervals")) ks ls (p.1, p.2) (q.1, q.2) in
+      λ i. task.Breakdown (intervals i) (workers i)
+  same_own (task.Latencies n) (task.Latencies m) e p q = ap task.Latencies (same_workers n m p q)
+  same_own (task.Trace n f ns) (task.Trace m g ms) e p q =
+      let run : n ≡ m = same_number rows [] (codes "run") 1 65536 n m p.0 q.0 in
+      let fault : f ≡ g = sym p.1 ∙ q.1 in
+      let nets : ns ≡ ms = sym p.2 ∙ q.2 in
+      λ i. task.Trace (run i) (fault i) (nets i)
+  same_own a (task.Run m) e p q = cc
+  same_own a b e p q = cc
+
+  -- one task of a word is said
+  pub same_task : (a b : Task) → word_of a ≡ word_of b → HasOwn rows a → HasOwn rows b → a ≡ b
+  same_task a b e p q = same_own a b (same_plain a b e) p q
 
   -- one command of a word is said
   same_said : (a b : Command) → word_of a.task ≡ word_of b.task → Says rows a → Says rows b → a ≡ b

@@ -6,7 +6,7 @@ use Rattle.std.proofs.lemmas.Option.{same_Some}
 use Rattle.fm_base.proofs.Distinct.{same_name}
 use Rattle.fm_base.proofs.Tests.{and_both, and_not, false_of, not_false, not_true}
 use Rattle.clap.specs.Words.{Text}
-use Rattle.command_line.specs.declared.command.Which.{Which}
+use Rattle.commands.specs.declared.command.Which.{Which}
 use Rattle.command_line.proofs.Alone.{apart}
 
 module _ (files : Which → Text) (found : Option Text) where

@@ -1,14 +1,18 @@
 -- Where the number of workers can't be read, the words are no task that has it.
 use Rattle.std.proofs.Common.{◌≡◌, ◌∙◌, ℕ, List, [], refl, codes, sym}
 use Rattle.clap.specs.Words.{Row, Text}
-use Rattle.command_line.specs.declared.command.Task.{Task}
-use Rattle.command_line.specs.declared.command.Task.TheVariants as task
+use Rattle.commands.specs.declared.command.Task.{Task}
+use Rattle.commands.specs.declared.command.Task.TheVariants as task
 use Rattle.command_line.specs.Table.{word_of}
 use Rattle.command_line.specs.Words.{HasNumber}
 use Rattle.command_line.specs.WordsSteps.{IsTaskOf}
 use Rattle.command_line.proofs.Alone.{apart}
 
 module _ (rows : List Row) (none : (workers : ℕ) → ¬ (HasNumber rows [] (codes "workers") 1 32 workers)) (word : Text) where
+  pub no_run : word ≡ codes "run" → (own : Task) → ¬ (IsTaskOf word rows own)
+  no_run e (task.Run workers) is = none workers is.1
+  no_run e other is = absurd (apart (codes "run") (word_of other) refl (sym e ∙ is.0))
+
   pub no_resume : word ≡ codes "resume" → (own : Task) → ¬ (IsTaskOf word rows own)
   no_resume e (task.Resume workers) is = none workers is.1
   no_resume e other is = absurd (apart (codes "resume") (word_of other) refl (sym e ∙ is.0))
@@ -16,3 +20,7 @@ module _ (rows : List Row) (none : (workers : ℕ) → ¬ (HasNumber rows [] (co
   pub no_pairs : word ≡ codes "pairs" → (own : Task) → ¬ (IsTaskOf word rows own)
   no_pairs e (task.Pairs workers) is = none workers is.1
   no_pairs e other is = absurd (apart (codes "pairs") (word_of other) refl (sym e ∙ is.0))
+
+  pub no_latencies : word ≡ codes "latencies" → (own : Task) → ¬ (IsTaskOf word rows own)
+  no_latencies e (task.Latencies workers) is = none workers is.1
+  no_latencies e other is = absurd (apart (codes "latencies") (word_of other) refl (sym e ∙ is.0))

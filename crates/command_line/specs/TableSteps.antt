@@ -1,8 +1,14 @@
 -- Shapes of private steps: the arguments and the commands of the table as the code adds them, one after the other.
-use Rattle.std.specs.Prelude.{ℕ, List, [], ◌∷◌, fold, take, codes, true, pos, Some}
-use Rattle.clap.specs.Words.{App, Rule, Text, new_app, new_rule, with_rule, with_subcommand}
+use Rattle.std.specs.declared.alloc.AllocError.{AllocError}
+use Rattle.std.specs.Prelude.{◌≡◌, ℕ, [], ◌∷◌, Result, Ok, Err, fold, codes, true, pos, Some}
+use Rattle.clap.specs.Simple.{on_top}
+use Rattle.clap.specs.Words.{App, Rule, Text, app_of, new_app, new_rule, with_rule, with_subcommand}
+use Rattle.clap.specs.declared.builder.action.ArgAction.TheVariants.{SetTrue}
+use Rattle.clap.specs.declared.builder.command.Command.{Command}
 use Rattle.clap.specs.declared.builder.value_parser.ValueParser.TheVariants as vp
-use Rattle.command_line.specs.Table.{commands}
+use Rattle.command_line.specs.declared.table.Argument.{Argument}
+use Rattle.command_line.specs.declared.table.Argument.TheVariants as argument
+use Rattle.command_line.specs.declared.table.Row.{Row}
 
 -- ---- arguments
 
@@ -22,110 +28,53 @@ required_option id = record (new_rule id) { long = Some id; required = true }
 abbrev pub bounded : Rule → ℕ → ℕ → Rule
 bounded rule low high = record rule { parser = Some (vp.Signed (pos low) (pos high)) }
 
--- `[--ftti F]`
-abbrev pub ftti_rule : Rule
-ftti_rule = bounded (option (codes "ftti") (codes "0")) 0 4096
+-- a flag
+abbrev pub flag : Text → Rule
+flag id = record (new_rule id) { long = Some id; action = Some SetTrue }
 
--- `[--asil LEVEL]`
-abbrev pub asil_rule : Rule
-asil_rule = option (codes "asil") (codes "D")
+-- an argument as `clap` states it
+abbrev pub rule_for : Argument → Rule
+rule_for argument.Netlist = positional (codes "netlist")
+rule_for argument.Workload = positional (codes "workload")
+rule_for argument.Rates = positional (codes "rates")
+rule_for argument.Points = positional (codes "points")
+rule_for argument.ResultFile = positional (codes "result")
+rule_for argument.First = positional (codes "first")
+rule_for argument.Second = positional (codes "second")
+rule_for argument.Stages = bounded (positional (codes "stages")) 1 1000
+rule_for argument.Ftti = bounded (option (codes "ftti") (codes "0")) 0 4096
+rule_for argument.Flips = option (codes "flips") (codes "none")
+rule_for argument.Pulses = option (codes "pulses") (codes "none")
+rule_for argument.Workers = bounded (option (codes "workers") (codes "1")) 1 32
+rule_for argument.Asil = option (codes "asil") (codes "D")
+rule_for argument.Part = bounded (required_option (codes "part")) 0 1023
+rule_for argument.Of = bounded (required_option (codes "of")) 1 1024
+rule_for argument.Every = bounded (option (codes "every") (codes "1")) 1 16384
+rule_for argument.Alone = flag (codes "alone")
+rule_for argument.Intervals = option (codes "intervals") (codes "none")
+rule_for argument.Run = bounded (option (codes "run") (codes "1")) 1 65536
+rule_for argument.Fault = option (codes "fault") []
+rule_for argument.Nets = option (codes "nets") []
 
--- `[--workers N]`
-abbrev pub workers_rule : Rule
-workers_rule = bounded (option (codes "workers") (codes "1")) 1 32
-
--- `NETLIST WORKLOAD RATES POINTS`
-abbrev pub input_rules : List Rule
-input_rules = positional (codes "netlist") ∷ positional (codes "workload") ∷ positional (codes "rates") ∷ positional (codes "points") ∷ []
-
--- `RESULT [--ftti F]`
-abbrev pub result_rules : List Rule
-result_rules = positional (codes "result") ∷ ftti_rule ∷ []
-
--- `[--flips LIST] [--pulses LIST]`
-abbrev pub list_rules : List Rule
-list_rules = option (codes "flips") (codes "none") ∷ option (codes "pulses") (codes "none") ∷ []
-
--- a command with these arguments, in this order
-abbrev pub with_rules : App → List Rule → App
-with_rules a rules = fold with_rule a rules
-
--- with `NETLIST WORKLOAD RATES POINTS RESULT [--ftti F] [--flips LIST] [--pulses LIST]`
-abbrev pub with_plan : App → App
-with_plan a = with_rules (with_rules (with_rules a input_rules) result_rules) list_rules
-
--- the same with `[--workers N] [--asil LEVEL]`
-abbrev pub with_campaign : App → App
-with_campaign a = with_rules (with_plan a) (workers_rule ∷ asil_rule ∷ [])
+-- a command with this argument behind its others
+abbrev pub with_argument : App → Argument → App
+with_argument a argument = with_rule a (rule_for argument)
 
 -- ---- commands
 
--- `classes NETLIST WORKLOAD`
-abbrev pub classes_app : App
-classes_app = with_rules (new_app (codes "classes")) (positional (codes "netlist") ∷ positional (codes "workload") ∷ [])
+-- the command of a row
+abbrev pub app_of_row : Row → App
+app_of_row row = fold with_argument (fold with_argument (new_app row.0.now) row.1.now) row.2.now
 
--- `check NETLIST WORKLOAD RATES POINTS [--flips LIST] [--pulses LIST]`
-abbrev pub check_app : App
-check_app = with_rules (with_rules (new_app (codes "check")) input_rules) list_rules
+-- a program with the command of this row behind its others
+abbrev pub with_row : App → Row → App
+with_row a row = with_subcommand a (app_of_row row).top
 
--- `run NETLIST WORKLOAD RATES POINTS RESULT [--ftti F] [--flips LIST] [--pulses LIST] [--workers N] [--asil LEVEL]`
-abbrev pub run_app : App
-run_app = with_campaign (new_app (codes "run"))
+-- the program without commands, of which one must be named
+abbrev pub named_app : App
+named_app = on_top (λ top. record top { subcommand_required = true }) (new_app (codes "fmeda"))
 
--- `resume`, with the same words as `run`
-abbrev pub resume_app : App
-resume_app = with_campaign (new_app (codes "resume"))
-
--- `audit NETLIST WORKLOAD RATES POINTS RESULT [--ftti F] [--flips LIST] [--pulses LIST]`
-abbrev pub audit_app : App
-audit_app = with_plan (new_app (codes "audit"))
-
--- `gen N RESULT [--workers N]`; the first N is the number of stages
-abbrev pub gen_app : App
-gen_app =
-    with_rules (new_app (codes "gen"))
-    (bounded (positional (codes "stages")) 1 1000 ∷ positional (codes "result") ∷ workers_rule ∷ [])
-
--- `report NETLIST WORKLOAD RATES POINTS [--ftti F] [--flips LIST] [--pulses LIST] [--asil LEVEL]`
-abbrev pub report_app : App
-report_app =
-    with_rules (with_rules (with_rules (with_rules (new_app (codes "report")) input_rules) (ftti_rule ∷ [])) list_rules)
-    (asil_rule ∷ [])
-
--- `shard NETLIST WORKLOAD RATES POINTS RESULT --part K --of M [--ftti F] [--flips LIST] [--pulses LIST]`
-abbrev pub shard_app : App
-shard_app =
-    with_rules (with_plan (new_app (codes "shard")))
-    (bounded (required_option (codes "part")) 0 1023 ∷ bounded (required_option (codes "of")) 1 1024 ∷ [])
-
--- `merge NETLIST WORKLOAD RATES POINTS RESULT FIRST SECOND [--ftti F] [--flips LIST] [--pulses LIST]`
-abbrev pub merge_app : App
-merge_app = with_rules (with_plan (new_app (codes "merge"))) (positional (codes "first") ∷ positional (codes "second") ∷ [])
-
--- `pairs NETLIST WORKLOAD RATES POINTS RESULT [--ftti F] [--flips LIST] [--pulses LIST] [--workers N]`
-abbrev pub pairs_app : App
-pairs_app = with_rules (with_plan (new_app (codes "pairs"))) (workers_rule ∷ [])
-
--- `parts NETLIST RATES`
-abbrev pub parts_app : App
-parts_app = with_rules (new_app (codes "parts")) (positional (codes "netlist") ∷ positional (codes "rates") ∷ [])
-
--- `faults NETLIST WORKLOAD RATES POINTS RESULT [--ftti F] [--flips LIST] [--pulses LIST]`
-abbrev pub faults_app : App
-faults_app = with_plan (new_app (codes "faults"))
-
--- `progress`, with the same words and `[--asil LEVEL]`
-abbrev pub progress_app : App
-progress_app = with_rules (with_plan (new_app (codes "progress"))) (asil_rule ∷ [])
-
--- ---- the program
-
--- one command must be named
-abbrev pub with_required : App → App
-with_required a = record a { top = record a.top { subcommand_required = true } }
-
--- the program with so many of its commands, in the order of the table
-abbrev pub program_with : ℕ → App
-program_with count =
-    let program = with_required (new_app (codes "fmeda")) in
-    fold (λ app row. with_subcommand app (with_rules (new_app row.0) row.1).top) program (take count commands)
+-- what was made is the program with this command behind its others, and there is none where the command is none
+abbrev pub HasCommandToo : Command → Result Command AllocError → Command → Type 0
+HasCommandToo program (Ok command) made = app_of made ≡ with_subcommand (app_of program) (app_of command).top
+HasCommandToo program (Err error) made = ⊥

@@ -9,15 +9,21 @@ use Rattle.fault_list.specs.Faults.{AreCycles}
 use Rattle.campaign_plan.specs.declared.Settings.{Settings}
 use Rattle.result_file.specs.ResultText.{cycles_text}
 use Rattle.fmeda_report.specs.Words.{asil_word}
-use Rattle.command_line.specs.declared.command.Task.{Task}
-use Rattle.command_line.specs.declared.command.Task.TheVariants as task
-use Rattle.command_line.specs.declared.command.Which.{Which}
-use Rattle.command_line.specs.Commands.{Command, by_file, inputs_of, kind_of}
+use Rattle.commands.specs.declared.command.AuditBy.{AuditBy}
+use Rattle.commands.specs.declared.command.AuditBy.TheVariants.{Lanes, Alone}
+use Rattle.commands.specs.declared.command.Task.{Task}
+use Rattle.commands.specs.declared.command.Task.TheVariants as task
+use Rattle.commands.specs.declared.command.Which.{Which}
+use Rattle.commands.specs.Commands.{AreRising, Command, by_file, inputs_of, kind_of}
 use Rattle.command_line.specs.Table.{fmeda_app, word_of}
 
 -- the argument that names a file
 abbrev pub file_word : Which → Text
 file_word = by_file (codes "netlist") (codes "workload") (codes "rates") (codes "points") (codes "result") (codes "first") (codes "second")
+
+-- whether `--alone` is given
+abbrev pub alone_word : AuditBy → Text
+alone_word by = elim by [ Lanes ↦ codes "false" | Alone ↦ codes "true" ]
 
 -- ---- what stands behind a command's word: rows are the arguments there, with what `clap` finds for each
 
@@ -48,9 +54,13 @@ module _ (rows : List Row) where
       elim own [
         | task.Run workers ↦ HasWorkers workers
         | task.Resume workers ↦ HasWorkers workers
+        | task.Audit every by ↦ HasNumber [] (codes "every") 1 16384 every × (text_or (codes "false") (codes "alone") ≡ alone_word by)
         | task.Gen stages workers ↦ HasNumber [] (codes "stages") 1 1000 stages × HasWorkers workers
         | task.Shard part parts ↦ HasNumber [] (codes "part") 0 1023 part × HasNumber [] (codes "of") 1 1024 parts × (part < parts)
         | task.Pairs workers ↦ HasWorkers workers
+        | task.Breakdown intervals workers ↦ HasWorkers workers × (text_or (codes "none") (codes "intervals") ≡ cycles_text intervals) × AreRising 16 4096 intervals
+        | task.Latencies workers ↦ HasWorkers workers
+        | task.Trace run fault nets ↦ HasNumber [] (codes "run") 1 65536 run × (text_or [] (codes "fault") ≡ fault) × (text_or [] (codes "nets") ≡ nets)
         | _ ↦ Unit {0}
       ]
 

@@ -2,13 +2,13 @@
 use Rattle.std.specs.Prelude.{◌≡◌, ◌≢◌, List, [], Option, Some, Result, Ok, Err, MatchOption, codes}
 use Rattle.std.specs.List.{AllByRecursion as ForEach}
 use Rattle.clap.specs.Words.{Row, Text, first_of}
-use Rattle.command_line.specs.declared.command.Asked.{Asked}
-use Rattle.command_line.specs.declared.command.Kind.{Kind}
-use Rattle.command_line.specs.declared.command.Task.{Task}
-use Rattle.command_line.specs.declared.command.Which.{Which}
+use Rattle.commands.specs.declared.command.Asked.{Asked}
+use Rattle.commands.specs.declared.command.Kind.{Kind}
+use Rattle.commands.specs.declared.command.Task.{Task}
+use Rattle.commands.specs.declared.command.Which.{Which}
 use Rattle.command_line.specs.declared.read.WordsRefusal.{WordsRefusal}
 use Rattle.command_line.specs.declared.read.WordsRefusal.TheVariants.{Usage, Memory}
-use Rattle.command_line.specs.Commands.{Command, inputs_of, told_by}
+use Rattle.commands.specs.Commands.{Command, inputs_of, told_by}
 use Rattle.command_line.specs.Table.{word_of}
 use Rattle.command_line.specs.Words.{file_word, text_or, HasOwn, Says}
 

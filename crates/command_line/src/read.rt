@@ -1,17 +1,17 @@
 // What the words ask for.
 ghost use Rattle.std.specs.Prelude.{◌≡◌, ◌≢◌, IfOk, MatchResult, map, string_bytes};
 ghost use Rattle.clap.specs.Words.{found_of, rows_of, subcommand_rows_of};
-ghost use Rattle.command_line.specs.Commands.{told_by, IsFit};
+ghost use Rattle.commands.specs.Commands.{told_by, IsFit};
 ghost use Rattle.command_line.specs.Words.{IsAlone, IsCommand};
 ghost use Rattle.command_line.specs.Asks.{IsWordsRefusal};
 ghost use Rattle.command_line.specs.WordsSteps.{AsksMet, IsCommandOfWord};
 ghost use Rattle.command_line.specs.declared.read.WordsRefusal.TheVariants.{Memory};
 
-use crate::command::Asked;
 use crate::entries::{is_apart, names_of, settings_of};
 use crate::table::{fmeda_command, task_of};
 use clap::ArgMatches;
 use clap::error::ErrorKind;
+use commands::Asked;
 use std::alloc::{AllocError, Global};
 
 /// Why there is no command.
@@ -38,19 +38,26 @@ fn command_of<'a>(
 ) -> Result<Asked<'a>, WordsRefusal>
     ensures { IsCommandOfWord word.now (rows_of (found_of matches.now)) result }
 {
-    let Some(task) = task_of(word, matches) else {
-        return Err(WordsRefusal::Usage);
+    let settings = settings_of(alloc, matches)?;
+    let task = match task_of(alloc, word, matches) {
+        Ok(task) => task,
+        Err(refusal) => {
+            drop(settings);
+            return Err(refusal);
+        }
     };
     let names = names_of(matches);
-    if !is_apart(matches, &names, task.kind()) {
-        return Err(WordsRefusal::Usage);
+    if is_apart(matches, &names, task.kind()) {
+        Ok(Asked {
+            names,
+            settings,
+            task,
+        })
+    } else {
+        drop(settings);
+        drop(task);
+        Err(WordsRefusal::Usage)
     }
-    let settings = settings_of(alloc, matches)?;
-    Ok(Asked {
-        names,
-        settings,
-        task,
-    })
 }
 
 // What the subcommand that was met asks for.

@@ -1,17 +1,62 @@
 // The table of commands.
-ghost use Rattle.std.specs.Prelude.{◌≡◌, ◌∷◌, [], IfOk, codes, false};
-ghost use Rattle.clap.specs.Words.{app_of, found_of, new_app, rows_of, rule_of};
+ghost use Rattle.std.specs.Prelude.{◌≡◌, ◌≢◌, [], IfOk, codes, false, fold};
+ghost use Rattle.clap.specs.Words.{app_of, found_of, rows_of, rule_of};
 ghost use Rattle.clap.specs.declared.builder.command.Command.TheViews.{out-Command};
-ghost use Rattle.command_line.specs.OneMore.{HasCommandToo};
-ghost use Rattle.command_line.specs.TableSteps.{asil_rule, bounded, check_app, classes_app, faults_app, ftti_rule, gen_app, input_rules, list_rules, merge_app, option, pairs_app, parts_app, positional, program_with, progress_app, report_app, required_option, result_rules, shard_app, with_campaign, with_plan, with_rules, workers_rule};
+ghost use Rattle.command_line.specs.TableSteps.{HasCommandToo, app_of_row, bounded, flag, named_app, option, positional, required_option, rule_for, with_argument, with_row};
 ghost use Rattle.command_line.specs.Table.{fmeda_app};
 ghost use Rattle.command_line.specs.Words.{HasNumber};
-ghost use Rattle.command_line.specs.WordsSteps.{Finds, IsTaskOf};
+ghost use Rattle.command_line.specs.WordsSteps.{Finds, IsRead, IsTaskOf};
 
-use crate::command::Task;
-use crate::entries::number_of;
-use clap::{Arg, ArgMatches, Command, value_parser};
+use crate::cycles::read_numbers;
+use crate::entries::{manner_of, number_of, text_of};
+use crate::read::WordsRefusal;
+use Argument::{
+    Alone, Asil, Every, Fault, First, Flips, Ftti, Intervals, Netlist, Nets, Of, Part, Points,
+    Pulses, Rates, ResultFile, Run, Second, Stages, Workers, Workload,
+};
+use clap::{Arg, ArgAction, ArgMatches, Command, value_parser};
+use commands::Task;
+use fm_base::{Name, Seq};
 use std::alloc::{AllocError, Global};
+
+// An argument or an option of a command.
+#[derive(Clone, Copy)]
+enum Argument {
+    Netlist,
+    Workload,
+    Rates,
+    Points,
+    ResultFile,
+    First,
+    Second,
+    Stages,
+    Ftti,
+    Flips,
+    Pulses,
+    Workers,
+    Asil,
+    Part,
+    Of,
+    Every,
+    Alone,
+    Intervals,
+    Run,
+    Fault,
+    Nets,
+}
+
+const MOST_INTERVALS: usize = 16;
+
+const LAST_INTERVAL: u32 = 4096;
+
+// The word of a command, the arguments that it shares with others, and its own behind them.
+struct Row(&'static str, &'static [Argument], &'static [Argument]);
+
+const INPUTS: &[Argument] = &[Netlist, Workload, Rates, Points];
+
+const PLAN: &[Argument] = &[
+    Netlist, Workload, Rates, Points, ResultFile, Ftti, Flips, Pulses,
+];
 
 fn named_arg<'a>(alloc: Global, id: &'a str) -> Arg<'a>
     ensures rule { rule_of result ≡ positional id.entry.now }
@@ -34,178 +79,100 @@ fn required_arg<'a>(alloc: Global, id: &'a str) -> Arg<'a>
     Arg::new(alloc, id).long(id).required(true)
 }
 
-fn part_arg<'a>(alloc: Global) -> Arg<'a>
-    ensures rule { rule_of result ≡ bounded (required_option (codes "part")) 0 1023 }
+fn flag_arg<'a>(alloc: Global, id: &'a str) -> Arg<'a>
+    ensures rule { rule_of result ≡ flag id.entry.now }
     ensures local { result.global ≡ false }
 {
-    required_arg(alloc, "part").value_parser(value_parser!(u32).range(0..=1023))
+    Arg::new(alloc, id).long(id).action(ArgAction::SetTrue)
 }
 
-fn parts_arg<'a>(alloc: Global) -> Arg<'a>
-    ensures rule { rule_of result ≡ bounded (required_option (codes "of")) 1 1024 }
+// The argument as `clap` takes it.
+fn arg_of<'a>(alloc: Global, argument: Argument) -> Arg<'a>
+    ensures rule { rule_of result ≡ rule_for argument }
     ensures local { result.global ≡ false }
 {
-    required_arg(alloc, "of").value_parser(value_parser!(u32).range(1..=1024))
+    match argument {
+        Netlist => named_arg(alloc, "netlist"),
+        Workload => named_arg(alloc, "workload"),
+        Rates => named_arg(alloc, "rates"),
+        Points => named_arg(alloc, "points"),
+        ResultFile => named_arg(alloc, "result"),
+        First => named_arg(alloc, "first"),
+        Second => named_arg(alloc, "second"),
+        Stages => named_arg(alloc, "stages").value_parser(value_parser!(u32).range(1..=1000)),
+        Ftti => option_arg(alloc, "ftti", "0").value_parser(value_parser!(u32).range(0..=4096)),
+        Flips => option_arg(alloc, "flips", "none"),
+        Pulses => option_arg(alloc, "pulses", "none"),
+        Workers => option_arg(alloc, "workers", "1").value_parser(value_parser!(u32).range(1..=32)),
+        Asil => option_arg(alloc, "asil", "D"),
+        Part => required_arg(alloc, "part").value_parser(value_parser!(u32).range(0..=1023)),
+        Of => required_arg(alloc, "of").value_parser(value_parser!(u32).range(1..=1024)),
+        Every => option_arg(alloc, "every", "1").value_parser(value_parser!(u32).range(1..=16384)),
+        Alone => flag_arg(alloc, "alone"),
+        Intervals => option_arg(alloc, "intervals", "none"),
+        Run => option_arg(alloc, "run", "1").value_parser(value_parser!(u32).range(1..=65536)),
+        Fault => option_arg(alloc, "fault", ""),
+        Nets => option_arg(alloc, "nets", ""),
+    }
 }
 
-fn ftti_arg<'a>(alloc: Global) -> Arg<'a>
-    ensures rule { rule_of result ≡ ftti_rule }
-    ensures local { result.global ≡ false }
+// The rows of the table.
+fn command_rows() -> &'static [Row]
+    ensures { fold with_row named_app result.now ≡ fmeda_app }
 {
-    option_arg(alloc, "ftti", "0").value_parser(value_parser!(u32).range(0..=4096))
+    &[
+        Row("classes", &[], &[Netlist, Workload]),
+        Row("check", INPUTS, &[Flips, Pulses]),
+        Row("run", PLAN, &[Workers, Asil]),
+        Row("resume", PLAN, &[Workers, Asil]),
+        Row("audit", PLAN, &[Every, Alone]),
+        Row("gen", &[], &[Stages, ResultFile, Workers]),
+        Row("report", INPUTS, &[Ftti, Flips, Pulses, Asil]),
+        Row("shard", PLAN, &[Part, Of]),
+        Row("merge", PLAN, &[First, Second]),
+        Row("pairs", PLAN, &[Workers]),
+        Row("parts", &[], &[Netlist, Rates]),
+        Row("faults", PLAN, &[]),
+        Row("progress", PLAN, &[Asil]),
+        Row(
+            "breakdown",
+            INPUTS,
+            &[Ftti, Flips, Pulses, Asil, Intervals, Workers],
+        ),
+        Row("latencies", INPUTS, &[Ftti, Flips, Pulses, Asil, Workers]),
+        Row(
+            "trace",
+            &[Netlist, Workload],
+            &[Run, Fault, Flips, Pulses, Nets],
+        ),
+    ]
 }
 
-fn asil_arg<'a>(alloc: Global) -> Arg<'a>
-    ensures rule { rule_of result ≡ asil_rule }
-    ensures local { result.global ≡ false }
-{
-    option_arg(alloc, "asil", "D")
-}
-
-fn workers_arg<'a>(alloc: Global) -> Arg<'a>
-    ensures rule { rule_of result ≡ workers_rule }
-    ensures local { result.global ≡ false }
-{
-    option_arg(alloc, "workers", "1").value_parser(value_parser!(u32).range(1..=32))
-}
-
-fn stages_arg<'a>(alloc: Global) -> Arg<'a>
-    ensures rule { rule_of result ≡ bounded (positional (codes "stages")) 1 1000 }
-    ensures local { result.global ≡ false }
-{
-    named_arg(alloc, "stages").value_parser(value_parser!(u32).range(1..=1000))
-}
-
-fn classes_command<'a>(alloc: Global) -> Result<Command<'a>, AllocError>
-    ensures app { IfOk result (λ c. app_of c ≡ classes_app) }
-    ensures local { IfOk result (λ c. (out-Command c).has_globals ≡ false) }
-{
-    let netlist = named_arg(alloc, "netlist");
-    let workload = named_arg(alloc, "workload");
-    Command::new(alloc, "classes").arg(netlist)?.arg(workload)
-}
-
-// The four input files.
-fn with_inputs<'a>(alloc: Global, command: Command<'a>) -> Result<Command<'a>, AllocError>
+// The command with these arguments behind its others.
+fn with_arguments<'a>(
+    alloc: Global,
+    command: Command<'a>,
+    arguments: &[Argument],
+) -> Result<Command<'a>, AllocError>
     requires { (out-Command command).has_globals ≡ false }
-    ensures app { IfOk result (λ c. app_of c ≡ with_rules (app_of command.entry) input_rules) }
+    ensures app { IfOk result (λ c. app_of c ≡ fold with_argument (app_of command.entry) arguments.now) }
     ensures local { IfOk result (λ c. (out-Command c).has_globals ≡ false) }
 {
-    let command = command.arg(named_arg(alloc, "netlist"))?;
-    let command = command.arg(named_arg(alloc, "workload"))?;
-    let command = command.arg(named_arg(alloc, "rates"))?;
-    command.arg(named_arg(alloc, "points"))
+    let mut command = command;
+    for argument in arguments {
+        command = command.arg(arg_of(alloc, *argument))?;
+    }
+    Ok(command)
 }
 
-// The lists of cycles.
-fn with_lists<'a>(alloc: Global, command: Command<'a>) -> Result<Command<'a>, AllocError>
-    requires { (out-Command command).has_globals ≡ false }
-    ensures app { IfOk result (λ c. app_of c ≡ with_rules (app_of command.entry) list_rules) }
+// The command of a row.
+fn command_of<'a>(alloc: Global, row: &Row) -> Result<Command<'a>, AllocError>
+    ensures app { IfOk result (λ c. app_of c ≡ app_of_row row.now) }
     ensures local { IfOk result (λ c. (out-Command c).has_globals ≡ false) }
 {
-    let flips = option_arg(alloc, "flips", "none");
-    let pulses = option_arg(alloc, "pulses", "none");
-    command.arg(flips)?.arg(pulses)
-}
-
-fn check_command<'a>(alloc: Global) -> Result<Command<'a>, AllocError>
-    ensures app { IfOk result (λ c. app_of c ≡ check_app) }
-    ensures local { IfOk result (λ c. (out-Command c).has_globals ≡ false) }
-{
-    let command = with_inputs(alloc, Command::new(alloc, "check"))?;
-    with_lists(alloc, command)
-}
-
-// The result file, and the interval of goals without one of their own.
-fn with_result<'a>(alloc: Global, command: Command<'a>) -> Result<Command<'a>, AllocError>
-    requires { (out-Command command).has_globals ≡ false }
-    ensures app { IfOk result (λ c. app_of c ≡ with_rules (app_of command.entry) result_rules) }
-    ensures local { IfOk result (λ c. (out-Command c).has_globals ≡ false) }
-{
-    let result = named_arg(alloc, "result");
-    command.arg(result)?.arg(ftti_arg(alloc))
-}
-
-// What `audit` and campaigns are told alike.
-fn plan_command<'a>(alloc: Global, name: &'a str) -> Result<Command<'a>, AllocError>
-    ensures app { IfOk result (λ c. app_of c ≡ with_plan (new_app name.entry.now)) }
-    ensures local { IfOk result (λ c. (out-Command c).has_globals ≡ false) }
-{
-    let command = with_inputs(alloc, Command::new(alloc, name))?;
-    let command = with_result(alloc, command)?;
-    with_lists(alloc, command)
-}
-
-// `run` or `resume`.
-fn campaign_command<'a>(alloc: Global, name: &'a str) -> Result<Command<'a>, AllocError>
-    ensures app { IfOk result (λ c. app_of c ≡ with_campaign (new_app name.entry.now)) }
-    ensures local { IfOk result (λ c. (out-Command c).has_globals ≡ false) }
-{
-    let command = plan_command(alloc, name)?;
-    command.arg(workers_arg(alloc))?.arg(asil_arg(alloc))
-}
-
-fn gen_command<'a>(alloc: Global) -> Result<Command<'a>, AllocError>
-    ensures app { IfOk result (λ c. app_of c ≡ gen_app) }
-    ensures local { IfOk result (λ c. (out-Command c).has_globals ≡ false) }
-{
-    let result = named_arg(alloc, "result");
-    Command::new(alloc, "gen")
-        .arg(stages_arg(alloc))?
-        .arg(result)?
-        .arg(workers_arg(alloc))
-}
-
-fn report_command<'a>(alloc: Global) -> Result<Command<'a>, AllocError>
-    ensures app { IfOk result (λ c. app_of c ≡ report_app) }
-    ensures local { IfOk result (λ c. (out-Command c).has_globals ≡ false) }
-{
-    let command = with_inputs(alloc, Command::new(alloc, "report"))?;
-    let command = with_lists(alloc, command.arg(ftti_arg(alloc))?)?;
-    command.arg(asil_arg(alloc))
-}
-
-fn shard_command<'a>(alloc: Global) -> Result<Command<'a>, AllocError>
-    ensures app { IfOk result (λ c. app_of c ≡ shard_app) }
-    ensures local { IfOk result (λ c. (out-Command c).has_globals ≡ false) }
-{
-    let command = plan_command(alloc, "shard")?;
-    command.arg(part_arg(alloc))?.arg(parts_arg(alloc))
-}
-
-fn merge_command<'a>(alloc: Global) -> Result<Command<'a>, AllocError>
-    ensures app { IfOk result (λ c. app_of c ≡ merge_app) }
-    ensures local { IfOk result (λ c. (out-Command c).has_globals ≡ false) }
-{
-    let command = plan_command(alloc, "merge")?;
-    let first = named_arg(alloc, "first");
-    let second = named_arg(alloc, "second");
-    command.arg(first)?.arg(second)
-}
-
-fn pairs_command<'a>(alloc: Global) -> Result<Command<'a>, AllocError>
-    ensures app { IfOk result (λ c. app_of c ≡ pairs_app) }
-    ensures local { IfOk result (λ c. (out-Command c).has_globals ≡ false) }
-{
-    let command = plan_command(alloc, "pairs")?;
-    command.arg(workers_arg(alloc))
-}
-
-fn parts_command<'a>(alloc: Global) -> Result<Command<'a>, AllocError>
-    ensures app { IfOk result (λ c. app_of c ≡ parts_app) }
-    ensures local { IfOk result (λ c. (out-Command c).has_globals ≡ false) }
-{
-    let netlist = named_arg(alloc, "netlist");
-    let rates = named_arg(alloc, "rates");
-    Command::new(alloc, "parts").arg(netlist)?.arg(rates)
-}
-
-fn progress_command<'a>(alloc: Global) -> Result<Command<'a>, AllocError>
-    ensures app { IfOk result (λ c. app_of c ≡ progress_app) }
-    ensures local { IfOk result (λ c. (out-Command c).has_globals ≡ false) }
-{
-    let command = plan_command(alloc, "progress")?;
-    command.arg(asil_arg(alloc))
+    let Row(word, shared, own) = row;
+    let command = with_arguments(alloc, Command::new(alloc, word), shared)?;
+    with_arguments(alloc, command, own)
 }
 
 // The program with one command more, where that was made.
@@ -225,38 +192,16 @@ fn with_command<'a>(
     }
 }
 
-// The program with the commands of a whole campaign on one machine.
-fn campaign_program<'a>(alloc: Global) -> Result<Command<'a>, AllocError>
-    ensures { IfOk result (λ c. app_of c ≡ program_with 6) }
-{
-    let program = Command::new(alloc, "fmeda").subcommand_required(true);
-    let program = with_command(program, classes_command(alloc))?;
-    let program = with_command(program, check_command(alloc))?;
-    let program = with_command(program, campaign_command(alloc, "run"))?;
-    let program = with_command(program, campaign_command(alloc, "resume"))?;
-    let program = with_command(program, plan_command(alloc, "audit"))?;
-    with_command(program, gen_command(alloc))
-}
-
-// The same with those of a campaign in parts, of pairs, and of the report alone.
-fn shared_program<'a>(alloc: Global) -> Result<Command<'a>, AllocError>
-    ensures { IfOk result (λ c. app_of c ≡ program_with 10) }
-{
-    let program = campaign_program(alloc)?;
-    let program = with_command(program, report_command(alloc))?;
-    let program = with_command(program, shard_command(alloc))?;
-    let program = with_command(program, merge_command(alloc))?;
-    with_command(program, pairs_command(alloc))
-}
-
 /// The program with all its commands.
 pub(crate) fn fmeda_command<'a>(alloc: Global) -> Result<Command<'a>, AllocError>
     ensures { IfOk result (λ c. app_of c ≡ fmeda_app) }
 {
-    let program = shared_program(alloc)?;
-    let program = with_command(program, parts_command(alloc))?;
-    let program = with_command(program, plan_command(alloc, "faults"))?;
-    with_command(program, progress_command(alloc))
+    let rows = command_rows();
+    let mut program = Command::new(alloc, "fmeda").subcommand_required(true);
+    for row in rows {
+        program = with_command(program, command_of(alloc, row))?;
+    }
+    Ok(program)
 }
 
 fn workers_of(matches: &ArgMatches) -> Option<u32>
@@ -286,8 +231,18 @@ fn gen_of(matches: &ArgMatches) -> Option<Task>
     Some(Task::Gen { stages, workers })
 }
 
-/// What the command of this word does, by the arguments behind it.
-pub(crate) fn task_of(word: &str, matches: &ArgMatches) -> Option<Task>
+fn audit_of(matches: &ArgMatches) -> Option<Task>
+    ensures { Finds (IsTaskOf (codes "audit") (rows_of (found_of matches.now))) result }
+{
+    let every = number_of(matches, "every", "", 1, 16384)?;
+    let by = manner_of(text_of(matches, "alone", "false"))?;
+    Some(Task::Audit { every, by })
+}
+
+// The task of this word where it has neither lists nor texts of its own.
+fn plain_task_of(word: &str, matches: &ArgMatches) -> Option<Task>
+    requires lists { word.now ≢ codes "breakdown" }
+    requires texts { word.now ≢ codes "trace" }
     ensures { Finds (IsTaskOf word.now (rows_of (found_of matches.now))) result }
 {
     match word {
@@ -299,7 +254,7 @@ pub(crate) fn task_of(word: &str, matches: &ArgMatches) -> Option<Task>
         "resume" => Some(Task::Resume {
             workers: workers_of(matches)?,
         }),
-        "audit" => Some(Task::Audit),
+        "audit" => audit_of(matches),
         "gen" => gen_of(matches),
         "report" => Some(Task::Report),
         "shard" => shard_of(matches),
@@ -310,6 +265,53 @@ pub(crate) fn task_of(word: &str, matches: &ArgMatches) -> Option<Task>
         "parts" => Some(Task::Parts),
         "faults" => Some(Task::Faults),
         "progress" => Some(Task::Progress),
+        "latencies" => Some(Task::Latencies {
+            workers: workers_of(matches)?,
+        }),
         _ => None,
+    }
+}
+
+fn breakdown_of(alloc: Global, matches: &ArgMatches) -> Result<Task, WordsRefusal>
+    ensures { IsRead (IsTaskOf (codes "breakdown") (rows_of (found_of matches.now))) result }
+{
+    let Some(workers) = workers_of(matches) else {
+        return Err(WordsRefusal::Usage);
+    };
+    let intervals = read_numbers(
+        alloc,
+        text_of(matches, "intervals", "none"),
+        MOST_INTERVALS,
+        LAST_INTERVAL,
+    )?;
+    Ok(Task::Breakdown { intervals, workers })
+}
+
+// The bytes of a text.
+fn name_of(alloc: Global, text: &str) -> Result<Name, AllocError>
+    ensures { IfOk result (λ name. name ≡ text.now) }
+{
+    Ok(Seq::from_vec(Vec::from_slice(alloc, text.as_bytes())?))
+}
+
+fn trace_of(alloc: Global, matches: &ArgMatches) -> Result<Task, WordsRefusal>
+    ensures { IsRead (IsTaskOf (codes "trace") (rows_of (found_of matches.now))) result }
+{
+    let Some(run) = number_of(matches, "run", "", 1, 65536) else {
+        return Err(WordsRefusal::Usage);
+    };
+    let fault = name_of(alloc, text_of(matches, "fault", ""))?;
+    let nets = name_of(alloc, text_of(matches, "nets", ""))?;
+    Ok(Task::Trace { run, fault, nets })
+}
+
+/// What the command of this word does, by the arguments behind it.
+pub(crate) fn task_of(alloc: Global, word: &str, matches: &ArgMatches) -> Result<Task, WordsRefusal>
+    ensures { IsRead (IsTaskOf word.now (rows_of (found_of matches.now))) result }
+{
+    match word {
+        "breakdown" => breakdown_of(alloc, matches),
+        "trace" => trace_of(alloc, matches),
+        _ => plain_task_of(word, matches).ok_or(WordsRefusal::Usage),
     }
 }

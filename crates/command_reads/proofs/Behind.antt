@@ -14,8 +14,8 @@ use Rattle.campaign_plan.specs.declared.Settings.{Settings}
 use Rattle.result_file.specs.declared.KeptRows.{KeptRows}
 use Rattle.result_file.specs.declared.Row.{Row}
 use Rattle.result_merge.specs.Merged.{merged}
-use Rattle.command_line.specs.declared.command.Kind.TheVariants as kind
-use Rattle.command_line.specs.declared.command.Which.TheVariants as which
+use Rattle.commands.specs.declared.command.Kind.TheVariants as kind
+use Rattle.commands.specs.declared.command.Which.TheVariants as which
 use Rattle.refusals.specs.declared.refused.Refused.{Refused}
 use Rattle.refusals.specs.declared.refused.Refused.TheVariants.{By}
 use Rattle.refusals.specs.declared.status.Status.{Status}
@@ -23,7 +23,7 @@ use Rattle.refusals.specs.declared.status.Status.TheVariants as status
 use Rattle.refusals.specs.NetlistFile.{or_refuse}
 use Rattle.command_reads.specs.Answers.{AnswersAs, BothAs, TakesAs, both_behind, classes_plan, outputs_step}
 use Rattle.command_reads.specs.Files.{Reads}
-use Rattle.command_reads.specs.FirstRefusal.{Judged, Planned, Rated, Begun, Merged, classes_plan_of, judge, netlist_step, plan_of, read_as, rows_in, unless, ◌>>=◌}
+use Rattle.command_reads.specs.FirstRefusal.{Judged, Planned, Driven, Rated, Begun, Merged, classes_plan_of, judge, netlist_step, plan_of, read_as, rows_in, unless, ◌>>=◌}
 use Rattle.command_reads.proofs.Steps.{first_refused, next_answers, taken_refused, taken_next, taken_next_refused}
 
 -- ---- two result files behind a plan
@@ -166,6 +166,31 @@ module _ (netlist : Bytes) (set : Settings) (reads : Reads) where
       → TakesAs netlist reads rates_in_order (Ok (Rated c table))
   rated_made c table taken read =
       taken_next netlist reads nets rated_next rates_in_order rated_is c (Rated c table) taken (ap (λ r. r >>= (λ it. Ok (Rated c it))) read)
+
+  -- `trace`
+  abbrev drives : Option (List NetId) → Result Judged Status
+  drives walk = judge netlist walk set reads kind.Driven
+
+  abbrev driven_next : Circuit → Result Judged Status
+  driven_next c = read_as which.Workload status.Workload (workload_of c) reads >>= (λ runs. Ok (Driven c runs set))
+
+  driven_is : (walk : Option (List NetId)) → drives walk ≡ (nets walk >>= driven_next)
+  unfolding judge
+  driven_is walk = refl
+
+  pub driven_unread : (refused : Refused) → TakesAs netlist reads nets (Err refused) → TakesAs netlist reads drives (Err refused)
+  driven_unread = taken_refused netlist reads nets driven_next drives driven_is
+
+  pub driven_refused : (c : Circuit) (ended : Status) → TakesAs netlist reads nets (Ok c)
+      → AnswersAs (read_as which.Workload status.Workload (workload_of c) reads) (Err ended) → TakesAs netlist reads drives (Err (By ended))
+  driven_refused c ended taken refused =
+      taken_next_refused netlist reads nets driven_next drives driven_is c ended taken
+      (first_refused (read_as which.Workload status.Workload (workload_of c) reads) (λ runs. Ok (Driven c runs set)) ended refused)
+
+  pub driven_made : (c : Circuit) (runs : List Run) → TakesAs netlist reads nets (Ok c) → read_as which.Workload status.Workload (workload_of c) reads ≡ Ok runs
+      → TakesAs netlist reads drives (Ok (Driven c runs set))
+  driven_made c runs taken read =
+      taken_next netlist reads nets driven_next drives driven_is c (Driven c runs set) taken (ap (λ r. r >>= (λ it. Ok (Driven c it set))) read)
 
   -- `classes`: its plan
   abbrev classes : Option (List NetId) → Result Analysis Status

@@ -8,7 +8,7 @@ use Rattle.circuit.specs.Circuit.{Circuit}
 use Rattle.circuit.specs.Loop.{AnswersLoops}
 use Rattle.bench_reader.specs.Bench.{bench_of}
 use Rattle.blif_model.specs.Net.{netlist_of}
-use Rattle.command_line.specs.declared.command.Which.TheVariants as which
+use Rattle.commands.specs.declared.command.Which.TheVariants as which
 use Rattle.refusals.specs.declared.refused.Refused.{Refused}
 use Rattle.refusals.specs.declared.refused.Refused.TheVariants.{By, Looped}
 use Rattle.refusals.specs.declared.status.Status.{Status}

@@ -8,9 +8,9 @@ use denote.Enum.Bare.{sameb, same_true, same_false}
 use Rattle.fm_base.specs.Names.{Bytes}
 use Rattle.fm_shelf.specs.Content.{HasIfKnown, IsIfKnown, greatest}
 use Rattle.fm_shelf.specs.Shelf.{ShelfState, OnlyReads, OnlyReadsAny}
-use Rattle.command_line.specs.declared.command.Which.{Which}
-use Rattle.command_line.specs.declared.command.Which.TheVariants.{Netlist}
-use Rattle.command_line.specs.contracts.command.Which.{the_type}
+use Rattle.commands.specs.declared.command.Which.{Which}
+use Rattle.commands.specs.declared.command.Which.TheVariants.{Netlist}
+use Rattle.commands.specs.contracts.command.Which.{the_type}
 use Rattle.command_reads.specs.declared.files.FileRead.{FileRead}
 use Rattle.command_reads.specs.declared.files.FileRead.TheVariants.{Whole, TooLong, Failed}
 use Rattle.command_reads.specs.Files.{Reads, AreShort, IsShort, WasRead}

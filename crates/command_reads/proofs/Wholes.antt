@@ -3,7 +3,7 @@ use Rattle.std.proofs.Common.{◌≡◌, ap, refl, subst, ◌≤◌, length}
 use Rattle.std.specs.Prelude.{Ok, Err}
 use Rattle.fm_base.specs.Names.{Bytes}
 use Rattle.fm_shelf.specs.Content.{Held, greatest}
-use Rattle.command_line.specs.declared.command.Which.{Which}
+use Rattle.commands.specs.declared.command.Which.{Which}
 use Rattle.refusals.specs.declared.status.Status.TheVariants as status
 use Rattle.refusals.proofs.Refusals.{ok_same}
 use Rattle.command_reads.specs.declared.files.FileRead.{FileRead}

@@ -20,9 +20,9 @@ use Rattle.campaign_plan.specs.Kept.{IsPlan}
 use Rattle.campaign_plan.specs.PlanFaults.{plan_refusal}
 use Rattle.result_file.specs.declared.Row.{Row}
 use Rattle.result_merge.specs.Merged.{merged}
-use Rattle.command_line.specs.declared.command.Kind.TheVariants as kind
-use Rattle.command_line.specs.declared.command.Which.TheVariants as which
-use Rattle.command_line.specs.Commands.{settings_of}
+use Rattle.commands.specs.declared.command.Kind.TheVariants as kind
+use Rattle.commands.specs.declared.command.Which.TheVariants as which
+use Rattle.commands.specs.Commands.{settings_of}
 use Rattle.refusals.specs.declared.refused.Refused.{Refused}
 use Rattle.refusals.specs.declared.refused.Refused.TheVariants.{By, Looped}
 use Rattle.refusals.specs.declared.status.Status.{Status}
@@ -30,6 +30,7 @@ use Rattle.refusals.specs.declared.status.Status.TheVariants as status
 use Rattle.refusals.specs.NetlistFile.{or_refuse}
 use Rattle.refusals.specs.Refusals.{HasItsNets, IsPlain, status_of}
 use Rattle.command_reads.specs.declared.begun.Begun.{Begun}
+use Rattle.command_reads.specs.declared.driven.Driven.{Driven}
 use Rattle.command_reads.specs.declared.merged.Merged.{Merged}
 use Rattle.command_reads.specs.declared.netlist.Ordered.{Ordered}
 use Rattle.command_reads.specs.declared.observed.Observed.{Observed}
@@ -37,7 +38,7 @@ use Rattle.command_reads.specs.declared.planned.Planned.{Planned}
 use Rattle.command_reads.specs.declared.rated.Rated.{Rated}
 use Rattle.command_reads.specs.declared.tables.Tables.{Tables}
 use Rattle.command_reads.specs.Files.{Reads, known_by}
-use Rattle.command_reads.specs.FirstRefusal.{Judged, Planned as StandsPlanned, Rated as StandsRated, Begun as StandsBegun, Merged as StandsMerged, judge, netlist_read, netlist_step, own_header, plan_of, read_as, rows_in, unless, ◌>>=◌}
+use Rattle.command_reads.specs.FirstRefusal.{Judged, Planned as StandsPlanned, Driven as StandsDriven, Rated as StandsRated, Begun as StandsBegun, Merged as StandsMerged, judge, netlist_read, netlist_step, own_header, plan_of, read_as, rows_in, unless, ◌>>=◌}
 
 -- a step over bytes: it gives this, or refuses by a status that names no net; want of memory is free
 abbrev pub AnswersAs : {A : Type 0} → Result A Status → Result A Status → Type 0
@@ -153,6 +154,12 @@ abbrev pub ObservesAs : (netlist : Bytes) → Settings → Reads → Result Obse
 ObservesAs netlist set reads (Ok made) =
     TakesAs netlist reads (λ walk. judge netlist walk set reads kind.Observed) (Ok (StandsPlanned (classes_plan made.ordered.net made.work)))
 ObservesAs netlist set reads (Err refused) = TakesAs netlist reads (λ walk. judge netlist walk set reads kind.Observed) (Err refused)
+
+-- what `trace` works on
+abbrev pub DrivesAs : (netlist : Bytes) → Settings → Reads → Result Driven Refused → Type 0
+DrivesAs netlist set reads (Ok made) =
+    TakesAs netlist reads (λ walk. judge netlist walk set reads kind.Driven) (Ok (StandsDriven made.ordered.net made.work made.settings))
+DrivesAs netlist set reads (Err refused) = TakesAs netlist reads (λ walk. judge netlist walk set reads kind.Driven) (Err refused)
 
 abbrev pub RatesAs : (netlist : Bytes) → Settings → Reads → Result Rated Refused → Type 0
 RatesAs netlist set reads (Ok made) =

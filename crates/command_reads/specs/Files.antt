@@ -5,11 +5,11 @@ use Rattle.fm_base.specs.Names.{Bytes}
 use Rattle.fm_shelf.specs.Content.{Content, Unknown, Held, HasIfKnown, IsIfKnown, greatest}
 use Rattle.fm_shelf.specs.Shelf.{ShelfState, CountRose}
 use Rattle.sample_gen.specs.Sample.{netlist_text, workload_text, rates_text, points_text}
-use Rattle.command_line.specs.declared.command.Kind.{Kind}
-use Rattle.command_line.specs.declared.command.Kind.TheVariants.{Generated}
-use Rattle.command_line.specs.declared.command.Which.{Which}
-use Rattle.command_line.specs.declared.command.Which.TheVariants as which
-use Rattle.command_line.specs.Commands.{by_file, files_of}
+use Rattle.commands.specs.declared.command.Kind.{Kind}
+use Rattle.commands.specs.declared.command.Kind.TheVariants.{Generated}
+use Rattle.commands.specs.declared.command.Which.{Which}
+use Rattle.commands.specs.declared.command.Which.TheVariants as which
+use Rattle.commands.specs.Commands.{by_file, files_of}
 use Rattle.command_reads.specs.declared.files.FileRead.{FileRead}
 use Rattle.command_reads.specs.declared.files.FileRead.TheVariants.{Whole, TooLong, Failed}
 use Rattle.command_reads.specs.declared.files.Reads.{Reads as ReadsOf}

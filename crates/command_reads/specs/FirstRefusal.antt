@@ -5,6 +5,7 @@ use Rattle.metric_sums.specs.declared.Role.TheVariants.{Mission}
 use Rattle.circuit.specs.declared.parts.NetId.{NetId}
 use Rattle.circuit.specs.Circuit.{Circuit}
 use Rattle.circuit.specs.Loop.{AnswersLoops}
+use Rattle.workload.specs.declared.run.Run.{Run}
 use Rattle.workload.specs.WorkloadFile.{workload_of}
 use Rattle.rate_table.specs.RatesFile.{rates_of}
 use Rattle.rate_table.specs.Table.{RateTable}
@@ -22,13 +23,13 @@ use Rattle.result_file.specs.ResultText.{own_digest, header_text}
 use Rattle.result_file.specs.KeptRows.{kept}
 use Rattle.result_merge.specs.Merged.{merged}
 use Rattle.pair_list.specs.Chosen.{pair_refusal}
-use Rattle.command_line.specs.declared.command.Kind.{Kind}
-use Rattle.command_line.specs.declared.command.Kind.TheVariants as kind
-use Rattle.command_line.specs.declared.command.Task.{Task}
-use Rattle.command_line.specs.declared.command.Task.TheVariants as task
-use Rattle.command_line.specs.declared.command.Which.{Which}
-use Rattle.command_line.specs.declared.command.Which.TheVariants as which
-use Rattle.command_line.specs.Commands.{Command, kind_of, settings_of}
+use Rattle.commands.specs.declared.command.Kind.{Kind}
+use Rattle.commands.specs.declared.command.Kind.TheVariants as kind
+use Rattle.commands.specs.declared.command.Task.{Task}
+use Rattle.commands.specs.declared.command.Task.TheVariants as task
+use Rattle.commands.specs.declared.command.Which.{Which}
+use Rattle.commands.specs.declared.command.Which.TheVariants as which
+use Rattle.commands.specs.Commands.{Command, kind_of, settings_of}
 use Rattle.refusals.specs.declared.status.Status.{Status}
 use Rattle.refusals.specs.declared.status.Status.TheVariants as status
 use Rattle.refusals.specs.NetlistFile.{netlist_in, or_refuse}
@@ -92,10 +93,11 @@ own_header reads p =
 abbrev pub rows_in : Which → Reads → Analysis → Result KeptRows Status
 rows_in file reads p = read_as file status.Result (kept (own_header reads p) p) reads
 
--- what the files of a command stand for: a plan; a netlist and its rates; a plan and what is kept of its result file; a plan and the rows of
--- two of its result files
+-- what the files of a command stand for: a plan; a netlist and its workload, under these settings; a netlist and its rates; a plan and what is
+-- kept of its result file; a plan and the rows of two of its result files
 pub data Judged : Type 0 where
   Planned : (p : Analysis) → Judged
+  Driven : (c : Circuit) → (runs : List Run) → (set : Settings) → Judged
   Rated : (c : Circuit) → (t : RateTable) → Judged
   Begun : (p : Analysis) → (k : KeptRows) → Judged
   Merged : (p : Analysis) → (both : List Row) → Judged
@@ -107,6 +109,10 @@ unfoldable pub judge : Bytes → Option (List NetId) → Settings → Reads → 
 judge netlist walk set reads kind.Observed = classes_plan_of netlist walk reads >>= (λ p. Ok (Planned p))
 judge netlist walk set reads kind.Planned = plan_of netlist walk set reads >>= (λ p. Ok (Planned p))
 judge netlist walk set reads (kind.Generated stages) = plan_of netlist walk (settings_of (1 ∷ []) []) reads >>= (λ p. Ok (Planned p))
+judge netlist walk set reads kind.Driven = do
+  c ← netlist_step netlist walk reads
+  runs ← read_as which.Workload status.Workload (workload_of c) reads
+  Ok (Driven c runs set)
 judge netlist walk set reads kind.Rated = do
   c ← netlist_step netlist walk reads
   table ← read_as which.Rates status.Rates rates_of reads
@@ -121,26 +127,6 @@ judge netlist walk set reads kind.Merged = do
   second ← rows_in which.Second reads p
   both ← or_refuse status.Merge (merged p first.rows second.rows)
   Ok (Merged p both)
-
--- AUDIT: the first row that keeps other planes than those that its batch truly has
-abbrev pub audit_refusal : Analysis → KeptRows → Option Status
-audit_refusal p k =
-    let planes : Row → Outcome = λ row. true_planes p row.batch in
-    let is_wrong : Row → Bool = λ row. not ((row.danger == (planes row).danger) && (row.noticed == (planes row).noticed)) in
-    let refusal : Row → Status = λ row. status.Disagrees row.batch (record { danger = row.danger; noticed = row.noticed }) (planes row) in
-    option_map refusal (find is_wrong k.rows)
-
--- what a task itself refuses of what its files stand for
-abbrev pub task_refusal : Task → Judged → Option Status
-task_refusal task.Audit (Begun p k) = audit_refusal p k
-task_refusal (task.Pairs workers) (Begun p k) = option_map status.Pairs (pair_refusal p k.rows)
-task_refusal _ _ = None
-
--- what a command's files stand for, or the first refusal of the command
-abbrev pub judged : Option (List NetId) → Command → Reads → Result Judged Status
-judged walk command reads = do
-  made ← judge (command.files which.Netlist) walk command.settings reads (kind_of command.task)
-  unless (task_refusal command.task made) made
 
 -- where the file of this name was read and is a netlist, it is `c`, and `walk` is what is answered of its loops
 abbrev pub IsLoopAnswer : Bytes → Reads → Circuit → Option (List NetId) → Type 0

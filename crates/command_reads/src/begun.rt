@@ -11,7 +11,7 @@ ghost use Rattle.command_reads.specs.FirstRefusal.{rows_in};
 use crate::files::Reads;
 use crate::planned::{Planned, judge_plan};
 use campaign_plan::{Plan, Settings};
-use command_line::Which;
+use commands::Which;
 use fm_base::{Line, Refusal};
 use refusals::refused::Refused;
 use refusals::status::Status;

@@ -2,14 +2,14 @@
 ghost use Rattle.std.specs.Prelude.{◌≡◌, ◌≢◌, IfOk, MatchResult, Ok, Err};
 ghost use Rattle.std.specs.List.{AllByRecursion as ForEach};
 ghost use Rattle.fm_shelf.specs.Shelf.{OnlyReads, OnlyReadsAny};
-ghost use Rattle.command_line.specs.Commands.{name_by};
-ghost use Rattle.command_line.specs.declared.command.Which.{Which as File};
+ghost use Rattle.commands.specs.Commands.{name_by};
+ghost use Rattle.commands.specs.declared.command.Which.{Which as File};
 ghost use Rattle.command_reads.specs.Files.{AreShort, IsFitKind, WasRead, WereRead, reads_by};
 ghost use Rattle.command_reads.specs.FirstRefusal.{whole};
 ghost use Rattle.refusals.specs.Refusals.{IsPlain};
 
 use crate::sample::generated_reads;
-use command_line::{FileNames, Kind, Which};
+use commands::{FileNames, Kind, Which};
 use fm_base::Bytes;
 use fm_shelf::shelf::Shelf;
 use fm_shelf::whole::{ReadRefusal, read_all};

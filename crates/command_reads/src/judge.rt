@@ -1,20 +1,21 @@
 // What the files of a command stand for, or the first refusal.
 ghost use Rattle.std.specs.Prelude.{◌≡◌, IfOk};
 ghost use Rattle.campaign_plan.specs.Kept.{AreSettings};
-ghost use Rattle.command_line.specs.declared.command.Kind.TheVariants as kind;
+ghost use Rattle.commands.specs.declared.command.Kind.TheVariants as kind;
 ghost use Rattle.command_reads.specs.declared.judge.Judged.TheVariants as made;
 ghost use Rattle.command_reads.specs.Files.{AreShort, reads_by};
 ghost use Rattle.command_reads.specs.Answers.{IsSound, PlansAs, generated_settings};
 ghost use Rattle.command_reads.specs.Judging.{IsOfKind, JudgesAs};
 
 use crate::begun::{Begun, judge_begun};
+use crate::driven::{Driven, judge_driven};
 use crate::files::Reads;
 use crate::merged::{Merged, judge_merged};
 use crate::observed::{Observed, judge_observed};
 use crate::planned::{Planned, judge_plan};
 use crate::rated::{Rated, judge_rated};
 use campaign_plan::Settings;
-use command_line::Kind;
+use commands::Kind;
 use fm_base::Seq;
 use metric_sums::Asil;
 use refusals::refused::Refused;
@@ -24,6 +25,7 @@ use std::alloc::{AllocError, Global};
 #[derive(Drop)]
 pub enum Judged {
     Observed(Observed),
+    Driven(Driven),
     Rated(Rated),
     Planned(Planned),
     Begun(Begun),
@@ -68,6 +70,7 @@ pub fn judge(
 {
     match kind {
         Kind::Observed => Ok(Judged::Observed(judge_observed(alloc, netlist, reads)?)),
+        Kind::Driven => Ok(Judged::Driven(judge_driven(alloc, netlist, settings, reads)?)),
         Kind::Rated => Ok(Judged::Rated(judge_rated(alloc, netlist, reads)?)),
         Kind::Planned => Ok(Judged::Planned(judge_plan(alloc, netlist, settings, reads)?)),
         Kind::Begun => Ok(Judged::Begun(judge_begun(alloc, netlist, settings, reads)?)),
@@ -84,6 +87,17 @@ impl Judged {
     {
         match self {
             Judged::Observed(observed) => observed,
+            _ => unreachable!(),
+        }
+    }
+
+    /// What `trace` works on.
+    pub fn driven(&self) -> &Driven
+        requires { IsOfKind kind.Driven self.now }
+        ensures { self.now ≡ made.Driven result.now }
+    {
+        match self {
+            Judged::Driven(driven) => driven,
             _ => unreachable!(),
         }
     }

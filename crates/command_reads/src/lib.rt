@@ -2,6 +2,7 @@
 #![tactic(auto)]
 
 pub mod begun;
+pub mod driven;
 pub mod files;
 pub mod judge;
 pub mod merged;

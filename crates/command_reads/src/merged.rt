@@ -12,7 +12,7 @@ use crate::begun::rows_of;
 use crate::files::Reads;
 use crate::planned::{Planned, judge_plan};
 use campaign_plan::{Plan, Settings};
-use command_line::Which;
+use commands::Which;
 use fm_base::Refusal;
 use refusals::refused::Refused;
 use refusals::status::Status;

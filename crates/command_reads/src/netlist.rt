@@ -13,7 +13,7 @@ use crate::files::Reads;
 use bench_reader::read_bench;
 use blif_reader::read_blif;
 use circuit::netlist::Netlist;
-use command_line::Which;
+use commands::Which;
 use fm_base::Refusal;
 use netlist_levels::{LoopFound, Order, levels};
 use refusals::refused::Refused;

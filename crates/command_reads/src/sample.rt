@@ -1,13 +1,13 @@
 // The generated texts, as files that were read.
 ghost use Rattle.std.specs.Prelude.{◌≡◌, ◌≤◌, IfOk};
 ghost use Rattle.command_reads.specs.Files.{AreShort, WereRead, given, reads_by};
-ghost use Rattle.command_line.specs.declared.command.Kind.TheVariants.{Generated};
-ghost use Rattle.command_line.specs.declared.command.Which.{Which as File};
+ghost use Rattle.commands.specs.declared.command.Kind.TheVariants.{Generated};
+ghost use Rattle.commands.specs.declared.command.Which.{Which as File};
 ghost use Rattle.fm_base.specs.Names.{Bytes as Text};
 ghost use Rattle.fm_shelf.specs.Shelf.{ShelfState};
 
 use crate::files::{FileRead, Reads};
-use command_line::Which;
+use commands::Which;
 use fm_base::{Bytes, Seq};
 use sample_gen::{netlist_text, points_text, rates_text, workload_text};
 use std::alloc::{AllocError, Global};

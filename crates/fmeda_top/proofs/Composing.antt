@@ -3,10 +3,10 @@ use Rattle.std.proofs.Common.{◌≡◌, List, [], ◌∷◌}
 use Rattle.std.specs.List.{AllByRecursion as ForEach}
 use Rattle.fm_base.specs.Names.{Bytes}
 use Rattle.fm_shelf.specs.Shelf.{ShelfState}
-use Rattle.command_line.specs.declared.command.Kind.{Kind}
-use Rattle.command_line.specs.declared.command.Kind.TheVariants as kind
-use Rattle.command_line.specs.declared.command.Which.{Which}
-use Rattle.command_line.specs.Commands.{files_of}
+use Rattle.commands.specs.declared.command.Kind.{Kind}
+use Rattle.commands.specs.declared.command.Kind.TheVariants as kind
+use Rattle.commands.specs.declared.command.Which.{Which}
+use Rattle.commands.specs.Commands.{files_of}
 use Rattle.command_reads.specs.declared.files.FileRead.{FileRead}
 use Rattle.command_reads.specs.declared.files.FileRead.TheVariants.{Whole, TooLong, Failed}
 use Rattle.command_reads.specs.Files.{Reads, WasRead, WereRead}

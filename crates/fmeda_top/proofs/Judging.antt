@@ -1,7 +1,7 @@
 -- What is true of each step of a command's checks: what it gives has no loop and was read whole, and what it refuses is no Usage, nor a fault
 -- of reading but of a file of which a read has failed.
 use Rattle.std.proofs.Common.{◌≡◌, ◌∙◌, ap, refl, subst, ℕ, Bool, true, false, List, [], ◌∷◌, length, Ok, Err}
-use Rattle.std.specs.Prelude.{Option, Some, None, Result, MatchOption, MatchResult, find, option_map, if◌then◌else◌, nat_lt}
+use Rattle.std.specs.Prelude.{Option, Some, None, Result, MatchOption, MatchResult, option_map, if◌then◌else◌, nat_lt}
 use Rattle.std.specs.List.{AllByRecursion as ForEach}
 use Rattle.fm_base.specs.Names.{Bytes}
 use Rattle.circuit.specs.Circuit.{Circuit}
@@ -10,25 +10,27 @@ use Rattle.circuit.specs.declared.parts.NetId.{NetId}
 use Rattle.workload.specs.WorkloadFile.{workload_of}
 use Rattle.rate_table.specs.RatesFile.{rates_of}
 use Rattle.alarm_points.specs.PointsFile.{points_of}
-use Rattle.campaign_plan.specs.declared.Outcome.{Outcome}
 use Rattle.campaign_plan.specs.declared.PlanRefusal.{PlanRefusal}
 use Rattle.campaign_plan.specs.declared.Settings.{Settings}
 use Rattle.campaign_plan.specs.Analysis.{Analysis}
-use Rattle.campaign_plan.specs.Batches.{true_planes}
 use Rattle.campaign_plan.specs.PlanFaults.{plan_refusal}
 use Rattle.result_file.specs.declared.KeptRows.{KeptRows}
-use Rattle.result_file.specs.declared.Row.{Row}
 use Rattle.result_file.specs.KeptRows.{kept}
 use Rattle.result_merge.specs.Merged.{merged}
+use Rattle.row_audit.specs.Audited.{first_false}
+use Rattle.row_audit.specs.declared.audit.FalseRow.{FalseRow}
+use Rattle.wave_dump.specs.Asked.{waves_asked}
+use Rattle.wave_dump.specs.declared.DumpFault.{DumpFault}
+use Rattle.wave_dump.specs.declared.DumpFault.TheVariants as dump
 use Rattle.pair_list.specs.declared.pairs.PairRefusal.{PairRefusal}
 use Rattle.pair_list.specs.Chosen.{pair_refusal}
-use Rattle.command_line.specs.declared.command.Kind.{Kind}
-use Rattle.command_line.specs.declared.command.Kind.TheVariants as kind
-use Rattle.command_line.specs.declared.command.Task.{Task}
-use Rattle.command_line.specs.declared.command.Task.TheVariants as task
-use Rattle.command_line.specs.declared.command.Which.{Which}
-use Rattle.command_line.specs.declared.command.Which.TheVariants as which
-use Rattle.command_line.specs.Commands.{Command, files_of, inputs_of, kind_of}
+use Rattle.commands.specs.declared.command.Kind.{Kind}
+use Rattle.commands.specs.declared.command.Kind.TheVariants as kind
+use Rattle.commands.specs.declared.command.Task.{Task}
+use Rattle.commands.specs.declared.command.Task.TheVariants as task
+use Rattle.commands.specs.declared.command.Which.{Which}
+use Rattle.commands.specs.declared.command.Which.TheVariants as which
+use Rattle.commands.specs.Commands.{Command, files_of, inputs_of, kind_of}
 use Rattle.refusals.specs.declared.status.Status.{Status}
 use Rattle.refusals.specs.declared.status.Status.TheVariants as status
 use Rattle.refusals.specs.NetlistFile.{netlist_in, or_refuse}
@@ -36,9 +38,9 @@ use Rattle.command_reads.specs.declared.files.FileRead.{FileRead}
 use Rattle.command_reads.specs.declared.files.FileRead.TheVariants.{Whole, TooLong, Failed}
 use Rattle.command_reads.specs.Answers.{LoopsAnswered, generated_settings}
 use Rattle.command_reads.specs.Files.{Reads, bytes_of as bytes_read}
-use Rattle.command_reads.specs.FirstRefusal.{Judged, audit_refusal, classes_plan_of, judge, judged, netlist_read, netlist_step, own_header, plan_of, read_as, rows_in, task_refusal, unless, whole, ◌>>=◌}
+use Rattle.command_reads.specs.FirstRefusal.{Judged, classes_plan_of, judge, netlist_read, netlist_step, own_header, plan_of, read_as, rows_in, unless, whole, ◌>>=◌}
+use Rattle.fmeda_top.specs.TaskRefusals.{false_row, judged, not_there, refusal_in, task_refusal}
 use Rattle.command_reads.specs.FirstRefusal as stands
-use Rattle.fmeda_top.specs.Doing.{disagreement, is_wrong}
 use Rattle.fmeda_top.specs.Laws.{circuit_in}
 
 -- the files that are judged; of a generated campaign the texts stand for them
@@ -193,6 +195,9 @@ module _ (HasFailed : Which → Type 0) where
           (λ counted got free. file_then which.Workload status.Workload (workload_of counted) _ _ work (λ f. tt) (λ runs second.
           (free, (first, ((second.0, second.1), tt)))))))
           (λ p got fits. (fits.0, fits.1, tt))
+      judge_meets set kind.Driven (net, (work, end)) =
+          netlist_then _ _ net (λ c none first.
+          file_then which.Workload status.Workload (workload_of c) _ _ work (λ f. tt) (λ runs second. (none, (first, ((second.0, second.1), tt)), tt)))
       judge_meets set kind.Rated (net, (rates, end)) =
           netlist_then _ _ net (λ c none first.
           file_then which.Rates status.Rates rates_of _ _ rates (λ f. tt) (λ table second. (none, (first, ((second.0, second.1), tt)), tt)))
@@ -214,17 +219,28 @@ module _ (HasFailed : Which → Type 0) where
 
   -- ---- what a task itself refuses
 
-  row_of_files : (P : Type 0) → P → (planes : ℕ → Outcome) (found : Option Row) → MatchOption (option_map (disagreement planes) found) P IsOfFiles
-  row_of_files P h planes None = h
-  row_of_files P h planes (Some row) = tt
+  row_of_files : (P : Type 0) → P → (found : Option FalseRow) → MatchOption (option_map false_row found) P IsOfFiles
+  row_of_files P h None = h
+  row_of_files P h (Some row) = tt
 
   pairs_of_files : (P : Type 0) → P → (why : Option PairRefusal) → MatchOption (option_map status.Pairs why) P IsOfFiles
   pairs_of_files P h None = h
   pairs_of_files P h (Some why) = tt
 
+  not_there_is_of_files : (why : DumpFault) → IsOfFiles (not_there why)
+  not_there_is_of_files dump.NoRun = tt
+  not_there_is_of_files dump.NoFault = tt
+  not_there_is_of_files dump.NoNet = tt
+
+  waves_of_files : {A : Type 0} (P : Type 0) → P → (answer : Result A DumpFault) → MatchOption (refusal_in not_there answer) P IsOfFiles
+  waves_of_files P h (Ok waves) = h
+  waves_of_files P h (Err why) = not_there_is_of_files why
+
   task_of_files : (P : Type 0) → P → (own : Task) (made : Judged) → MatchOption (task_refusal own made) P IsOfFiles
-  task_of_files P h task.Audit (stands.Begun p k) = row_of_files P h (true_planes p) (find (is_wrong (true_planes p)) k.rows)
+  task_of_files P h (task.Audit every by) (stands.Begun p k) = row_of_files P h (first_false p every k.rows)
   task_of_files P h (task.Pairs workers) (stands.Begun p k) = pairs_of_files P h (pair_refusal p k.rows)
+  task_of_files P h (task.Trace run fault nets) (stands.Driven c runs set) =
+      waves_of_files P h (waves_asked c runs set.flips set.pulses run fault nets)
   task_of_files P h _ _ = h
 
   -- WHAT A COMMAND'S FILES STAND FOR has no loop, or the refusal is of files

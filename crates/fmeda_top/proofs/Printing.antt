@@ -1,5 +1,5 @@
 -- A task that prints has done what it promises.
-use Rattle.std.proofs.Common.{◌≡◌, ◌∙◌, refl, sym, subst, Ok, Err, inl, inr}
+use Rattle.std.proofs.Common.{◌≡◌, ◌≤◌, ◌∙◌, refl, sym, subst, Ok, Err, inl, inr}
 use Rattle.std.specs.Prelude.{◌⊎◌, Option, Some, Result, MatchOption}
 use Rattle.fm_base.specs.Names.{Bytes}
 use Rattle.fm_shelf.specs.Content.{Content, Unknown}
@@ -7,17 +7,18 @@ use Rattle.fm_shelf.specs.Outside.{Outside, outside}
 use Rattle.fm_shelf.specs.Shelf.{ShelfState}
 use Rattle.fm_shelf.specs.Sink.{SinkState, Wrote, WrotePrefix}
 use Rattle.campaign_run.specs.Outside.{KeepsOthers}
-use Rattle.command_line.specs.declared.command.Which.TheVariants as which
-use Rattle.command_line.specs.Commands.{Command}
+use Rattle.commands.specs.declared.command.Which.TheVariants as which
+use Rattle.commands.specs.Commands.{Command}
 use Rattle.refusals.specs.declared.refused.Refused.{Refused}
 use Rattle.refusals.specs.declared.refused.Refused.TheVariants.{By, Looped}
 use Rattle.refusals.specs.declared.status.Status.{Status}
 use Rattle.refusals.specs.declared.status.Status.TheVariants as status
 use Rattle.refusals.specs.Refusals.{IsSaidOf}
 use Rattle.command_reads.specs.Files.{Reads, known_by}
-use Rattle.command_reads.specs.FirstRefusal.{Judged, task_refusal}
+use Rattle.command_reads.specs.FirstRefusal.{Judged}
+use Rattle.fmeda_top.specs.TaskRefusals.{task_refusal}
 use Rattle.fmeda_top.specs.Ends.{IsDoneOrFailed, PrintsAs, WritesAs}
-use Rattle.fmeda_top.specs.Doing.{DoesAs, HasRefused, PrintedAs, TellsAs}
+use Rattle.fmeda_top.specs.Doing.{DoesAs, DoesItsTask, HasRefused, PrintedAs, TellsAs}
 use Rattle.fmeda_top.proofs.Ending.{memory_said}
 
 module _ (command : Command) (made : Judged) (reads : Reads) (shelf : ShelfState) (out mid now : SinkState) (ended : Status) where
@@ -42,8 +43,8 @@ module _ (command : Command) (made : Judged) (reads : Reads) (shelf : ShelfState
 
   -- a text went out, or a prefix of it, and nothing else
   does_print : (how : Status) → TellsAs command.task made out mid (Ok how) → PrintedAs (Ok how) ended mid now command.files
-      → DoesAs command made reads ended before after
-  does_print how (free, (text, is, sent)) (same, kept) =
+      → DoesItsTask command made reads ended before after
+  does_print how (free, grows, (text, is, sent)) (same, kept) =
       inl (subst DoesUnless (sym free) (subst HasTold (sym is) (refl, by_sent sent)))
     where
       by_sent : ((how ≡ status.Done) × Wrote out mid text) ⊎ ((how ≡ status.OutFault) × WrotePrefix out mid text)
@@ -53,19 +54,21 @@ module _ (command : Command) (made : Judged) (reads : Reads) (shelf : ShelfState
 
   -- it was refused, with its line
   does_refuse : (why : Status) → TellsAs command.task made out mid (Err (By why)) → PrintedAs (Err (By why)) ended mid now command.files
-      → DoesAs command made reads ended before after
+      → DoesItsTask command made reads ended before after
   does_refuse why (cause, plain, kept) (is, line) = by_cause cause
     where
       said : (held : Content) → IsSaidOf held out now command.files why
       said held = subst (λ s. IsSaidOf held s now command.files why) kept (line held plain)
 
-      by_cause : (why ≡ status.Memory) ⊎ (task_refusal command.task made ≡ Some why) → DoesAs command made reads ended before after
+      by_cause : (why ≡ status.Memory) ⊎ (task_refusal command.task made ≡ Some why) → DoesItsTask command made reads ended before after
       by_cause (inl memory) = inr (memory_said ended why command.files Unknown before after (is ∙ memory) memory refl (said Unknown))
       by_cause (inr refusal) = inl (subst DoesUnless (sym refusal) (is, record { files = refl; said = said (known_by (reads which.Netlist)) }))
 
   -- A TASK THAT PRINTS has done what it promises, where it told its text or the line of its refusal
   pub printed_does : (told : Result Status Refused) → TellsAs command.task made out mid told → PrintedAs told ended mid now command.files
       → DoesAs command made reads ended before after
-  printed_does (Ok how) tells printed = does_print how tells printed
-  printed_does (Err (By why)) tells printed = does_refuse why tells printed
+  printed_does (Ok how) tells printed =
+      (does_print how tells printed, subst (λ (s : SinkState). out.faults ≤ s.faults) (sym printed.1) tells.1)
+  printed_does (Err (By why)) tells printed =
+      (does_refuse why tells printed, subst (λ (s : SinkState). s.faults ≤ now.faults) tells.2 (printed.1 Unknown tells.1).2.1)
   printed_does (Err (Looped walk net)) tells printed = absurd tells

@@ -1,6 +1,6 @@
 -- `audit` and `pairs`, by the rows that are kept.
-use Rattle.std.proofs.Common.{◌≡◌, ◌∙◌, ap, ap₂, sym, refl, subst, ℕ, ◌+◌, ◌<◌, List, [], ◌∷◌, suc, Bool, true, false, not, map, arith}
-use Rattle.std.specs.Prelude.{Option, Some, None, Err, find, option_map, ◌==◌, Contains}
+use Rattle.std.proofs.Common.{◌≡◌, ◌∙◌, ap, inr, sym, refl, subst, ℕ, ◌+◌, ◌<◌, List, [], ◌∷◌, suc, Bool, true, false, not, map, arith}
+use Rattle.std.specs.Prelude.{◌⊎◌, Option, Some, None, Err, find, option_map, ◌==◌, Contains}
 use Rattle.std.specs.List.{list_any}
 use Rattle.std.proofs.lemmas.Bool.Decides.{nat_tests}
 use Rattle.std.proofs.lemmas.List.Folds.{list_any_at}
@@ -23,34 +23,31 @@ use Rattle.pair_list.proofs.Placing.{under}
 use Rattle.pair_campaign.specs.Laws.{AllPairsAreTold}
 use Rattle.pair_campaign.specs.PairPlanes.{pair_planes}
 use Rattle.pair_campaign.specs.PairText.{pairs_text, text_by_planes}
-use Rattle.command_line.specs.declared.command.Task.TheVariants as task
+use Rattle.commands.specs.declared.command.AuditBy.{AuditBy}
+use Rattle.commands.specs.declared.command.Task.TheVariants as task
 use Rattle.refusals.specs.declared.refused.Refused.{Refused}
 use Rattle.refusals.specs.declared.refused.Refused.TheVariants.{By, Looped}
 use Rattle.refusals.specs.declared.status.Status.{Status}
 use Rattle.refusals.specs.declared.status.Status.TheVariants as status
 use Rattle.refusals.specs.Refusals.{IsPlain}
-use Rattle.classifier.specs.Simulated.{Simulated, planes_simulated, simulated_of}
-use Rattle.command_reads.specs.FirstRefusal.{Begun, audit_refusal}
-use Rattle.fmeda_top.specs.Doing.{ChecksAs, TellsAs, disagreement, is_wrong}
+use Rattle.command_reads.specs.FirstRefusal.{Begun}
+use Rattle.row_audit.specs.Audited.{first_false}
+use Rattle.row_audit.specs.declared.audit.FalseRow.{FalseRow}
+use Rattle.fmeda_top.specs.TaskRefusals.{false_row}
+use Rattle.fmeda_top.specs.Doing.{ChecksAs, TellsAs}
 
 -- ---- `audit`
 
--- the first row that a simulator of the plan finds wrong is that of the definition
-pub rows_judged : (p : Analysis) (k : KeptRows) (s : Simulated) (rows : List Row) (found : Option Status) → s ≡ simulated_of p → rows ≡ k.rows
-    → found ≡ option_map (disagreement (planes_simulated s)) (find (is_wrong (planes_simulated s)) rows) → audit_refusal p k ≡ found
-rows_judged p k s rows found made same is =
-    sym (is ∙ ap₂ (λ (t : Simulated) (rs : List Row). option_map (disagreement (planes_simulated t)) (find (is_wrong (planes_simulated t)) rs)) made same)
-
--- a row that disagrees is a plain refusal
-pub row_plain : (planes : ℕ → Outcome) (found : Option Row) (ended : Status) → Some ended ≡ option_map (disagreement planes) found → IsPlain ended
-row_plain planes None ended e = absurd (cc)
-row_plain planes (Some row) ended e = let same : disagreement planes row ≡ ended = cc in subst IsPlain same tt
-
 -- rows that weren't found to agree are told of nowhere but in the line of the refusal
-pub checks_tell : (p : Analysis) (k : KeptRows) (out : SinkState) (refused : Refused) → ChecksAs p k (Err refused)
-    → TellsAs task.Audit (Begun p k) out out (Err refused)
-checks_tell p k out (By ended) (why, plain) = (why, plain, refl)
-checks_tell p k out (Looped walk net) none = absurd none
+pub checks_tell : (every : ℕ) (by : AuditBy) (p : Analysis) (k : KeptRows) (out : SinkState) (refused : Refused) → ChecksAs every p k (Err refused)
+    → TellsAs (task.Audit every by) (Begun p k) out out (Err refused)
+checks_tell every by p k out (By ended) (why, plain) = (why, plain, refl)
+checks_tell every by p k out (Looped walk net) none = absurd none
+
+-- the refusal is that of the first false row
+pub row_refused : (p : Analysis) (every : ℕ) (k : KeptRows) (row : FalseRow) (ended : Status) → first_false p every k.rows ≡ Some row → ended ≡ false_row row
+    → ((ended ≡ status.Memory) ⊎ (option_map false_row (first_false p every k.rows) ≡ Some ended)) × IsPlain ended
+row_refused p every k row ended is told = (inr (ap (option_map false_row) is ∙ ap Some (sym told)), subst IsPlain (sym told) tt)
 
 -- ---- `pairs`
 

@@ -1,5 +1,5 @@
 -- What a task has written, by how its campaign has run.
-use Rattle.std.proofs.Common.{ℕ, List, ◌≡◌, ◌∙◌, ap, sym, subst, Ok, inl, inr, length, arith}
+use Rattle.std.proofs.Common.{ℕ, List, ◌≡◌, ◌≤◌, ◌∙◌, ap, sym, subst, Ok, inl, inr, length, arith}
 use Rattle.std.specs.Prelude.{◌⊎◌, Option, Some, None, MatchOption, ◌∷◌, [], ◌++◌, codes, flat_map, map}
 use Rattle.std.proofs.lemmas.List.{take_all}
 use Rattle.fm_base.specs.Names.{Bytes}
@@ -30,11 +30,11 @@ use Rattle.campaign_run.specs.Ran.{Campaign, HasRun, IsReported, IsTruncatedResu
 use Rattle.campaign_run.specs.Reported.{HasReported, ResumedAs}
 use Rattle.campaign_run.specs.Starting.{no_kept_rows}
 use Rattle.campaign_run.specs.Stopped.{StoppedAreTakenUp}
-use Rattle.command_line.specs.declared.command.Task.{Task}
-use Rattle.command_line.specs.declared.command.Task.TheVariants as task
-use Rattle.command_line.specs.declared.command.Which.{Which}
-use Rattle.command_line.specs.declared.command.Which.TheVariants as which
-use Rattle.command_line.specs.Commands.{Command}
+use Rattle.commands.specs.declared.command.Task.{Task}
+use Rattle.commands.specs.declared.command.Task.TheVariants as task
+use Rattle.commands.specs.declared.command.Which.{Which}
+use Rattle.commands.specs.declared.command.Which.TheVariants as which
+use Rattle.commands.specs.Commands.{Command}
 use Rattle.refusals.specs.declared.status.Status.{Status}
 use Rattle.refusals.specs.declared.status.Status.TheVariants as status
 use Rattle.refusals.specs.Texts.{merge_line}
@@ -45,7 +45,8 @@ use Rattle.command_reads.specs.declared.judge.Judged.{Judged as Made}
 use Rattle.command_reads.specs.Answers.{IsSound}
 use Rattle.command_reads.specs.Judging.{made_by}
 use Rattle.command_reads.specs.Files.{Reads, bytes_of as bytes_read, known_by}
-use Rattle.command_reads.specs.FirstRefusal.{Judged, Begun, Merged, Planned, own_header, task_refusal}
+use Rattle.command_reads.specs.FirstRefusal.{Judged, Begun, Merged, Planned, own_header}
+use Rattle.fmeda_top.specs.TaskRefusals.{task_refusal}
 use Rattle.fmeda_top.specs.Doing.{DoesAs, EndSaid, HasEnded, HasRefused, IsHeld, task_of_text}
 use Rattle.fmeda_top.specs.Ends.{HasWritten, IsDoneOrFailed, MayLeave, PrintsAs, WritesAs, text_of}
 use Rattle.fmeda_top.specs.Ends.WritesAs.{All, OutFailed, ResultFailed}
@@ -61,44 +62,48 @@ module _ (command : Command) (it : Judged) (reads : Reads) (before after : Outsi
   abbrev at_end : Outside
   at_end = outside after.shelf out
 
-  writes_end : (ended : Status) → KeepsOthers before.shelf after.shelf name → WritesAs command.task it reads name before at_end ended
+  writes_end : (ended : Status) → before.out.faults ≤ out.faults → KeepsOthers before.shelf after.shelf name → WritesAs command.task it reads name before at_end ended
       → DoesAs command it reads ended before at_end
-  writes_end ended others writes =
-      inl (subst
-      (λ refusal. MatchOption refusal (IsDoneOrFailed command it reads ended before at_end)
-      (λ why. (ended ≡ why) × HasRefused command.files (known_by (reads which.Netlist)) why before at_end))
-      (sym no_refusal)
-      (subst
-      (λ text. MatchOption text (KeepsOthers before.shelf after.shelf name × WritesAs command.task it reads name before at_end ended)
-      (λ text. PrintsAs text ended before at_end))
-      (sym no_text) (others, writes)))
+  writes_end ended grows others writes = (
+    inl (subst
+        (λ refusal. MatchOption refusal (IsDoneOrFailed command it reads ended before at_end)
+        (λ why. (ended ≡ why) × HasRefused command.files (known_by (reads which.Netlist)) why before at_end))
+        (sym no_refusal)
+        (subst
+        (λ text. MatchOption text (KeepsOthers before.shelf after.shelf name × WritesAs command.task it reads name before at_end ended)
+        (λ text. PrintsAs text ended before at_end))
+        (sym no_text) (others, writes))),
+    grows,
+  )
 
   -- it is told at this status, with nothing more to say
-  silent_end : (ended own : Status) → ended ≡ own → out ≡ after.out → KeepsOthers before.shelf after.shelf name
+  silent_end : (ended own : Status) → ended ≡ own → out ≡ after.out → before.out.faults ≤ after.out.faults → KeepsOthers before.shelf after.shelf name
       → WritesAs command.task it reads name before after own → DoesAs command it reads ended before at_end
-  silent_end ended own is same others writes =
-      writes_end ended others
+  silent_end ended own is same grows others writes =
+      writes_end ended (subst (λ (s : SinkState). before.out.faults ≤ s.faults) (sym same) grows) others
       (subst (λ s. WritesAs command.task it reads name before at_end s) (sym is)
       (subst (λ now. WritesAs command.task it reads name before (outside after.shelf now) own) (sym same) writes))
 
   -- HOW A TASK THAT WRITES A RESULT FILE ENDS
   pub told_ends : (how : End) (ended : Status) → HasEnded how command.task it reads name before after → EndSaid how ended after.out out command.files
       → DoesAs command it reads ended before at_end
-  told_ends end.Done ended ran (is, same) = silent_end ended status.Done is same ran.others (All ran.ends)
+  told_ends end.Done ended ran (is, same) = silent_end ended status.Done is same ran.grows ran.others (All ran.ends)
   told_ends end.OutFault ended ran (is, same) =
-      silent_end ended status.OutFault is same ran.others (OutFailed ran.ends.0 ran.ends.2 ran.ends.1)
-  told_ends end.ResultFault ended ran (is, said) =
-      writes_end ended ran.others
+      silent_end ended status.OutFault is same ran.grows ran.others (OutFailed ran.ends.0 ran.ends.2 ran.ends.1)
+  told_ends end.ResultFault ended ran (is, (said, more)) =
+      writes_end ended (omega (arith, ran.grows, more)) ran.others
       (subst (λ s. WritesAs command.task it reads name before at_end s) (sym is)
       (ResultFailed ran.ends.0 ran.ends.1 (subst (λ from. WroteOrFailed from out (line (codes "refused: cannot write" ∷ name ∷ []))) ran.ends.2 said)))
-  told_ends end.NoMemory ended ran (is, said) =
-      inr (
-        is,
-        (
-          ap (λ (s : Outside). s.shelf.content) ran.ends,
-          subst (λ from. WroteOrFailed from out (codes "refused: out of memory\n")) (ap (λ (s : Outside). s.out) ran.ends) said,
-        ),
-      )
+  told_ends end.NoMemory ended ran (is, (said, more)) = (
+    inr (
+      is,
+      (
+        ap (λ (s : Outside). s.shelf.content) ran.ends,
+        subst (λ from. WroteOrFailed from out (codes "refused: out of memory\n")) (ap (λ (s : Outside). s.out) ran.ends) said,
+      ),
+    ),
+    omega (arith, ran.grows, more),
+  )
 
 -- ---- where the task is this one, and what was made is this
 
@@ -144,12 +149,13 @@ module _ (planned : PlannedOf) (reads : Reads) (name : Bytes) (workers : ℕ) (b
 
   pub anew_ended : (how : End) (text : Text) (after : Outside) → HasRun how (begun_anew planned name text) before after
       → HasEnded how (task_of_text text workers) (Planned planned.plan) reads name before after
-  anew_ended end.Done text after ran = record { ends = anew_written text after ran.ends; others = ran.others }
-  anew_ended end.NoMemory text after ran = record { ends = ran.ends; others = ran.others }
-  anew_ended end.ResultFault text after ran = record { ends = (ran.ends.0, anew_left text after ran.ends.1, ran.ends.2); others = ran.others }
+  anew_ended end.Done text after ran = record { ends = anew_written text after ran.ends; others = ran.others; grows = ran.out_faults }
+  anew_ended end.NoMemory text after ran = record { ends = ran.ends; others = ran.others; grows = ran.out_faults }
+  anew_ended end.ResultFault text after ran = record { ends = (ran.ends.0, anew_left text after ran.ends.1, ran.ends.2); others = ran.others; grows = ran.out_faults }
   anew_ended end.OutFault text after ran = record {
     ends = (campaign_text (begun_anew planned name text), anew_written text _ ran.ends.0, ran.ends.1);
     others = ran.others;
+    grows = ran.out_faults;
   }
 
 -- ---- one that goes on
@@ -193,10 +199,10 @@ module _ (law : StoppedAreTakenUp) (begun : BegunOf) (reads : Reads) (name : Byt
 
   pub on_ended : (how : End) (after : Outside) → HasRun how (going_on begun name) before after
       → HasEnded how (task.Resume workers) (Begun p begun.kept) reads name before after
-  on_ended end.Done after ran = record { ends = on_written after ran.ends; others = ran.others }
-  on_ended end.NoMemory after ran = record { ends = ran.ends; others = ran.others }
-  on_ended end.ResultFault after ran = record { ends = (ran.ends.0, on_left after ran.ends.1, ran.ends.2); others = ran.others }
-  on_ended end.OutFault after ran = record { ends = (campaign_text (going_on begun name), on_written _ ran.ends.0, ran.ends.1); others = ran.others }
+  on_ended end.Done after ran = record { ends = on_written after ran.ends; others = ran.others; grows = ran.out_faults }
+  on_ended end.NoMemory after ran = record { ends = ran.ends; others = ran.others; grows = ran.out_faults }
+  on_ended end.ResultFault after ran = record { ends = (ran.ends.0, on_left after ran.ends.1, ran.ends.2); others = ran.others; grows = ran.out_faults }
+  on_ended end.OutFault after ran = record { ends = (campaign_text (going_on begun name), on_written _ ran.ends.0, ran.ends.1); others = ran.others; grows = ran.out_faults }
 
 -- ---- merged rows
 

@@ -1,10 +1,10 @@
 -- Shapes of private steps: what a command does of what its files stand for. Nothing public cites them.
-use Rattle.std.specs.Prelude.{◌≡◌, ◌⊎◌, ℕ, Bool, not, ◌&&◌, ◌==◌, ◌∷◌, [], Some, None, option_map, MatchOption, Result, Ok, Err, codes}
+use Rattle.std.specs.Prelude.{◌≡◌, ◌≤◌, ◌⊎◌, ℕ, Bool, not, ◌&&◌, ◌==◌, ◌∷◌, [], Some, None, option_map, MatchOption, Result, Ok, Err, codes}
 use Rattle.fm_base.specs.Names.{Bytes}
 use Rattle.fm_base.specs.Text.{line}
 use Rattle.fm_shelf.specs.Content.{Content, HasIfKnown}
 use Rattle.fm_shelf.specs.Shelf.{CountRose, ShelfState}
-use Rattle.fm_shelf.specs.Sink.{SinkState, Wrote, WroteOrFailed, WrotePrefix}
+use Rattle.fm_shelf.specs.Sink.{SinkState, Wrote, WrotePrefix}
 use Rattle.fm_shelf.specs.Outside.{Outside}
 use Rattle.campaign_plan.specs.declared.Outcome.{Outcome}
 use Rattle.campaign_plan.specs.Analysis.{Analysis}
@@ -18,21 +18,27 @@ use Rattle.campaign_run.specs.declared.run.Text.TheVariants.{Report, Summary}
 use Rattle.campaign_run.specs.declared.run.End.{End}
 use Rattle.campaign_run.specs.declared.run.End.TheVariants as end
 use Rattle.campaign_run.specs.Outside.{KeepsOthers, had_written}
-use Rattle.command_line.specs.declared.command.Task.{Task}
-use Rattle.command_line.specs.declared.command.Task.TheVariants as task
-use Rattle.command_line.specs.declared.command.Which.{Which}
-use Rattle.command_line.specs.declared.command.Which.TheVariants as which
-use Rattle.command_line.specs.Commands.{Command, kind_of}
+use Rattle.commands.specs.declared.command.Task.{Task}
+use Rattle.commands.specs.declared.command.Task.TheVariants as task
+use Rattle.commands.specs.declared.command.Which.{Which}
+use Rattle.commands.specs.declared.command.Which.TheVariants as which
+use Rattle.commands.specs.Commands.{Command, kind_of}
 use Rattle.refusals.specs.declared.refused.Refused.{Refused}
 use Rattle.refusals.specs.declared.refused.Refused.TheVariants.{By, Looped}
 use Rattle.refusals.specs.declared.status.Status.{Status}
 use Rattle.refusals.specs.declared.status.Status.TheVariants as status
+use Rattle.refusals.specs.Said.{IsSaid}
 use Rattle.refusals.specs.Refusals.{HasItsNets, IsPlain, IsSaidOf, status_of}
 use Rattle.command_reads.specs.declared.begun.Begun.{Begun as BegunOf}
 use Rattle.command_reads.specs.declared.judge.Judged.{Judged as Made}
 use Rattle.command_reads.specs.declared.judge.Judged.TheVariants as made
 use Rattle.command_reads.specs.Files.{Reads, WereRead, bytes_of as bytes_read, known_by}
-use Rattle.command_reads.specs.FirstRefusal.{Judged, audit_refusal, task_refusal}
+use Rattle.command_reads.specs.FirstRefusal.{Judged}
+use Rattle.row_audit.specs.Audited.{first_false}
+use Rattle.fm_base.specs.declared.Refusal.{Refusal}
+use Rattle.fm_base.specs.declared.Refusal.TheVariants.{Fault, Memory}
+use Rattle.fm_shelf.specs.declared.shelf.Failed.{Failed}
+use Rattle.fmeda_top.specs.TaskRefusals.{false_row, not_there, task_refusal}
 use Rattle.command_reads.specs.Judging.{AreSound, IsOfKind, JudgesAs}
 use Rattle.fmeda_top.specs.Ends.{HasWritten, IsDoneOrFailed, MayLeave, text_of}
 use Rattle.fmeda_top.specs.Promises.{CommandEnds, RanOut}
@@ -50,7 +56,7 @@ IsPrepared command before after it = (it ≡ Err (By status.Memory)) ⊎ ((reads
 -- the text of a task went out, or a prefix of it where `out` failed; or it was refused, and nothing went out; want of memory is free
 abbrev pub TellsAs : Task → Judged → (before after : SinkState) → Result Status Refused → Type 0
 TellsAs own made before after (Ok ended) =
-    (task_refusal own made ≡ None) × ((text : Bytes) × (text_of own made ≡ Some text)
+    (task_refusal own made ≡ None) × (before.faults ≤ after.faults) × ((text : Bytes) × (text_of own made ≡ Some text)
     × (((ended ≡ status.Done) × Wrote before after text) ⊎ ((ended ≡ status.OutFault) × WrotePrefix before after text)))
 TellsAs own made before after (Err (By ended)) =
     ((ended ≡ status.Memory) ⊎ (task_refusal own made ≡ Some ended)) × IsPlain ended × (after ≡ before)
@@ -67,18 +73,19 @@ EndsWith end.ResultFault own made reads name before after =
 EndsWith end.OutFault own made reads name before after =
     (text : Bytes) × HasWritten own made reads name before (had_written before after text) × WrotePrefix before.out after.out text
 
--- the same; and files of other names are as before
+-- the same; files of other names are as before, and no fewer writes of `out` have failed
 pub record HasEnded (how : End) (own : Task) (made : Judged) (reads : Reads) (name : Bytes) (before after : Outside) : Type 0 where
   pub ends : EndsWith how own made reads name before after
   pub others : KeepsOthers before.shelf after.shelf name
+  pub grows : before.out.faults ≤ after.out.faults
 
 -- what a command says at the end of its campaign: nothing where it has written its text, or the line of a refusal
 abbrev pub EndSaid : End → Status → (before after : SinkState) → (names : Which → Bytes) → Type 0
 EndSaid end.Done ended before after names = (ended ≡ status.Done) × (after ≡ before)
 EndSaid end.OutFault ended before after names = (ended ≡ status.OutFault) × (after ≡ before)
-EndSaid end.NoMemory ended before after names = (ended ≡ status.Memory) × WroteOrFailed before after (codes "refused: out of memory\n")
+EndSaid end.NoMemory ended before after names = (ended ≡ status.Memory) × IsSaid before after (codes "refused: out of memory\n")
 EndSaid end.ResultFault ended before after names =
-    (ended ≡ status.ResultFault) × WroteOrFailed before after (line (codes "refused: cannot write" ∷ names which.Result ∷ []))
+    (ended ≡ status.ResultFault) × IsSaid before after (line (codes "refused: cannot write" ∷ names which.Result ∷ []))
 
 -- the task prints
 abbrev pub Prints : Task → Type 0
@@ -117,19 +124,17 @@ PrintedAs (Err refused) ended before after names =
     (ended ≡ status_of refused)
     × ((held : Content) → HasItsNets (names which.Netlist) held refused → IsSaidOf held before after names (status_of refused))
 
--- a row keeps other planes than those that its batch is given
-abbrev pub is_wrong : (ℕ → Outcome) → Row → Bool
-is_wrong planes row = not ((row.danger == (planes row.batch).danger) && (row.noticed == (planes row.batch).noticed))
+-- all of the audited rows have the planes that their batches truly have, or the first that hasn't is refused
+abbrev pub ChecksAs : (every : ℕ) → Analysis → KeptRows → Result (Unit {0}) Refused → Type 0
+ChecksAs every p k (Ok done) = first_false p every k.rows ≡ None
+ChecksAs every p k (Err (By ended)) = ((ended ≡ status.Memory) ⊎ (option_map false_row (first_false p every k.rows) ≡ Some ended)) × IsPlain ended
+ChecksAs every p k (Err (Looped walk net)) = ⊥
 
--- the status of such a row
-abbrev pub disagreement : (ℕ → Outcome) → Row → Status
-disagreement planes row = status.Disagrees row.batch (record { danger = row.danger; noticed = row.noticed }) (planes row.batch)
-
--- all rows have the planes that their batches truly have, or the first that hasn't is refused
-abbrev pub ChecksAs : Analysis → KeptRows → Result (Unit {0}) Refused → Type 0
-ChecksAs p k (Ok done) = audit_refusal p k ≡ None
-ChecksAs p k (Err (By ended)) = ((ended ≡ status.Memory) ⊎ (audit_refusal p k ≡ Some ended)) × IsPlain ended
-ChecksAs p k (Err (Looped walk net)) = ⊥
+-- the status of a text that needs memory beside: it went out, or a prefix of it where `out` failed; or there was no memory, and nothing did
+abbrev pub AfterAs : Result (Unit {0}) (Refusal Failed) → Result Status Refused → Type 0
+AfterAs (Ok done) told = told ≡ Ok status.Done
+AfterAs (Err (Fault failed)) told = told ≡ Ok status.OutFault
+AfterAs (Err Memory) told = told ≡ Err (By status.Memory)
 
 -- the pairs are those by the rows that were kept, or the refusal says why there are none
 abbrev pub ChoosesAs : Analysis → KeptRows → Result Chosen Status → Type 0
@@ -142,12 +147,20 @@ pub record HasRefused (names : Which → Bytes) (netlist : Content) (why : Statu
   pub said : IsSaidOf netlist before.out after.out names why
 
 -- what a command does behind its checks: what its task refuses, or it is done or a write has failed; or memory ran out
-abbrev pub DoesAs : Command → Judged → Reads → Status → (before after : Outside) → Type 0
-DoesAs command made reads ended before after =
+abbrev pub DoesItsTask : Command → Judged → Reads → Status → (before after : Outside) → Type 0
+DoesItsTask command made reads ended before after =
     MatchOption (task_refusal command.task made) (IsDoneOrFailed command made reads ended before after)
     (λ why. (ended ≡ why) × HasRefused command.files (known_by (reads which.Netlist)) why before after)
     ⊎ RanOut ended before after
 
+-- the same, and no fewer writes of `out` have failed
+abbrev pub DoesAs : Command → Judged → Reads → Status → (before after : Outside) → Type 0
+DoesAs command made reads ended before after = DoesItsTask command made reads ended before after × (before.out.faults ≤ after.out.faults)
+
 -- what a command has done, or memory ran out
+abbrev pub EndsOrRanOut : Command → Status → (before after : Outside) → Type 0
+EndsOrRanOut command ended before after = CommandEnds command ended before after ⊎ RanOut ended before after
+
+-- the same, and no fewer writes of `out` have failed
 abbrev pub MayEnd : Command → Status → (before after : Outside) → Type 0
-MayEnd command ended before after = CommandEnds command ended before after ⊎ RanOut ended before after
+MayEnd command ended before after = EndsOrRanOut command ended before after × (before.out.faults ≤ after.out.faults)

@@ -1,5 +1,5 @@
 -- What a command has done when it ends: of what its files stand for, `made`, and of the bytes that were read of them, `reads`.
-use Rattle.std.specs.Prelude.{◌≡◌, ◌⊎◌, ℕ, List, [], ◌∷◌, ◌++◌, length, take, flat_map, Option, Some, None, MatchOption, codes}
+use Rattle.std.specs.Prelude.{◌≡◌, ◌⊎◌, ℕ, List, [], ◌∷◌, ◌++◌, length, take, flat_map, Option, Some, None, MatchOption, codes, Ok, Err}
 use Rattle.fm_base.specs.Names.{Bytes}
 use Rattle.fm_base.specs.Text.{line}
 use Rattle.fm_shelf.specs.Content.{Content, Held, HasIfKnown, IsIfKnown, bytes_of}
@@ -19,20 +19,25 @@ use Rattle.pair_campaign.specs.PairText.{pairs_text}
 use Rattle.fault_table.specs.FaultTable.{fault_table}
 use Rattle.part_table.specs.PartTable.{part_table}
 use Rattle.metric_bounds.specs.Progress.{progress}
+use Rattle.readings.specs.Breakdown.{breakdown}
+use Rattle.readings.specs.Latencies.{latencies}
+use Rattle.wave_dump.specs.Asked.{waves_asked}
+use Rattle.wave_dump.specs.Dump.{dump_text}
+use Rattle.row_audit.specs.Audited.{each_nth}
 use Rattle.campaign_run.specs.Outside.{KeepsOthers, had_written}
 use Rattle.campaign_run.specs.Found.{checkpointed_or_true}
 use Rattle.campaign_run.specs.Reported.{BeginsWith, HasReported, ResumedAs}
 use Rattle.campaign_run.specs.Left.{IsPrefixOf, LeftPrefix}
-use Rattle.command_line.specs.declared.command.Task.{Task}
-use Rattle.command_line.specs.declared.command.Task.TheVariants as task
-use Rattle.command_line.specs.declared.command.Which.TheVariants as which
-use Rattle.command_line.specs.Commands.{Command}
+use Rattle.commands.specs.declared.command.Task.{Task}
+use Rattle.commands.specs.declared.command.Task.TheVariants as task
+use Rattle.commands.specs.declared.command.Which.TheVariants as which
+use Rattle.commands.specs.Commands.{Command}
 use Rattle.refusals.specs.declared.status.Status.{Status}
 use Rattle.refusals.specs.declared.status.Status.TheVariants as status
 use Rattle.class_table.specs.ClassTable.{classes_text}
 use Rattle.refusals.specs.Texts.{check_text, audit_line, shard_line, merge_line}
 use Rattle.command_reads.specs.Files.{Reads, bytes_of as bytes_read}
-use Rattle.command_reads.specs.FirstRefusal.{Judged, Rated, Planned, Begun, Merged, own_header}
+use Rattle.command_reads.specs.FirstRefusal.{Judged, Driven, Rated, Planned, Begun, Merged, own_header}
 
 -- ---- commands that print
 
@@ -41,11 +46,15 @@ abbrev pub text_of : Task → Judged → Option Bytes
 text_of task.Classes (Planned p) = Some (classes_text p)
 text_of task.Check (Planned p) = Some (check_text p)
 text_of task.Report (Planned p) = Some (true_report p)
-text_of task.Audit (Begun p k) = Some (audit_line (length k.rows) (batch_count p))
+text_of (task.Audit every by) (Begun p k) = Some (audit_line every (length (each_nth every k.rows)) (batch_count p))
 text_of (task.Pairs workers) (Begun p k) = Some (pairs_text p (planes_in k.rows))
 text_of task.Parts (Rated c table) = Some (part_table c table)
 text_of task.Faults (Begun p k) = Some (fault_table p (kept_entries k))
 text_of task.Progress (Begun p k) = Some (progress p (kept_entries k))
+text_of (task.Breakdown intervals workers) (Planned p) = Some (breakdown p intervals)
+text_of (task.Latencies workers) (Planned p) = Some (latencies p)
+text_of (task.Trace run fault nets) (Driven c runs set) =
+    Some (elim (waves_asked c runs set.flips set.pulses run fault nets) [ Ok waves ↦ dump_text waves | Err why ↦ [] ])
 text_of _ _ = None
 
 -- a command that prints this text: no file has changed; the text went out, or `out` failed and a prefix of it did
@@ -89,7 +98,7 @@ MayLeave (Planned p) reads before after = LeftPrefix (own_header reads p) p (tru
 MayLeave (Begun p k) reads before after =
     LeftPrefix (own_header reads p) p (checkpointed_or_true p k) after × IsIfKnown after (λ bytes. BeginsWith bytes (take k.whole (bytes_of before)))
 MayLeave (Merged p both) reads before after = IsPrefixOf after (own_header reads p ++ flat_map row_text both)
-MayLeave (Rated c table) reads before after = ⊥
+MayLeave _ reads before after = ⊥
 
 -- a command that writes the result file of this name: files of other names are as before. All was written; or `out` failed, and all is as
 -- then but for a part of a text; or a write to the file failed: it is as before, or so, and the line of this fault went out

@@ -19,21 +19,23 @@ use Rattle.pair_list.specs.Chosen.{pair_refusal}
 use Rattle.pair_campaign.specs.PairText.{pairs_text}
 use Rattle.campaign_run.specs.Left.{LeftPrefix}
 use Rattle.result_merge.specs.Merged.{merged}
-use Rattle.command_line.specs.declared.command.Kind.{Kind}
-use Rattle.command_line.specs.declared.command.Which.{Which}
-use Rattle.command_line.specs.declared.command.Which.TheVariants as which
-use Rattle.command_line.specs.Commands.{Command, files_of}
+use Rattle.commands.specs.declared.command.Kind.{Kind}
+use Rattle.commands.specs.declared.command.Which.{Which}
+use Rattle.commands.specs.declared.command.Which.TheVariants as which
+use Rattle.commands.specs.Commands.{Command, files_of}
 use Rattle.command_line.specs.Words.{IsCommand, IsNoCommand}
 use Rattle.refusals.specs.declared.status.Status.{Status}
 use Rattle.refusals.specs.declared.status.Status.TheVariants as status
 use Rattle.command_reads.specs.declared.files.FileRead.TheVariants.{Failed}
 use Rattle.command_reads.specs.Files.{Reads, WereRead, given}
-use Rattle.command_reads.specs.FirstRefusal.{IsLoopAnswer, Judged, Rated, Planned, Begun, Merged, judged}
+use Rattle.command_reads.specs.FirstRefusal.{IsLoopAnswer, Judged, Driven, Rated, Planned, Begun, Merged}
+use Rattle.fmeda_top.specs.TaskRefusals.{judged}
 use Rattle.fmeda_top.specs.Promises.{CommandEnds, Promises, RanOut}
 
 -- the circuit that is worked on
 abbrev pub circuit_in : Judged → Circuit
 circuit_in (Planned p) = p.circuit
+circuit_in (Driven c runs set) = c
 circuit_in (Rated c table) = c
 circuit_in (Begun p k) = p.circuit
 circuit_in (Merged p both) = p.circuit

@@ -4,14 +4,15 @@ use Rattle.fm_base.specs.Names.{Bytes}
 use Rattle.fm_shelf.specs.Outside.{Outside}
 use Rattle.circuit.specs.declared.parts.NetId.{NetId}
 use Rattle.circuit.specs.Circuit.{Circuit}
-use Rattle.command_line.specs.declared.command.Which.TheVariants as which
-use Rattle.command_line.specs.Commands.{Command, kind_of}
+use Rattle.commands.specs.declared.command.Which.TheVariants as which
+use Rattle.commands.specs.Commands.{Command, kind_of}
 use Rattle.command_line.specs.Words.{IsAlone, IsCommand, IsNoCommand}
 use Rattle.refusals.specs.declared.status.Status.{Status}
 use Rattle.refusals.specs.declared.status.Status.TheVariants as status
 use Rattle.refusals.specs.RefusalLines.{refusal_line}
 use Rattle.command_reads.specs.Files.{Reads, WereRead}
-use Rattle.command_reads.specs.FirstRefusal.{IsLoopAnswer, judged}
+use Rattle.command_reads.specs.FirstRefusal.{IsLoopAnswer}
+use Rattle.fmeda_top.specs.TaskRefusals.{judged}
 use Rattle.fmeda_top.specs.Ends.{IsDoneOrFailed, RefusedAs}
 
 -- WHAT IS PROMISED OF A COMMAND: its files were read, and over what was read the first refusal is the answer, with its line; where nothing

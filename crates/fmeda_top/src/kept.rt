@@ -1,7 +1,7 @@
 // The texts of `faults` and `progress`, of what is kept of a result file.
 ghost use Rattle.campaign_plan.specs.Batches.{AreDistinct};
 ghost use Rattle.result_file.specs.KeptRows.{kept_entries};
-ghost use Rattle.command_line.specs.declared.command.Task.TheVariants as task;
+ghost use Rattle.commands.specs.declared.command.Task.TheVariants as task;
 ghost use Rattle.command_reads.specs.FirstRefusal.{Begun as StandsBegun};
 ghost use Rattle.fmeda_top.specs.Doing.{TellsAs};
 

@@ -1,7 +1,7 @@
 // The result file of `merge`.
 ghost use Rattle.std.specs.Prelude.{◌≡◌, IfOk};
 ghost use Rattle.fm_shelf.specs.Outside.{outside};
-ghost use Rattle.command_line.specs.declared.command.Task.TheVariants as task;
+ghost use Rattle.commands.specs.declared.command.Task.TheVariants as task;
 ghost use Rattle.command_reads.specs.Answers.{IsSound};
 ghost use Rattle.command_reads.specs.Files.{Reads};
 ghost use Rattle.command_reads.specs.FirstRefusal.{Merged as StandsMerged};

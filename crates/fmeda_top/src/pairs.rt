@@ -3,7 +3,7 @@ ghost use Rattle.std.specs.Prelude.{◌<◌, ◌≤◌};
 ghost use Rattle.circuit.specs.Order.{IsOrder};
 ghost use Rattle.campaign_plan.specs.Batches.{AreDistinct};
 ghost use Rattle.result_file.specs.KeptRows.{kept_entries};
-ghost use Rattle.command_line.specs.declared.command.Task.TheVariants as task;
+ghost use Rattle.commands.specs.declared.command.Task.TheVariants as task;
 ghost use Rattle.command_reads.specs.FirstRefusal.{Begun as StandsBegun};
 ghost use Rattle.fmeda_top.specs.Doing.{ChoosesAs, TellsAs};
 

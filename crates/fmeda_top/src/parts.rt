@@ -1,5 +1,5 @@
 // The text of `parts`.
-ghost use Rattle.command_line.specs.declared.command.Task.TheVariants as task;
+ghost use Rattle.commands.specs.declared.command.Task.TheVariants as task;
 ghost use Rattle.command_reads.specs.FirstRefusal.{Rated as StandsRated};
 ghost use Rattle.fmeda_top.specs.Doing.{TellsAs};
 

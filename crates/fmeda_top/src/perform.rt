@@ -3,8 +3,8 @@ ghost use Rattle.std.specs.Prelude.{◌≡◌};
 ghost use Rattle.fm_shelf.specs.Content.{Content};
 ghost use Rattle.fm_shelf.specs.Outside.{outside};
 ghost use Rattle.campaign_plan.specs.declared.Settings.{Settings};
-ghost use Rattle.command_line.specs.declared.command.Which.TheVariants as which;
-ghost use Rattle.command_line.specs.Commands.{HasFitNumbers, IsFit, name_by, told_by};
+ghost use Rattle.commands.specs.declared.command.Which.TheVariants as which;
+ghost use Rattle.commands.specs.Commands.{HasFitNumbers, IsFit, name_by, told_by};
 ghost use Rattle.command_reads.specs.Files.{Reads};
 ghost use Rattle.command_reads.specs.Judging.{made_by};
 ghost use Rattle.fmeda_top.specs.Doing.{DoesAs, EndSaid, IsJudged, IsReady, MayEnd, PrintedAs, Prints, TellsAs};
@@ -19,12 +19,14 @@ use crate::merge::merge;
 use crate::pairs::tell_pairs;
 use crate::parts::tell_parts;
 use crate::prepare::prepared;
+use crate::reading_texts::{tell_breakdown, tell_latencies};
 use crate::report::tell_report;
 use crate::run::{run_anew, run_on, run_share};
+use crate::trace::tell_trace;
 use campaign_run::{End, Ran, Text};
 use campaign_shard::Shard;
-use command_line::{Asked, FileNames, Task};
 use command_reads::judge::Judged;
+use commands::{Asked, FileNames, Task};
 use fm_shelf::shelf::{Shelf, Sink};
 use refusals::refuse::{refuse, say_refused};
 use refusals::refused::Refused;
@@ -64,24 +66,33 @@ fn ended<F: Shelf + Drop, O: Sink>(ran: Ran<F>, names: &FileNames<'_>, out: &mut
 fn print<R: Threads + Sync, O: Sink>(
     rt: &R,
     alloc: Global,
-    task: Task,
+    task: &Task,
     judged: &Judged,
     out: &mut O,
 ) -> Result<Status, Refused>
-    requires fit { HasFitNumbers task }
-    requires prints { Prints task }
-    requires judged { IsJudged task judged.now }
-    ensures { TellsAs task (made_by judged.now) (O.seen out.old) (O.seen out.new) result }
+    requires fit { HasFitNumbers task.now }
+    requires prints { Prints task.now }
+    requires judged { IsJudged task.now judged.now }
+    ensures { TellsAs task.now (made_by judged.now) (O.seen out.old) (O.seen out.new) result }
 {
     match task {
         Task::Classes => tell_classes(alloc, judged.observed(), out),
         Task::Check => tell_check(judged.planned(), out),
-        Task::Audit => tell_audit(alloc, judged.begun(), out),
+        Task::Audit { every, by } => tell_audit(alloc, judged.begun(), *every, *by, out),
         Task::Report => tell_report(alloc, judged.planned(), out),
-        Task::Pairs { workers } => tell_pairs(rt, alloc, judged.begun(), out, workers),
+        Task::Pairs { workers } => tell_pairs(rt, alloc, judged.begun(), out, *workers),
         Task::Parts => tell_parts(alloc, judged.rated(), out),
         Task::Faults => tell_faults(alloc, judged.begun(), out),
         Task::Progress => tell_progress(alloc, judged.begun(), out),
+        Task::Breakdown { intervals, workers } => {
+            let intervals = intervals.as_slice();
+            tell_breakdown(rt, alloc, judged.planned(), intervals, *workers, out)
+        }
+        Task::Latencies { workers } => tell_latencies(rt, alloc, judged.planned(), *workers, out),
+        Task::Trace { run, fault, nets } => {
+            let (fault, nets) = (fault.as_slice(), nets.as_slice());
+            tell_trace(alloc, judged.driven(), *run, fault, nets, out)
+        }
         Task::Run { .. }
         | Task::Resume { .. }
         | Task::Gen { .. }
@@ -105,24 +116,27 @@ fn do_alone<R: Threads + Sync, F: Shelf, O: Sink>(
     rt: &R,
     alloc: Global,
     names: &FileNames<'_>,
-    task: Task,
+    task: &Task,
     judged: &Judged,
     shelf: &mut F,
     out: &mut O,
 ) -> Status
-    requires fit { HasFitNumbers task }
-    requires alone { WaitsForNobody task }
-    requires judged { IsJudged task judged.now }
+    requires fit { HasFitNumbers task.now }
+    requires alone { WaitsForNobody task.now }
+    requires judged { IsJudged task.now judged.now }
     ensures { (held : Content) (reads : Reads) (set : Settings) → IsReady held reads judged.now
-        → DoesAs (record { files = name_by names.now; settings = set; task = task }) (made_by judged.now) reads result
+        → DoesAs (record { files = name_by names.now; settings = set; task = task.now }) (made_by judged.now) reads result
         (outside (F.seen shelf.old) (O.seen out.old)) (outside (F.seen shelf.new) (O.seen out.new)) }
 {
-    if task == Task::Merge {
-        let end = merge(alloc, judged.merged(), names.result, shelf, out);
-        say_end(out, names, end)
-    } else {
-        let told = print(rt, alloc, task, judged, out);
-        printed(names, told, out)
+    match task {
+        Task::Merge => {
+            let end = merge(alloc, judged.merged(), names.result, shelf, out);
+            say_end(out, names, end)
+        }
+        prints => {
+            let told = print(rt, alloc, prints, judged, out);
+            printed(names, told, out)
+        }
     }
 }
 
@@ -131,17 +145,17 @@ fn do_task<R: Threads + Wait + Sync, F: Shelf + Send + Drop, O: Sink, G: Gate + 
     rt: &R,
     alloc: Global,
     names: &FileNames<'_>,
-    task: Task,
+    task: &Task,
     judged: Judged,
     shelf: F,
     out: &mut O,
     gate: &G,
 ) -> Ended<F>
-    requires fit { HasFitNumbers task }
-    requires judged { IsJudged task judged }
+    requires fit { HasFitNumbers task.now }
+    requires judged { IsJudged task.now judged }
     requires ready { (reads : Reads) × IsReady ((F.seen shelf).content (name_by names.now which.Result)) reads judged }
     ensures { (reads : Reads) (set : Settings) → IsReady ((F.seen shelf).content (name_by names.now which.Result)) reads judged
-        → DoesAs (record { files = name_by names.now; settings = set; task = task }) (made_by judged) reads result.status
+        → DoesAs (record { files = name_by names.now; settings = set; task = task.now }) (made_by judged) reads result.status
         (outside (F.seen shelf) (O.seen out.old)) (outside (F.seen result.shelf) (O.seen out.new)) }
 {
     let name = names.result;
@@ -154,7 +168,7 @@ fn do_task<R: Threads + Wait + Sync, F: Shelf + Send + Drop, O: Sink, G: Gate + 
                 plan,
                 name,
                 Text::Report,
-                workers,
+                *workers,
                 shelf,
                 out,
                 gate,
@@ -162,17 +176,20 @@ fn do_task<R: Threads + Wait + Sync, F: Shelf + Send + Drop, O: Sink, G: Gate + 
             ended(ran, names, out)
         }
         Task::Gen { stages, workers } => {
-            let (plan, text) = (judged.planned(), Text::Summary(stages));
-            let ran = run_anew(rt, alloc, plan, name, text, workers, shelf, out, gate);
+            let (plan, text) = (judged.planned(), Text::Summary(*stages));
+            let ran = run_anew(rt, alloc, plan, name, text, *workers, shelf, out, gate);
             ended(ran, names, out)
         }
         Task::Resume { workers } => {
             let begun = judged.into_begun();
-            let ran = run_on(rt, alloc, begun, name, workers, shelf, out, gate);
+            let ran = run_on(rt, alloc, begun, name, *workers, shelf, out, gate);
             ended(ran, names, out)
         }
         Task::Shard { part, parts } => {
-            let part = Shard { part, parts };
+            let part = Shard {
+                part: *part,
+                parts: *parts,
+            };
             let ran = run_share(rt, alloc, judged.planned(), name, part, shelf, out);
             ended(ran, names, out)
         }
@@ -203,8 +220,8 @@ pub(crate) fn perform<R: Threads + Wait + Sync, F: Shelf + Send + Drop, O: Sink,
         task,
     } = asked;
     let mut shelf = shelf;
-    match prepared(alloc, &mut shelf, &names, settings, task) {
-        Ok(judged) => do_task(rt, alloc, &names, task, judged, shelf, out, gate),
+    match prepared(alloc, &mut shelf, &names, settings, &task) {
+        Ok(judged) => do_task(rt, alloc, &names, &task, judged, shelf, out, gate),
         Err(refused) => Ended {
             status: say_refused(out, &names, refused),
             shelf,
@@ -230,9 +247,9 @@ pub fn perform_alone<R: Threads + Sync, F: Shelf, O: Sink>(
         settings,
         task,
     } = asked;
-    match prepared(alloc, shelf, &names, settings, task) {
+    match prepared(alloc, shelf, &names, settings, &task) {
         Ok(judged) => {
-            let status = do_alone(rt, alloc, &names, task, &judged, shelf, out);
+            let status = do_alone(rt, alloc, &names, &task, &judged, shelf, out);
             drop(judged);
             status
         }

@@ -1,6 +1,6 @@
 // The text of `report`.
 ghost use Rattle.circuit.specs.Order.{IsOrder};
-ghost use Rattle.command_line.specs.declared.command.Task.TheVariants as task;
+ghost use Rattle.commands.specs.declared.command.Task.TheVariants as task;
 ghost use Rattle.command_reads.specs.FirstRefusal.{Planned as StandsPlanned};
 ghost use Rattle.fmeda_top.specs.Doing.{TellsAs};
 

@@ -1,15 +1,16 @@
 // The program, but for the edge of the system.
-ghost use Rattle.std.specs.Prelude.{◌≡◌, map, string_bytes};
+ghost use Rattle.std.specs.Prelude.{◌≡◌, ◌≤◌, map, string_bytes};
 ghost use Rattle.fm_shelf.specs.Content.{Content};
 ghost use Rattle.fm_shelf.specs.Outside.{outside};
-ghost use Rattle.command_line.specs.Commands.{no_names};
+ghost use Rattle.commands.specs.Commands.{no_names};
 ghost use Rattle.refusals.specs.Refusals.{IsSaidOf};
 ghost use Rattle.fmeda_top.specs.Promises.{Promises};
 ghost use Rattle.fmeda_top.specs.Words.{IsOfWords};
 
 use crate::ended::Ended;
 use crate::perform::perform;
-use command_line::{FileNames, WordsRefusal, read_words};
+use command_line::{WordsRefusal, read_words};
+use commands::FileNames;
 use fm_shelf::shelf::{Shelf, Sink};
 use refusals::refuse::say_refused;
 use refusals::refused::Refused;
@@ -41,8 +42,9 @@ pub fn fmeda<R: Threads + Wait + Sync, F: Shelf + Send + Drop, O: Sink, G: Gate 
     out: &mut O,
     gate: &G,
 ) -> Ended<F>
-    ensures { Promises (map string_bytes words.now) result.status
+    ensures promises { Promises (map string_bytes words.now) result.status
         (outside (F.seen shelf) (O.seen out.old)) (outside (F.seen result.shelf) (O.seen out.new)) }
+    ensures grows { (O.seen out.old).faults ≤ (O.seen out.new).faults }
 {
     match read_words(alloc, words) {
         Ok(asked) => perform(rt, alloc, asked, shelf, out, gate),

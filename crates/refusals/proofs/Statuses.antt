@@ -9,7 +9,7 @@ use Rattle.refusals.specs.declared.status.Status.TheVariants as status
 use Rattle.campaign_plan.specs.declared.Outcome.{Outcome}
 use Rattle.result_merge.specs.declared.merge.MergeRefusal.{MergeRefusal}
 use Rattle.result_merge.specs.declared.merge.MergeRefusal.TheVariants.{Differs}
-use Rattle.command_line.specs.declared.command.Which.{Which}
+use Rattle.commands.specs.declared.command.Which.{Which}
 use Rattle.fmeda_report.proofs.Sending.{written_none}
 use Rattle.fm_shelf.specs.Sink.{SinkState}
 

@@ -24,8 +24,8 @@ use Rattle.pair_list.specs.declared.pairs.PairRefusal.TheVariants.{Incomplete, T
 use Rattle.fm_base.specs.Text.{line, hex}
 use Rattle.refusals.specs.declared.status.Status.{Status}
 use Rattle.refusals.specs.declared.status.Status.TheVariants as status
-use Rattle.command_line.specs.declared.command.Which.{Which}
-use Rattle.command_line.specs.declared.command.Which.TheVariants as which
+use Rattle.commands.specs.declared.command.Which.{Which}
+use Rattle.commands.specs.declared.command.Which.TheVariants as which
 use Rattle.std.specs.Str.{byte}
 use Rattle.fm_base.specs.Names.{Bytes}
 
@@ -126,6 +126,9 @@ refusal_line file c ended =
       | status.Merge (Differs n one two) ↦ line (codes "refused: batch" ∷ decimal n ∷ both (codes "first") one ++ both (codes "second") two)
       | status.Pairs (Incomplete n all) ↦ line (codes "refused: result file has" ∷ decimal n ∷ codes "of" ∷ decimal all ∷ codes "batches" ∷ [])
       | status.Pairs TooMany ↦ codes "refused: more than 1048576 pairs\n"
+      | status.NoRun ↦ codes "refused: no such run\n"
+      | status.NoFault ↦ codes "refused: no such fault\n"
+      | status.NoNet ↦ codes "refused: no such net\n"
       | status.ReadFault which ↦ line (codes "refused: cannot read" ∷ file which ∷ [])
       | status.ResultFault ↦ line (codes "refused: cannot write" ∷ file which.Result ∷ [])
       | status.Memory ↦ codes "refused: out of memory\n"
@@ -154,6 +157,9 @@ code_of (status.Disagrees batch kept computed) = 13
 code_of (status.Merge refusal) = 15
 code_of (status.Pairs (Incomplete have batches)) = 16
 code_of (status.Pairs TooMany) = 10
+code_of status.NoRun = 17
+code_of status.NoFault = 17
+code_of status.NoNet = 17
 code_of (status.ReadFault which) = 20
 code_of status.ResultFault = 21
 code_of status.OutFault = 21

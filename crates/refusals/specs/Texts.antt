@@ -1,5 +1,5 @@
 -- The one-line texts of `audit`, `shard` and `merge`, and the text of `check`.
-use Rattle.std.specs.Prelude.{ℕ, [], ◌∷◌, ◌++◌, length, codes, decimal}
+use Rattle.std.specs.Prelude.{ℕ, [], ◌∷◌, ◌++◌, ◌==◌, length, if◌then◌else◌, codes, decimal}
 use Rattle.workload.specs.Runs.{all_cycles}
 use Rattle.alarm_points.specs.PointsFile.{observed}
 use Rattle.rate_table.specs.Table.{all_rates}
@@ -25,6 +25,7 @@ shard_line part parts rows = line (codes "shard" ∷ decimal part ∷ codes "of"
 abbrev pub merge_line : (rows batches : ℕ) → Bytes
 merge_line rows batches = line (codes "merge" ∷ decimal rows ∷ codes "of" ∷ decimal batches ∷ codes "rows" ∷ [])
 
--- so many whole rows agree, of so many batches
-abbrev pub audit_line : (rows batches : ℕ) → Bytes
-audit_line rows batches = line (codes "audit" ∷ decimal rows ∷ codes "of" ∷ decimal batches ∷ codes "rows agree" ∷ [])
+-- so many rows agree, each N-th of a file's, of so many batches; that it is each N-th stands there where N isn't 1
+abbrev pub audit_line : (every rows batches : ℕ) → Bytes
+audit_line every rows batches =
+    line (codes "audit" ∷ decimal rows ∷ codes "of" ∷ decimal batches ∷ codes "rows agree" ∷ (if every == 1 then [] else codes "every" ∷ decimal every ∷ []))

@@ -1,4 +1,6 @@
 // The text of `audit`.
+ghost use Rattle.std.specs.Prelude.{◌∷◌, [], codes, decimal};
+ghost use Rattle.fm_base.specs.Text.{line};
 ghost use Rattle.fm_shelf.specs.Sink.{Sends};
 ghost use Rattle.refusals.specs.Texts.{audit_line};
 
@@ -6,9 +8,10 @@ use fm_shelf::shelf::{Failed, Sink};
 use fmeda_report::lines::write_line;
 use fmeda_report::words::number_word;
 
-/// Writes that so many rows agree, of so many batches.
-pub fn write_audit<O: Sink>(rows: usize, batches: u32, out: &mut O) -> Result<(), Failed>
-    ensures { Sends (O.seen out.old) (O.seen out.new) (audit_line rows batches) result }
+// Writes that so many rows agree, of so many batches.
+fn write_whole<O: Sink>(rows: usize, batches: u32, out: &mut O) -> Result<(), Failed>
+    ensures { Sends (O.seen out.old) (O.seen out.new)
+        (line (codes "audit" ∷ decimal rows ∷ codes "of" ∷ decimal batches ∷ codes "rows agree" ∷ [])) result }
 {
     write_line(
         out,
@@ -20,4 +23,39 @@ pub fn write_audit<O: Sink>(rows: usize, batches: u32, out: &mut O) -> Result<()
             b"rows agree",
         ],
     )
+}
+
+// The same, and that each N-th row was looked at.
+fn write_some<O: Sink>(every: u32, rows: usize, batches: u32, out: &mut O) -> Result<(), Failed>
+    ensures { Sends (O.seen out.old) (O.seen out.new)
+        (line (codes "audit" ∷ decimal rows ∷ codes "of" ∷ decimal batches ∷ codes "rows agree" ∷ codes "every" ∷ decimal every ∷ [])) result }
+{
+    write_line(
+        out,
+        &[
+            b"audit",
+            number_word(rows as u64).bytes(),
+            b"of",
+            number_word(u64::from(batches)).bytes(),
+            b"rows agree",
+            b"every",
+            number_word(u64::from(every)).bytes(),
+        ],
+    )
+}
+
+/// Writes that so many rows agree, each N-th of a file's, of so many batches.
+pub fn write_audit<O: Sink>(
+    every: u32,
+    rows: usize,
+    batches: u32,
+    out: &mut O,
+) -> Result<(), Failed>
+    ensures { Sends (O.seen out.old) (O.seen out.new) (audit_line every rows batches) result }
+{
+    if every == 1 {
+        write_whole(rows, batches, out)
+    } else {
+        write_some(every, rows, batches, out)
+    }
 }

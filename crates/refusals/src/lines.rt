@@ -6,7 +6,7 @@ ghost use Rattle.fm_base.specs.Text.{hex};
 ghost use Rattle.circuit.specs.Circuit.{Circuit};
 ghost use Rattle.result_file.specs.ResultText.{sums_words};
 ghost use Rattle.refusals.specs.Said.{IsSaid};
-ghost use Rattle.command_line.specs.Commands.{name_by};
+ghost use Rattle.commands.specs.Commands.{name_by};
 ghost use Rattle.refusals.specs.RefusalLines.{refused, row_why, refusal_line};
 ghost use Rattle.refusals.specs.Steps.{planes_words, shown_byte, shown_start};
 

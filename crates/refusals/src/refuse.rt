@@ -5,7 +5,7 @@ ghost use Rattle.fm_shelf.specs.Content.{Content};
 ghost use Rattle.refusals.specs.Said.{IsSaid};
 ghost use Rattle.refusals.specs.Refusals.{status_of, HasItsNets, IsSaidOf};
 ghost use Rattle.fm_base.specs.Names.{Bytes};
-ghost use Rattle.command_line.specs.Commands.{name_by};
+ghost use Rattle.commands.specs.Commands.{name_by};
 ghost use Rattle.refusals.specs.RefusalLines.{refusal_line};
 
 use crate::lines::{
@@ -20,7 +20,7 @@ use crate::status::Status;
 use crate::walk::refuse_loop;
 use campaign_plan::PlanRefusal;
 use circuit::parts::Name;
-use command_line::{FileNames, Which};
+use commands::{FileNames, Which};
 use fm_shelf::shelf::Sink;
 use pair_list::PairRefusal;
 use result_file::ResultRefusal;
@@ -154,6 +154,9 @@ pub fn refuse<O: Sink>(out: &mut O, names: &FileNames, nets: &[Name], status: &S
         ),
         Status::Merge(cause) => refuse_merge(out, *cause),
         Status::Pairs(cause) => refuse_pairs(out, *cause),
+        Status::NoRun => refuse_phrase(out, b"no such run"),
+        Status::NoFault => refuse_phrase(out, b"no such fault"),
+        Status::NoNet => refuse_phrase(out, b"no such net"),
     }
 }
 

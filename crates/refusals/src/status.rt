@@ -6,7 +6,7 @@ use alarm_points::PointsFault;
 use bench_reader::BenchFault;
 use blif_text::NetlistFault;
 use campaign_plan::{Outcome, PlanRefusal};
-use command_line::Which;
+use commands::Which;
 use fm_shelf::shelf::Failed;
 use netlist_levels::Walk;
 use pair_list::PairRefusal;
@@ -37,6 +37,9 @@ pub enum Status {
     },
     Merge(MergeRefusal),
     Pairs(PairRefusal),
+    NoRun,
+    NoFault,
+    NoNet,
     ReadFault(Which),
     ResultFault,
     OutFault,
@@ -44,7 +47,7 @@ pub enum Status {
 }
 
 impl Status {
-    /// The exit status of the program: 0 is done, 2 to 16 are refusals of what it was given, 20 and 21 are faults of the
+    /// The exit status of the program: 0 is done, 2 to 17 are refusals of what it was given, 20 and 21 are faults of the
     /// outside, and 30 is want of memory.
     pub fn code(&self) -> u8
         ensures { result ≡ code_of self.now }
@@ -68,6 +71,7 @@ impl Status {
             Status::Merge(_) => 15,
             Status::Pairs(PairRefusal::Incomplete { .. }) => 16,
             Status::Pairs(PairRefusal::TooMany) => 10,
+            Status::NoRun | Status::NoFault | Status::NoNet => 17,
             Status::ReadFault(_) => 20,
             Status::ResultFault | Status::OutFault => 21,
             Status::Plan(PlanRefusal::Memory) | Status::Memory => 30,

@@ -2,8 +2,8 @@ use Rattle.std.proofs.Common.{◌≡◌, ◌∙◌, List, codes, subst, sym, tru
 use Rattle.std.specs.Prelude.{bytes_eq, not}
 use Rattle.std.specs.List.{list_all}
 use Rattle.clap.specs.Words.{found_of}
-use Rattle.command_line.specs.declared.command.Which.{Which}
-use Rattle.command_line.specs.Commands.{inputs_of, name_by}
+use Rattle.commands.specs.declared.command.Which.{Which}
+use Rattle.commands.specs.Commands.{inputs_of, name_by}
 use Rattle.command_line.proofs.Apart.{no_result, one_of_them, others}
 use Rattle.command_line.proofs.Said.{found_text}
 use Rattle.command_line.proofs.entries.is_apart.Goals as goal

@@ -1,7 +1,7 @@
 use Rattle.std.proofs.Common.{get_or, refl, subst}
 use Rattle.fm_shelf.specs.Shelf.{OnlyReads}
-use Rattle.command_line.specs.Commands.{name_by}
-use Rattle.command_line.specs.declared.command.Which.TheVariants.{Netlist}
+use Rattle.commands.specs.Commands.{name_by}
+use Rattle.commands.specs.declared.command.Which.TheVariants.{Netlist}
 use Rattle.command_reads.specs.Files.{WasRead, reads_by}
 use Rattle.command_reads.proofs.Reading.{more_read, short_more, read_more, read_all_of}
 use Rattle.command_reads.proofs.files.read_each.Goals as goal

@@ -1,6 +1,6 @@
 use Rattle.std.proofs.Common.{take}
 use Rattle.fm_shelf.specs.Shelf.{OnlyReadsAny}
-use Rattle.command_line.specs.Commands.{name_by}
+use Rattle.commands.specs.Commands.{name_by}
 use Rattle.command_reads.specs.Files.{AreShort, reads_by}
 use Rattle.command_reads.proofs.Reading.{AllWereRead}
 use Rattle.command_reads.proofs.files.read_each.Given as goal

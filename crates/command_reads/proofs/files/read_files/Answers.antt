@@ -1,6 +1,6 @@
 use Rattle.std.proofs.Common.{subst, sym}
 use Rattle.std.proofs.lemmas.Result.{IfOk-weaker}
-use Rattle.command_line.specs.Commands.{name_by}
+use Rattle.commands.specs.Commands.{name_by}
 use Rattle.command_reads.specs.Files.{WereRead, reads_by}
 use Rattle.command_reads.proofs.files.read_files.Goals as goal
 

@@ -1,5 +1,5 @@
 use Rattle.std.proofs.lemmas.Result.{err_from_is_err_and}
-use Rattle.command_line.specs.declared.command.Kind.TheVariants as kind
+use Rattle.commands.specs.declared.command.Kind.TheVariants as kind
 use Rattle.command_reads.specs.declared.judge.Judged.TheVariants as made
 use Rattle.command_reads.specs.Answers.{generated_settings}
 use Rattle.command_reads.specs.Files.{reads_by}
@@ -10,6 +10,11 @@ pub returns-in_err-judge_observed-in-Observed : goal.returns-in_err-judge_observ
 returns-in_err-judge_observed-in-Observed c =
     let p = err_from_is_err_and c.from_residual.result c.from_residual.ensures.1 in
     rw (p.1, p.2) (refused_as c.args.netlist.now c.args.settings (reads_by c.args.reads.now) c.args.kind kind.Observed c.in-Observed.is _ (c.in_err-judge_observed-in-Observed.ensures.observes c.args.settings))
+
+pub returns-in_err-judge_driven-in-Driven : goal.returns-in_err-judge_driven-in-Driven
+returns-in_err-judge_driven-in-Driven c =
+    let p = err_from_is_err_and c.from_residual-in_err-judge_driven-in-Driven.result c.from_residual-in_err-judge_driven-in-Driven.ensures.1 in
+    rw (p.1, p.2) (refused_as c.args.netlist.now c.args.settings (reads_by c.args.reads.now) c.args.kind kind.Driven c.in-Driven.is _ c.in_err-judge_driven-in-Driven.ensures.drives)
 
 pub returns-in_err-judge_rated-in-Rated : goal.returns-in_err-judge_rated-in-Rated
 returns-in_err-judge_rated-in-Rated c =
@@ -28,6 +33,9 @@ returns-in_err-generated_plan-in-Generated c =
 
 pub returns-in_ok-judge_observed-in-Observed : goal.returns-in_ok-judge_observed-in-Observed
 returns-in_ok-judge_observed-in-Observed c = made_as c.args.netlist.now c.args.settings (reads_by c.args.reads.now) c.args.kind kind.Observed c.in-Observed.is (made.Observed c.in_ok-judge_observed-in-Observed.field-0) (c.in_ok-judge_observed-in-Observed.ensures.observes c.args.settings) tt c.in_ok-judge_observed-in-Observed.ensures.sound
+
+pub returns-in_ok-judge_driven-in-Driven : goal.returns-in_ok-judge_driven-in-Driven
+returns-in_ok-judge_driven-in-Driven c = made_as c.args.netlist.now c.args.settings (reads_by c.args.reads.now) c.args.kind kind.Driven c.in-Driven.is (made.Driven c.in_ok-judge_driven-in-Driven.field-0) c.in_ok-judge_driven-in-Driven.ensures.drives tt c.in_ok-judge_driven-in-Driven.ensures.sound
 
 pub returns-in_ok-judge_rated-in-Rated : goal.returns-in_ok-judge_rated-in-Rated
 returns-in_ok-judge_rated-in-Rated c = made_as c.args.netlist.now c.args.settings (reads_by c.args.reads.now) c.args.kind kind.Rated c.in-Rated.is (made.Rated c.in_ok-judge_rated-in-Rated.field-0) (c.in_ok-judge_rated-in-Rated.ensures c.args.settings) tt tt

@@ -1,5 +1,5 @@
 use Rattle.std.proofs.lemmas.Result.{err_from_is_err_and}
-use Rattle.command_line.specs.declared.command.Which.TheVariants.{Netlist}
+use Rattle.commands.specs.declared.command.Which.TheVariants.{Netlist}
 use Rattle.command_reads.specs.Files.{reads_by}
 use Rattle.command_reads.proofs.Netlists.{net_unread, net_faulty, net_ordered}
 use Rattle.command_reads.proofs.Wholes.{short_whole}

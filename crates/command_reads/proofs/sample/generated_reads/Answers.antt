@@ -1,5 +1,5 @@
 use Rattle.std.proofs.Common.{◌∙◌, ap}
-use Rattle.command_line.specs.declared.command.Which.TheVariants as which
+use Rattle.commands.specs.declared.command.Which.TheVariants as which
 use Rattle.command_reads.specs.Files.{given}
 use Rattle.command_reads.proofs.sample.generated_reads.Goals as goal
 

@@ -1,4 +1,4 @@
-use Rattle.command_line.specs.declared.command.Which.TheVariants.{Rates}
+use Rattle.commands.specs.declared.command.Which.TheVariants.{Rates}
 use Rattle.command_reads.specs.Files.{reads_by}
 use Rattle.command_reads.proofs.Wholes.{short_whole}
 use Rattle.command_reads.proofs.tables.rates_of.Goals as goal

@@ -1,4 +1,4 @@
-use Rattle.std.proofs.Common.{◌≡◌, ◌∙◌, ap, refl, sym, subst, length, true, false}
+use Rattle.std.proofs.Common.{◌≡◌, ◌∙◌, ap, refl, sym, subst, length, true, false, arith}
 use Rattle.std.specs.Result.{is_err}
 use Rattle.fm_shelf.specs.Content.{HasIfKnown}
 use Rattle.fm_shelf.specs.Outside.{Outside, outside}
@@ -24,6 +24,7 @@ returns-then-is_err g c =
     λ reads sound. record {
       ends = (left.1, merge_left it reads name before sound after (rw file at left.0), refl {a = after.out});
       others = c.write_anew.ensures.others;
+      grows = omega arith;
     }
 
 pub returns-in-Ok-write_merge : goal.returns-in-Ok-write_merge
@@ -41,6 +42,7 @@ returns-in-Ok-write_merge g c =
     λ reads sound. record {
       ends = merge_written it reads name before sound after has wrote;
       others = c.write_anew.ensures.others;
+      grows = c.in-Ok-write_merge.ensures.grows;
     }
 
 pub returns : goal.returns
@@ -63,4 +65,5 @@ returns g c =
         torn,
       );
       others = c.write_anew.ensures.others;
+      grows = c.in-Err.ensures.grows;
     }

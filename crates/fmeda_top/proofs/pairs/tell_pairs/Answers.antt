@@ -3,7 +3,7 @@ use Rattle.std.proofs.lemmas.Result.{err_from_is_err_and}
 use Rattle.fmeda_report.proofs.Sending.{sends_as}
 use Rattle.fmeda_report.specs.Rows.{planes_in}
 use Rattle.pair_campaign.specs.PairText.{pairs_text}
-use Rattle.command_line.specs.declared.command.Task.TheVariants as task
+use Rattle.commands.specs.declared.command.Task.TheVariants as task
 use Rattle.command_reads.specs.FirstRefusal.{Begun}
 use Rattle.fmeda_top.proofs.RowTexts.{chosen_are_faults, judged_text}
 use Rattle.fmeda_top.proofs.Telling.{told}

@@ -1,7 +1,7 @@
-use Rattle.std.proofs.Common.{rules, ◌≡◌, refl, subst}
+use Rattle.std.proofs.Common.{refl, subst}
 use Rattle.fm_shelf.specs.Outside.{Outside, outside}
-use Rattle.command_line.specs.declared.command.Task.TheVariants as task
-use Rattle.command_line.specs.Commands.{name_by}
+use Rattle.commands.specs.declared.command.Task.TheVariants as task
+use Rattle.commands.specs.Commands.{name_by}
 use Rattle.command_reads.specs.declared.judge.Judged.TheVariants as made
 use Rattle.command_reads.specs.Judging.{made_by}
 use Rattle.fmeda_top.specs.Doing.{IsReady}
@@ -9,25 +9,24 @@ use Rattle.fmeda_top.proofs.Printing.{printed_does}
 use Rattle.fmeda_top.proofs.Writing.{told_does}
 use Rattle.fmeda_top.proofs.perform.do_alone.Goals as goal
 
-pub returns-then-eq : goal.returns-then-eq
-returns-then-eq g c =
+pub returns-in-Merge : goal.returns-in-Merge
+returns-in-Merge g c =
     let names = name_by c.args.names.now in
     let both = c.merged.result.now in
     let shelf = g.F.Shelf.seen c.merge-end.new.shelf in
     let before : Outside = outside (g.F.Shelf.seen c.args.shelf.now) (g.O.Sink.seen c.args.out.now) in
     let after : Outside = outside shelf (g.O.Sink.seen c.merge-end.new.out) in
     let out = g.O.Sink.seen c.say_end.new.out in
-    let is : c.args.task ≡ task.Merge = search rules in
     λ held reads set ready.
     let own = subst (IsReady held reads) c.merged.ensures ready in
-    told_does names set c.args.task task.Merge c.args.judged.now (made.Merged both) reads c.say_end.result before is c.merged.ensures
+    told_does names set c.args.task.now task.Merge c.args.judged.now (made.Merged both) reads c.say_end.result before c.in-Merge.is c.merged.ensures
     after shelf out c.merge-end.result refl refl (c.merge-end.ensures reads own.0) c.say_end.ensures refl
 
-pub returns-else-eq : goal.returns-else-eq
-returns-else-eq g c =
+pub returns-in_default : goal.returns-in_default
+returns-in_default g c =
     let out = g.O.Sink.seen c.args.out.now in
     let mid = g.O.Sink.seen c.print-told.new.out in
     let now = g.O.Sink.seen c.printed.new.out in
     λ held reads set ready.
-    printed_does (record { files = name_by c.args.names.now; settings = set; task = c.args.task }) (made_by c.args.judged.now) reads (g.F.Shelf.seen c.args.shelf.now)
+    printed_does (record { files = name_by c.args.names.now; settings = set; task = c.args.task.now }) (made_by c.args.judged.now) reads (g.F.Shelf.seen c.args.shelf.now)
     out mid now c.printed.result c.print-told.result c.print-told.ensures c.printed.ensures

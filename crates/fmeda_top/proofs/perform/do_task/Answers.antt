@@ -1,8 +1,8 @@
 use Rattle.std.proofs.Common.{ap, refl, subst}
 use Rattle.fm_shelf.specs.Outside.{Outside, outside}
-use Rattle.command_line.specs.declared.command.Task.TheVariants as task
-use Rattle.command_line.specs.declared.command.Which.TheVariants as which
-use Rattle.command_line.specs.Commands.{name_by}
+use Rattle.commands.specs.declared.command.Task.TheVariants as task
+use Rattle.commands.specs.declared.command.Which.TheVariants as which
+use Rattle.commands.specs.Commands.{name_by}
 use Rattle.command_reads.specs.declared.judge.Judged.TheVariants as made
 use Rattle.fmeda_top.specs.Doing.{IsReady}
 use Rattle.fmeda_top.proofs.Writing.{told_does}
@@ -22,7 +22,7 @@ returns-in-Run g c =
     let after : Outside = outside (g.F.Shelf.seen c.run_anew-ran.result.shelf) (g.O.Sink.seen c.run_anew-ran.new.out) in
     λ reads set ready.
     let own = subst (IsReady held reads) c.planned-plan.ensures ready in
-    told_does names set c.args.task (task.Run c.in-Run.workers) c.args.judged (made.Planned c.planned-plan.result.now) reads c.ended.result.status before c.in-Run.is c.planned-plan.ensures
+    told_does names set c.args.task.now (task.Run c.in-Run.workers) c.args.judged (made.Planned c.planned-plan.result.now) reads c.ended.result.status before c.in-Run.is c.planned-plan.ensures
     after (g.F.Shelf.seen c.ended.result.shelf) (g.O.Sink.seen c.ended.new.out) c.run_anew-ran.result.end refl refl (c.run_anew-ran.ensures reads own.0) c.ended.ensures.said
     (ap g.F.Shelf.seen c.ended.ensures.shelf)
 
@@ -34,7 +34,7 @@ returns-in-Gen g c =
     let after : Outside = outside (g.F.Shelf.seen c.run_anew-ran-in-Gen.result.shelf) (g.O.Sink.seen c.run_anew-ran-in-Gen.new.out) in
     λ reads set ready.
     let own = subst (IsReady held reads) c.planned-plan-in-Gen.ensures ready in
-    told_does names set c.args.task (task.Gen c.in-Gen.stages c.in-Gen.workers) c.args.judged (made.Planned c.planned-plan-in-Gen.result.now) reads c.ended-in-Gen.result.status before c.in-Gen.is c.planned-plan-in-Gen.ensures
+    told_does names set c.args.task.now (task.Gen c.in-Gen.stages c.in-Gen.workers) c.args.judged (made.Planned c.planned-plan-in-Gen.result.now) reads c.ended-in-Gen.result.status before c.in-Gen.is c.planned-plan-in-Gen.ensures
     after (g.F.Shelf.seen c.ended-in-Gen.result.shelf) (g.O.Sink.seen c.ended-in-Gen.new.out) c.run_anew-ran-in-Gen.result.end refl refl (c.run_anew-ran-in-Gen.ensures reads own.0) c.ended-in-Gen.ensures.said
     (ap g.F.Shelf.seen c.ended-in-Gen.ensures.shelf)
 
@@ -46,7 +46,7 @@ returns-in-Resume g c =
     let after : Outside = outside (g.F.Shelf.seen c.run_on-ran.result.shelf) (g.O.Sink.seen c.run_on-ran.new.out) in
     λ reads set ready.
     let own = subst (IsReady held reads) c.into_begun-begun.ensures ready in
-    told_does names set c.args.task (task.Resume c.in-Resume.workers) c.args.judged (made.Begun c.into_begun-begun.result) reads c.ended-in-Resume.result.status before c.in-Resume.is c.into_begun-begun.ensures
+    told_does names set c.args.task.now (task.Resume c.in-Resume.workers) c.args.judged (made.Begun c.into_begun-begun.result) reads c.ended-in-Resume.result.status before c.in-Resume.is c.into_begun-begun.ensures
     after (g.F.Shelf.seen c.ended-in-Resume.result.shelf) (g.O.Sink.seen c.ended-in-Resume.new.out) c.run_on-ran.result.end refl refl (c.run_on-ran.ensures reads own.0.0 own.1) c.ended-in-Resume.ensures.said
     (ap g.F.Shelf.seen c.ended-in-Resume.ensures.shelf)
 
@@ -58,7 +58,7 @@ returns-in-Shard g c =
     let after : Outside = outside (g.F.Shelf.seen c.run_share-ran.result.shelf) (g.O.Sink.seen c.run_share-ran.new.out) in
     λ reads set ready.
     let own = subst (IsReady held reads) c.planned.ensures ready in
-    told_does names set c.args.task (task.Shard c.in-Shard.part c.in-Shard.parts) c.args.judged (made.Planned c.planned.result.now) reads c.ended-in-Shard.result.status before c.in-Shard.is c.planned.ensures
+    told_does names set c.args.task.now (task.Shard c.in-Shard.part c.in-Shard.parts) c.args.judged (made.Planned c.planned.result.now) reads c.ended-in-Shard.result.status before c.in-Shard.is c.planned.ensures
     after (g.F.Shelf.seen c.ended-in-Shard.result.shelf) (g.O.Sink.seen c.ended-in-Shard.new.out) c.run_share-ran.result.end refl refl (c.run_share-ran.ensures reads own.0) c.ended-in-Shard.ensures.said
     (ap g.F.Shelf.seen c.ended-in-Shard.ensures.shelf)
 

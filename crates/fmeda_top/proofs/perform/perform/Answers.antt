@@ -1,5 +1,5 @@
 use Rattle.fm_shelf.specs.Outside.{Outside, outside}
-use Rattle.command_line.specs.Commands.{told_by}
+use Rattle.commands.specs.Commands.{told_by}
 use Rattle.fmeda_top.proofs.Ending.{prepared_ends, prepared_ready, refusal_ends}
 use Rattle.fmeda_top.proofs.perform.perform.Goals as goal
 
@@ -20,8 +20,8 @@ returns-in-Ok g c =
     prepared_ends (told_by c.args.asked) c.in-Ok.judged before (g.F.Shelf.seen c.prepared.new.shelf) c.prepared.ensures.rest c.in-Ok.ensures.prepared after
     c.do_task.result.status (λ reads ready. c.do_task.ensures reads c.args.asked.settings ready)
 
-pub returns-in-Err : goal.returns-in-Err
-returns-in-Err g c =
+pub returns : goal.returns
+returns g c =
     let before : Outside = outside (g.F.Shelf.seen c.args.shelf) (g.O.Sink.seen c.args.out.now) in
     refusal_ends (told_by c.args.asked) c.in-Err.refused c.say_refused.result before (g.F.Shelf.seen c.prepared.new.shelf) (g.O.Sink.seen c.say_refused.new.out)
     c.prepared.ensures.rest c.in-Err.ensures.prepared c.say_refused.ensures.status c.say_refused.ensures.said

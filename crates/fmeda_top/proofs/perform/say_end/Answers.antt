@@ -6,8 +6,8 @@ use Rattle.fmeda_top.proofs.perform.say_end.Goals as goal
 
 pub returns-in-NoMemory : goal.returns-in-NoMemory
 unfolding refusal_line
-returns-in-NoMemory g c = rw c.in-NoMemory.is (c.say_refused.ensures.status, (c.say_refused.ensures.said Unknown tt).2.0)
+returns-in-NoMemory g c = rw c.in-NoMemory.is (c.say_refused.ensures.status, (c.say_refused.ensures.said Unknown tt).2)
 
 pub returns-in-ResultFault : goal.returns-in-ResultFault
 unfolding refusal_line
-returns-in-ResultFault g c = rw c.in-ResultFault.is (refl, (c.refuse.ensures no_circuit refl).0)
+returns-in-ResultFault g c = rw c.in-ResultFault.is (refl, c.refuse.ensures no_circuit refl)

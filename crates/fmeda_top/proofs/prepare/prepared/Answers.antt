@@ -1,12 +1,12 @@
 use Rattle.std.proofs.Common.{inr, subst, sym}
-use Rattle.command_line.specs.Commands.{name_by}
+use Rattle.commands.specs.Commands.{name_by}
 use Rattle.command_reads.specs.Files.{IsFitKind, WereRead, reads_by}
 use Rattle.command_reads.specs.Judging.{JudgesAs}
 use Rattle.fmeda_top.proofs.Ending.{fit_kind}
 use Rattle.fmeda_top.proofs.prepare.prepared.Goals as goal
 
 pub read_files-requires : goal.read_files-requires
-read_files-requires g c = subst IsFitKind (sym c.kind-kind.ensures) (fit_kind c.args.task c.requires.fit)
+read_files-requires g c = subst IsFitKind (sym c.kind-kind.ensures) (fit_kind c.args.task.now c.requires.fit)
 
 pub returns-clause-prepared : goal.returns-clause-prepared
 returns-clause-prepared g c =

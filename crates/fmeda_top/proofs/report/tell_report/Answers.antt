@@ -3,7 +3,7 @@ use Rattle.fmeda_report.specs.Report.{report, true_report}
 use Rattle.fmeda_report.specs.Tallies.{planes_in_order}
 use Rattle.fmeda_report.proofs.Sending.{sends_as}
 use Rattle.fmeda_report.proofs.TrueReport.{true_count, true_in_order}
-use Rattle.command_line.specs.declared.command.Task.TheVariants as task
+use Rattle.commands.specs.declared.command.Task.TheVariants as task
 use Rattle.command_reads.specs.FirstRefusal.{Planned}
 use Rattle.fmeda_top.proofs.Telling.{told}
 use Rattle.fmeda_top.proofs.report.tell_report.Goals as goal

@@ -1,6 +1,6 @@
 use Rattle.std.proofs.Common.{inr}
 use Rattle.fm_shelf.specs.Outside.{Outside, outside}
-use Rattle.command_line.specs.declared.command.Which.TheVariants as which
+use Rattle.commands.specs.declared.command.Which.TheVariants as which
 use Rattle.command_reads.specs.Files.{bytes_of}
 use Rattle.fmeda_top.proofs.Writing.{on_ended}
 use Rattle.fmeda_top.proofs.run.run_on.Goals as goal

@@ -1,7 +1,7 @@
 use Rattle.std.proofs.Common.{ap, ap₂, sym, map, List, [], ◌∷◌, ◌++◌}
 use Rattle.std.specs.Prelude.{codes, decimal, slice_index_or}
 use Rattle.circuit.specs.declared.parts.NetId.{NetId}
-use Rattle.command_line.specs.Commands.{name_by}
+use Rattle.commands.specs.Commands.{name_by}
 use Rattle.refusals.specs.RefusalLines.{refusal_line}
 use Rattle.fm_base.specs.Names.{Bytes}
 use Rattle.refusals.proofs.Statuses.{said_as, words_said, nothing_said}
@@ -79,3 +79,15 @@ returns-in-Merge g c = λ k names. said_as _ _ (name_by c.args.names.now) k c.ar
 
 pub returns-in-Pairs : goal.returns-in-Pairs
 returns-in-Pairs g c = λ k names. said_as _ _ (name_by c.args.names.now) k c.args.status.now _ c.in-Pairs.is (c.refuse_pairs.ensures (name_by c.args.names.now) k)
+
+pub returns-in-NoRun : goal.returns-in-NoRun
+unfolding refusal_line
+returns-in-NoRun g c = λ k names. said_as _ _ (name_by c.args.names.now) k c.args.status.now _ c.in-NoRun.is (c.refuse_phrase-in-NoRun.ensures)
+
+pub returns-in-NoFault : goal.returns-in-NoFault
+unfolding refusal_line
+returns-in-NoFault g c = λ k names. said_as _ _ (name_by c.args.names.now) k c.args.status.now _ c.in-NoFault.is (c.refuse_phrase-in-NoFault.ensures)
+
+pub returns-in-NoNet : goal.returns-in-NoNet
+unfolding refusal_line
+returns-in-NoNet g c = λ k names. said_as _ _ (name_by c.args.names.now) k c.args.status.now _ c.in-NoNet.is (c.refuse_phrase-in-NoNet.ensures)

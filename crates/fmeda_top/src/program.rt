@@ -1,0 +1,70 @@
+// The program, with the sink that its output goes to.
+ghost use Rattle.std.specs.Prelude.{◌≡◌, ◌≤◌, ◌⊎◌, drop, map, string_bytes};
+ghost use Rattle.fm_shelf.specs.Outside.{outside};
+ghost use Rattle.fm_shelf.specs.Sink.{with_more};
+ghost use Rattle.fmeda_top.specs.Program.{ProgramEnds, SendsRest, failed_code as failed_code_of};
+
+use crate::top::fmeda;
+use fm_shelf::shelf::{Shelf, Sink};
+use paged_sink::Paged;
+use refusals::status::Status;
+use std::alloc::Global;
+use std::sync::Wait;
+use std::thread::Threads;
+use worker_gate::Gate;
+
+/// How the program has ended: its exit status, and the files and the output, which come back in every case.
+#[derive(Drop)]
+pub struct Exited<F: Drop, O: Drop> {
+    pub code: u8,
+    pub shelf: F,
+    pub out: O,
+}
+
+// The exit status where a write of the output has failed.
+fn failed_code(status: &Status) -> u8
+    ensures { result ≡ failed_code_of status.now }
+{
+    match status {
+        Status::Done => Status::OutFault.code(),
+        _ => status.code(),
+    }
+}
+
+// Sends on what waits in the page, unless a write has failed since there were so many failures, and gives the exit status.
+fn send_rest<O: Sink + Drop>(status: &Status, failures: u64, page: &mut Paged<O>) -> u8
+    requires grown { failures ≤ (O.seen page.old.out).faults }
+    ensures sends { SendsRest status.now result failures (with_more (O.seen page.old.out).written (drop page.old.sent page.old.page.items)) (O.seen page.new.out) }
+    ensures grows { (O.seen page.old.out).faults ≤ (O.seen page.new.out).faults }
+{
+    if page.failures() > failures {
+        return failed_code(status);
+    }
+    match page.flush() {
+        Ok(()) => status.code(),
+        Err(_) => failed_code(status),
+    }
+}
+
+/// Does what the words ask for, as `fmeda` does, and sends all that it has written on to `out`. The exit status is that of the call; where a write
+/// of the output has failed, it is 21 if all else was done. Behind a write that failed nothing more is sent.
+pub fn program<R: Threads + Wait + Sync, F: Shelf + Send + Drop, O: Sink + Drop, G: Gate + Sync>(
+    rt: &R,
+    alloc: Global,
+    words: &[String],
+    shelf: F,
+    out: O,
+    gate: &G,
+) -> Exited<F, O>
+    ensures { ProgramEnds (map string_bytes words.now) result.code (outside (F.seen shelf) (O.seen out)) (outside (F.seen result.shelf) (O.seen result.out)) }
+{
+    let failures = out.failures();
+    let mut page = Paged::new(alloc, out);
+    let ended = fmeda(rt, alloc, words, shelf, &mut page, gate);
+    let code = send_rest(&ended.status, failures, &mut page);
+    Exited {
+        code,
+        shelf: ended.shelf,
+        out: page.into_sink(),
+    }
+}
