@@ -1,5 +1,5 @@
 # The program, a run of it on a real circuit, and all that CI runs.
-.PHONY: demo try test cases edits mutants examples install dist
+.PHONY: demo try test cases large edits mutants examples install dist
 
 PREFIX ?= /usr/local
 INTO = $(DESTDIR)$(PREFIX)
@@ -43,20 +43,24 @@ test:
 
 # The cases of the command line, of the tools and of the pages, on the built program.
 cases: build/fmeda
-	tests/cli/run build/fmeda
-	tests/cli/command_lines build/fmeda
-	tests/cli/refusals build/fmeda
-	tests/cli/outcomes build/fmeda
-	tests/cli/prefixes build/fmeda
-	tests/cli/resumed build/fmeda
-	tests/cli/kept build/fmeda
-	tests/cli/shards build/fmeda
-	tests/cli/hostile build/fmeda
-	tests/cli/memory build/fmeda
-	tests/cli/signals build/fmeda
-	tests/cli/threads build/fmeda
+	tests/program/cases build/fmeda
+	tests/program/command_lines build/fmeda
+	tests/program/refusals build/fmeda
+	tests/program/outcomes build/fmeda
+	tests/program/prefixes build/fmeda
+	tests/program/resumed build/fmeda
+	tests/program/kept build/fmeda
+	tests/program/shards build/fmeda
+	tests/program/hostile build/fmeda
+	tests/program/memory build/fmeda
+	tests/program/signals build/fmeda
+	tests/program/threads build/fmeda
 	tests/tools/run build/fmeda
 	tests/docs/run build/fmeda
+
+# Campaigns near the limits, each with the answer that thinking gives: minutes, so no part of `make cases`.
+large: build/fmeda
+	tests/program/large build/fmeda
 
 # Every edit that the prover must refuse, those that the gate leaves out too, in a copy of the repository; a verdict a line.
 edits:
@@ -80,10 +84,10 @@ install: build/fmeda
 	install -D -m 644 docs/fmeda.1 $(INTO)/share/man/man1/fmeda.1
 	install -D -m 644 tools/completions/fmeda.bash $(INTO)/share/bash-completion/completions/fmeda
 	install -D -m 644 tools/completions/_fmeda $(INTO)/share/zsh/site-functions/_fmeda
-	mkdir -p $(foreach folder,build docs/pictures tools tests/reference,$(SHARE)/$(folder))
+	mkdir -p $(foreach folder,build docs/pictures tools reference,$(SHARE)/$(folder))
 	install $(TOOLS:%=tools/%) $(SHARE)/tools
 	install -m 644 $(wildcard tools/*.py) tools/page.css tools/page.js $(SHARE)/tools
-	install -m 644 $(wildcard tests/reference/*.py) $(SHARE)/tests/reference
+	install -m 644 $(wildcard reference/*.py) $(SHARE)/reference
 	install -m 644 $(wildcard docs/*.md) $(SHARE)/docs
 	install -m 644 $(wildcard docs/pictures/*.svg) $(SHARE)/docs/pictures
 	install -m 644 README.md CHANGELOG.md $(SHARE)

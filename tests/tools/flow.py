@@ -53,7 +53,7 @@ single-point d/1 50000
 latent al/0 500000
 end
 """
-STEPS = ("workload", "golden", "parts", "check", "alarms", "run", "page", "manifest")
+STEPS = ("workload", "golden", "parts", "check", "alarms", "run", "latencies", "breakdown", "page", "manifest")
 
 
 def _dump(wrong=None):
@@ -158,8 +158,8 @@ def a_step_is_left_out_where_nothing_changed(folder, program):
     _design(folder)
     _flow(folder, program)
     for name, text, wanted in (("rates.csv", RATES, ()), ("flow.ini", SETTINGS + "[output]\ntitle = another\n", ("page",)),
-                               ("flow.ini", SETTINGS.replace("asil = C", "asil = B"), ("run", "page", "manifest")), ("points.csv", POINTS + "observe,c\n", ("check", "alarms", "run", "page", "manifest")),
-                               ("drive.vcd", _dump() + "#60\n0!\n", ("workload", "golden")), ("rates.csv", RATES.replace("0.1", "0.2"), ("parts", "check", "run", "page", "manifest"))):
+                               ("flow.ini", SETTINGS.replace("asil = C", "asil = B"), ("run", "latencies", "breakdown", "page", "manifest")), ("points.csv", POINTS + "observe,c\n", ("check", "alarms", "run", "latencies", "breakdown", "page", "manifest")),
+                               ("drive.vcd", _dump() + "#60\n0!\n", ("workload", "golden")), ("rates.csv", RATES.replace("0.1", "0.2"), ("parts", "check", "run", "latencies", "breakdown", "page", "manifest"))):
         pathlib.Path(folder, name).write_text(text)
         printed, _ = _flow(folder, program)
         assert _done(printed) == wanted, (name, printed)
@@ -187,7 +187,7 @@ def another_program_begins_the_campaign_anew(folder, program):
     assert _done(_flow(folder, fake)[0]) == ()
     _program(folder, "fmeda", f'exec "{program}" "$@" # another\n')
     printed, _ = _flow(folder, fake)
-    assert _done(printed)[:3] == ("parts", "check", "run") and " resume " not in printed and "of another program, are in flow/result." in printed, printed
+    assert _done(printed)[:5] == ("golden", "parts", "check", "alarms", "run") and " resume " not in printed and "of another program, are in flow/result." in printed, printed
 
 
 def rows_that_are_there_are_kept(folder, program):
@@ -201,7 +201,7 @@ def rows_that_are_there_are_kept(folder, program):
         _, said = _flow(folder, fake, status=3)
         assert "stopped at run" in said and result.stat().st_size == size, said
         printed, _ = _flow(folder, fake)
-        assert _done(printed) == ("run", "page", "manifest") and " resume " in printed, printed
+        assert _done(printed) == ("run", "latencies", "breakdown", "page", "manifest") and " resume " in printed, printed
         assert result.with_name("report.txt").read_text().endswith(METRICS)
     kept = result.read_bytes()
     _design(folder, _with(("campaign", "interval = 1")))
@@ -233,7 +233,7 @@ def no_step_outlives_the_flow(folder, program):
         time.sleep(0.1)
     assert not sleeper.exists(), "the campaign outlives the flow"
     printed, _ = _flow(folder, fake)
-    assert _done(printed) == ("run", "page", "manifest"), printed
+    assert _done(printed) == ("run", "latencies", "breakdown", "page", "manifest"), printed
 
 
 def what_is_in_the_way_is_not_overwritten(folder, program):

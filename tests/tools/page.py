@@ -74,6 +74,41 @@ def a_page_of_a_refusal_or_half_a_report(folder, _):
         assert wanted in said, said
 
 
+def _section(text, name):
+    """What a section of the page says, without its marks."""
+    text = text[text.index(f'id="section-{name}"'):]
+    return " ".join(re.sub("<[^>]*>", " ", text[:text.index("</section>")]).split())
+
+
+def metrics_by_goal_by_alarm_and_by_interval(folder, program):
+    """The duplicated gate by hand. Its alarm misses the inputs' four faults of 1 FIT, and finds one of the mechanism's faults dangerous alone: without it
+    both faults of y are dangerous too, and three of the mechanism are latent beside the one that is."""
+    copy = pathlib.Path(folder, "x")
+    shutil.copytree(EXAMPLES / "duplicated", copy)
+    files = ("gate.blif", "vectors.csv", "rates.csv", "points.csv")
+    for command, name, *own in (("breakdown", "b.txt", "--intervals", "0,2"), ("latencies", "l.csv")):
+        with open(copy / name, "wb") as out:
+            subprocess.run([program, command, *files, *own], cwd=copy, check=True, stdout=out)
+    given = ("--breakdown", "b.txt", "--latencies", "l.csv")
+    tool("page", *files, "report.txt", *given, "-o", "page.html", folder=copy)
+    text = copy.joinpath("page.html").read_text()
+    assert "- 60.00 % missed - - 83.33 % missed 4 FIT met" in _section(text, "bygoal"), _section(text, "bygoal")
+    said = _section(text, "byalarm")
+    assert "without al 2 FIT more are residual or single-point, and 3 FIT more latent" in said and "al left out 40.00 % missed - - 0.00 % missed" in said, said
+    assert "2 60.00 % missed" in _section(text, "byinterval")
+    assert "0 2 2 no interval would do 4 4" in _section(text, "latencies"), _section(text, "latencies")
+    assert "dup 4 1 25.00 % al/0" in _section(text, "excited"), _section(text, "excited")
+    for name in ("b.txt", "l.csv"):
+        whole = copy.joinpath(name).read_text()
+        copy.joinpath(name).write_text(whole.replace("residual", "detected").replace("danger 4000000", "danger 3000000"))
+        _, refusal = tool("page", *files, "report.txt", *given, folder=copy, status=1)
+        assert name in refusal and ("another campaign" in refusal or "no breakdown" in refusal), refusal
+        copy.joinpath(name).write_text(whole)
+    copy.joinpath("b.txt").write_text(copy.joinpath("b.txt").read_text()[:-4])
+    _, refusal = tool("page", *files, "report.txt", *given, folder=copy, status=1)
+    assert "cut off" in refusal, refusal
+
+
 def names_are_no_markup(folder, _):
     held(folder, n__blif=".model m\n.inputs <b>a\n.outputs y\n.names <b>a y\n1 1\n.end\n", w__csv="workload,kind,<b>a\nw,mission,1\n",
          r__csv="pattern,part,role,covered,permanent,transient\n*,all,mission,no,1,0\n", p__csv="kind,net\nobserve,y\n")

@@ -11,7 +11,7 @@ from common import ROOT, Skipped
 import flow
 
 GATE = '#!/bin/sh\ncase $1 in\nci) mkdir -p crates/fmeda_cli/out; cp "{program}" crates/fmeda_cli/out/fmeda_cli; {more}; echo "rt: fmeda_cli proved"; echo "{last}"; exit {status};;\nversion) echo a-kit;;\nesac\n'
-PLACES = ("Makefile", "README.md", "CHANGELOG.md", ".gitignore", "crates.txt", "HANDLES", "docs", "tools", "tests/reference", "examples/lockstep", "examples/bridge")
+PLACES = ("Makefile", "README.md", "CHANGELOG.md", ".gitignore", "crates.txt", "HANDLES", "docs", "tools", "reference", "examples/lockstep", "examples/bridge")
 
 
 def _copy(folder, program):
