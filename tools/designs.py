@@ -1,10 +1,10 @@
-"""Netlist, workload, rates and points as the tools need them, read by the second program (tests/reference)."""
+"""Netlist, workload, rates and points as the tools need them, read by the second program (reference)."""
 import pathlib
 import re
 import signal
 import sys
 
-sys.path[:0] = [str(pathlib.Path(__file__).resolve().parent.parent / "tests" / "reference")]
+sys.path[:0] = [str(pathlib.Path(__file__).resolve().parent.parent / "reference")]
 import campaign
 import tables
 

@@ -38,6 +38,16 @@ def fault_of_line(words):
     return fault
 
 
+def take_metric(report, words):
+    """Takes a line of the sums or of a target."""
+    if words[0] == "permanent":
+        report.permanent, report.danger, report.latent = int(words[2]), int(words[4]), int(words[6])
+    elif words[0] == "transient":
+        report.transient, report.transient_danger = int(words[2]), int(words[4])
+    elif words[0] == "target":
+        report.targets[" ".join(words[1:-1])] = words[-1]
+
+
 def read(name):
     text = designs.held(name).decode("latin-1")
     lines = text.split("\n")
@@ -51,14 +61,9 @@ def read(name):
     report.head = dict(zip(head[::2], head[1::2]))
     for line in lines[2:-2]:
         words = line.split(" ")
+        take_metric(report, words)
         if words[0] == "part":
             report.parts.append(part_of_line(words))
-        elif words[0] == "permanent":
-            report.permanent, report.danger, report.latent = int(words[2]), int(words[4]), int(words[6])
-        elif words[0] == "transient":
-            report.transient, report.transient_danger = int(words[2]), int(words[4])
-        elif words[0] == "target":
-            report.targets[" ".join(words[1:-1])] = words[-1]
         elif words[0] in (*HARMFUL, "latent"):
             report.faults.append(fault_of_line(words))
     return report

@@ -11,7 +11,7 @@ CYCLES = re.compile(r"none|[0-9]+(,[0-9]+)*")
 KEYS = {
     "design": ("verilog", "headers", "top", "netlist", "latches"),
     "workload": ("file", "scope", "clock", "unknown", "nets", "without", "skip"),
-    "campaign": ("rates", "points", "interval", "flips", "pulses", "asil", "workers"),
+    "campaign": ("rates", "points", "interval", "intervals", "flips", "pulses", "asil", "workers"),
     "output": ("folder", "title"),
 }
 
@@ -48,6 +48,7 @@ class Settings:
     without: str = ""
     skip: str = "0"
     interval: str = "0"
+    intervals: str = "none"
     flips: str = "none"
     pulses: str = "none"
     asil: str = "D"
@@ -129,7 +130,7 @@ def look_at_values(said):
         text = getattr(said, key)
         if not (re.fullmatch("[0-9]{1,6}", text) and least <= int(text) <= most or key == "latches" and not text):
             raise Wrong(f"{key} is a number from {least} to {most}, and not {text}")
-    for key, pattern, meaning in (("flips", CYCLES, "none, or cycles as 1,5,40"), ("pulses", CYCLES, "none, or cycles as 1,5,40"), ("asil", "[BCD]", "B, C or D"), ("unknown", "[01]?", "0 or 1")):
+    for key, pattern, meaning in (*[(key, CYCLES, "none, or cycles as 1,5,40") for key in ("flips", "pulses", "intervals")], ("asil", "[BCD]", "B, C or D"), ("unknown", "[01]?", "0 or 1")):
         if not re.fullmatch(pattern, getattr(said, key)):
             raise Wrong(f"{key} is {meaning}, and not {getattr(said, key)}")
     out = pathlib.PurePath(said.out)

@@ -3,20 +3,25 @@ _fmeda() {
     local current=${COMP_WORDS[COMP_CWORD]} previous=${COMP_WORDS[COMP_CWORD - 1]} command=${COMP_WORDS[1]} options=
     COMPREPLY=()
     if [ "$COMP_CWORD" -eq 1 ]; then
-        COMPREPLY=($(compgen -W "classes check run resume audit report shard merge pairs parts faults progress gen" -- "$current"))
+        COMPREPLY=($(compgen -W "classes check run resume audit report shard merge pairs parts faults progress breakdown latencies trace gen" -- "$current"))
         return
     fi
     case $previous in
         --asil) COMPREPLY=($(compgen -W "B C D" -- "$current")); return ;;
-        --flips | --pulses) COMPREPLY=($(compgen -W "none" -- "$current")); return ;;
-        --ftti | --workers | --part | --of) return ;;
+        --flips | --pulses | --intervals) COMPREPLY=($(compgen -W "none" -- "$current")); return ;;
+        --nets) COMPREPLY=($(compgen -W "differing all" -- "$current")); return ;;
+        --ftti | --workers | --part | --of | --every | --run | --fault) return ;;
     esac
     case $command in
         check) options="--flips --pulses" ;;
         run | resume) options="--ftti --flips --pulses --asil --workers" ;;
-        audit | merge | faults) options="--ftti --flips --pulses" ;;
+        audit) options="--every --alone --ftti --flips --pulses" ;;
+        merge | faults) options="--ftti --flips --pulses" ;;
         report | progress) options="--ftti --flips --pulses --asil" ;;
         shard) options="--part --of --ftti --flips --pulses" ;;
+        breakdown) options="--ftti --flips --pulses --asil --intervals --workers" ;;
+        trace) options="--run --fault --flips --pulses --nets" ;;
+        latencies) options="--ftti --flips --pulses --asil --workers" ;;
         pairs) options="--ftti --flips --pulses --workers" ;;
         gen) options="--workers" ;;
     esac
