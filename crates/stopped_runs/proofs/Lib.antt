@@ -1,0 +1,5 @@
+pub mod Noting
+pub mod Giving
+pub mod RowsTrue
+pub mod Ending
+pub mod Resuming
