@@ -65,7 +65,7 @@ module _ {W : Type 0} (lanes : ℕ) (bit : W → ℕ → Bool) (k : ℕ) (lt_k :
   -- BEFORE THE FIRST TABLE the nets that no table drives are read with their values
   pub begun : (held : ℕ → Bool) (words next : List W)
       → ((l : ℕ) → l < length c.latches → held l ≡ either (bit_at x.state l) (bit_at golden.state l))
-      → ((n : ℕ) → n < length c.drivers → bit_at (plane bit k words) n ≡ latched held (driver_at c n))
+      → ((n : ℕ) → n < length c.drivers → ((i : ℕ) → driver_at c n ≡ FromTable i → ⊥) → bit_at (plane bit k words) n ≡ latched held (driver_at c n))
       → ((n : ℕ) (d : Force W) → n < length c.drivers → get_or places n None ≡ None → bit_at (plane bit k next) n ≡ forced_in bit k row forces d words n)
       → Walked x (read_in bit k row next) [] 0
   begun held words next holds values forced =
@@ -95,7 +95,7 @@ module _ {W : Type 0} (lanes : ℕ) (bit : W → ℕ → Bool) (k : ℕ) (lt_k :
 
           own : read_in bit k row words m.0 ≡ driven x.state x.inputs (λ i. false) (driver_at x.circuit m.0)
           own =
-              ap₂ either (pair.values m.0 within) (values m.0 within ∙ ap (λ (e : Circuit). latched held (driver_at e m.0)) back)
+              ap₂ either (pair.values m.0 within) (values m.0 within free ∙ ap (λ (e : Circuit). latched held (driver_at e m.0)) back)
               ∙ sym
               (source_gives x golden order held (subst IsNetlist back sound) (subst (λ (e : Circuit). IsOrder e order) back ordered) (pair.golden_circuit ∙ back) pair.none pair.inputs
               (λ l lt. holds l (subst (λ (e : Circuit). l < length e.latches) pair.circuit lt)) m.0 net none)

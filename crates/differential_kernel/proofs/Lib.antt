@@ -3,6 +3,7 @@ pub mod Notes
 pub mod Latching
 pub mod Forcing
 pub mod Flipping
+pub mod Normal
 pub mod Walking
 pub mod Begun
 pub mod Stepped

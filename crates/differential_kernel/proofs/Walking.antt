@@ -8,10 +8,12 @@ use Rattle.circuit.specs.declared.parts.NetId.{NetId}
 use Rattle.circuit.specs.Circuit.{Circuit}
 use Rattle.circuit.specs.Effects.{affected}
 use Rattle.circuit.specs.Order.{IsOrder, net_at}
-use Rattle.circuit.specs.Sound.{IsNetlist}
-use Rattle.circuit.specs.Value.{Cycle, bit_at, driven, driver_at, table_at, table_gives}
+use Rattle.circuit.specs.Sound.{IsNetOf, IsNetlist}
+use Rattle.circuit.specs.Value.{Cycle, bit_at, driven, driver_at, net_value, table_at, table_gives}
+use Rattle.circuit.proofs.Walks.{driven_same}
 use Rattle.fanout.specs.Readers.{IsReadAt, Ordered, all_reads, driver_reads}
 use Rattle.golden_difference.proofs.Exclusive.{either_back}
+use Rattle.golden_difference.proofs.Sources.{golden_again}
 use Rattle.golden_difference.proofs.Walked.{Walked, quiet_place, walked_more}
 use Rattle.lane_words.specs.Bits.{either}
 use Rattle.lane_words.specs.Gates.{latch_at, plane}
@@ -19,7 +21,7 @@ use Rattle.place_set.specs.Places.{Places, has, value_in}
 use Rattle.lane_words.specs.declared.force.Force.{Force}
 use Rattle.differential_kernel.specs.Differences.{IsNoted, read_in}
 use Rattle.lane_words.specs.Forces.{force_value, AreForces}
-use Rattle.differential_kernel.specs.Walk.{IsAhead, IsPair}
+use Rattle.differential_kernel.specs.Walk.{IsAhead, IsGivenAt, IsPair}
 
 -- a table's place reads what the table reads
 pub table_read : (o : Ordered) (j k : ℕ) (m : NetId) → j < length o.order → driver_at o.circuit (net_at o.order j).0 ≡ FromTable k
@@ -93,6 +95,37 @@ module _ {W : Type 0} (lanes : ℕ) (bit : W → ℕ → Bool) (k : ℕ) (lt_k :
       subst (λ j. Walked x (read_in bit k row words) (take j order) j) same
       (quiet words touched marks from (from + n) (omega arith) (omega arith) noted ahead (none (from + n) (omega arith) (omega arith))
       (quiet_run words touched marks from n (omega arith) noted ahead (λ q low less. none q low (omega arith)) walked))
+
+  -- the golden value of a place's net is what its table gives over golden values
+  pub given : (j : ℕ) → j < length order → IsGivenAt c row (net_at order j).0
+  given j lt state inputs =
+      ap (driven state inputs gives) table.1
+      ∙ sym (ap (driven golden.state golden.inputs gives) table.1)
+      ∙ sym
+      (driven_same c golden.state golden.inputs (net_value golden) (value_in row) (driver_at c n)
+      (λ i e at d within.
+      let fits = subst (IsNetOf c n) e (sound.nets n net) in
+      sym (pair.values (get_or (table_at c.tables i).ins at d).0 ((sound.tables i fits).ins at d within))))
+      ∙ sym (ap (λ (m : Circuit). driven golden.state golden.inputs (table_gives m (net_value golden)) (driver_at m n)) pair.golden_circuit)
+      ∙ sym
+      (golden_again golden order (subst IsNetlist back sound) (subst (λ (m : Circuit). IsOrder m order) back ordered) pair.none n
+      (subst (λ (m : Circuit). n < length m.drivers) back net))
+      ∙ sym (pair.values n net)
+    where
+      n : ℕ
+      n = (net_at order j).0
+
+      net : n < length c.drivers
+      net = ordered.nets j (record { 0 = 0 }) lt
+
+      back : c ≡ golden.circuit
+      back = sym pair.golden_circuit
+
+      table : (i : ℕ) × (driver_at c n ≡ FromTable i)
+      table = ordered.tables j lt
+
+      gives : ℕ → Bool
+      gives = table_gives c (value_in row)
 
   -- A PLACE THAT IS EVALUATED
   pub evaluated : (d : Force W) (words next : List W) (j : ℕ) → j < length order

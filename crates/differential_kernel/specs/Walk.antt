@@ -2,9 +2,8 @@
 use Rattle.std.specs.Prelude.{◌≡◌, ℕ, ◌<◌, ◌≤◌, Bool, false, List, [], length, slice_index_or}
 use Rattle.circuit.specs.declared.parts.NetId.{NetId}
 use Rattle.circuit.specs.Circuit.{Circuit}
-use Rattle.circuit.specs.Effects.{affected}
 use Rattle.circuit.specs.Order.{net_at}
-use Rattle.circuit.specs.Value.{Cycle, net_value}
+use Rattle.circuit.specs.Value.{Cycle, driven, driver_at, net_value, table_gives}
 use Rattle.lane_words.specs.Bits.{either}
 use Rattle.place_set.specs.Places.{Places, has, value_in}
 use Rattle.lane_words.specs.declared.force.Force.{Force}
@@ -18,6 +17,10 @@ pub record IsPair (c : Circuit) (row : List ℕ) (x golden : Cycle) : Type 0 whe
   pub none : golden.faults ≡ []
   pub inputs : golden.inputs ≡ x.inputs
   pub values : (n : ℕ) → n < length c.drivers → value_in row n ≡ net_value golden n
+
+-- the golden value of a net is what its table gives over golden values
+abbrev pub IsGivenAt : Circuit → List ℕ → ℕ → Type 0
+IsGivenAt c row n = (state inputs : List Bool) → driven state inputs (table_gives c (value_in row)) (driver_at c n) ≡ value_in row n
 
 -- the nets of the places from here on don't differ yet, and where a place isn't marked the force leaves its net's golden value
 pub record IsAhead {W : Type 0} (lanes : ℕ) (bit : W → ℕ → Bool) (order : List NetId) (row : List ℕ) (forces : List (Force W)) (from : ℕ) (words : List W) (marks : Places) : Type 0 where

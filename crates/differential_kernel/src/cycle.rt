@@ -16,7 +16,7 @@ use crate::latches::LatchDifferences;
 use crate::nets::NetDifferences;
 use crate::program::Program;
 use crate::sources::{clear, force_all, take_live};
-use crate::sweep::{blank, force_sources, show_latches, sweep, take_all};
+use crate::sweep::{blank_inputs, force_sources, show_latches, sweep, take_all};
 use crate::walk::{take_latches, walk};
 use fm_base::Steps;
 use lane_words::Word;
@@ -83,7 +83,7 @@ fn sweep_all<W: Word, L: Ledger>(
     ensures sound { IsNetlist cycle.now.netlist.now }
     ensures cost { steps.new ≡ steps.old + length cycle.now.order.now }
 {
-    blank(words);
+    blank_inputs(cycle.netlist, words);
     show_latches(cycle.netlist, raw, words);
     force_sources(&program.places, cycle.row, forces, words);
     sweep(cycle, program, forces, words, steps);
@@ -123,9 +123,9 @@ fn run_all<W: Word, L: Ledger>(
 }
 
 // How many cycles to come are run by all tables, after one in which so many were evaluated. To find a table that reads what
-// differs takes some four times as long as to evaluate it in its turn.
+// differs takes some five times as long as to evaluate it in its turn, and forced nets are looked at beside.
 fn sweeps_after(evaluated: usize, tables: usize) -> u32 {
-    if evaluated > tables / 4 { SWEEPS } else { 0 }
+    if evaluated > tables / 6 { SWEEPS } else { 0 }
 }
 
 /// Runs one cycle with the forces of this cycle, on what the latches differ in after flips: by all tables where `sweeps` says so,

@@ -1,5 +1,6 @@
 // A cycle in which every table is evaluated. Where much differs, that is quicker than to find out what does.
-ghost use Rattle.std.specs.Prelude.{◌≡◌, ◌≢◌, ◌<◌, ◌^◌, ◌+◌, ℕ, Bool, List, [], None, length, slice_index_or};
+ghost use Rattle.std.specs.Prelude.{◌≡◌, ◌≢◌, ◌<◌, ◌^◌, ◌+◌, ℕ, Bool, List, [], false, None, length, slice_index_or};
+ghost use Rattle.circuit.specs.declared.parts.Driver.TheVariants.{Input, Table as FromTable};
 ghost use Rattle.circuit.specs.Order.{IsOrder};
 ghost use Rattle.circuit.specs.Sound.{IsNetlist};
 ghost use Rattle.circuit.specs.Value.{Cycle, bit_at, driven, driver_at, net_value, table_gives};
@@ -9,17 +10,17 @@ ghost use Rattle.lane_words.specs.Bits.{either};
 ghost use Rattle.lane_words.specs.Gates.{AreOps, IsGate, latch_at, plane};
 ghost use Rattle.place_set.specs.Places.{value_in};
 ghost use Rattle.lane_words.specs.declared.force.Force.{Force as ForceValue};
-ghost use Rattle.differential_kernel.specs.Differences.{IsSame, read_in};
+ghost use Rattle.differential_kernel.specs.Differences.{read_in};
 ghost use Rattle.differential_kernel.specs.Forces.{AreIdleOff};
 ghost use Rattle.lane_words.specs.Forces.{force_value, AreForces};
 ghost use Rattle.differential_kernel.specs.Parts.{AreForcesOf, IsProgramOf};
-ghost use Rattle.differential_kernel.specs.Walk.{IsPair};
+ghost use Rattle.differential_kernel.specs.Walk.{IsGivenAt, IsPair};
 
-use crate::difference::{forced_difference, named_difference, set_word, value_word};
+use crate::difference::{forced_difference, set_word, value_word};
 use crate::force::Forces;
 use crate::golden_cycle::GoldenCycle;
 use crate::program::Program;
-use crate::table::own_word;
+use crate::table::table_difference;
 use circuit::netlist::Netlist;
 use circuit::parts::NetId;
 use fm_base::Steps;
@@ -28,21 +29,22 @@ use lane_words::gate::{Gate, Masks};
 use lane_words::{Word, word_at};
 use std::sync::ledger::Ledger;
 
-/// Takes away all that differs.
-pub fn blank<W: Word>(words: &mut [W])
-    ensures { (n : ℕ) → IsSame W.lanes W.lane_bit words.new n }
+/// No input differs.
+pub fn blank_inputs<W: Word>(netlist: &Netlist, words: &mut [W])
+    requires { length words.old ≡ length netlist.now.drivers }
+    ensures { (k n i : ℕ) → k < W.lanes → n < length netlist.now.drivers → driver_at netlist.now n ≡ Input i → bit_at (plane W.lane_bit k words.new) n ≡ false }
 {
-    for n in 0..words.len() {
-        words[n] = W::all(false);
+    for net in netlist.inputs() {
+        set_word(*net, W::all(false), words);
     }
 }
 
 /// The net of each latch differs in what the latch holds.
 pub fn show_latches<W: Word>(netlist: &Netlist, raw: &[W], words: &mut [W])
     requires nets { length words.old ≡ length netlist.now.drivers }
-    requires same { (n : ℕ) → IsSame W.lanes W.lane_bit words.old n }
+    requires inputs { (k n i : ℕ) → k < W.lanes → n < length netlist.now.drivers → driver_at netlist.now n ≡ Input i → bit_at (plane W.lane_bit k words.old) n ≡ false }
     requires raw { length raw.now ≡ length netlist.now.latches }
-    ensures values { (k n : ℕ) → k < W.lanes → n < length netlist.now.drivers
+    ensures values { (k n : ℕ) → k < W.lanes → n < length netlist.now.drivers → ((i : ℕ) → driver_at netlist.now n ≡ FromTable i → ⊥)
         → bit_at (plane W.lane_bit k words.new) n ≡ latched (bit_at (plane W.lane_bit k raw.now)) (driver_at netlist.now n) }
     ensures sound { IsNetlist netlist.now }
 {
@@ -95,29 +97,28 @@ pub fn force_sources<W: Word>(
 }
 
 // Evaluates the table of a net, and sets what the net differs in.
+#[inline(always)]
 fn settle<W: Word>(
-    cycle: &GoldenCycle<'_>,
-    net: NetId,
+    netlist: &Netlist,
     gate: &Gate,
     ops: &[Masks<W>],
+    row: &[u64],
     forces: &Forces<W>,
     words: &mut [W],
 )
-    requires net { net.0 < length words.old }
-    requires gate { IsGate cycle.now.netlist.now gate.now }
-    requires to { gate.now.to ≡ net.0 }
+    requires gate { IsGate netlist.now gate.now }
     requires ops { AreOps W.lanes W.lane_bit ops.now }
-    requires forces { length forces.now.by_net.items ≡ length words.old }
+    requires forces { length forces.now.by_net.items ≡ length netlist.now.drivers }
     requires idle { AreIdleOff W.lanes W.lane_bit forces.now.named forces.now.by_net.items }
-    ensures value { (k : ℕ) (d : ForceValue W) (state inputs : List Bool) → k < W.lanes
-        → bit_at (plane W.lane_bit k words.new) net.0
-        ≡ either (force_value W.lane_bit k (slice_index_or forces.now.by_net.items net.0 d)
-        (driven state inputs (table_gives cycle.now.netlist.now (read_in W.lane_bit k cycle.now.row.now words.old)) (driver_at cycle.now.netlist.now net.0)))
-        (value_in cycle.now.row.now net.0) }
-    ensures others { (k n : ℕ) → n ≢ net.0 → bit_at (plane W.lane_bit k words.new) n ≡ bit_at (plane W.lane_bit k words.old) n }
+    requires nets { length words.old ≡ length netlist.now.drivers }
+    ensures value { (k : ℕ) (d : ForceValue W) (state inputs : List Bool) → k < W.lanes → IsGivenAt netlist.now row.now gate.now.to
+        → bit_at (plane W.lane_bit k words.new) gate.now.to
+        ≡ either (force_value W.lane_bit k (slice_index_or forces.now.by_net.items gate.now.to d)
+        (driven state inputs (table_gives netlist.now (read_in W.lane_bit k row.now words.old)) (driver_at netlist.now gate.now.to)))
+        (value_in row.now gate.now.to) }
+    ensures others { (k n : ℕ) → n ≢ gate.now.to → bit_at (plane W.lane_bit k words.new) n ≡ bit_at (plane W.lane_bit k words.old) n }
 {
-    let own = own_word(cycle.netlist, gate, ops, cycle.row, words);
-    set_word(net, named_difference(cycle.row, forces, net.0, own), words);
+    words[gate.to as usize] = table_difference(netlist, gate, ops, row, forces, words);
 }
 
 /// Evaluates all tables, in the order's sequence, with one step for each.
@@ -141,7 +142,7 @@ pub fn sweep<W: Word, L: Ledger>(
     let gates = program.gates.as_slice();
     let ops = program.ops.as_slice();
     for place in 0..cycle.order.len() {
-        settle(cycle, cycle.order[place], &gates[place], ops, forces, words);
+        settle(cycle.netlist, &gates[place], ops, cycle.row, forces, words);
         steps.tick();
     }
 }

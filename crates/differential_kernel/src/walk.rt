@@ -11,15 +11,15 @@ ghost use Rattle.lane_words.specs.declared.force.Force.{Force as ForceValue};
 ghost use Rattle.differential_kernel.specs.Differences.{AreNoted, AreSameOff, Grows, IsEmptySet, IsSame, read_in};
 ghost use Rattle.lane_words.specs.Forces.{force_value, AreForces};
 ghost use Rattle.differential_kernel.specs.Parts.{AreForcesOf, AreLatchesOf, AreNetsOf, IsProgramOf};
-ghost use Rattle.differential_kernel.specs.Walk.{IsAhead, IsPair};
+ghost use Rattle.differential_kernel.specs.Walk.{IsAhead, IsGivenAt, IsPair};
 
-use crate::difference::{named_difference, store};
+use crate::difference::store;
 use crate::force::Forces;
 use crate::golden_cycle::GoldenCycle;
 use crate::latches::LatchDifferences;
 use crate::nets::NetDifferences;
 use crate::program::Program;
-use crate::table::own_word;
+use crate::table::table_difference;
 use circuit::parts::NetId;
 use fm_base::Steps;
 use lane_words::gate::{Gate, Masks};
@@ -55,7 +55,7 @@ fn evaluate<W: Word>(
     requires forces { AreForcesOf W.lanes W.lane_bit cycle.now.netlist.now forces.now }
     requires nets { AreNetsOf cycle.now.fanout.now nets.old }
     ensures nets { AreNetsOf cycle.now.fanout.now nets.new }
-    ensures value { (k : ℕ) (d : ForceValue W) (state inputs : List Bool) → k < W.lanes
+    ensures value { (k : ℕ) (d : ForceValue W) (state inputs : List Bool) → k < W.lanes → IsGivenAt cycle.now.netlist.now cycle.now.row.now net.0
         → bit_at (plane W.lane_bit k nets.new.words.items) net.0
         ≡ either (force_value W.lane_bit k (slice_index_or forces.now.by_net.items net.0 d)
         (driven state inputs (table_gives cycle.now.netlist.now (read_in W.lane_bit k cycle.now.row.now nets.old.words.items)) (driver_at cycle.now.netlist.now net.0)))
@@ -64,8 +64,7 @@ fn evaluate<W: Word>(
     ensures noted { (from : ℕ) → AreNoted W.lanes W.lane_bit cycle.now.fanout.now from nets.old → AreNoted W.lanes W.lane_bit cycle.now.fanout.now from nets.new }
     ensures kept { Grows nets.old.marks nets.new.marks }
 {
-    let own = own_word(cycle.netlist, gate, ops, cycle.row, &nets.words);
-    let word = named_difference(cycle.row, forces, net.0, own);
+    let word = table_difference(cycle.netlist, gate, ops, cycle.row, forces, &nets.words);
     store(net, word, cycle.fanout, nets);
 }
 

@@ -72,7 +72,7 @@ returns-clause-values g c = λ k x golden lt pair are holds n net.
     (c.walk-evaluated.ensures.values k x golden lt pair are
     (begun lanes bit k lt c.args.cycle.now.netlist.now order c.take_live.ensures.sound c.requires.order c.deref.result.now places row c.args.forces.now.by_net.items c.requires.forces.each x golden pair are
     (bit_at (plane bit k c.args.latches.now.raw.items)) c.take_live.new.nets.words.items c.force_all.new.nets.words.items holds
-    (λ m within. c.take_live.ensures.values k m lt within)
+    (λ m within free. c.take_live.ensures.values k m lt within)
     (λ m d within none. c.force_all.ensures.source k m d lt (omega (arith, within, drivers)) none))
     n net)
     (pair.values n net)

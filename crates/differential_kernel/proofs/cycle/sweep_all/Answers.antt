@@ -21,7 +21,7 @@ returns-clause-values g c = λ k x golden lt pair are holds n net.
     (c.sweep.ensures.values k x golden lt pair are
     (begun lanes bit k lt circuit order c.show_latches.ensures.sound c.requires.order c.deref.result.now places row c.args.forces.now.by_net.items c.requires.forces.each x golden pair are
     (bit_at (plane bit k c.args.raw.now)) c.show_latches.new.words c.force_sources.new.words holds
-    (λ m within. c.show_latches.ensures.values k m lt within)
-    (λ m d within none. c.force_sources.ensures k m d lt (omega (arith, within, c.show_latches.auto.words, c.blank.auto.words, c.requires.nets)) none))
+    (λ m within free. c.show_latches.ensures.values k m lt within free)
+    (λ m d within none. c.force_sources.ensures k m d lt (omega (arith, within, c.show_latches.auto.words, c.blank_inputs.auto.words, c.requires.nets)) none))
     n net)
     (pair.values n net)

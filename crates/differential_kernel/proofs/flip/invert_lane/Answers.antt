@@ -1,12 +1,9 @@
-use Rattle.std.proofs.Common.{◌≡◌, ap, sym, ◌∙◌, arith}
-use Rattle.std.proofs.lemmas.Grind.{common_steps}
-use Rattle.std.specs.Vec.{with_items}
+use Rattle.std.proofs.Common.{ap, sym, ◌∙◌}
 use Rattle.circuit.specs.Effects.{inverted}
 use Rattle.circuit.specs.Value.{bit_at}
 use Rattle.lane_words.specs.Gates.{plane}
 use Rattle.lane_words.specs.Loads.{somes}
 use Rattle.lane_words.proofs.Armed.{none_flips}
-use Rattle.differential_kernel.proofs.Flipping.{held_flipped}
 use Rattle.differential_kernel.proofs.flip.invert_lane.Goals as goal
 
 pub returns-else-is_flipping-clause-own : goal.returns-else-is_flipping-clause-own

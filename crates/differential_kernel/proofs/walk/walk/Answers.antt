@@ -11,7 +11,7 @@ use Rattle.lane_words.specs.Gates.{IsGate, gate_at}
 use Rattle.lane_words.specs.declared.force.Force.{Force}
 use Rattle.differential_kernel.specs.Differences.{IsNoted, read_in}
 use Rattle.differential_kernel.proofs.Notes.{grows_none, taken_other}
-use Rattle.differential_kernel.proofs.Walking.{evaluated, quiet_run, some_force}
+use Rattle.differential_kernel.proofs.Walking.{evaluated, given, quiet_run, some_force}
 use Rattle.differential_kernel.proofs.walk.walk.Goals as goal
 
 pub evaluate-requires-clause-gate : goal.evaluate-requires-clause-gate
@@ -59,7 +59,7 @@ places-preserved g c =
       values = λ k x golden lt pair are first.
           let d : Force g.row.W.Denot = some_force forces (net_at order p).0 inside in
           evaluated lanes bit k lt circuit order c.requires.sound c.requires.order row forces c.requires.forces.each x golden pair are d c.places.nets.words.items c.evaluate.new.nets.words.items p found.1
-          (λ state inputs. c.evaluate.ensures.value k d state inputs lt) (λ n other. c.evaluate.ensures.others k n other)
+          (λ state inputs. c.evaluate.ensures.value k d state inputs lt (given lanes bit k lt circuit order c.requires.sound c.requires.order row forces c.requires.forces.each x golden pair are p found.1)) (λ n other. c.evaluate.ensures.others k n other)
           (subst (λ j. Walked x (read_in bit k row c.places.nets.words.items) (take j order) j) up
           (quiet_run lanes bit k lt circuit order c.requires.sound c.requires.order row forces c.requires.forces.each x golden pair are c.places.nets.words.items c.places.nets.touched c.places.nets.marks from (p - from)
           (omega (arith, up, found.1)) noted c.places.invariant.ahead (λ q low less. found.3 q low (omega (arith, up, less)))
