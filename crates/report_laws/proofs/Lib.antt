@@ -10,12 +10,3 @@ mod Turning
 mod Treeing
 mod Separating
 mod Heading
-mod Lining
-mod Stating
-mod Faultless
-mod Stepping
-mod Alone
-mod Sounding
-mod Tabled
-mod FirstNets
-mod Generated

@@ -6,4 +6,3 @@ pub mod Targets
 pub mod Danger
 pub mod Parts
 pub mod Headers
-pub mod Samples

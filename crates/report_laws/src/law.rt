@@ -5,7 +5,6 @@ ghost use Rattle.report_laws.specs.Danger.{LongerIntervalIsLessDangerous, Longer
 ghost use Rattle.report_laws.specs.Headers.{DigestIsOfText, HeadersTell};
 ghost use Rattle.report_laws.specs.Named.{NamedWeightsAddUp};
 ghost use Rattle.report_laws.specs.Parts.{MergedPartsReport};
-ghost use Rattle.report_laws.specs.Samples.{GeneratedTextsAreRead};
 ghost use Rattle.report_laws.specs.Targets.{PrintedVerdictsStay};
 
 use campaign_plan::faults_are_alone;
@@ -75,9 +74,4 @@ pub fn merged_parts_report()
 pub fn headers_tell()
     ensures digest { DigestIsOfText }
     ensures same { HeadersTell }
-{}
-
-/// The netlist, workload, rates and points that `gen` makes are read without refusal, for every number of stages from 1 to 1,000.
-pub fn generated_texts_are_read()
-    ensures { GeneratedTextsAreRead }
 {}

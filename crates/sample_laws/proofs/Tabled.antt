@@ -1,5 +1,5 @@
 -- The generated workload, rates and points are read without refusal.
-use Rattle.std.proofs.Common.{◌≡◌, ℕ, zero, suc, ◌+◌, ◌%◌, ◌<◌, ◌≤◌, Bool, true, false, List, [], ◌∷◌, ◌++◌, length, map, refl, ap, sym, ◌∙◌, length-append, arith}
+use Rattle.std.proofs.Common.{◌≡◌, ℕ, zero, suc, ◌+◌, ◌*◌, ◌%◌, ◌<◌, ◌≤◌, ◌^◌, Bool, true, false, List, [], ◌∷◌, ◌++◌, length, map, refl, ap, sym, ◌∙◌, length-append, arith}
 use Rattle.std.specs.Prelude.{position, slice_index_or, ◌==◌, Option, Some, None, Result, Ok, codes, drop, filter, flat_map, not, ◌&&◌, ◌||◌, bytes_eq, nat_le, nat_lt, unwrap_or, if◌then◌else◌}
 use Rattle.std.specs.List.{last_or, list_all}
 use Rattle.std.specs.Option.{option_map, option_map_or, option_or}
@@ -32,7 +32,7 @@ use Rattle.sample_gen.specs.Sample.{points_text, rates_text, workload_text}
 
 -- ---- rates
 
-pub sample_rates : RateTable
+unfoldable pub sample_rates : RateTable
 sample_rates = record {
   patterns = record { name = codes "d"; star = false; part = 0 } ∷ record { name = codes "q"; star = false; part = 1 }
       ∷ record { name = codes "m"; star = true; part = 1 } ∷ record { name = codes "a"; star = true; part = 1 } ∷ record { name = []; star = true; part = 2 } ∷ [];
@@ -44,6 +44,10 @@ sample_rates = record {
 pub rates_are : rates_of rates_text ≡ Ok sample_rates
 unfolding sample_rates rates_of rates_text rates_row_fault units_of next_record records_from strip_bom firsts first_after first_where
 rates_are = refl
+
+pub rates_short : length rates_text ≤ 2 ^ 26
+unfolding rates_text
+rates_short = omega arith
 
 -- ---- the rows of the workload
 
@@ -74,8 +78,8 @@ line_long : (b : Bool) → length (if b then codes "w,mission,1\n" else codes "w
 line_long true = refl
 line_long false = refl
 
-lines_long : (ts : List ℕ) → length ts ≤ length (flat_map vector_line ts)
-lines_long [] = omega arith
+lines_long : (ts : List ℕ) → length (flat_map vector_line ts) ≡ 12 * length ts
+lines_long [] = refl
 lines_long (t ∷ ts) =
     let rest = lines_long ts in
     omega (arith, length-append (vector_line t) (flat_map vector_line ts), line_long (t % 3 == 0), rest)
@@ -93,6 +97,12 @@ rows_are n =
     ap (λ fuel. records_from default_config fuel StartRecord (codes "workload,kind,d\n" ++ text)) size
     ∙ head_record (length text + 16) text
     ∙ ap (λ rest. header ∷ rest) (all_records (below (n + 8)) (length text + 16) (omega (arith, long)))
+
+pub workload_short : (n : ℕ) → n ≤ 1000 → length (workload_text n) ≤ 2 ^ 26
+unfolding workload_text below
+workload_short n few =
+    let text : Bytes = flat_map vector_line (below (n + 8)) in
+    omega (arith, few, length-append (codes "workload,kind,d\n") text, lines_long (below (n + 8)), length-range_with_len 0 (n + 8))
 
 -- ---- no row is faulty
 
@@ -206,6 +216,10 @@ module _ (c : Circuit) (one : map (λ net. net_name c net.0) c.inputs ≡ codes 
       refl columns_known inputs_there faultless some_rows
 
 -- ---- points
+
+pub points_short : length points_text ≤ 2 ^ 26
+unfolding points_text
+points_short = omega arith
 
 -- the two points of a netlist whose second and third nets are `q` and `e`
 pub sample_points : Points

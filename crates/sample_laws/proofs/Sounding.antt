@@ -18,9 +18,9 @@ use Rattle.blif_model.specs.LineFault.{at_line}
 use Rattle.blif_model.specs.Walk.{Act, Step, Visit, clock_names, clocks, drives_of, flat_latch, flat_table, gives, visits_of}
 use Rattle.blif_model.specs.WalkFault.{bad_clock, clock_read, has_visit, two_clocks, two_drivers, undriven, walk_faults}
 use Rattle.blif_model.proofs.Drivers.{visit-found}
-use Rattle.report_laws.proofs.Stating.{source, word}
-use Rattle.report_laws.proofs.Stepping.Simple.{Copy, Pair, Port, Ports, Rows, Store}
-use Rattle.report_laws.proofs.Stepping.{Simple, both_lines, driven_by, driven_names, drives_are, end_lines, lines, name_of, no_clocks, port_lines, steps_of, the_steps, visited_by, visited_names, visits_are}
+use Rattle.sample_laws.proofs.Stating.{source, word}
+use Rattle.sample_laws.proofs.Stepping.Simple.{Copy, Pair, Port, Ports, Rows, Store}
+use Rattle.sample_laws.proofs.Stepping.{Simple, both_lines, driven_by, driven_names, drives_are, end_lines, lines, name_of, no_clocks, port_lines, steps_of, the_steps, visited_by, visited_names, visits_are}
 
 -- ---- no clocks
 
@@ -327,17 +327,17 @@ module _ (n : ℕ) (some : 0 < n) (small : n < 2 ^ 32) where
   steps : List Step
   steps = the_steps n
 
-  first_fault : two_clocks (the_steps n) ≡ None
+  no_second_clock : two_clocks (the_steps n) ≡ None
   unfolding two_clocks walk_faults AreQuiet
-  first_fault = one_clock [] (the_steps n) tt (quiet_steps 2 (lines n))
+  no_second_clock = one_clock [] (the_steps n) tt (quiet_steps 2 (lines n))
 
-  second_fault : bad_clock (the_steps n) ≡ None
+  no_bad_clock : bad_clock (the_steps n) ≡ None
   unfolding bad_clock walk_faults
-  second_fault = fail_where _ (λ (s : Step). at_line s.line BadClock) (the_steps n) (quiet_controls _ 2 (lines n))
+  no_bad_clock = fail_where _ (λ (s : Step). at_line s.line BadClock) (the_steps n) (quiet_controls _ 2 (lines n))
 
-  third_fault : clock_read (the_steps n) ≡ None
+  pub no_clock_read : clock_read (the_steps n) ≡ None
   unfolding clock_read walk_faults
-  third_fault =
+  no_clock_read =
       ap (λ clock. first_where (λ (s : Step). given (list_any (is_one_of clock) (elim s.act [ flat_table ins out rows ↦ ins | flat_latch l ↦ l.from ∷ [] | gives names ↦ names | _ ↦ [] ])) (at_line s.line ClockRead)) (the_steps n))
       (no_clocks 2 (lines n))
       ∙ fail_where _ (λ (s : Step). at_line s.line ClockRead) (the_steps n) (none_read 2 (lines n))
@@ -345,9 +345,9 @@ module _ (n : ℕ) (some : 0 < n) (small : n < 2 ^ 32) where
   names_are : map name_of (drives_of (the_steps n)) ≡ all_driven n
   names_are = drives_are 2 (lines n) ∙ driven_are n
 
-  fourth_fault : two_drivers (the_steps n) ≡ None
+  pub one_driver : two_drivers (the_steps n) ≡ None
   unfolding two_drivers walk_faults Fresh
-  fourth_fault =
+  one_driver =
       ap (λ clock. first_after (λ (before : List Visit) (d : Visit). given (has_visit before d.name || is_one_of clock d.name) (at_line d.line TwoDrivers)) [] (drives_of (the_steps n)))
       (no_clocks 2 (lines n))
       ∙ no_second [] (drives_of (the_steps n)) (fresh_none (map name_of (drives_of (the_steps n)))) (subst Apart (sym names_are) (apart_driven n small))
@@ -356,9 +356,9 @@ module _ (n : ℕ) (some : 0 < n) (small : n < 2 ^ 32) where
       fresh_none [] = tt
       fresh_none (name ∷ names) = (refl, fresh_none names)
 
-  fifth_fault : undriven (the_steps n) ≡ None
+  pub no_undriven : undriven (the_steps n) ≡ None
   unfolding undriven walk_faults
-  fifth_fault =
+  no_undriven =
       ap (λ clock. first_where (λ (v : Visit). given (not (is_one_of clock v.name) && not (has_visit (drives_of (the_steps n)) v.name)) (at_line v.line (Undriven v.name))) (visits_of (the_steps n)))
       (no_clocks 2 (lines n))
       ∙ fail_where _ (λ (v : Visit). at_line v.line (Undriven v.name)) (visits_of (the_steps n)) (not_loose (drives_of (the_steps n)) (visits_of (the_steps n)) all)
@@ -373,4 +373,4 @@ module _ (n : ℕ) (some : 0 < n) (small : n < 2 ^ 32) where
   unfolding two_clocks bad_clock clock_read two_drivers undriven walk_faults
   no_walk_fault =
       first_of_five (two_clocks (the_steps n)) (bad_clock (the_steps n)) (clock_read (the_steps n)) (two_drivers (the_steps n)) (undriven (the_steps n))
-      first_fault second_fault third_fault fourth_fault fifth_fault
+      no_second_clock no_bad_clock no_clock_read one_driver no_undriven

@@ -13,7 +13,7 @@ use Rattle.blif_text.specs.declared.NetlistKind.TheVariants.{NoModel, BadToken, 
 use Rattle.blif_model.specs.LineFault.{Said, at_line, is_inside, is_row_of, line_fault, place_fault, plane_above, row_output, table_above}
 use Rattle.blif_model.specs.Models.{Model, items_of, models_of}
 use Rattle.blif_model.specs.Statement.{Statement, clock, end, inputs, instance, latch, model, outputs, passed, row, table, unnamed, wrong}
-use Rattle.report_laws.proofs.Stating.{body, both_says, ends, ports, says_from}
+use Rattle.sample_laws.proofs.Stating.{body, both_says, ends, ports, says_from}
 
 -- ---- the state behind some lines
 

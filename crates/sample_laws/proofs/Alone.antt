@@ -14,10 +14,10 @@ use Rattle.blif_model.specs.ModelFault.{bad_formal, model_faults, recursive, too
 use Rattle.blif_model.specs.Models.{Instance, Item, Model, instances, items_of, rows_below, sum_over_instances}
 use Rattle.blif_model.specs.Statement.{instance, table}
 use Rattle.blif_model.specs.Walk.{nets_of, visits_of, walk}
-use Rattle.report_laws.proofs.Stating.{says_from, source, word}
-use Rattle.report_laws.proofs.Faultless.{the_model}
-use Rattle.report_laws.proofs.Stepping.Simple.{Copy, Pair, Port, Ports, Rows, Store}
-use Rattle.report_laws.proofs.Stepping.{Simple, all_kept, body_is, both_lines, end_lines, lines, name_of, no_clocks, port_lines, stage_lines, statement, steps_of, the_steps, visited_by, visited_names, visits_are, walk_is}
+use Rattle.sample_laws.proofs.Stating.{says_from, source, word}
+use Rattle.sample_laws.proofs.Faultless.{the_model}
+use Rattle.sample_laws.proofs.Stepping.Simple.{Copy, Pair, Port, Ports, Rows, Store}
+use Rattle.sample_laws.proofs.Stepping.{Simple, all_kept, body_is, both_lines, end_lines, lines, name_of, no_clocks, port_lines, stage_lines, statement, steps_of, the_steps, visited_by, visited_names, visits_are, walk_is}
 
 -- ---- a model without instances
 

@@ -14,7 +14,7 @@ use Rattle.blif_text.specs.Lines.{Line}
 use Rattle.blif_model.specs.LineFault.{Said, said_lines}
 use Rattle.blif_model.specs.Statement.{Statement, directive_line, end, inputs, latch, model, outputs, row, statement_of, table}
 use Rattle.sample_gen.specs.Sample.{netlist_text}
-use Rattle.report_laws.proofs.Lining.{AreLines, AreWords, IsPlain, IsWord, decimal_plain, numbered, plain_by, read_lines}
+use Rattle.sample_laws.proofs.Lining.{AreLines, AreWords, IsPlain, IsWord, decimal_plain, numbered, plain_by, read_lines}
 
 -- ---- the words
 
@@ -123,7 +123,7 @@ pub record IsPlainLine (words : List Bytes) : Type 0 where
 narrow_word : (text : Bytes) → IsSmallWord text → nat_lt 255 (length text) ≡ false
 narrow_word text it = (let short = it.short in grind (arith, short))
 
-AllPlainLines : List (List Bytes) → Type 0
+unfoldable pub AllPlainLines : List (List Bytes) → Type 0
 AllPlainLines [] = Unit {0}
 AllPlainLines (words ∷ lines) = IsPlainLine words × AllPlainLines lines
 
@@ -215,7 +215,7 @@ tail_plain n small =
       ),
     )
 
-file_plain : (n : ℕ) → n < 2 ^ 32 → AllPlainLines (file_words n)
+pub file_plain : (n : ℕ) → n < 2 ^ 32 → AllPlainLines (file_words n)
 unfolding below
 file_plain n small =
     plain_both (head_words ++ flat_map both_words (below n)) (tail_words n)

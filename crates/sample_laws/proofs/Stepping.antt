@@ -7,8 +7,8 @@ use Rattle.fm_base.specs.Names.{Bytes, Name, is_one_of}
 use Rattle.blif_model.specs.Models.{items_of, rows_below}
 use Rattle.blif_model.specs.Statement.{Statement, inputs, latch, outputs, row, table}
 use Rattle.blif_model.specs.Walk.{Act, Scope, Step, Visit, acts_of, clock_names, drives_of, enter, flat_latch, flat_table, gives, net_of, steps_from, takes, top, unclocked, visits_of, walk}
-use Rattle.report_laws.proofs.Stating.{body, both_says, ends, ports, says_from, source, word}
-use Rattle.report_laws.proofs.Faultless.{the_model}
+use Rattle.sample_laws.proofs.Stating.{body, both_says, ends, ports, says_from, source, word}
+use Rattle.sample_laws.proofs.Faultless.{the_model}
 
 -- ---- the lines, by what they do
 

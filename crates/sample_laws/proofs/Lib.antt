@@ -1,0 +1,12 @@
+mod Lining
+mod Stating
+mod Faultless
+mod Stepping
+mod Alone
+mod Sounding
+mod Tabled
+mod FirstNets
+mod Acyclic
+mod Sized
+mod Rated
+mod Generated

@@ -1,0 +1,4 @@
+//! The law of the generated campaign. Nothing here computes.
+#![tactic(auto)]
+
+pub mod law;
