@@ -8,7 +8,7 @@ use Rattle.circuit.specs.Circuit.{Circuit}
 use Rattle.fm_base.specs.Planes.{bit}
 use Rattle.workload.specs.declared.run.Kind.TheVariants.{Mission, Test}
 use Rattle.workload.specs.declared.run.Run.{Run}
-use Rattle.workload.specs.Runs.{cycles_of, is_mission, is_test}
+use Rattle.workload.specs.Runs.{is_mission, is_test}
 use Rattle.alarm_points.specs.declared.Points.{Points}
 use Rattle.alarm_points.specs.Interval.{interval_of}
 use Rattle.classifier.specs.Seen.{goal_at}
@@ -18,12 +18,12 @@ use Rattle.shown_runs.specs.declared.first.FirstCycles.{FirstCycles}
 use Rattle.shown_runs.specs.declared.record.AlarmCycles.{AlarmCycles}
 use Rattle.shown_runs.specs.First.{first_in}
 use Rattle.shown_runs.specs.Record.{IsRecordFor, RunRecord, alarm_at, alarm_cycles, goal_cycles}
-use Rattle.shown_runs.specs.Seen.{HasSeen}
+use Rattle.shown_runs.specs.Seen.{HasSeenRun}
 use Rattle.latency_table.specs.declared.latency.RunShows.{RunShows}
 use Rattle.latency_table.specs.Latency.{IsShownBy, alarm_in, point_at}
 use Rattle.latency_table.proofs.Lists.{any_either, none_any, same_any, same_maps, some_earliest}
 
-module _ (c : Circuit) (points : Points) (ftti : ℕ) (run : Run) (x : List Fault) (k : ℕ) (r : RunRecord) (fit : IsRecordFor points r) (seen : HasSeen c points run x (cycles_of run) k r) where
+module _ (c : Circuit) (points : Points) (ftti : ℕ) (run : Run) (x : List Fault) (k : ℕ) (r : RunRecord) (fit : IsRecordFor points r) (seen : HasSeenRun c points run x k r) where
   abbrev s : Shown
   s = shown_in c x run
 
@@ -33,8 +33,9 @@ module _ (c : Circuit) (points : Points) (ftti : ℕ) (run : Run) (x : List Faul
   alarms : map (λ alarm. first_in alarm.raised k) r.alarms ≡ map s.alarm points.alarm
   alarms = same_maps (λ (alarm : AlarmCycles). first_in alarm.raised k) s.alarm r.alarms points.alarm (alarm_cycles [] 0) (alarm_at [] 0) fit.alarms seen.alarm
 
-  silenced : list_any (λ alarm. bit alarm.silenced k) r.alarms ≡ list_any s.is_silenced points.alarm
-  silenced = same_any (λ (alarm : AlarmCycles). bit alarm.silenced k) s.is_silenced r.alarms points.alarm (alarm_cycles [] 0) (alarm_at [] 0) fit.alarms seen.silenced
+  silenced : is_test run.kind ≡ true → list_any (λ alarm. bit alarm.silenced k) r.alarms ≡ list_any s.is_silenced points.alarm
+  silenced test =
+      same_any (λ (alarm : AlarmCycles). bit alarm.silenced k) s.is_silenced r.alarms points.alarm (alarm_cycles [] 0) (alarm_at [] 0) fit.alarms (seen.silenced test)
 
   pub first_alarm_is : earliest (map (λ alarm. first_in alarm.raised k) r.alarms) ≡ alarm_in points s
   first_alarm_is = ap earliest alarms
@@ -80,7 +81,7 @@ module _ (c : Circuit) (points : Points) (ftti : ℕ) (run : Run) (x : List Faul
               l ∙ sym (none_any points.goals)
               ∙ (λ i. list_any (λ goal. sym mission i && comes_late (interval_of ftti goal) (s.difference goal) (alarm_in points s)) points.goals);
           noticed =
-              n ∙ ap₂ (λ a b. a || b) (ap is_some alarm_is ∙ some_earliest s.alarm points.alarm) silenced
+              n ∙ ap₂ (λ a b. a || b) (ap is_some alarm_is ∙ some_earliest s.alarm points.alarm) (silenced test)
               ∙ sym (any_either (λ net. is_some (s.alarm net)) s.is_silenced points.alarm)
               ∙ (λ i. list_any (λ net. is_some (s.alarm net) || (sym test i && s.is_silenced net)) points.alarm);
           reached = d ∙ ap (λ b. if b then earliest (map s.difference points.goals) else None) (sym mission);

@@ -3,6 +3,7 @@ use Rattle.std.specs.Prelude.{◌≡◌, ℕ, ◌+◌, ◌*◌, ◌<◌, ◌≤�
 use Rattle.campaign_plan.specs.Analysis.{Analysis, fault_count}
 use Rattle.classifier.specs.Testbench.{Testbench}
 use Rattle.golden_difference.specs.Lanes.{IsMadeFor}
+use Rattle.shown_runs.specs.Beyond.{IsReachFor}
 use Rattle.shown_runs.specs.Record.{AreRecordsFor}
 use Rattle.latency_table.specs.Latency.{IsLatencyFor, latency_at}
 use Rattle.latency_table.specs.declared.worker.LatencyWorker.{LatencyWorker}
@@ -17,6 +18,7 @@ pub record IsEquippedFor (bench : Testbench) (rounds : ℕ) (worker : LatencyWor
   pub made : IsMadeFor bench.circuit bench.order worker.lanes
   pub records : length worker.records.items ≡ 4
   pub fit : AreRecordsFor bench.points worker.records.items
+  pub reach : IsReachFor bench.circuit bench.points worker.reach
   pub rounds_are : length worker.groups.items ≡ rounds
   pub room : (round : ℕ) → round < rounds → length (group_at worker.groups.items round) ≡ 256
 

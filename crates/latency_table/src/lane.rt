@@ -6,7 +6,6 @@ ghost use Rattle.circuit.specs.declared.parts.NetId.{NetId as NetValue};
 ghost use Rattle.circuit.specs.Circuit.{Circuit};
 ghost use Rattle.fm_base.specs.Planes.{bit};
 ghost use Rattle.workload.specs.declared.run.Run.{Run};
-ghost use Rattle.workload.specs.Runs.{cycles_of};
 ghost use Rattle.alarm_points.specs.declared.Goal.{Goal as GoalValue};
 ghost use Rattle.alarm_points.specs.Interval.{interval_of};
 ghost use Rattle.classifier.specs.Seen.{goal_at};
@@ -15,7 +14,7 @@ ghost use Rattle.first_cycles.specs.Shown.{longest, needed as needed_by, shown_i
 ghost use Rattle.readings.specs.Laws.{is_at};
 ghost use Rattle.shown_runs.specs.First.{first_in};
 ghost use Rattle.shown_runs.specs.Record.{IsRecordFor, alarm_at, alarm_cycles, goal_cycles};
-ghost use Rattle.shown_runs.specs.Seen.{HasSeen};
+ghost use Rattle.shown_runs.specs.Seen.{HasSeenRun};
 ghost use Rattle.latency_table.specs.Latency.{IsShownBy};
 
 use crate::latency::RunShows;
@@ -186,7 +185,7 @@ pub(crate) fn lane_shows(
 ) -> RunShows
     requires lane { lane < 64 }
     requires fit { IsRecordFor points.now kept.now }
-    ensures { (c : Circuit) (run : Run) (x : List Fault) → run.kind ≡ kind → HasSeen c points.now run x (cycles_of run) lane kept.now
+    ensures { (c : Circuit) (run : Run) (x : List Fault) → run.kind ≡ kind → HasSeenRun c points.now run x lane kept.now
         → IsShownBy points.now ftti (shown_in c x run) result }
 {
     let alarm = earliest_alarm(kept.alarms(), lane);

@@ -4,6 +4,7 @@ ghost use Rattle.golden_difference.specs.Lanes.{IsMadeFor};
 ghost use Rattle.classifier.specs.Testbench.{IsTestbenchFor};
 ghost use Rattle.latency_table.specs.Latency.{IsLatencyFor, latency_at};
 ghost use Rattle.campaign_plan.specs.Analysis.{fault_count};
+ghost use Rattle.shown_runs.specs.Beyond.{IsReachFor};
 ghost use Rattle.shown_runs.specs.Record.{AreRecordsFor};
 ghost use Rattle.latency_table.specs.Work.{HasWorked, IsEquippedFor, group_at};
 
@@ -14,8 +15,8 @@ use campaign_plan::Plan;
 use classifier::Testbench;
 use differential_kernel::DifferentialLanes4;
 use fm_base::Steps;
-use shown_runs::load_batches;
 use shown_runs::record::RunRecord;
+use shown_runs::{PointReach, load_batches};
 use std::alloc::{AllocError, Global};
 use std::marker::{Brand, Model};
 use std::sync::ledger::{Blank, Ledger};
@@ -46,6 +47,7 @@ impl Model for Group {
 pub struct LatencyWorker {
     pub(crate) lanes: DifferentialLanes4,
     pub(crate) records: Vec<RunRecord>,
+    pub(crate) reach: PointReach,
     pub(crate) groups: Vec<Group>,
 }
 
@@ -87,6 +89,7 @@ impl LatencyWorker {
         Ok(LatencyWorker {
             lanes: DifferentialLanes4::new(alloc, bench.net(), bench.order())?,
             records: records_for(alloc, bench.points())?,
+            reach: PointReach::new(alloc, bench)?,
             groups: groups_for(alloc, rounds)?,
         })
     }
@@ -99,6 +102,7 @@ fn simulate_group<L: Ledger>(
     first: u32,
     lanes: &mut DifferentialLanes4,
     records: &mut [RunRecord],
+    reach: &mut PointReach,
     group: &mut Group,
     steps: &mut Steps<L>,
 )
@@ -107,16 +111,20 @@ fn simulate_group<L: Ledger>(
     requires made { IsMadeFor bench.now.circuit bench.now.order lanes.old }
     requires records { length records.old ≡ 4 }
     requires fit { AreRecordsFor bench.now.points records.old }
+    requires reach { IsReachFor bench.now.circuit bench.now.points reach.old }
     requires room { length group.old ≡ 256 }
     ensures made { IsMadeFor bench.now.circuit bench.now.order lanes.new }
     ensures fit { AreRecordsFor bench.now.points records.new }
+    ensures reach { IsReachFor bench.now.circuit bench.now.points reach.new }
     ensures room { length group.new ≡ 256 }
     ensures kept { (lane : ℕ) → lane < 256 → first * 64 + lane < fault_count plan.now → IsLatencyFor plan.now (first * 64 + lane) (latency_at group.new lane) }
 {
     load_batches(plan.faults(), first, 1, lanes);
+    reach.mark_batches(bench, plan.faults(), first, 1);
     follow_runs(
         bench,
         plan.settings().ftti,
+        reach.words(),
         lanes,
         records,
         group.latencies.as_mut_slice(),
@@ -133,6 +141,7 @@ fn simulate_groups<L: Ledger>(
     rounds: u32,
     lanes: &mut DifferentialLanes4,
     records: &mut [RunRecord],
+    reach: &mut PointReach,
     groups: &mut [Group],
     blank: Blank,
 )
@@ -143,6 +152,7 @@ fn simulate_groups<L: Ledger>(
     requires made { IsMadeFor bench.now.circuit bench.now.order lanes.old }
     requires records { length records.old ≡ 4 }
     requires fit { AreRecordsFor bench.now.points records.old }
+    requires reach { IsReachFor bench.now.circuit bench.now.points reach.old }
     requires count { length groups.old ≡ rounds }
     requires room { (round : ℕ) → round < rounds → length (group_at groups.old round) ≡ 256 }
     requires blank { (blank.name ≡ L.name) × (blank.parts ≡ L.parts) × (0 < blank.parts) }
@@ -152,7 +162,7 @@ fn simulate_groups<L: Ledger>(
     for round in 0..rounds {
         let first = (round * workers + number) * WORDS;
         let group = &mut groups[round as usize];
-        simulate_group(plan, bench, first, lanes, records, group, &mut steps);
+        simulate_group(plan, bench, first, lanes, records, reach, group, &mut steps);
     }
 }
 
@@ -180,6 +190,7 @@ pub(crate) fn work(
         rounds,
         &mut worker.lanes,
         worker.records.as_mut_slice(),
+        &mut worker.reach,
         worker.groups.as_mut_slice(),
         Blank::new(1),
     );

@@ -1,5 +1,5 @@
 -- What a run shows of a lane, and danger and notice by it.
-use Rattle.std.specs.Prelude.{◌≡◌, ℕ, ◌<◌, ◌^◌, ◌&&◌, ◌||◌, Bool, List, length, map, [], ◌∷◌, Option, None, is_some, slice_index_or}
+use Rattle.std.specs.Prelude.{◌≡◌, ℕ, ◌<◌, ◌^◌, ◌&&◌, ◌||◌, Bool, true, List, length, map, [], ◌∷◌, Option, None, is_some, slice_index_or}
 use Rattle.std.specs.List.{list_any}
 use Rattle.circuit.specs.declared.parts.NetId.{NetId}
 use Rattle.fm_base.specs.Planes.{bit}
@@ -19,11 +19,11 @@ use Rattle.reading_planes.specs.Readings.{ftti_by, points_by}
 use Rattle.reading_planes.specs.declared.reading.Reading.{Reading}
 use Rattle.reading_planes.specs.declared.reading.Reading.TheVariants.{Goal, Interval, Only, Whole, Without}
 
--- the record has in lane k what a run shows
+-- the record has in lane k what counts of what a run shows: a silenced alarm counts in a test alone
 pub record HasShown (points : Points) (s : Shown) (k : ℕ) (r : RunRecord) : Type 0 where
   pub difference : (g : ℕ) → g < length points.goals → first_in (goal_cycles r.goals g) k ≡ s.difference (goal_at points.goals g)
   pub alarm : (a : ℕ) → a < length points.alarm → first_in (alarm_cycles r.alarms a).raised k ≡ s.alarm (alarm_at points.alarm a)
-  pub silenced : (a : ℕ) → a < length points.alarm → bit (alarm_cycles r.alarms a).silenced k ≡ s.is_silenced (alarm_at points.alarm a)
+  pub silenced : is_test s.kind ≡ true → (a : ℕ) → a < length points.alarm → bit (alarm_cycles r.alarms a).silenced k ≡ s.is_silenced (alarm_at points.alarm a)
 
 -- the cycles of one lane: of each goal the first difference, of each alarm point the first alarm, and the earliest of these
 pub record LaneCycles : Type 0 where

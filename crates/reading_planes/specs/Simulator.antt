@@ -5,6 +5,7 @@ use Rattle.golden_difference.specs.Lanes.{IsMadeFor}
 use Rattle.classifier.specs.Batch.{alone_in}
 use Rattle.classifier.specs.Planes.{HasPlanes}
 use Rattle.classifier.specs.Testbench.{Testbench}
+use Rattle.shown_runs.specs.Beyond.{IsReachFor}
 use Rattle.shown_runs.specs.Record.{AreRecordsFor}
 use Rattle.reading_planes.specs.Folded.{ArePlanesFor, IsLaneFor, planes_at, reading_at}
 use Rattle.reading_planes.specs.Readings.{ftti_by, points_by}
@@ -19,6 +20,7 @@ pub record IsSimulatorFor (bench : Testbench) (readings : List Reading) (s : Rea
   pub records : AreRecordsFor bench.points s.records.items
   pub cycles : IsLaneFor bench.points s.cycles
   pub planes : ArePlanesFor readings s.planes.items
+  pub reach : IsReachFor bench.circuit bench.points s.reach
 
 -- it has found the planes of four batches by each reading, the first and each `apart` further, in each word those of one: each fault alone in
 -- its lane

@@ -9,8 +9,9 @@ ghost use Rattle.fm_base.specs.Planes.{bit};
 ghost use Rattle.golden_difference.specs.Lanes.{IsMadeFor};
 ghost use Rattle.classifier.specs.Load.{lane_faults, load_of};
 ghost use Rattle.classifier.specs.Planes.{HasPlanes, outcome_at, planes_of};
+ghost use Rattle.shown_runs.specs.Beyond.{IsBeyond, beyond_at};
 ghost use Rattle.shown_runs.specs.Record.{AreRecordsFor, IsRecordFor, record_at};
-ghost use Rattle.shown_runs.specs.Seen.{HasSeen};
+ghost use Rattle.shown_runs.specs.Seen.{HasSeenRun};
 ghost use Rattle.reading_planes.specs.Folded.{ArePlanesFor, AreWords, HasShown, IsLaneFor, late_by, planes_at, reading_at};
 ghost use Rattle.reading_planes.specs.declared.reading.Reading.{Reading as ReadingValue};
 ghost use Rattle.reading_planes.specs.Readings.{AreReadingsOf, ftti_by, points_by};
@@ -26,8 +27,8 @@ use classifier::Testbench;
 use differential_kernel::DifferentialLanes;
 use fm_base::Steps;
 use lane_words::Word;
-use shown_runs::follow_whole;
 use shown_runs::record::RunRecord;
+use shown_runs::{Beyond, follow_whole};
 use std::sync::ledger::Ledger;
 use workload::run::Kind;
 
@@ -74,7 +75,7 @@ fn add_word(
     ensures made { IsLaneFor points.now cycles.new }
     ensures count { length planes.new ≡ length readings.now }
     ensures planes { (c : Circuit) (runs : List Run) (run : Run) (faults : ℕ → List Fault) (r : ℕ) → run.kind ≡ kind
-        → ((k : ℕ) → k < 64 → HasSeen c points.now run (faults k) (cycles_of run) k kept.now) → r < length readings.now
+        → ((k : ℕ) → k < 64 → HasSeenRun c points.now run (faults k) k kept.now) → r < length readings.now
         → HasPlanes c (points_by points.now (reading_at readings.now r)) (ftti_by ftti (reading_at readings.now r)) runs faults (outcome_at planes.old r)
         → HasPlanes c (points_by points.now (reading_at readings.now r)) (ftti_by ftti (reading_at readings.now r)) (runs ++ run ∷ []) faults (outcome_at planes.new r) }
 {
@@ -101,7 +102,7 @@ fn add_run(
     ensures made { IsLaneFor points.now cycles.new }
     ensures fit { ArePlanesFor readings.now planes.new }
     ensures planes { (c : Circuit) (runs : List Run) (run : Run) (faults : ℕ → List Fault) (word r : ℕ) → run.kind ≡ kind → word < length planes.old
-        → ((k : ℕ) → k < 64 → HasSeen c points.now run (faults k) (cycles_of run) k (record_at records.now word)) → r < length readings.now
+        → ((k : ℕ) → k < 64 → HasSeenRun c points.now run (faults k) k (record_at records.now word)) → r < length readings.now
         → HasPlanes c (points_by points.now (reading_at readings.now r)) (ftti_by ftti (reading_at readings.now r)) runs faults (planes_at planes.old word r)
         → HasPlanes c (points_by points.now (reading_at readings.now r)) (ftti_by ftti (reading_at readings.now r)) (runs ++ run ∷ []) faults (planes_at planes.new word r) }
 {
@@ -123,6 +124,7 @@ fn judge_runs<W: Word, L: Ledger>(
     bench: &Testbench<'_>,
     ftti: u32,
     readings: &[Reading],
+    beyond: &[Beyond],
     lanes: &mut DifferentialLanes<W>,
     records: &mut [RunRecord],
     cycles: &mut LaneCycles,
@@ -136,6 +138,7 @@ fn judge_runs<W: Word, L: Ledger>(
     requires cycles { IsLaneFor bench.now.points cycles.old }
     requires words { length planes.old ≡ W.words }
     requires planes { ArePlanesFor readings.now planes.old }
+    requires beyond { (word : ℕ) → word < W.words → IsBeyond bench.now.circuit bench.now.points (lane_faults (load_of lanes.old) word) (beyond_at beyond.now word) }
     requires nothing { (word r : ℕ) → word < W.words → r < length readings.now → planes_at planes.old word r ≡ record { danger = 0; noticed = 0 } }
     ensures load { load_of lanes.new ≡ load_of lanes.old }
     ensures records { AreRecordsFor bench.now.points records.new }
@@ -147,7 +150,7 @@ fn judge_runs<W: Word, L: Ledger>(
     ensures cost { steps.new ≤ steps.old + all_cycles bench.now.runs * length bench.now.circuit.tables }
 {
     for run in 0..bench.runs() {
-        follow_whole(bench, run, lanes, records, steps);
+        follow_whole(bench, run, beyond, lanes, records, steps);
         add_run(
             bench.kind(run),
             bench.points(),
@@ -201,6 +204,50 @@ pub fn loaded_readings<W: Word, L: Ledger>(
     ensures fit { ArePlanesFor readings.now planes.new }
     ensures cost { steps.new ≤ steps.old + all_cycles bench.now.runs * length bench.now.circuit.tables }
 {
+    marked_readings(
+        bench,
+        ftti,
+        readings,
+        &[],
+        lanes,
+        records,
+        cycles,
+        planes,
+        steps,
+    );
+}
+
+/// The same, where `beyond` has the points that the lanes of each word can't change.
+pub(crate) fn marked_readings<W: Word, L: Ledger>(
+    bench: &Testbench<'_>,
+    ftti: u32,
+    readings: &[Reading],
+    beyond: &[Beyond],
+    lanes: &mut DifferentialLanes<W>,
+    records: &mut [RunRecord],
+    cycles: &mut LaneCycles,
+    planes: &mut [ReadingPlanes],
+    steps: &mut Steps<L>,
+)
+    requires lanes { IsMadeFor bench.now.circuit bench.now.order lanes.old }
+    requires readings { AreReadingsOf bench.now.points readings.now }
+    requires count { length records.old ≡ W.words }
+    requires records { AreRecordsFor bench.now.points records.old }
+    requires cycles { IsLaneFor bench.now.points cycles.old }
+    requires words { length planes.old ≡ W.words }
+    requires planes { ArePlanesFor readings.now planes.old }
+    requires beyond { (word : ℕ) → word < W.words → IsBeyond bench.now.circuit bench.now.points (lane_faults (load_of lanes.old) word) (beyond_at beyond.now word) }
+    ensures planes { (word r : ℕ) → word < W.words → r < length readings.now
+        → planes_at planes.new word r
+        ≡ planes_of bench.now.circuit (points_by bench.now.points (reading_at readings.now r)) (ftti_by ftti (reading_at readings.now r)) bench.now.runs (lane_faults (load_of lanes.old) word) }
+    ensures loads { load_of lanes.new ≡ load_of lanes.old }
+    ensures records { AreRecordsFor bench.now.points records.new }
+    ensures cycles { IsLaneFor bench.now.points cycles.new }
+    ensures fit { ArePlanesFor readings.now planes.new }
+    ensures cost { steps.new ≤ steps.old + all_cycles bench.now.runs * length bench.now.circuit.tables }
+{
     start_planes(planes);
-    judge_runs(bench, ftti, readings, lanes, records, cycles, planes, steps);
+    judge_runs(
+        bench, ftti, readings, beyond, lanes, records, cycles, planes, steps,
+    );
 }

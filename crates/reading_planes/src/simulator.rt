@@ -9,15 +9,15 @@ ghost use Rattle.reading_planes.specs.Simulator.{HasFound, IsSimulatorFor};
 use crate::lane::LaneCycles;
 use crate::planes::ReadingPlanes;
 use crate::reading::Reading;
-use crate::runs::loaded_readings;
+use crate::runs::marked_readings;
 use alarm_points::Points;
 use campaign_plan::Outcome;
 use classifier::Testbench;
 use differential_kernel::DifferentialLanes4;
 use fault_list::FaultList;
 use fm_base::Steps;
-use shown_runs::load_batches;
 use shown_runs::record::RunRecord;
+use shown_runs::{PointReach, load_batches};
 use std::alloc::{AllocError, Global};
 use std::marker::Brand;
 use std::sync::ledger::{Blank, Ledger};
@@ -32,6 +32,7 @@ pub struct ReadingSimulator {
     pub(crate) records: Vec<RunRecord>,
     pub(crate) cycles: LaneCycles,
     pub(crate) planes: Vec<ReadingPlanes>,
+    pub(crate) reach: PointReach,
 }
 
 // A record for each word.
@@ -71,11 +72,13 @@ impl ReadingSimulator {
         let records = word_records(alloc, bench.points())?;
         let cycles = LaneCycles::new(alloc, bench.points())?;
         let planes = word_planes(alloc, readings)?;
+        let reach = PointReach::new(alloc, bench)?;
         Ok(ReadingSimulator {
             lanes,
             records,
             cycles,
             planes,
+            reach,
         })
     }
 
@@ -150,12 +153,14 @@ impl ReadingSimulator {
         ensures cost { steps.new ≤ steps.old + all_cycles bench.now.runs * length bench.now.circuit.tables }
     {
         load_batches(faults, first, apart, &mut self.lanes);
+        self.reach.mark_batches(bench, faults, first, apart);
         let records = self.records.as_mut_slice();
         let planes = self.planes.as_mut_slice();
-        loaded_readings(
+        marked_readings(
             bench,
             ftti,
             readings,
+            self.reach.words(),
             &mut self.lanes,
             records,
             &mut self.cycles,

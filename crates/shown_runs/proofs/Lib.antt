@@ -1,2 +1,4 @@
 pub mod Marks
 pub mod Steps
+pub mod Reaching
+pub mod LetGo

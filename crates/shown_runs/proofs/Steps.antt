@@ -21,9 +21,8 @@ use Rattle.classifier.specs.Seen.{goal_at}
 use Rattle.classifier.proofs.Stillness.{not_raised, not_silenced, over_still}
 use Rattle.first_cycles.specs.FirstCycles.{is_raised_at}
 use Rattle.first_cycles.specs.Shown.{is_silenced_at}
-use Rattle.shown_runs.specs.Record.{RunRecord}
 use Rattle.shown_runs.specs.First.{first_in, first_with}
-use Rattle.shown_runs.specs.Record.{alarm_at, alarm_cycles, goal_cycles}
+use Rattle.shown_runs.specs.Record.{IsRecordFor, RunRecord, alarm_at, alarm_cycles, goal_cycles}
 use Rattle.shown_runs.specs.Seen.{HasSeen, IsFollowed, MayLeave, SeesCycle}
 use Rattle.shown_runs.specs.Lanes.{IsGone, StandsAt}
 use Rattle.shown_runs.proofs.Marks.{first_more, first_stays, first_still, some_more}
@@ -107,11 +106,11 @@ module _ (c : Circuit) (points : Points) (run : Run) (k : ℕ) where
 
   -- and where it may have been let go then
   pub stands_left : (x : List Fault) (may_leave : MayLeave) (t : ℕ) (before after : List Fault) (left out : Bool) (r : RunRecord)
-      → StandsAt c points run x may_leave t k before left r
+      → StandsAt c points run x may_leave t k before left r → IsRecordFor points r
       → (left ≡ true → out ≡ true) → (left ≡ false → out ≡ true → may_leave t r ≡ true)
       → (out ≡ false → after ≡ before) → (out ≡ true → (left ≡ false) ⊎ (before ≡ []) → after ≡ [])
       → StandsAt c points run x may_leave t k after out r
-  stands_left x may_leave t before after left out r stands stays leaves keeps drops = record {
+  stands_left x may_leave t before after left out r stands fit stays leaves keeps drops = record {
     follows = λ is. keeps is ∙ stands.follows (was_in is);
     seen = λ is. stands.seen (was_in is);
     drops = λ is. drops is (elim (cases_Bool left) [ inl was ↦ inr (stands.drops was) | inr in_it ↦ inl in_it ]);
@@ -121,7 +120,7 @@ module _ (c : Circuit) (points : Points) (run : Run) (k : ℕ) where
         n = t;
         within = omega arith;
         seen = stands.seen in_it;
-        go = record { then = r; seen = stands.seen in_it; leaves = leaves in_it is };
+        go = record { then = r; fit = fit; seen = stands.seen in_it; leaves = leaves in_it is };
       }
     ];
   }

@@ -3,7 +3,7 @@ use Rattle.std.specs.Prelude.{◌≡◌, ℕ, ◌<◌, ◌≤◌, ◌⊎◌, ◌
 use Rattle.circuit.specs.declared.parts.Fault.{Fault}
 use Rattle.circuit.specs.Circuit.{Circuit}
 use Rattle.workload.specs.declared.run.Run.{Run}
-use Rattle.workload.specs.Runs.{cycles_of}
+use Rattle.workload.specs.Runs.{cycles_of, is_test}
 use Rattle.alarm_points.specs.declared.Points.{Points}
 use Rattle.fm_base.specs.Lists.{some_below}
 use Rattle.fm_base.specs.Planes.{bit}
@@ -11,9 +11,8 @@ use Rattle.campaign_plan.specs.Danger.{differs}
 use Rattle.classifier.specs.Seen.{goal_at}
 use Rattle.first_cycles.specs.FirstCycles.{first_below, is_raised_at}
 use Rattle.first_cycles.specs.Shown.{is_silenced_at}
-use Rattle.shown_runs.specs.Record.{RunRecord}
 use Rattle.shown_runs.specs.First.{first_in, first_with}
-use Rattle.shown_runs.specs.Record.{alarm_at, alarm_cycles, goal_cycles}
+use Rattle.shown_runs.specs.Record.{IsRecordFor, RunRecord, alarm_at, alarm_cycles, goal_cycles}
 
 -- lane k has what the first n cycles of a run show of these faults: of each goal the first difference, and of each alarm point the first alarm
 -- and whether it is silenced
@@ -26,9 +25,16 @@ pub record HasSeen (c : Circuit) (points : Points) (run : Run) (x : List Fault) 
 abbrev pub MayLeave : Type 0
 MayLeave = ℕ → RunRecord → Bool
 
+-- lane k has what counts of the whole run: a silenced alarm counts in a test alone
+pub record HasSeenRun (c : Circuit) (points : Points) (run : Run) (x : List Fault) (k : ℕ) (r : RunRecord) : Type 0 where
+  pub difference : (g : ℕ) → g < length points.goals → first_in (goal_cycles r.goals g) k ≡ first_below (cycles_of run) (differs c (goal_at points.goals g) x run)
+  pub alarm : (a : ℕ) → a < length points.alarm → first_in (alarm_cycles r.alarms a).raised k ≡ first_below (cycles_of run) (is_raised_at c x run (alarm_at points.alarm a))
+  pub silenced : is_test run.kind ≡ true → (a : ℕ) → a < length points.alarm → bit (alarm_cycles r.alarms a).silenced k ≡ some_below (cycles_of run) (is_silenced_at c x run (alarm_at points.alarm a))
+
 -- after n cycles the lane was let go, by what had been seen then
 pub record WasLetGo (c : Circuit) (points : Points) (run : Run) (x : List Fault) (may_leave : MayLeave) (n k : ℕ) : Type 0 where
   pub then : RunRecord
+  pub fit : IsRecordFor points then
   pub seen : HasSeen c points run x n k then
   pub leaves : may_leave n then ≡ true
 

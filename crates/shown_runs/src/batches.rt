@@ -12,8 +12,8 @@ use lane_words::Word;
 
 const LANES: u32 = 64;
 
-// The fault in a lane of a batch, where the lane holds one.
-fn fault_in(faults: &FaultList, batch: u32, lane: u32) -> Option<Fault>
+/// The fault in a lane of a batch, where the lane holds one.
+pub(crate) fn fault_in(faults: &FaultList, batch: u32, lane: u32) -> Option<Fault>
     ensures { result ≡ fault_in_lane faults.now (Some batch) lane }
 {
     let number = u64::from(LANES) * u64::from(batch) + u64::from(lane);

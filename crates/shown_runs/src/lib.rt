@@ -2,6 +2,7 @@
 #![tactic(auto)]
 
 mod batches;
+mod beyond;
 pub mod first;
 pub mod leaving;
 pub mod record;
@@ -10,5 +11,6 @@ mod see;
 mod whole;
 
 pub use batches::load_batches;
+pub use beyond::{Beyond, PointReach};
 pub use run::follow_run;
 pub use whole::follow_whole;

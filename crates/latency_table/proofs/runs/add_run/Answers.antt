@@ -1,9 +1,9 @@
 use Rattle.std.proofs.Common.{◌≡◌, ◌≢◌, ◌+◌, ◌/◌, ◌%◌, ◌<◌, [], List, length, ap, sym, ◌∙◌, subst, arith, get_or-set_other}
 use Rattle.std.proofs.lemmas.List.{get_or_default}
-use Rattle.workload.specs.Runs.{cycles_of, run_at}
+use Rattle.workload.specs.Runs.{run_at}
 use Rattle.classifier.proofs.EachWord.{each_set_one}
 use Rattle.shown_runs.specs.Record.{RunRecord, record_at}
-use Rattle.shown_runs.specs.Seen.{HasSeen}
+use Rattle.shown_runs.specs.Seen.{HasSeenRun}
 use Rattle.latency_table.specs.declared.latency.Latency.{Latency}
 use Rattle.latency_table.specs.Latency.{IsLatencyOf, latency_after, latency_at}
 use Rattle.latency_table.proofs.Adding.{latency_more}
@@ -26,14 +26,14 @@ loop-j-preserved c =
     record {
       done = λ circuit runs faults m lt run kind seen before.
           each_set_one (λ q (l : Latency).
-          HasSeen circuit points (run_at runs c.args.run) (faults q) (cycles_of (run_at runs c.args.run)) (q % 64) (record_at c.args.records.now (q / 64))
+          HasSeenRun circuit points (run_at runs c.args.run) (faults q) (q % 64) (record_at c.args.records.now (q / 64))
           → IsLatencyOf circuit points c.args.ftti runs (faults q) c.args.run (latency_at c.args.latencies.now q)
           → IsLatencyOf circuit points c.args.ftti runs (faults q) (c.args.run + 1) l) ls i new none inside
           (λ sees was.
           subst (λ (l : Latency). IsLatencyOf circuit points c.args.ftti runs (faults i) (c.args.run + 1) l) (sym is)
           (latency_more circuit points c.args.ftti runs (faults i) c.args.run run (latency_at c.args.latencies.now i) c.lane_shows-shows.result
           (c.lane_shows-shows.ensures circuit (run_at runs c.args.run) (faults i) kind
-          (subst (λ (r : RunRecord). HasSeen circuit points (run_at runs c.args.run) (faults i) (cycles_of (run_at runs c.args.run)) (i % 64) r) (sym kept) sees))
+          (subst (λ (r : RunRecord). HasSeenRun circuit points (run_at runs c.args.run) (faults i) (i % 64) r) (sym kept) sees))
           was))
           m
           (λ apart sees was. inv.done circuit runs faults m (omega (arith, apart, lt)) run kind sees was)

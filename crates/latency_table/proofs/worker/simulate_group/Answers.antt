@@ -1,9 +1,12 @@
-use Rattle.std.proofs.Common.{◌≡◌, ◌+◌, ◌*◌, ◌/◌, ◌%◌, ◌<◌, List, [], ◌∷◌, Some, length, ap, sym, subst, ◌∙◌, arith}
+use Rattle.std.proofs.Common.{◌≡◌, ◌+◌, ◌*◌, ◌/◌, ◌%◌, ◌<◌, ℕ, List, [], ◌∷◌, Some, length, ap, sym, subst, ◌∙◌, arith}
+use Rattle.circuit.specs.declared.parts.Fault.{Fault}
 use Rattle.campaign_plan.specs.Analysis.{all_faults, fault_numbered}
 use Rattle.classifier.specs.Batch.{alone_in}
-use Rattle.classifier.specs.Load.{Load}
+use Rattle.classifier.specs.Load.{Load, lane_faults, load_of}
 use Rattle.fm_base.proofs.Lists.{written_whole}
 use Rattle.lane_words.specs.Loads.{loaded_faults}
+use Rattle.shown_runs.specs.Beyond.{Beyond, IsBeyond, beyond_at}
+use Rattle.shown_runs.proofs.Reaching.{beyond_alike}
 use Rattle.latency_table.specs.declared.latency.Latency.{Latency}
 use Rattle.latency_table.specs.Latency.{IsLatencyFor, IsLatencyOf, latency_at}
 use Rattle.latency_table.proofs.Loaded.{holds_fault, of_plan}
@@ -16,6 +19,19 @@ follow_runs-requires-clause-made g c =
 
 pub follow_runs-requires-clause-room : goal.follow_runs-requires-clause-room
 follow_runs-requires-clause-room g c = ap length c.as_mut_slice.ensures.value ∙ ap length c.group.view_is ∙ c.requires.room
+
+pub follow_runs-requires-clause-beyond : goal.follow_runs-requires-clause-beyond
+follow_runs-requires-clause-beyond g c = λ word lt.
+    let bench = c.args.bench.now in
+    let batch = c.args.first + word * 1 in
+    let lanes : ℕ → List Fault = lane_faults (load_of c.load_batches.new.lanes) word in
+    let alone : ℕ → List Fault = alone_in c.faults-2.result.now (Some batch) in
+    subst (λ (marks : List Beyond). IsBeyond bench.circuit bench.points lanes (beyond_at marks word)) (sym c.words.ensures)
+    (beyond_alike bench.circuit bench.points alone lanes (beyond_at c.mark_batches.new.self.words word)
+    (λ k lane.
+    c.load_batches.ensures.loads word k lt lane
+    ∙ ap (λ fs. alone_in fs (Some batch) k) (c.faults.ensures.value ∙ sym c.faults-2.ensures.value))
+    (c.mark_batches.ensures.beyond word lt))
 
 pub returns-clause-made : goal.returns-clause-made
 returns-clause-made g c =

@@ -18,6 +18,7 @@ loop-round-preserved g c =
     record {
       made = did.made;
       fit = did.fit;
+      reach = did.reach;
       room = λ r lt. each_set_one (λ m (ls : List Latency). length ls ≡ 256) groups i new [] inside did.room r (λ apart. inv.room r lt);
       kept = λ r lt.
           each_set_one (λ m (ls : List Latency). (lane : ℕ) → lane < 256 → number_in c.args.workers c.args.number m lane < fault_count p

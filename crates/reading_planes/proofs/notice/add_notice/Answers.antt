@@ -1,10 +1,12 @@
-use Rattle.std.proofs.Common.{◌≡◌, ◌≢◌, ◌<◌, ◌||◌, ◌&&◌, ℕ, List, [], length, set, inl, inr, is_some, ap, ap₂, sym, ◌∙◌, subst, arith, below_more, get_or-set_other, get_or-set_same}
+use Rattle.std.proofs.Common.{◌≡◌, ◌≢◌, ◌<◌, ◌||◌, ◌&&◌, ℕ, Bool, true, List, [], length, set, inl, inr, is_some, ap, ap₂, sym, ◌∙◌, subst, arith, below_more, get_or-set_other, get_or-set_same}
 use Rattle.std.specs.List.{list_any}
 use Rattle.std.proofs.lemmas.Bool.{cases_eq}
 use Rattle.std.proofs.lemmas.List.Elements.{All-get_or}
 use Rattle.circuit.specs.declared.parts.NetId.{NetId}
 use Rattle.campaign_plan.specs.declared.Outcome.{Outcome}
 use Rattle.fm_base.specs.Planes.{bit}
+use Rattle.workload.specs.declared.run.Kind.{Kind}
+use Rattle.workload.specs.declared.run.Kind.TheVariants.{Mission, Test}
 use Rattle.workload.specs.Runs.{is_test}
 use Rattle.classifier.specs.Planes.{outcome_at}
 use Rattle.first_cycles.specs.Shown.{Shown}
@@ -15,6 +17,11 @@ use Rattle.reading_planes.specs.Readings.{IsReadingOf}
 use Rattle.reading_planes.specs.declared.reading.Reading.TheVariants.{Whole}
 use Rattle.reading_planes.proofs.Lists.{all_others}
 use Rattle.reading_planes.proofs.notice.add_notice.Goals as goal
+
+-- what counts in a test alone
+in_tests : (own kind : Kind) (a b : Bool) → own ≡ kind → (is_test own ≡ true → a ≡ b) → (is_test kind && a) ≡ (is_test own && b)
+in_tests own Mission a b same equal = ap (λ k. is_test k && b) (sym same)
+in_tests own Test a b same equal = equal (ap is_test same) ∙ ap (λ k. is_test k && b) (sym same)
 
 pub noticed_in-lanes-requires-clause-reading : goal.noticed_in-lanes-requires-clause-reading
 noticed_in-lanes-requires-clause-reading c = All-get_or (IsReadingOf c.args.points.now) c.args.readings.now c.loop-r.r Whole c.loop-r-test.true c.requires.readings
@@ -30,7 +37,9 @@ loop-r-preserved c =
     let within : i < length outcomes = omega (arith, c.loop-r-test.true, c.loop-r.auto.outcomes, c.requires.count) in
     let gives : (s : Shown) (k : ℕ) → s.kind ≡ c.args.kind → HasShown points s k c.args.kept.now → (a : ℕ) → a < length points.alarm
     → point_gives_notice c.args.kind (alarm_cycles c.args.kept.now.alarms a) k ≡ gives_notice s (alarm_at points.alarm a) =
-    λ s k kind shown a lt. (λ j. is_some (shown.alarm a lt j) || (is_test (sym kind j) && shown.silenced a lt j)) in
+    λ s k kind shown a lt.
+    ap (λ first. is_some first || (is_test c.args.kind && bit (alarm_cycles c.args.kept.now.alarms a).silenced k)) (shown.alarm a lt)
+    ∙ ap (λ b. is_some (s.alarm (alarm_at points.alarm a)) || b) (in_tests s.kind c.args.kind _ _ kind (λ test. shown.silenced test a lt)) in
     let any : (s : Shown) (k : ℕ) → s.kind ≡ c.args.kind → HasShown points s k c.args.kept.now → bit c.noticed_by_others-all.result k ≡ list_any (gives_notice s) points.alarm =
     λ s k kind shown.
     c.noticed_by_others-all.ensures (gives_notice s) k

@@ -1,11 +1,10 @@
 use Rattle.std.proofs.Common.{◌≡◌, ◌≢◌, ◌<◌, ◌++◌, ◌∷◌, [], ℕ, List, length, get_or, ap, sym, ◌∙◌, subst, arith, length-set, get_or-set_other}
 use Rattle.std.proofs.lemmas.List.{get_or_default}
 use Rattle.campaign_plan.specs.declared.Outcome.{Outcome}
-use Rattle.workload.specs.Runs.{cycles_of}
 use Rattle.classifier.specs.Planes.{HasPlanes, outcome_at}
 use Rattle.classifier.proofs.EachWord.{each_set_one}
 use Rattle.shown_runs.specs.Record.{RunRecord, record_at}
-use Rattle.shown_runs.specs.Seen.{HasSeen}
+use Rattle.shown_runs.specs.Seen.{HasSeenRun}
 use Rattle.reading_planes.specs.Folded.{planes_at, reading_at}
 use Rattle.reading_planes.specs.Readings.{ftti_by, points_by}
 use Rattle.reading_planes.proofs.runs.add_run.Goals as goal
@@ -33,11 +32,11 @@ loop-word-preserved c =
           let own = points_by points (reading_at readings r) in
           let ftti = ftti_by c.args.ftti (reading_at readings r) in
           each_set_one (λ m (os : List Outcome).
-          ((k : ℕ) → k < 64 → HasSeen circuit points run (faults k) (cycles_of run) k (record_at c.args.records.now m)) → HasPlanes circuit own ftti runs faults (planes_at c.args.planes.now m r)
+          ((k : ℕ) → k < 64 → HasSeenRun circuit points run (faults k) k (record_at c.args.records.now m)) → HasPlanes circuit own ftti runs faults (planes_at c.args.planes.now m r)
           → HasPlanes circuit own ftti (runs ++ run ∷ []) faults (outcome_at os r)) ps i new none inside
           (λ sees was.
           c.add_word.ensures.planes circuit runs run faults r kind
-          (λ k lane. subst (λ (v : RunRecord). HasSeen circuit points run (faults k) (cycles_of run) k v) (sym kept) (sees k lane)) small
+          (λ k lane. subst (λ (v : RunRecord). HasSeenRun circuit points run (faults k) k v) (sym kept) (sees k lane)) small
           (subst (λ (o : Outcome). HasPlanes circuit own ftti runs faults o) (sym (ap (λ (os : List Outcome). outcome_at os r) old ∙ inv.left i r (omega arith))) was))
           word
           (λ apart sees was. let early : word < i = omega (arith, apart, lt) in inv.done circuit runs run faults word r kind early sees small was)

@@ -10,8 +10,9 @@ use Rattle.campaign_plan.specs.declared.Outcome.{Outcome}
 use Rattle.classifier.specs.Load.{Load, lane_faults, load_of}
 use Rattle.classifier.specs.Planes.{HasPlanes}
 use Rattle.classifier.proofs.RunByRun.{planes_none}
+use Rattle.shown_runs.specs.Beyond.{IsBeyond, beyond_at}
 use Rattle.shown_runs.specs.Record.{record_at}
-use Rattle.shown_runs.specs.Seen.{HasSeen}
+use Rattle.shown_runs.specs.Seen.{HasSeenRun}
 use Rattle.reading_planes.specs.Folded.{IsLaneFor, planes_at, reading_at}
 use Rattle.reading_planes.specs.Readings.{ftti_by, points_by}
 use Rattle.reading_planes.proofs.runs.judge_runs.Goals as goal
@@ -27,6 +28,11 @@ cost_more : (start before now all own tables more : ℕ) → before ≤ start + 
 cost_more start before now all own tables more b m n =
     let split : (all + own) * tables ≡ all * tables + own * tables = add-mul all own tables in
     rw m (omega (arith, split))
+
+pub follow_whole-requires-clause-beyond : goal.follow_whole-requires-clause-beyond
+follow_whole-requires-clause-beyond g c = λ word lt.
+    let b = c.args.bench.now in
+    subst (λ (l : Load). IsBeyond b.circuit b.points (lane_faults l word) (beyond_at c.args.beyond.now word)) (sym c.loop-run.invariant.load) (c.requires.beyond word lt)
 
 pub loop-run-init : goal.loop-run-init
 loop-run-init g c =
@@ -69,11 +75,11 @@ loop-run-preserved g c =
           let ftti = ftti_by c.args.ftti reading in
           let faults = lane_faults load word in
           let inside : word < length c.loop-run.planes = omega (arith, lt, c.requires.words, c.loop-run.auto.planes) in
-          let seen : (k : ℕ) → k < 64 → HasSeen net points run (faults k) (cycles_of run) k (record_at c.follow_whole.new.records word) = λ k lane.
-          subst (λ (l : Load). HasSeen net points run (lane_faults l word k) (cycles_of run) k (record_at c.follow_whole.new.records word)) inv.load (followed.seen word k lt lane) in
+          let seen : (k : ℕ) → k < 64 → HasSeenRun net points run (faults k) k (record_at c.follow_whole.new.records word) = λ k lane.
+          subst (λ (l : Load). HasSeenRun net points run (lane_faults l word k) k (record_at c.follow_whole.new.records word)) inv.load (followed.seen word k lt lane) in
           subst (λ (rs : List Run). HasPlanes net own ftti rs faults (planes_at c.add_run.new.planes word r)) (sym (take_more runs n none within))
           (subst (λ (ps : Points).
-          ((k : ℕ) → k < 64 → HasSeen net ps run (faults k) (cycles_of run) k (record_at c.follow_whole.new.records word)) → HasPlanes net (points_by ps reading) ftti (take n runs) faults (planes_at c.loop-run.planes word r)
+          ((k : ℕ) → k < 64 → HasSeenRun net ps run (faults k) k (record_at c.follow_whole.new.records word)) → HasPlanes net (points_by ps reading) ftti (take n runs) faults (planes_at c.loop-run.planes word r)
           → HasPlanes net (points_by ps reading) ftti (take n runs ++ run ∷ []) faults (planes_at c.add_run.new.planes word r)) c.points.ensures.points
           (λ sees was. c.add_run.ensures.planes net (take n runs) run faults word r (sym c.kind.ensures) inside sees small was)
           seen (inv.planes word r lt small));

@@ -68,6 +68,7 @@ loop-word-preserved g c =
     (c.see_cycle.ensures.seen run k lt (inv.after (take (t + 1) run.vectors) at) (subst (λ (l : Load). IsGoldenRow l.circuit run.vectors t c.args.row.now) (sym inv.load) row) lane)) in
     stands_left load.circuit points run k x (may_in i k) (t + 1) (in_lane force i k) (in_lane force' i k) (bit (slice_index ls i) k) (bit out_now k) new
     (stands_more load.circuit points run k x (may_in i k) t (in_lane force i k) (bit (slice_index ls i) k) (record_at rs i) new stands sees)
+    c.see_cycle.ensures.fit
     (c.more_left-out.ensures.stay k)
     (λ was is.
     subst (λ (r : RunRecord). may_in i k (t + 1) r ≡ true) (get_or-set_same rs i new c.index-records-at-in-loop-word.result inside)

@@ -10,6 +10,7 @@ returns c =
       made = record { circuit = made.circuit ∙ c.net.ensures; order = made.order ∙ c.order.ensures.order };
       records = c.in_ok-records_for.ensures.count;
       fit = subst (λ (points : Points). AreRecordsFor points c.in_ok-records_for.field-0.items) c.points.ensures.points c.in_ok-records_for.ensures.fit;
+      reach = c.in_ok-new-2.ensures;
       rounds_are = c.in_ok-groups_for.ensures.count;
       room = c.in_ok-groups_for.ensures.room;
     }

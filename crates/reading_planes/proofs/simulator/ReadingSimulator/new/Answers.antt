@@ -14,4 +14,5 @@ returns c =
       records = subst (λ (ps : Points). AreRecordsFor ps c.in_ok-records.records.items) c.points.ensures.points c.in_ok-records.ensures.fit;
       cycles = subst (λ (ps : Points). IsLaneFor ps c.in_ok-cycles.cycles) c.points-2.ensures.points c.in_ok-cycles.ensures;
       planes = c.in_ok-planes.ensures.fit;
+      reach = c.in_ok-reach.ensures;
     }
