@@ -10,7 +10,7 @@ ghost use Rattle.commands.specs.Commands.{name_by};
 ghost use Rattle.refusals.specs.RefusalLines.{refused, row_why, refusal_line};
 ghost use Rattle.refusals.specs.Steps.{planes_words, shown_byte, shown_start};
 
-use crate::refusal::say;
+use crate::refusal::{refuse_row, say};
 use blif_text::places::feed_place;
 use campaign_plan::Outcome;
 use fm_base::Line;
@@ -18,20 +18,6 @@ use fm_shelf::shelf::Sink;
 use itoa::Buffer;
 use metric_sums::Sums;
 use result_file::RowFault;
-
-// A line of one phrase.
-pub(crate) fn refuse_phrase<O: Sink>(out: &mut O, phrase: &[u8])
-    ensures { IsSaid (O.seen out.old) (O.seen out.new) (refused (phrase.now ∷ [])) }
-{
-    say(out, &[b"refused:", phrase])
-}
-
-// A line of two phrases.
-pub(crate) fn refuse_two<'a, O: Sink>(out: &mut O, first: &'a [u8], second: &'a [u8])
-    ensures { IsSaid (O.seen out.old) (O.seen out.new) (refused (first.now ∷ second.now ∷ [])) }
-{
-    say(out, &[b"refused:", first, second])
-}
 
 // A line of five phrases.
 pub(crate) fn refuse_five<'a, O: Sink>(
@@ -136,18 +122,6 @@ pub(crate) fn refuse_sums<'a, O: Sink>(
     )
 }
 
-// A line on a row, and one word.
-pub(crate) fn refuse_number<'a, O: Sink>(out: &mut O, first: &'a [u8], number: u32, word: &'a [u8])
-    ensures { IsSaid (O.seen out.old) (O.seen out.new)
-        (refused (first.now ∷ decimal number ∷ word.now ∷ [])) }
-{
-    let mut digits = Buffer::new();
-    say(
-        out,
-        &[b"refused:", first, digits.format(number).as_bytes(), word],
-    )
-}
-
 // A line of two counts.
 pub(crate) fn refuse_counts<'a, O: Sink>(
     out: &mut O,
@@ -181,10 +155,10 @@ pub(crate) fn refuse_bad_row<O: Sink>(out: &mut O, number: u32, why: RowFault)
         (refused (codes "result row" ∷ decimal number ∷ row_why why)) }
 {
     match why {
-        RowFault::Form => refuse_number(out, b"result row", number, b"Form"),
-        RowFault::Range => refuse_number(out, b"result row", number, b"Range"),
-        RowFault::Repeated => refuse_number(out, b"result row", number, b"Repeated"),
-        RowFault::UnusedLane => refuse_number(out, b"result row", number, b"UnusedLane"),
+        RowFault::Form => refuse_row(out, b"result row", number, b"Form"),
+        RowFault::Range => refuse_row(out, b"result row", number, b"Range"),
+        RowFault::Repeated => refuse_row(out, b"result row", number, b"Repeated"),
+        RowFault::UnusedLane => refuse_row(out, b"result row", number, b"UnusedLane"),
         RowFault::Sums { kept, computed } => refuse_sums(
             out,
             b"result row",

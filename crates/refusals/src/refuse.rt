@@ -8,12 +8,9 @@ ghost use Rattle.fm_base.specs.Names.{Bytes};
 ghost use Rattle.commands.specs.Commands.{name_by};
 ghost use Rattle.refusals.specs.RefusalLines.{refusal_line};
 
-use crate::lines::{
-    refuse_bad_row, refuse_counts, refuse_five, refuse_foreign, refuse_phrase, refuse_planes,
-    refuse_two,
-};
+use crate::lines::{refuse_bad_row, refuse_counts, refuse_five, refuse_foreign, refuse_planes};
 use crate::refusal::{
-    points_kind, rates_kind, refuse_bench, refuse_netlist, refuse_row, workload_kind,
+    points_kind, rates_kind, refuse_bench, refuse_netlist, refuse_row, say, workload_kind,
 };
 use crate::refused::Refused;
 use crate::status::Status;
@@ -48,8 +45,11 @@ fn refuse_plan<O: Sink>(out: &mut O, cause: &PlanRefusal)
     ensures { (file : Which → Bytes) (c : Circuit) → IsSaid (O.seen out.old) (O.seen out.new) (refusal_line file c (Status.Plan cause.now)) }
 {
     match cause {
-        PlanRefusal::TooManyFaults => refuse_phrase(out, b"more than 1048576 faults"),
-        PlanRefusal::MissingRate(_, net) => refuse_two(out, b"no rate for net", net.as_slice()),
+        PlanRefusal::TooManyFaults => say(out, &[b"refused:", b"more than 1048576 faults"]),
+        PlanRefusal::MissingRate(_, net) => say(
+            out,
+            &[b"refused:", b"no rate for net", net.as_slice()],
+        ),
         PlanRefusal::IdleRate { part, permanent } => refuse_five(
             out,
             b"part",
@@ -58,7 +58,7 @@ fn refuse_plan<O: Sink>(out: &mut O, cause: &PlanRefusal)
             rate_word(*permanent),
             b"rate and no such fault",
         ),
-        PlanRefusal::Memory => refuse_phrase(out, b"out of memory"),
+        PlanRefusal::Memory => say(out, &[b"refused:", b"out of memory"]),
     }
 }
 
@@ -104,7 +104,7 @@ fn refuse_pairs<O: Sink>(out: &mut O, cause: PairRefusal)
             batches,
             b"batches",
         ),
-        PairRefusal::TooMany => refuse_phrase(out, b"more than 1048576 pairs"),
+        PairRefusal::TooMany => say(out, &[b"refused:", b"more than 1048576 pairs"]),
     }
 }
 
@@ -116,16 +116,25 @@ pub fn refuse<O: Sink>(out: &mut O, names: &FileNames, nets: &[Name], status: &S
     match status {
         Status::Done => (),
         Status::OutFault => (),
-        Status::ResultFault => refuse_two(out, b"cannot write", file_name(names, Which::Result)),
-        Status::Usage => refuse_phrase(out, b"usage"),
-        Status::Memory => refuse_phrase(out, b"out of memory"),
-        Status::ManyOutputs => refuse_phrase(out, b"more than 1024 outputs"),
-        Status::TooLong(which) => refuse_two(
+        Status::ResultFault => say(
             out,
-            file_name(names, *which),
-            b"is longer than 67108864 bytes",
+            &[
+                b"refused:",
+                b"cannot write",
+                file_name(names, Which::Result),
+            ],
         ),
-        Status::ReadFault(which) => refuse_two(out, b"cannot read", file_name(names, *which)),
+        Status::Usage => say(out, &[b"refused:", b"usage"]),
+        Status::Memory => say(out, &[b"refused:", b"out of memory"]),
+        Status::ManyOutputs => say(out, &[b"refused:", b"more than 1024 outputs"]),
+        Status::TooLong(which) => {
+            let file = file_name(names, *which);
+            say(out, &[b"refused:", file, b"is longer than 67108864 bytes"])
+        }
+        Status::ReadFault(which) => say(
+            out,
+            &[b"refused:", b"cannot read", file_name(names, *which)],
+        ),
         Status::Netlist(fault) => refuse_netlist(out, fault),
         Status::Bench(fault) => refuse_bench(out, fault),
         Status::Loop(walk) => refuse_loop(out, nets, walk.as_slice()),
@@ -154,9 +163,9 @@ pub fn refuse<O: Sink>(out: &mut O, names: &FileNames, nets: &[Name], status: &S
         ),
         Status::Merge(cause) => refuse_merge(out, *cause),
         Status::Pairs(cause) => refuse_pairs(out, *cause),
-        Status::NoRun => refuse_phrase(out, b"no such run"),
-        Status::NoFault => refuse_phrase(out, b"no such fault"),
-        Status::NoNet => refuse_phrase(out, b"no such net"),
+        Status::NoRun => say(out, &[b"refused:", b"no such run"]),
+        Status::NoFault => say(out, &[b"refused:", b"no such fault"]),
+        Status::NoNet => say(out, &[b"refused:", b"no such net"]),
     }
 }
 

@@ -13,15 +13,15 @@ returns-in-Done g c = λ k names. said_as _ _ (name_by c.args.names.now) k c.arg
 
 pub returns-in-Usage : goal.returns-in-Usage
 unfolding refusal_line
-returns-in-Usage g c = λ k names. said_as _ _ (name_by c.args.names.now) k c.args.status.now _ c.in-Usage.is (c.refuse_phrase.ensures)
+returns-in-Usage g c = λ k names. said_as _ _ (name_by c.args.names.now) k c.args.status.now _ c.in-Usage.is (c.say-in-Usage.ensures)
 
 pub returns-in-Memory : goal.returns-in-Memory
 unfolding refusal_line
-returns-in-Memory g c = λ k names. said_as _ _ (name_by c.args.names.now) k c.args.status.now _ c.in-Memory.is (c.refuse_phrase-in-Memory.ensures)
+returns-in-Memory g c = λ k names. said_as _ _ (name_by c.args.names.now) k c.args.status.now _ c.in-Memory.is (c.say-in-Memory.ensures)
 
 pub returns-in-ReadFault : goal.returns-in-ReadFault
 unfolding refusal_line
-returns-in-ReadFault g c = λ k names. said_as _ _ (name_by c.args.names.now) k c.args.status.now _ c.in-ReadFault.is (words_said _ _ _ _ (ap (λ (n : Bytes). codes "cannot read" ∷ n ∷ []) c.file_name-in-ReadFault.ensures) c.refuse_two-in-ReadFault.ensures)
+returns-in-ReadFault g c = λ k names. said_as _ _ (name_by c.args.names.now) k c.args.status.now _ c.in-ReadFault.is (words_said _ _ _ _ (ap (λ (n : Bytes). codes "cannot read" ∷ n ∷ []) c.file_name-in-ReadFault.ensures) c.say-in-ReadFault.ensures)
 
 pub returns-in-Netlist : goal.returns-in-Netlist
 unfolding refusal_line
@@ -58,15 +58,15 @@ returns-in-OutFault g c = λ k names. said_as _ _ (name_by c.args.names.now) k c
 
 pub returns-in-ResultFault : goal.returns-in-ResultFault
 unfolding refusal_line
-returns-in-ResultFault g c = λ k names. said_as _ _ (name_by c.args.names.now) k c.args.status.now _ c.in-ResultFault.is (words_said _ _ _ _ (ap (λ (n : Bytes). codes "cannot write" ∷ n ∷ []) c.file_name.ensures) c.refuse_two.ensures)
+returns-in-ResultFault g c = λ k names. said_as _ _ (name_by c.args.names.now) k c.args.status.now _ c.in-ResultFault.is (words_said _ _ _ _ (ap (λ (n : Bytes). codes "cannot write" ∷ n ∷ []) c.file_name.ensures) c.say.ensures)
 
 pub returns-in-TooLong : goal.returns-in-TooLong
 unfolding refusal_line
-returns-in-TooLong g c = λ k names. said_as _ _ (name_by c.args.names.now) k c.args.status.now _ c.in-TooLong.is (words_said _ _ _ _ (ap (λ (n : Bytes). n ∷ codes "is longer than 67108864 bytes" ∷ []) c.file_name-in-TooLong.ensures) c.refuse_two-in-TooLong.ensures)
+returns-in-TooLong g c = λ k names. said_as _ _ (name_by c.args.names.now) k c.args.status.now _ c.in-TooLong.is (words_said _ _ _ _ (ap (λ (n : Bytes). n ∷ codes "is longer than 67108864 bytes" ∷ []) c.file_name-file.ensures) c.say-in-TooLong.ensures)
 
 pub returns-in-ManyOutputs : goal.returns-in-ManyOutputs
 unfolding refusal_line
-returns-in-ManyOutputs g c = λ k names. said_as _ _ (name_by c.args.names.now) k c.args.status.now _ c.in-ManyOutputs.is (c.refuse_phrase-in-ManyOutputs.ensures)
+returns-in-ManyOutputs g c = λ k names. said_as _ _ (name_by c.args.names.now) k c.args.status.now _ c.in-ManyOutputs.is (c.say-in-ManyOutputs.ensures)
 
 pub returns-in-Plan : goal.returns-in-Plan
 returns-in-Plan g c = λ k names. said_as _ _ (name_by c.args.names.now) k c.args.status.now _ c.in-Plan.is (c.refuse_plan.ensures (name_by c.args.names.now) k)
@@ -82,12 +82,12 @@ returns-in-Pairs g c = λ k names. said_as _ _ (name_by c.args.names.now) k c.ar
 
 pub returns-in-NoRun : goal.returns-in-NoRun
 unfolding refusal_line
-returns-in-NoRun g c = λ k names. said_as _ _ (name_by c.args.names.now) k c.args.status.now _ c.in-NoRun.is (c.refuse_phrase-in-NoRun.ensures)
+returns-in-NoRun g c = λ k names. said_as _ _ (name_by c.args.names.now) k c.args.status.now _ c.in-NoRun.is (c.say-in-NoRun.ensures)
 
 pub returns-in-NoFault : goal.returns-in-NoFault
 unfolding refusal_line
-returns-in-NoFault g c = λ k names. said_as _ _ (name_by c.args.names.now) k c.args.status.now _ c.in-NoFault.is (c.refuse_phrase-in-NoFault.ensures)
+returns-in-NoFault g c = λ k names. said_as _ _ (name_by c.args.names.now) k c.args.status.now _ c.in-NoFault.is (c.say-in-NoFault.ensures)
 
 pub returns-in-NoNet : goal.returns-in-NoNet
 unfolding refusal_line
-returns-in-NoNet g c = λ k names. said_as _ _ (name_by c.args.names.now) k c.args.status.now _ c.in-NoNet.is (c.refuse_phrase-in-NoNet.ensures)
+returns-in-NoNet g c = λ k names. said_as _ _ (name_by c.args.names.now) k c.args.status.now _ c.in-NoNet.is (c.say-in-NoNet.ensures)

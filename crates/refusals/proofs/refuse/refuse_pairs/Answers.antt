@@ -13,4 +13,4 @@ returns-in-Incomplete g c = λ file k. said_as _ _ file k (status.Pairs c.args.c
 
 pub returns-in-TooMany : goal.returns-in-TooMany
 unfolding refusal_line
-returns-in-TooMany g c = λ file k. said_as _ _ file k (status.Pairs c.args.cause) _ (ap status.Pairs c.in-TooMany.is) c.refuse_phrase.ensures
+returns-in-TooMany g c = λ file k. said_as _ _ file k (status.Pairs c.args.cause) _ (ap status.Pairs c.in-TooMany.is) c.say.ensures

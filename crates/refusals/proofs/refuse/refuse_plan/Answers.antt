@@ -9,11 +9,11 @@ use Rattle.refusals.proofs.refuse.refuse_plan.Goals as goal
 
 pub returns-in-TooManyFaults : goal.returns-in-TooManyFaults
 unfolding refusal_line
-returns-in-TooManyFaults g c = λ file k. said_as _ _ file k (status.Plan c.args.cause.now) _ (ap status.Plan c.in-TooManyFaults.is) c.refuse_phrase.ensures
+returns-in-TooManyFaults g c = λ file k. said_as _ _ file k (status.Plan c.args.cause.now) _ (ap status.Plan c.in-TooManyFaults.is) c.say.ensures
 
 pub returns-in-MissingRate : goal.returns-in-MissingRate
 unfolding refusal_line
-returns-in-MissingRate g c = λ file k. said_as _ _ file k (status.Plan c.args.cause.now) _ (ap status.Plan c.in-MissingRate.is) (words_said _ _ _ _ (ap (λ (n : Bytes). codes "no rate for net" ∷ n ∷ []) c.as_slice.ensures) c.refuse_two.ensures)
+returns-in-MissingRate g c = λ file k. said_as _ _ file k (status.Plan c.args.cause.now) _ (ap status.Plan c.in-MissingRate.is) (words_said _ _ _ _ (ap (λ (n : Bytes). codes "no rate for net" ∷ n ∷ []) c.as_slice.ensures) c.say-in-MissingRate.ensures)
 
 pub returns-in-IdleRate : goal.returns-in-IdleRate
 unfolding refusal_line
@@ -21,4 +21,4 @@ returns-in-IdleRate g c = λ file k. said_as _ _ file k (status.Plan c.args.caus
 
 pub returns-in-Memory : goal.returns-in-Memory
 unfolding refusal_line
-returns-in-Memory g c = λ file k. said_as _ _ file k (status.Plan c.args.cause.now) _ (ap status.Plan c.in-Memory.is) c.refuse_phrase-in-Memory.ensures
+returns-in-Memory g c = λ file k. said_as _ _ file k (status.Plan c.args.cause.now) _ (ap status.Plan c.in-Memory.is) c.say-in-Memory.ensures
