@@ -3,3 +3,4 @@ pub mod Giving
 pub mod RowsTrue
 pub mod Ending
 pub mod Resuming
+pub mod Telling

@@ -4,7 +4,7 @@ use Rattle.std.specs.Prelude.{if◌then◌else◌, nat_lt}
 use Rattle.std.proofs.lemmas.Bool.Decides.{nat_tests}
 use Rattle.std.specs.Str.{bytes_eq}
 use Rattle.std.proofs.lemmas.Slice.Eq.{bytes_eq-Decides}
-use Rattle.std.proofs.lemmas.List.{take_more, drop_more, map-append, length-map, length-take-le}
+use Rattle.std.proofs.lemmas.List.{take_all, take_more, drop_more, map-append, length-map, length-take-le}
 use Rattle.std.proofs.Math.Seq.{set_at, get_or-append_seam}
 use Rattle.fm_base.specs.Names.{Bytes}
 use Rattle.fm_shelf.specs.Content.{Content, Unknown, Absent, Held, IsThere}
@@ -27,6 +27,19 @@ set_mapped f xs ys i x new lt is e =
     ∙ ap (λ z. front ++ z ∷ rest) (e ∙ ap f same)
     ∙ sym (append_assoc front (f y ∷ []) rest)
     ∙ ap (λ zs. zs ++ rest) (sym (ap (map f) (take_more ys i x lt) ∙ map-append f (take i ys) (y ∷ [])))
+
+-- two lists that are mapped alike, one item further
+pub mapped_more : {A B C : Type 0} (f : A → C) (g : B → C) (xs : List A) (ys : List B) (i : ℕ) (d : A) (e : B) → i < length xs → i < length ys
+    → map f (take i xs) ≡ map g (take i ys) → f (get_or xs i d) ≡ g (get_or ys i e) → map f (take (i + 1) xs) ≡ map g (take (i + 1) ys)
+mapped_more f g xs ys i d e first second is same =
+    ap (map f) (take_more xs i d first) ∙ map-append f (take i xs) (get_or xs i d ∷ [])
+    ∙ ap (λ zs. zs ++ f (get_or xs i d) ∷ []) is ∙ ap (λ z. map g (take i ys) ++ z ∷ []) same
+    ∙ sym (ap (map g) (take_more ys i e second) ∙ map-append g (take i ys) (get_or ys i e ∷ []))
+
+-- and to their ends
+pub mapped_all : {A B C : Type 0} (f : A → C) (g : B → C) (xs : List A) (ys : List B) (n : ℕ) → length xs ≤ n → length ys ≤ n
+    → map f (take n xs) ≡ map g (take n ys) → map f xs ≡ map g ys
+mapped_all f g xs ys n first second is = sym (ap (map f) (take_all n xs first)) ∙ is ∙ ap (map g) (take_all n ys second)
 
 -- ---- a count that is raised for one name
 

@@ -1,3 +1,4 @@
 pub mod Stopping
 pub mod Campaigns
 pub mod Laws
+pub mod Runs

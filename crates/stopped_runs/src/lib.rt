@@ -3,4 +3,5 @@
 
 pub mod law;
 mod names;
+pub mod runs;
 pub mod stopping;

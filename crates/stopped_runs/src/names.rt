@@ -1,5 +1,5 @@
 // The names of which a stopping shelf tells files, with their faults since the stop.
-ghost use Rattle.std.specs.Prelude.{◌≡◌, map, IfOk};
+ghost use Rattle.std.specs.Prelude.{◌≡◌, map, true, IfOk};
 ghost use Rattle.std.specs.Str.{bytes_eq};
 ghost use Rattle.stopped_runs.specs.Stopping.{NotesRead, NotesWrite, one_more as one_more_than, read_noted, write_noted};
 
@@ -85,6 +85,22 @@ impl ToldNames {
             other_reads: 0,
             other_writes: 0,
         })
+    }
+
+    /// Whether these names are told, and no others.
+    pub(crate) fn are(&self, names: &[&str]) -> bool
+        ensures { result ≡ true → map (λ told. told.name.items) self.now.names.items ≡ map (λ name. name.now) names.now }
+    {
+        let told = self.names.as_slice();
+        if told.len() != names.len() {
+            return false;
+        }
+        for (i, name) in names.iter().enumerate() {
+            if !is_same(told[i].name.as_slice(), name.as_bytes()) {
+                return false;
+            }
+        }
+        true
     }
 
     /// Notes that a read of this name has failed.

@@ -1,5 +1,5 @@
 // A shelf on which a stop comes.
-ghost use Rattle.std.specs.Prelude.{◌≡◌, ◌<◌, ◌≤◌, ◌-◌, Some, None, length, take, map, OnOk, OnErr, IfOk, IsErr};
+ghost use Rattle.std.specs.Prelude.{◌≡◌, ◌<◌, ◌≤◌, ◌-◌, Some, None, length, take, map, OnOk, OnErr, IfOk, IsErr, true};
 ghost use Rattle.fm_shelf.specs.Content.{Absent, IfPresent};
 ghost use Rattle.fm_shelf.specs.Shelf.{CountRose, IsPieceRead, OnlyReads, OnlyWrites, Becomes, MayBecome, Appends, MayAppend, MayHaveMore};
 ghost use Rattle.stopped_runs.specs.Stopping.{TakesTorn, behind_call, stopping_state};
@@ -55,6 +55,13 @@ impl<F: Shelf + Drop> StoppingShelf<F> {
     {
         let told = ToldNames::new(alloc, names)?;
         Ok(StoppingShelf { shelf, told, stop })
+    }
+
+    /// Whether it tells the files of these names, and no other.
+    pub fn tells(&self, names: &[&str]) -> bool
+        ensures { result ≡ true → map (λ told. told.name.items) self.now.told.names.items ≡ map (λ name. name.now) names.now }
+    {
+        self.told.are(names)
     }
 
     /// The shelf behind it.
