@@ -9,6 +9,7 @@ ghost use Rattle.campaign_board.specs.Missing.{batches_missing};
 ghost use Rattle.campaign_board.specs.Sharing.{MayPost};
 
 use campaign_board::{BatchList, Board, Entry, Look, Origin, Seat, Shared, missing_batches};
+use claim_counter::Waiting;
 use fm_base::{Line, Seq};
 use fm_shelf::files::Calls;
 use fm_shelf::memory::MemoryShelf;
@@ -49,8 +50,9 @@ fn post_and_look<F: Shelf + Drop, N: Origin, R: Wait>(
     requires entry { entry.now ≡ board_entry N.start.entries entry.now.batch }
     ensures seat { IsOf shared.now seat.new × (seat.new.view.holds ≡ false) × (seat.new.view.share ≡ seat.old.view.share) }
 {
-    shared.post(rt, seat, entry);
-    shared.look(rt, seat)
+    let turn = Waiting::new(rt);
+    shared.post(&turn, seat, entry);
+    shared.look(&turn, seat)
 }
 
 // Two seats draw a batch each, and post them, the second first. Each looks after its post.

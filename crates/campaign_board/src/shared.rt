@@ -9,11 +9,10 @@ use crate::board::{Board, Origin};
 use crate::entry::{Entry, Look, Posted};
 use crate::headed::Headed;
 use crate::missing::BatchList;
-use claim_counter::Claims;
+use claim_counter::{Claims, Turn};
 use fm_shelf::shelf::Shelf;
 use std::alloc::{AllocError, Global};
 use std::marker::Model;
-use std::sync::Wait;
 
 /// A thread's part in a `Shared`.
 pub type Seat<F, N> = claim_counter::Seat<Headed<F, N>>;
@@ -141,19 +140,20 @@ impl<F: Shelf + Drop, N: Origin> Shared<F, N> {
         number as u64
     }
 
-    /// Waits for the turn, and appends the row of a batch that the seat drew to the file and to the rows. Its planes and sums are
+    /// Takes the turn, and appends the row of a batch that the seat drew to the file and to the rows. Its planes and sums are
     /// those of the batch's entry in the origin. Stopped comes exactly where a cut or an append on this board has failed, now or
     /// before: then nothing is posted.
-    pub fn post<R: Wait>(&self, rt: &R, seat: &mut Seat<F, N>, entry: &Entry) -> Posted
+    pub fn post<T: Turn>(&self, turn: &T, seat: &mut Seat<F, N>, entry: &Entry) -> Posted
         requires table { IsOf self.now seat.old }
         requires free { seat.old.view.holds ≡ false }
+        requires admitted { T.admits seat.old.view.share }
         requires drawn { MayPost N.start seat.old.view entry.now.batch }
         requires entry { entry.now ≡ board_entry N.start.entries entry.now.batch }
         ensures table { seat.new.table ≡ seat.old.table }
         ensures posted { TellsSeat N.start seat.old.view seat.new.view entry.now.batch result }
     {
         let number = self.number(entry.batch);
-        let mut board = self.claims.take(rt, seat);
+        let mut board = turn.take(&self.claims, seat);
         match board.add(entry) {
             Posted::Kept(sums) => {
                 self.claims.note(seat, number);
@@ -167,14 +167,15 @@ impl<F: Shelf + Drop, N: Origin> Shared<F, N> {
         }
     }
 
-    /// Waits for the turn, and tells how far the campaign is.
-    pub fn look<R: Wait>(&self, rt: &R, seat: &mut Seat<F, N>) -> Look
+    /// Takes the turn, and tells how far the campaign is.
+    pub fn look<T: Turn>(&self, turn: &T, seat: &mut Seat<F, N>) -> Look
         requires table { IsOf self.now seat.old }
         requires free { seat.old.view.holds ≡ false }
+        requires admitted { T.admits seat.old.view.share }
         ensures table { seat.new.table ≡ seat.old.table }
         ensures look { IsLook N.start seat.old.view seat.new.view result }
     {
-        let board = self.claims.take(rt, seat);
+        let board = turn.take(&self.claims, seat);
         let look = board.look();
         self.claims.give(seat, board);
         look

@@ -1,4 +1,4 @@
-ghost use Rattle.std.specs.Prelude.{◌≡◌, ◌<◌, ◌≤◌, IfOk, IfErr, length};
+ghost use Rattle.std.specs.Prelude.{ℕ, ◌≡◌, ◌≢◌, ◌<◌, ◌≤◌, IfOk, IfErr, length};
 ghost use Rattle.circuit.specs.Order.{IsOrder};
 ghost use Rattle.campaign_plan.specs.Analysis.{batch_count};
 ghost use Rattle.campaign_board.specs.Kept.{IsStart, AreKeptBytes};
@@ -15,13 +15,13 @@ use crate::tell::tell;
 use campaign_board::{Board, NoBoard, Origin};
 use campaign_plan::Plan;
 use campaign_workers::{Crew, NoCrew, campaign};
+use claim_counter::Turn;
 use fm_base::Line;
 use fm_shelf::shelf::{Shelf, Sink};
 use fmeda_report::ReportSpace;
 use netlist_levels::Order;
 use result_file::{KeptRows, RowList};
 use std::alloc::Global;
-use std::sync::Wait;
 use std::thread::Threads;
 use worker_gate::Gate;
 
@@ -66,11 +66,22 @@ fn prepare<'a, F: Shelf + Drop, N: Origin>(
 
 // Writes the header, and lets the workers work to their end.
 fn worked<
-    R: Threads + Wait + Sync,
+    R: Threads + Sync,
     F: Shelf + Send + Drop,
     N: Origin + Send + Sync,
     G: Gate + Sync,
->(rt: &R, plan: &Plan, own: &Line, whole: u64, mut crew: Crew<'_, F, N>, gate: &G) -> Board<F, N>
+    T: Turn + Sync,
+>(
+    rt: &R,
+    turn: &T,
+    plan: &Plan,
+    own: &Line,
+    whole: u64,
+    mut crew: Crew<'_, F, N>,
+    workers: u32,
+    gate: &G,
+) -> Board<F, N>
+    requires turn { workers ≢ 1 → (share : ℕ) → T.admits share }
     requires made { crew.workshop ≡ plan.now }
     requires fresh { IsNewBoard N.start crew.board.shelf crew.board }
     requires own { own.now ≡ N.start.header }
@@ -81,18 +92,20 @@ fn worked<
     if crew.board().append_header(whole, own).is_err() {
         return crew.into_board();
     }
-    campaign(rt, plan, crew, gate).board
+    campaign(rt, turn, plan, crew, workers, gate).board
 }
 
 /// The campaign, over the origin of its board.
 pub(crate) fn run_over<
-    R: Threads + Wait + Sync,
+    R: Threads + Sync,
     F: Shelf + Send + Drop,
     N: Origin + Send + Sync,
     O: Sink,
     G: Gate + Sync,
+    T: Turn + Sync,
 >(
     rt: &R,
+    turn: &T,
     alloc: Global,
     campaign: Campaign<'_>,
     workers: u32,
@@ -100,6 +113,7 @@ pub(crate) fn run_over<
     out: &mut O,
     gate: &G,
 ) -> Ran<F>
+    requires turn { workers ≢ 1 → (share : ℕ) → T.admits share }
     requires workers { (0 < workers) × (workers ≤ 32) }
     requires kept { StartsFrom campaign.own campaign.p ((F.seen shelf).content campaign.name) campaign.k }
     requires origin { N.start ≡ origin_of campaign (F.seen shelf) }
@@ -126,6 +140,6 @@ pub(crate) fn run_over<
             };
         }
     };
-    let board = worked(rt, plan, own, whole, crew, gate);
+    let board = worked(rt, turn, plan, own, whole, crew, workers, gate);
     tell(plan, text, board, &mut space, out)
 }

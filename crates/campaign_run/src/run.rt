@@ -1,13 +1,13 @@
-ghost use Rattle.std.specs.Prelude.{◌≡◌, ◌<◌, ◌≤◌};
+ghost use Rattle.std.specs.Prelude.{ℕ, ◌≡◌, ◌≢◌, ◌<◌, ◌≤◌};
 ghost use Rattle.campaign_run.specs.Starting.{StartsFrom};
 ghost use Rattle.campaign_run.specs.Ran.{HasRun};
 
 use crate::campaign::Campaign;
 use crate::over::run_over;
+use claim_counter::Turn;
 use fm_shelf::shelf::{Shelf, Sink};
 use std::alloc::Global;
 use std::marker::Brand;
-use std::sync::Wait;
 use std::thread::Threads;
 use worker_gate::Gate;
 
@@ -40,10 +40,18 @@ pub struct Ran<F: Shelf + Drop> {
     pub end: End,
 }
 
-/// Runs a campaign in so many threads: keeps what is kept of its result file, appends a row for each batch that is missing, and
-/// writes the text.
-pub fn run_campaign<R: Threads + Wait + Sync, F: Shelf + Send + Drop, O: Sink, G: Gate + Sync>(
+/// Runs a campaign by a crew of so many workers: keeps what is kept of its result file, appends a row for each batch that is missing,
+/// and writes the text. Several workers have a thread each, and come to the turn as `turn` says; one alone works in this thread, and waits
+/// for nobody.
+pub fn run_campaign<
+    R: Threads + Sync,
+    F: Shelf + Send + Drop,
+    O: Sink,
+    G: Gate + Sync,
+    T: Turn + Sync,
+>(
     rt: &R,
+    turn: &T,
     alloc: Global,
     campaign: Campaign<'_>,
     workers: u32,
@@ -51,10 +59,11 @@ pub fn run_campaign<R: Threads + Wait + Sync, F: Shelf + Send + Drop, O: Sink, G
     out: &mut O,
     gate: &G,
 ) -> Ran<F>
+    requires turn { workers ≢ 1 → (share : ℕ) → T.admits share }
     requires workers { (0 < workers) × (workers ≤ 32) }
     requires kept { StartsFrom campaign.own campaign.p ((F.seen shelf).content campaign.name) campaign.k }
     ensures run { HasRun result.end campaign.entry (record { shelf = F.seen shelf; out = O.seen out.old }) (record { shelf = F.seen result.shelf; out = O.seen out.new }) }
     ensures untouched { result.end ≡ End.NoMemory → (result.shelf ≡ shelf) × (out.new ≡ out.old) }
 {
-    run_over::<R, F, Brand, O, G>(rt, alloc, campaign, workers, shelf, out, gate)
+    run_over::<R, F, Brand, O, G, T>(rt, turn, alloc, campaign, workers, shelf, out, gate)
 }

@@ -1,5 +1,5 @@
 -- The posts of a part, draw by draw, and what is closed.
-use Rattle.std.proofs.Common.{◌≡◌, ◌≢◌, ℕ, ◌+◌, ◌^◌, ◌<◌, ◌==◌, Bool, true, false, cond, List, [], ◌∷◌, ◌++◌, refl, ap, sym, subst, ◌∙◌, arith}
+use Rattle.std.proofs.Common.{◌≡◌, ◌≢◌, ℕ, ◌+◌, ◌^◌, ◌<◌, ◌==◌, Bool, true, false, cond, List, [], ◌∷◌, ◌++◌, length, refl, ap, sym, subst, ◌∙◌, arith}
 use Rattle.std.specs.Prelude.{nat_lt}
 use Rattle.std.proofs.lemmas.Bool.{ne_eqb, eq-eqb}
 use Rattle.std.proofs.lemmas.Bool.Decides.{nat_tests}
@@ -8,9 +8,10 @@ use Rattle.campaign_core.specs.Machines.{times, once_below}
 use Rattle.claim_counter.specs.declared.view.View.{View}
 use Rattle.claim_counter.specs.Views.{starting_view, with_claim, giving}
 use Rattle.claim_counter.specs.Seats.{Counter, Seated}
-use Rattle.claim_counter.proofs.Views.{times-snoc}
+use Rattle.claim_counter.proofs.Views.{times-snoc, claimed_self}
+use Rattle.claim_counter.proofs.Undrawn.{undrawn, undrawn_less}
 use Rattle.campaign_board.specs.Boards.{Start}
-use Rattle.campaign_board.specs.Missing.{claim_number}
+use Rattle.campaign_board.specs.Missing.{batches_missing, claim_number}
 use Rattle.campaign_board.specs.Sharing.{IsDrawn, MayPost, IsPosted}
 use Rattle.campaign_board.proofs.Numbering.{batch_back, same_number}
 use Rattle.result_merge.specs.Parts.{is_of_part}
@@ -127,6 +128,14 @@ posted_own o part parts old mid now batch h drawn own claims posts other due = b
         let claimed : times m now.claims ≡ times m old.claims = ap (times m) (claims ∙ ap (λ (v : View). v.claims) drawn.view) ∙ no_more old.claims (claim_number o batch) m apart in
         let sent : times m now.posts ≡ times m old.posts = ap (times m) (posts ∙ ap (λ (v : View). v.posts ++ claim_number o batch ∷ []) drawn.view) ∙ no_more old.posts (claim_number o batch) m apart in
         sent ∙ h other due ∙ ap (counted_in part parts other) (sym claimed)
+
+-- a draw leaves fewer batches that the seat may still draw, so that its draws come to an end
+pub draws_less : (o : Start) (old mid : View) (claims : List ℕ) (batch : ℕ) → IsDrawn o old mid batch → claims ≡ mid.claims → undrawn (length (batches_missing o)) claims < undrawn (length (batches_missing o)) old.claims
+draws_less o old mid claims batch drawn same =
+    let n : ℕ = claim_number o batch in
+    let now : claims ≡ old.claims ++ n ∷ [] = same ∙ ap (λ (v : View). v.claims) drawn.view in
+    subst (λ l. undrawn (length (batches_missing o)) l < undrawn (length (batches_missing o)) old.claims) (sym now)
+    (undrawn_less (length (batches_missing o)) n old.claims (old.claims ++ n ∷ []) (batch_back o batch drawn.due).0 drawn.new (claimed_self n old.claims) (λ x. omega (arith, times-snoc x old.claims n)))
 
 -- after a draw of another part's batch the seat goes on
 pub goes_past : (c : Counter) (o : Start) (part parts : ℕ) (old now : Seated) (batch : ℕ) → IsAtPart c o part parts old → now.table ≡ old.table → IsDrawn o old.view now.view batch

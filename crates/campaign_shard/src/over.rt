@@ -23,7 +23,6 @@ use fm_shelf::shelf::{Failed, Shelf, Sink};
 use netlist_levels::Order;
 use refusals::share_text::write_shard;
 use std::alloc::{AllocError, Global};
-use std::sync::Wait;
 
 // All that a part needs but its board: what simulates its batches, the shared table, and the one seat at it.
 #[derive(Drop)]
@@ -110,8 +109,7 @@ fn prepare<'a, F: Shelf + Drop, N: Origin>(
 }
 
 // Writes the header, and works to the end of the part.
-fn worked<R: Wait, F: Shelf + Drop, N: Origin>(
-    rt: &R,
+fn worked<F: Shelf + Drop, N: Origin>(
     plan: &Plan,
     own: &Line,
     shard: Shard,
@@ -137,7 +135,7 @@ fn worked<R: Wait, F: Shelf + Drop, N: Origin>(
     } = place;
     shared.put(&mut seat, board);
     let Shard { part, parts } = shard;
-    work_part(rt, plan, &mut simulator, &shared, &mut seat, part, parts);
+    work_part(plan, &mut simulator, &shared, &mut seat, part, parts);
     drop(simulator);
     shared.close(seat)
 }
@@ -171,8 +169,7 @@ fn tell<F: Shelf + Drop, N: Origin, O: Sink>(
 }
 
 /// The part, over the origin of its board.
-pub(crate) fn run_over<R: Wait, F: Shelf + Drop, N: Origin, O: Sink>(
-    rt: &R,
+pub(crate) fn run_over<F: Shelf + Drop, N: Origin, O: Sink>(
     alloc: Global,
     campaign: PartCampaign<'_>,
     shelf: F,
@@ -192,7 +189,7 @@ pub(crate) fn run_over<R: Wait, F: Shelf + Drop, N: Origin, O: Sink>(
     let batches = plan.batches();
     match prepare::<F, N>(alloc, plan, order, shard.parts, batches, shelf, name) {
         Ok(prepared) => {
-            let board = worked(rt, plan, own, shard, prepared);
+            let board = worked(plan, own, shard, prepared);
             tell(shard, board, out)
         }
         Err(NoBoard { shelf }) => Ran {

@@ -7,14 +7,12 @@ use campaign_run::{End, Ran};
 use fm_shelf::shelf::{Shelf, Sink};
 use std::alloc::Global;
 use std::marker::Brand;
-use std::sync::Wait;
 
 /// Runs one part of a campaign in this thread: begins its result file anew, appends a row for each batch of the part, and writes
 /// the line that tells how many. All memory is taken before the file is first changed. The end is Done; NoMemory, with nothing
 /// changed; ResultFault, where the file couldn't be cut or a line couldn't be appended to it; or OutFault, where the file is as
 /// after Done and the line couldn't be written whole.
-pub fn run_part<R: Wait, F: Shelf + Drop, O: Sink>(
-    rt: &R,
+pub fn run_part<F: Shelf + Drop, O: Sink>(
     alloc: Global,
     campaign: PartCampaign<'_>,
     shelf: F,
@@ -23,5 +21,5 @@ pub fn run_part<R: Wait, F: Shelf + Drop, O: Sink>(
     ensures run { HasRunPart result.end campaign.entry (record { shelf = F.seen shelf; out = O.seen out.old }) (record { shelf = F.seen result.shelf; out = O.seen out.new }) }
     ensures untouched { result.end ≡ End.NoMemory → (result.shelf ≡ shelf) × (out.new ≡ out.old) }
 {
-    run_over::<R, F, Brand, O>(rt, alloc, campaign, shelf, out)
+    run_over::<F, Brand, O>(alloc, campaign, shelf, out)
 }

@@ -9,9 +9,9 @@ ghost use Rattle.campaign_shard.specs.PartSeats.{IsAtPart, HasWorkedPart};
 
 use campaign_board::{Entry, Origin, Posted, Seat, Shared};
 use campaign_plan::{Outcome, Plan, own_sums};
+use claim_counter::Alone;
 use classifier::BatchSimulator;
 use fm_shelf::shelf::Shelf;
-use std::sync::Wait;
 
 // The batch is of this part.
 fn is_own(batch: u32, part: u32, parts: u32) -> bool
@@ -36,8 +36,7 @@ fn entry_with(plan: &Plan, batch: u32, planes: Outcome) -> Entry
 }
 
 /// Draws each batch to do until a draw gives none, and simulates and posts those of the part; or until a post is stopped.
-pub(crate) fn work_part<R: Wait, F: Shelf + Drop, N: Origin>(
-    rt: &R,
+pub(crate) fn work_part<F: Shelf + Drop, N: Origin>(
     plan: &Plan,
     simulator: &mut BatchSimulator<'_>,
     shared: &Shared<F, N>,
@@ -51,16 +50,15 @@ pub(crate) fn work_part<R: Wait, F: Shelf + Drop, N: Origin>(
     requires entries { HasTrueEntries plan.now N.start × (length N.start.entries ≡ batch_count plan.now) }
     ensures { HasWorkedPart shared.now N.start part parts seat.new }
 {
-    for _ in rt.forever() {
+    'draws: loop {
         let Some(batch) = shared.draw(seat) else {
             return;
         };
         if is_own(batch, part, parts) {
             let entry = entry_with(plan, batch, simulator.batch(batch));
-            if let Posted::Stopped = shared.post(rt, seat, &entry) {
+            if let Posted::Stopped = shared.post(&Alone, seat, &entry) {
                 return;
             }
         }
     }
-    unreachable!()
 }

@@ -1,5 +1,5 @@
 -- How a campaign ends, once all seats were joined.
-use Rattle.std.proofs.Common.{◌^◌, ◌≡◌, ℕ, suc, ◌+◌, ◌<◌, ◌==◌, ◌⊎◌, Bool, false, cond, List, [], ◌∷◌, ◌++◌, length, sym, ap, subst, ◌∙◌, inl, inr, arith}
+use Rattle.std.proofs.Common.{◌^◌, ◌≡◌, ℕ, suc, ◌+◌, ◌<◌, ◌==◌, ◌⊎◌, Bool, false, cond, List, [], ◌∷◌, ◌++◌, length, refl, sym, ap, subst, ◌∙◌, inl, inr, arith}
 use Rattle.std.specs.List.{All, Contains}
 use Rattle.std.proofs.lemmas.Bool.{cases_eq, ne_eqb}
 use Rattle.std.proofs.lemmas.Bool.Decides.{nat_tests}
@@ -9,8 +9,8 @@ use Rattle.fm_base.specs.Once.{Lacks}
 use Rattle.campaign_core.specs.Machines.{times, once_below}
 use Rattle.result_file.specs.declared.Row.{Row}
 use Rattle.claim_counter.specs.Seats.{Counter, Seated, IsOf}
-use Rattle.claim_counter.specs.Crews.{IsDone, shares_of}
-use Rattle.claim_counter.proofs.Joining.{Joined, all_last, finished}
+use Rattle.claim_counter.specs.Crews.{MayDraw, IsDone, IsCrew, shares_of}
+use Rattle.claim_counter.proofs.Joining.{Joined, all_last, joined_alone, finished}
 use Rattle.campaign_board.specs.Boards.{Start, batches_of}
 use Rattle.campaign_board.specs.Missing.{IsMissing, claim_number, added_rows, numbers_of}
 use Rattle.campaign_board.specs.Sharing.{IsClosed}
@@ -87,3 +87,13 @@ module _ {F N : Type 0} where
   pub last_done : (c : Counter) (many : ℕ) (first : Seated) (workers rest : List (Worker F N)) (worker : Worker F N) → Joined c many first (seats_of workers) → workers ≡ rest ++ worker ∷ [] → IsDone c worker.seat
   last_done c many first workers rest worker h e =
       all_last (λ p. IsDone c p) (seats_of rest) worker.seat (subst (All (λ p. IsDone c p)) (ap seats_of e ∙ seats_push rest worker) h.ready)
+
+  -- the last worker that is left is ready
+  pub last_ready : (c : Counter) (first : Seated) (workers rest : List (Worker F N)) (worker : Worker F N) → IsCrew c first (seats_of workers) → workers ≡ rest ++ worker ∷ [] → MayDraw c worker.seat
+  last_ready c first workers rest worker h e =
+      all_last (λ p. MayDraw c p) (seats_of rest) worker.seat (subst (All (λ p. MayDraw c p)) (ap seats_of e ∙ seats_push rest worker) h.ready)
+
+-- the campaign of a single worker is at its end
+pub ends_alone : (o : Start) (c : Counter) (p q : Seated) (rows : List Row) (failed : Bool) → IsDone c p → p.view.share ≡ 2 ^ 32 → q ≡ p → IsClosed o c.todo q.view rows failed → IsFinished o rows failed
+ends_alone o c p q rows failed h all same closed =
+    ends o c 1 p [] rows failed (joined_alone c p h all) refl (omega arith) (subst (λ (s : Seated). IsClosed o c.todo s.view rows failed) same closed)

@@ -22,7 +22,7 @@ use Rattle.claim_counter.proofs.Few.{times-cons}
 pub same_seat : (now : Seated) (table : _) (view : View) → now.table ≡ table → now.view ≡ view → record { table = table; view = view } ≡ now
 same_seat now table view a b = λ i. record { table = sym a i; view = sym b i }
 
-times_self : (x : ℕ) (xs : List ℕ) → times x (x ∷ xs) ≡ 1 + times x xs
+pub times_self : (x : ℕ) (xs : List ℕ) → times x (x ∷ xs) ≡ 1 + times x xs
 times_self x xs = grind (arith, nat_tests, times-cons x x xs)
 
 -- a number that is drawn for the first time is drawn once

@@ -32,3 +32,14 @@ pub first_free : (c : Counter) (first now : Seated) (seats : List Seated) (faile
 first_free c first now seats failed h table view =
     let P : Seated → Type 0 = λ s. IsOf c s × (s.view.holds ≡ false) × ((n : ℕ) → times n s.view.claims ≡ times n s.view.posts) in
     subst P (same_seat now first.table (giving first.view failed) table view) (record { table = h.of.table; todo = h.of.todo; share = h.of.share; opened = h.of.opened }, refl, h.all)
+
+-- the crew, once the first seat has given the turn back
+pub crew_given : (c : Counter) (first now : Seated) (seats : List Seated) (failed : Bool) → IsCrew c first seats → now.table ≡ first.table → now.view ≡ giving first.view failed → IsCrew c now seats
+crew_given c first now seats failed h table view =
+    subst (λ s. IsCrew c s seats) (same_seat now first.table (giving first.view failed) table view) (record {
+      of = record { table = h.of.table; todo = h.of.todo; share = h.of.share; opened = h.of.opened };
+      nones = h.nones;
+      all = h.all;
+      ready = h.ready;
+      shares = h.shares;
+    })

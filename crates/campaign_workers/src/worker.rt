@@ -10,9 +10,9 @@ use crate::outcome::{entry_with, simulated_planes};
 use crate::round::{Round, draw_round};
 use campaign_board::{Origin, Posted, Seat, Shared};
 use campaign_plan::{Outcome, Plan};
+use claim_counter::Turn;
 use classifier::{Simulator, Testbench};
 use fm_shelf::shelf::Shelf;
-use std::sync::Wait;
 use worker_gate::Gate;
 
 /// A worker: its number, its seat at the shared board, and what it simulates four batches at once with.
@@ -37,14 +37,15 @@ impl<F: Shelf + Drop, N: Origin> Worker<F, N> {
 pub(crate) struct BoardFailed;
 
 // Posts each batch of a round by itself, in the order drawn, until a post is stopped.
-fn post_round<R: Wait, F: Shelf + Drop, N: Origin>(
-    rt: &R,
+fn post_round<T: Turn, F: Shelf + Drop, N: Origin>(
+    turn: &T,
     plan: &Plan,
     shared: &Shared<F, N>,
     seat: &mut Seat<F, N>,
     round: &Round,
     planes: &[Outcome; 4],
 ) -> Result<(), BoardFailed>
+    requires admitted { T.admits seat.old.view.share }
     requires owes { Owes shared.now N.start seat.old (drawn_in round.now.batches) }
     requires planes { planes.now ≡ true_planes_in plan.now round.now.batches }
     requires entries { HasTrueEntries plan.now N.start × (length N.start.entries ≡ batch_count plan.now) }
@@ -57,7 +58,7 @@ fn post_round<R: Wait, F: Shelf + Drop, N: Origin>(
     for (word, batch) in round.batches.iter().enumerate() {
         let Some(batch) = *batch else { continue };
         let entry = entry_with(plan, batch, planes[word]);
-        if let Posted::Stopped = shared.post(rt, seat, &entry) {
+        if let Posted::Stopped = shared.post(turn, seat, &entry) {
             return Err(BoardFailed);
         }
     }
@@ -65,14 +66,15 @@ fn post_round<R: Wait, F: Shelf + Drop, N: Origin>(
 }
 
 // Simulates the batches of a round together, and posts each.
-fn finish_round<R: Wait, F: Shelf + Drop, N: Origin>(
-    rt: &R,
+fn finish_round<T: Turn, F: Shelf + Drop, N: Origin>(
+    turn: &T,
     plan: &Plan,
     bench: &Testbench<'_>,
     shared: &Shared<F, N>,
     round: &Round,
     worker: &mut Worker<F, N>,
 ) -> Result<(), BoardFailed>
+    requires admitted { T.admits worker.old.seat.view.share }
     requires owes { Owes shared.now N.start worker.old.seat (drawn_in round.now.batches) }
     requires bench { IsTestbenchFor plan.now bench.now }
     requires simulator { worker.old.simulator ≡ simulator_of bench.now plan.now.settings.ftti }
@@ -88,19 +90,20 @@ fn finish_round<R: Wait, F: Shelf + Drop, N: Origin>(
         return Ok(());
     }
     let planes = simulated_planes(plan, bench, &round.batches, &mut worker.simulator);
-    post_round(rt, plan, shared, &mut worker.seat, round, &planes)
+    post_round(turn, plan, shared, &mut worker.seat, round, &planes)
 }
 
 /// Draws up to four batches, simulates them together and posts each, until a draw has given none and what was drawn is posted,
 /// and then looks once; or until a post is stopped.
-pub(crate) fn work<R: Wait, F: Shelf + Drop, N: Origin, G: Gate>(
-    rt: &R,
+pub(crate) fn work<T: Turn, F: Shelf + Drop, N: Origin, G: Gate>(
+    turn: &T,
     plan: &Plan,
     bench: &Testbench<'_>,
     shared: &Shared<F, N>,
     gate: &G,
     worker: &mut Worker<F, N>,
 )
+    requires admitted { T.admits worker.old.seat.view.share }
     requires ready { MayDraw shared.now worker.old.seat }
     requires bench { IsTestbenchFor plan.now bench.now }
     requires simulator { worker.old.simulator ≡ simulator_of bench.now plan.now.settings.ftti }
@@ -108,15 +111,14 @@ pub(crate) fn work<R: Wait, F: Shelf + Drop, N: Origin, G: Gate>(
     ensures done { IsDone shared.now worker.new.seat }
     ensures share { worker.new.seat.view.share ≡ worker.old.seat.view.share }
 {
-    for _ in rt.forever() {
+    'rounds: loop {
         let round = draw_round(shared, gate, worker.number, &mut worker.seat);
-        if let Err(BoardFailed) = finish_round(rt, plan, bench, shared, &round, worker) {
+        if let Err(BoardFailed) = finish_round(turn, plan, bench, shared, &round, worker) {
             return;
         }
         if round.last {
-            shared.look(rt, &mut worker.seat);
+            shared.look(turn, &mut worker.seat);
             return;
         }
     }
-    unreachable!()
 }

@@ -4,7 +4,7 @@ use Rattle.std.specs.List.{sum_by}
 use Rattle.std.proofs.lemmas.List.Sums.{sum_by-cons}
 use mathlib.Core.Option.{some}
 use lib.ListN.{get_elem?}
-use Rattle.atomic_table.specs.Table.{Final, Seen}
+use Rattle.atomic_table.specs.Table.{State, Final, Seen}
 use Rattle.atomic_table.proofs.Lists.{at_set}
 use Rattle.claim_counter.specs.declared.view.View.{View}
 use Rattle.campaign_core.specs.Machines.{times, once_below}
@@ -45,18 +45,24 @@ module _ {V : Type 0} (list : V → List ℕ) (failed : V → Bool) where
     pub home : get_elem? xs 0 ≡ some (Some value)
     pub closed : Closed list failed todo v value
 
-  pub closes : (todo id : ℕ) (v : View) (ws : List ℕ) (xs : List (Option V)) → v.share ≡ 2 ^ 32 → v.opened ≡ true → v.holds ≡ false → Final (Seen (Rule list failed todo) id v) ws xs → Shown todo v xs
-  closes todo id v ws xs all is_open free (s, seen, words, len, homes) =
-      let h = seen.0 in
-      let at = seen.1 in
+  -- who has all shares and doesn't hold the turn finds it free
+  pub lone_free : (todo id : ℕ) (s : State (Option V) View) (v : View) (h : Rule list failed todo s) → get_elem? s.views id ≡ some v → v.share ≡ 2 ^ 32 → v.opened ≡ true → v.holds ≡ false → Free failed h.turn s.homes s.views
+  lone_free todo id s v h at all is_open free =
       let mine = all_mine todo h.counter s.views id v h.claims_rule at all in
-      let f : Free failed h.turn s.homes s.views = ⊎_elim
+      ⊎_elim
       (λ f. f)
       (λ r. ⊎_elim
       (λ o. absurd (omega (arith, o.one, mine holder (λ j u there z. no_holder failed h.turn s.homes s.views o j u there z u.holds refl) refl, free_none v free)))
       (λ f. false_true v.opened (f.shut id v at) is_open)
       r)
-      h.turn_rule in
+      h.turn_rule
+
+  pub closes : (todo id : ℕ) (v : View) (ws : List ℕ) (xs : List (Option V)) → v.share ≡ 2 ^ 32 → v.opened ≡ true → v.holds ≡ false → Final (Seen (Rule list failed todo) id v) ws xs → Shown todo v xs
+  closes todo id v ws xs all is_open free (s, seen, words, len, homes) =
+      let h = seen.0 in
+      let at = seen.1 in
+      let mine = all_mine todo h.counter s.views id v h.claims_rule at all in
+      let f = lone_free todo id s v h at all is_open free in
       let same = h.history_rule.value f.value (ap (λ hs. get_elem? hs 0) f.home) in record {
         value = f.value;
         home = homes 0 (Some f.value) (ap (λ hs. get_elem? hs 0) f.home);

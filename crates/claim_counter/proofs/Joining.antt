@@ -1,5 +1,5 @@
 -- Seats that are split from a first seat, do their work, and are joined into it again.
-use Rattle.std.proofs.Common.{◌^◌, ◌≡◌, ℕ, zero, suc, ◌+◌, ◌<◌, ◌≤◌, ◌||◌, Bool, true, false, List, [], ◌∷◌, ◌++◌, length, get_or, sym, refl, ap, ◌∙◌, subst, arith, length-append}
+use Rattle.std.proofs.Common.{◌^◌, ◌≡◌, ℕ, zero, suc, ◌+◌, ◌<◌, ◌≤◌, Bool, true, false, List, [], ◌∷◌, ◌++◌, length, get_or, sym, refl, ap, ◌∙◌, subst, arith, length-append}
 use Rattle.std.specs.List.{sum_by, All}
 use Rattle.std.proofs.lemmas.List.Sums.{sum_by-cons, sum_by_push}
 use Rattle.std.proofs.lemmas.List.Elements.{All-push}
@@ -52,6 +52,29 @@ splits_one c first now seat seats h two table view table2 view2 =
       shares = omega arith;
     })
 
+-- a ready seat is joined into the first again
+pub joins_ready : (c : Counter) (first now : Seated) (seats rest : List Seated) (p : Seated) → IsCrew c first seats → seats ≡ rest ++ p ∷ [] → now.table ≡ first.table → now.view ≡ joined_views first.view p.view → IsCrew c now rest
+joins_ready c first now seats rest p h e table view =
+    let ready : All (λ p. MayDraw c p) (rest ++ p ∷ []) = subst (λ l. All (λ p. MayDraw c p) l) e h.ready in
+    let mine = all_last (λ p. MayDraw c p) rest p ready in
+    let v = first.view in
+    let u = p.view in
+    let shares = h.shares in
+    let sum : shares_of seats ≡ shares_of rest + u.share = ap shares_of e ∙ sum_by_push (λ (p : Seated). p.view.share) rest p in
+    let P : Seated → Type 0 = λ p. IsCrew c p rest in
+    let same : record { table = first.table; view = joined_views v u } ≡ now = λ i. record { table = sym table i; view = sym view i } in
+    subst P same (record {
+      of = record { table = h.of.table; todo = h.of.todo; share = let a = h.of.share in omega arith; opened = refl };
+      nones = let a = h.nones in let b = mine.first in omega arith;
+      all = λ n. omega (arith, h.all n, mine.all n, times-append n v.claims u.claims, times-append n v.posts u.posts);
+      ready = all_front (λ p. MayDraw c p) rest p ready;
+      shares = omega arith;
+    })
+
+-- a first seat without others may draw
+pub ready_alone : (c : Counter) (first : Seated) → IsCrew c first [] → first.view.holds ≡ false → MayDraw c first
+ready_alone c first h free = record { of = h.of; first = h.nones; free = free; all = h.all }
+
 -- a ready seat whose draw is answered None is done
 pub done_at_none : (c : Counter) (old now : Seated) → MayDraw c old → now.table ≡ old.table → now.view ≡ with_none old.view → IsDone c now
 done_at_none c old now r table view =
@@ -97,6 +120,10 @@ joins_one c many first now left rest p h e table view =
       shares = omega arith;
       none = λ fine less. let a = done.none (or_parts v.fails u.fails fine).1 in omega arith;
     })
+
+-- the only seat, once it is done
+pub joined_alone : (c : Counter) (p : Seated) → IsDone c p → p.view.share ≡ 2 ^ 32 → Joined c 1 p []
+joined_alone c p h all = record { of = h.of; free = h.free; all = h.all; ready = λ k d less. absurd (omega arith); shares = omega arith; none = λ fine less. h.none fine }
 
 fine_seat : {V : Type 0} (list : V → List ℕ) (failed : V → Bool) (todo : ℕ) (v : View) (x : V) (b : Bool) → v.fails ≡ b → Closed list failed todo v x → failed x ≡ false → v.fails ≡ false
 fine_seat list failed todo v x true is c fine = absurd (false≢true (sym fine ∙ c.fails is))

@@ -1,5 +1,6 @@
 pub mod Views
 pub mod Few
+pub mod Undrawn
 pub mod Logs
 pub mod Frames
 pub mod Draws
@@ -10,6 +11,7 @@ pub mod Splits
 pub mod Joins
 pub mod Opening
 pub mod Closing
+pub mod Lone
 pub mod Calls
 pub mod Showing
 pub mod Made

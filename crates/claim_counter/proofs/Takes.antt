@@ -38,7 +38,7 @@ knows_failure true f told e = refl
 knows_failure false f told e = false_true f (bit_false f (told refl)) e
 
 -- the turn was taken with x behind it
-took_with : {V : Type 0} (list : V → List ℕ) (failed : V → Bool) (n : ℕ) (v : View) (x : V) → Follows list failed v x → Took list failed n (v, []) (taking v (list x) (failed x), (0, Some x) ∷ [])
+pub took_with : {V : Type 0} (list : V → List ℕ) (failed : V → Bool) (n : ℕ) (v : View) (x : V) → Follows list failed v x → Took list failed n (v, []) (taking v (list x) (failed x), (0, Some x) ∷ [])
 took_with list failed n v x follows = record { value = x; now = refl; follows = follows }
 
 module _ {V : Type 0} (list : V → List ℕ) (failed : V → Bool) (todo : ℕ) (s : State (Option V) View) (id : ℕ) (v : View) (h : Rule list failed todo s) (at : get_elem? s.views id ≡ some v) where

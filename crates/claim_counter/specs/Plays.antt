@@ -25,6 +25,10 @@ module _ {V : Type 0} (list : V → List ℕ) (failed : V → Bool) where
   abbrev pub Takes : Step (Option V) → Me (Option V) View → ℕ → Me (Option V) View → Type 0
   Takes s v n w = MatchBool (n == s.first) (Took n v w) (w ≡ v)
 
+  -- a seat with all shares takes the turn, whatever its word is: nobody else can hold it
+  abbrev pub TakesAlone : Step (Option V) → Me (Option V) View → ℕ → Me (Option V) View → Type 0
+  TakesAlone s v n w = Took n v w
+
   -- the value in the seat's slot is what comes home
   abbrev pub StepGives : Step (Option V) → Me (Option V) View → ℕ → Me (Option V) View → Type 0
   StepGives s v n w = w ≡ (giving v.0 (n == 2), rest v.1)

@@ -4,7 +4,7 @@ ghost use Rattle.claim_counter.specs.Views.{starting_view, with_claim, with_none
 ghost use Rattle.claim_counter.specs.Seats.{IsOf, Taken, Closed};
 
 use crate::kept::Kept;
-use crate::rule::{Draw, Give, Law, Learn, Note, OneShare, Open, Take};
+use crate::rule::{Draw, Give, Law, Learn, Note, OneShare, Open, Take, TakeAlone};
 use crate::seat::Seat;
 use crate::view::View;
 use atomic_table::Table;
@@ -111,6 +111,23 @@ impl<V: Kept> Claims<V> {
             thread::yield_now();
         }
         unreachable!()
+    }
+
+    /// Takes the turn, and the value behind it, by a seat that has all shares. It is free, since nobody else is there to hold it, so there
+    /// is nothing to wait for.
+    pub fn take_alone(&self, seat: &mut Seat<V>) -> V
+        requires table { IsOf self.now seat.old }
+        requires free { seat.old.view.holds ≡ false }
+        requires whole { seat.old.view.share ≡ 2 ^ 32 }
+        ensures { Taken V.list V.is_failed seat.old seat.new result }
+    {
+        let shared = &self.table.shared;
+        shared.fetch_add::<TakeAlone>(&mut seat.token, 1, 1);
+        let Some(value) = shared.exchange(&mut seat.token, 0, None) else {
+            unreachable!()
+        };
+        seat.next = value.count();
+        value
     }
 
     /// Stores the number as the next of the history. The seat drew it and hasn't noted it yet; the value that it took hadn't failed. The value's list has to get the number too, before `give`.

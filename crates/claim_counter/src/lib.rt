@@ -6,6 +6,7 @@ mod kept;
 mod kinds;
 mod rule;
 mod seat;
+mod turn;
 mod view;
 
 pub use claims::Claims;
@@ -16,4 +17,5 @@ pub use kinds::{
     the_first_turn_is_a_look, the_history_has_each_once,
 };
 pub use seat::Seat;
+pub use turn::{Alone, Turn, Waiting};
 pub use view::View;

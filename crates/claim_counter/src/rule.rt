@@ -1,6 +1,6 @@
 ghost use Rattle.claim_counter.specs.Views.{opening_view, less_one, with_one, joined_views, spent_view};
 ghost use Rattle.claim_counter.specs.Rules.{Rule};
-ghost use Rattle.claim_counter.specs.Plays.{Draws, Opens, Takes, StepGives, Learns, Notes};
+ghost use Rattle.claim_counter.specs.Plays.{Draws, Opens, Takes, TakesAlone, StepGives, Learns, Notes};
 
 use crate::kept::Kept;
 use crate::view::View;
@@ -37,6 +37,13 @@ pub struct Take;
 
 impl<V: Kept> Play<Option<V>, View> for Take {
     ghost then = { Takes V.list V.is_failed };
+}
+
+/// The fetch_add by which a seat with all shares takes the turn, with the value in the slot.
+pub struct TakeAlone;
+
+impl<V: Kept> Play<Option<V>, View> for TakeAlone {
+    ghost then = { TakesAlone V.list V.is_failed };
 }
 
 /// The store that gives the turn back.

@@ -1,15 +1,23 @@
 -- What the tasks of a call need, and refusals of the words themselves.
+use Rattle.std.specs.Prelude.{◌≡◌}
 use Rattle.commands.specs.declared.command.Task.{Task}
 use Rattle.commands.specs.declared.command.Task.TheVariants as task
 use Rattle.refusals.specs.declared.status.Status.{Status}
 use Rattle.refusals.specs.declared.status.Status.TheVariants as status
 
--- a task that waits for nobody, but for threads of its own that it joins
+-- a task that runs no campaign, neither whole nor in part
+abbrev pub RunsNoCampaign : Task → Type 0
+RunsNoCampaign (task.Run workers) = ⊥
+RunsNoCampaign (task.Resume workers) = ⊥
+RunsNoCampaign (task.Gen stages workers) = ⊥
+RunsNoCampaign (task.Shard part parts) = ⊥
+RunsNoCampaign _ = Unit {0}
+
+-- a task that waits for nobody, but for threads of its own that it joins: all but a campaign of several workers
 abbrev pub WaitsForNobody : Task → Type 0
-WaitsForNobody (task.Run workers) = ⊥
-WaitsForNobody (task.Resume workers) = ⊥
-WaitsForNobody (task.Gen stages workers) = ⊥
-WaitsForNobody (task.Shard part parts) = ⊥
+WaitsForNobody (task.Run workers) = workers ≡ 1
+WaitsForNobody (task.Resume workers) = workers ≡ 1
+WaitsForNobody (task.Gen stages workers) = workers ≡ 1
 WaitsForNobody _ = Unit {0}
 
 -- a refusal of the words themselves

@@ -1,5 +1,5 @@
 // What a command does.
-ghost use Rattle.std.specs.Prelude.{◌≡◌};
+ghost use Rattle.std.specs.Prelude.{ℕ, ◌≡◌, true};
 ghost use Rattle.fm_shelf.specs.Content.{Content};
 ghost use Rattle.fm_shelf.specs.Outside.{outside};
 ghost use Rattle.campaign_plan.specs.declared.Settings.{Settings};
@@ -8,7 +8,7 @@ ghost use Rattle.commands.specs.Commands.{HasFitNumbers, IsFit, name_by, told_by
 ghost use Rattle.command_reads.specs.Files.{Reads};
 ghost use Rattle.command_reads.specs.Judging.{made_by};
 ghost use Rattle.fmeda_top.specs.Doing.{DoesAs, EndSaid, IsJudged, IsReady, MayEnd, PrintedAs, Prints, TellsAs};
-ghost use Rattle.fmeda_top.specs.Words.{WaitsForNobody};
+ghost use Rattle.fmeda_top.specs.Words.{RunsNoCampaign, WaitsForNobody};
 
 use crate::audit::tell_audit;
 use crate::check::tell_check;
@@ -25,6 +25,7 @@ use crate::run::{run_anew, run_on, run_share};
 use crate::trace::tell_trace;
 use campaign_run::{End, Ran, Text};
 use campaign_shard::Shard;
+use claim_counter::{Alone, Turn, Waiting};
 use command_reads::judge::Judged;
 use commands::{Asked, FileNames, Task};
 use fm_shelf::shelf::{Shelf, Sink};
@@ -111,8 +112,8 @@ fn printed<O: Sink>(names: &FileNames<'_>, told: Result<Status, Refused>, out: &
     }
 }
 
-// Does what a task asks that waits for nobody, over what its files stand for.
-fn do_alone<R: Threads + Sync, F: Shelf, O: Sink>(
+// Does what a task asks that runs no campaign, over what its files stand for.
+fn do_at_once<R: Threads + Sync, F: Shelf, O: Sink>(
     rt: &R,
     alloc: Global,
     names: &FileNames<'_>,
@@ -122,7 +123,7 @@ fn do_alone<R: Threads + Sync, F: Shelf, O: Sink>(
     out: &mut O,
 ) -> Status
     requires fit { HasFitNumbers task.now }
-    requires alone { WaitsForNobody task.now }
+    requires alone { RunsNoCampaign task.now }
     requires judged { IsJudged task.now judged.now }
     ensures { (held : Content) (reads : Reads) (set : Settings) → IsReady held reads judged.now
         → DoesAs (record { files = name_by names.now; settings = set; task = task.now }) (made_by judged.now) reads result
@@ -140,9 +141,10 @@ fn do_alone<R: Threads + Sync, F: Shelf, O: Sink>(
     }
 }
 
-// Does what a task asks, over what its files stand for.
-fn do_task<R: Threads + Wait + Sync, F: Shelf + Send + Drop, O: Sink, G: Gate + Sync>(
+// Does what a task asks, over what its files stand for. Several workers of a campaign come to the turn so.
+fn do_task<R: Threads + Sync, F: Shelf + Send + Drop, O: Sink, G: Gate + Sync, T: Turn + Sync>(
     rt: &R,
+    turn: &T,
     alloc: Global,
     names: &FileNames<'_>,
     task: &Task,
@@ -151,6 +153,7 @@ fn do_task<R: Threads + Wait + Sync, F: Shelf + Send + Drop, O: Sink, G: Gate + 
     out: &mut O,
     gate: &G,
 ) -> Ended<F>
+    requires turn { ¬ (WaitsForNobody task.now) → (share : ℕ) → T.admits share }
     requires fit { HasFitNumbers task.now }
     requires judged { IsJudged task.now judged }
     requires ready { (reads : Reads) × IsReady ((F.seen shelf).content (name_by names.now which.Result)) reads judged }
@@ -164,6 +167,7 @@ fn do_task<R: Threads + Wait + Sync, F: Shelf + Send + Drop, O: Sink, G: Gate + 
             let plan = judged.planned();
             let ran = run_anew(
                 rt,
+                turn,
                 alloc,
                 plan,
                 name,
@@ -177,12 +181,14 @@ fn do_task<R: Threads + Wait + Sync, F: Shelf + Send + Drop, O: Sink, G: Gate + 
         }
         Task::Gen { stages, workers } => {
             let (plan, text) = (judged.planned(), Text::Summary(*stages));
-            let ran = run_anew(rt, alloc, plan, name, text, *workers, shelf, out, gate);
+            let ran = run_anew(
+                rt, turn, alloc, plan, name, text, *workers, shelf, out, gate,
+            );
             ended(ran, names, out)
         }
         Task::Resume { workers } => {
             let begun = judged.into_begun();
-            let ran = run_on(rt, alloc, begun, name, *workers, shelf, out, gate);
+            let ran = run_on(rt, turn, alloc, begun, name, *workers, shelf, out, gate);
             ended(ran, names, out)
         }
         Task::Shard { part, parts } => {
@@ -190,26 +196,41 @@ fn do_task<R: Threads + Wait + Sync, F: Shelf + Send + Drop, O: Sink, G: Gate + 
                 part: *part,
                 parts: *parts,
             };
-            let ran = run_share(rt, alloc, judged.planned(), name, part, shelf, out);
+            let ran = run_share(alloc, judged.planned(), name, part, shelf, out);
             ended(ran, names, out)
         }
-        alone => {
+        at_once => {
             let mut shelf = shelf;
-            let status = do_alone(rt, alloc, names, alone, &judged, &mut shelf, out);
+            let status = do_at_once(rt, alloc, names, at_once, &judged, &mut shelf, out);
             Ended { status, shelf }
         }
     }
 }
 
-/// Does what a command asks: reads its files, judges them, says the refusal or does what its task asks.
-pub(crate) fn perform<R: Threads + Wait + Sync, F: Shelf + Send + Drop, O: Sink, G: Gate + Sync>(
+/// Whether a task waits for nobody.
+pub fn waits_for_nobody(task: &Task) -> bool
+    ensures { (result ≡ true → WaitsForNobody task.now) × (WaitsForNobody task.now → result ≡ true) }
+{
+    match task {
+        Task::Run { workers } => *workers == 1,
+        Task::Resume { workers } => *workers == 1,
+        Task::Gen { workers, .. } => *workers == 1,
+        _ => true,
+    }
+}
+
+// Does what a command asks: reads its files, judges them, says the refusal or does what its task asks. Several workers of a campaign come
+// to the turn so.
+fn perform<R: Threads + Sync, F: Shelf + Send + Drop, O: Sink, G: Gate + Sync, T: Turn + Sync>(
     rt: &R,
+    turn: &T,
     alloc: Global,
     asked: Asked<'_>,
     shelf: F,
     out: &mut O,
     gate: &G,
 ) -> Ended<F>
+    requires turn { ¬ (WaitsForNobody asked.task) → (share : ℕ) → T.admits share }
     requires fit { IsFit (told_by asked) }
     ensures { MayEnd (told_by asked.entry) result.status
         (outside (F.seen shelf) (O.seen out.old)) (outside (F.seen result.shelf) (O.seen out.new)) }
@@ -221,7 +242,7 @@ pub(crate) fn perform<R: Threads + Wait + Sync, F: Shelf + Send + Drop, O: Sink,
     } = asked;
     let mut shelf = shelf;
     match prepared(alloc, &mut shelf, &names, settings, &task) {
-        Ok(judged) => do_task(rt, alloc, &names, &task, judged, shelf, out, gate),
+        Ok(judged) => do_task(rt, turn, alloc, &names, &task, judged, shelf, out, gate),
         Err(refused) => Ended {
             status: say_refused(out, &names, refused),
             shelf,
@@ -229,30 +250,37 @@ pub(crate) fn perform<R: Threads + Wait + Sync, F: Shelf + Send + Drop, O: Sink,
     }
 }
 
-/// Does what a command asks that waits for no other process: its runtime can start threads and join them, and no more.
-pub fn perform_alone<R: Threads + Sync, F: Shelf, O: Sink>(
+/// Does what a command asks that waits for nobody: its runtime can start threads and join them, and no more. A campaign is worked in this
+/// thread, by one worker.
+pub fn perform_alone<R: Threads + Sync, F: Shelf + Send + Drop, O: Sink, G: Gate + Sync>(
     rt: &R,
     alloc: Global,
     asked: Asked<'_>,
-    shelf: &mut F,
+    shelf: F,
     out: &mut O,
-) -> Status
+    gate: &G,
+) -> Ended<F>
     requires fit { IsFit (told_by asked) }
     requires alone { WaitsForNobody asked.task }
-    ensures { MayEnd (told_by asked.entry) result
-        (outside (F.seen shelf.old) (O.seen out.old)) (outside (F.seen shelf.new) (O.seen out.new)) }
+    ensures { MayEnd (told_by asked.entry) result.status
+        (outside (F.seen shelf) (O.seen out.old)) (outside (F.seen result.shelf) (O.seen out.new)) }
 {
-    let Asked {
-        names,
-        settings,
-        task,
-    } = asked;
-    match prepared(alloc, shelf, &names, settings, &task) {
-        Ok(judged) => {
-            let status = do_alone(rt, alloc, &names, &task, &judged, shelf, out);
-            drop(judged);
-            status
-        }
-        Err(refused) => say_refused(out, &names, refused),
+    perform(rt, &Alone, alloc, asked, shelf, out, gate)
+}
+
+/// Does what a command asks, each worker of a campaign in a thread of its own, where they wait for each other.
+pub(crate) fn perform_shared<
+    R: Threads + Wait + Sync,
+    F: Shelf + Send + Drop,
+    O: Sink,
+    G: Gate + Sync,
+>(rt: &R, alloc: Global, asked: Asked<'_>, shelf: F, out: &mut O, gate: &G) -> Ended<F>
+    requires fit { IsFit (told_by asked) }
+    ensures { MayEnd (told_by asked.entry) result.status
+        (outside (F.seen shelf) (O.seen out.old)) (outside (F.seen result.shelf) (O.seen out.new)) }
+{
+    if waits_for_nobody(&asked.task) {
+        return perform_alone(rt, alloc, asked, shelf, out, gate);
     }
+    perform(rt, &Waiting::new(rt), alloc, asked, shelf, out, gate)
 }

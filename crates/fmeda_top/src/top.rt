@@ -8,7 +8,7 @@ ghost use Rattle.fmeda_top.specs.Promises.{Promises};
 ghost use Rattle.fmeda_top.specs.Words.{IsOfWords};
 
 use crate::ended::Ended;
-use crate::perform::perform;
+use crate::perform::perform_shared;
 use command_line::{WordsRefusal, read_words};
 use commands::FileNames;
 use fm_shelf::shelf::{Shelf, Sink};
@@ -31,9 +31,9 @@ pub fn refuse_words<O: Sink>(out: &mut O, status: Status) -> Status
 
 /// Does what the words ask for; the first of them is the program's name. What is promised of the content of a file is of one whose
 /// content the shelf tells, and what is promised of what was written is of a sink that tells it. A fault of the outside is the answer
-/// only where its count rose in this call. In `run`, `resume`, `gen` and `shard` it waits: for the workers of a campaign, each of which
-/// tells the gate after each draw, or for the one seat of a part. The other commands wait for nobody, but that `pairs` joins its threads:
-/// they can be had by `perform_alone`.
+/// only where its count rose in this call. In `run`, `resume` and `gen` it waits where they have several
+/// workers: for their threads, which wait for each other, and each of which tells the gate after each draw. All else waits for nobody,
+/// but for threads of its own that it joins, and is done by `perform_alone`.
 pub fn fmeda<R: Threads + Wait + Sync, F: Shelf + Send + Drop, O: Sink, G: Gate + Sync>(
     rt: &R,
     alloc: Global,
@@ -47,7 +47,7 @@ pub fn fmeda<R: Threads + Wait + Sync, F: Shelf + Send + Drop, O: Sink, G: Gate 
     ensures grows { (O.seen out.old).faults ≤ (O.seen out.new).faults }
 {
     match read_words(alloc, words) {
-        Ok(asked) => perform(rt, alloc, asked, shelf, out, gate),
+        Ok(asked) => perform_shared(rt, alloc, asked, shelf, out, gate),
         Err(WordsRefusal::Usage) => Ended {
             status: refuse_words(out, Status::Usage),
             shelf,

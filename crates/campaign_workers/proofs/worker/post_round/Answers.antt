@@ -1,4 +1,4 @@
-use Rattle.std.proofs.Common.{arith}
+use Rattle.std.proofs.Common.{sym, subst, arith}
 use Rattle.campaign_workers.proofs.RoundByRound.{may_post_at, posts_at, posts_entry}
 use Rattle.campaign_workers.proofs.worker.post_round.Goals as goal
 
@@ -6,6 +6,9 @@ pub entry_with-entry-requires-clause-batch : goal.entry_with-entry-requires-clau
 entry_with-entry-requires-clause-batch g c =
     let may = may_post_at c.args.shared.now g.N.Origin.start c.args.seat.now c.loop-word.seat c.args.round.now.batches c.loop-word.word c.in-Some.batch c.loop-word.invariant c.in-Some.is in
     omega (arith, may.due.0, c.requires.entries.1)
+
+pub post-requires-clause-admitted : goal.post-requires-clause-admitted
+post-requires-clause-admitted g c = subst g.T.Turn.admits (sym c.loop-word.invariant.share) c.requires.admitted
 
 pub post-requires-clause-drawn : goal.post-requires-clause-drawn
 post-requires-clause-drawn g c =

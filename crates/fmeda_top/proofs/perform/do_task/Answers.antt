@@ -5,6 +5,7 @@ use Rattle.commands.specs.declared.command.Which.TheVariants as which
 use Rattle.commands.specs.Commands.{name_by}
 use Rattle.command_reads.specs.declared.judge.Judged.TheVariants as made
 use Rattle.fmeda_top.specs.Doing.{IsReady}
+use Rattle.fmeda_top.specs.Words.{WaitsForNobody}
 use Rattle.fmeda_top.proofs.Writing.{told_does}
 use Rattle.fmeda_top.proofs.perform.do_task.Goals as goal
 
@@ -13,6 +14,15 @@ run_on-ran-requires-clause-held g c κs within =
     let held = (g.F.Shelf.seen c.args.shelf).content (name_by c.args.names.now which.Result) in
     let own = subst (IsReady held c.requires.ready.0) c.into_begun-begun.ensures c.requires.ready.1 in
     (c.requires.ready.0, own.0.0, own.1)
+
+pub run_anew-ran-requires-clause-turn : goal.run_anew-ran-requires-clause-turn
+run_anew-ran-requires-clause-turn g c κs within = λ several. c.requires.turn (λ alone. several (subst WaitsForNobody c.in-Run.is alone))
+
+pub run_anew-ran-requires-in-Gen-clause-turn : goal.run_anew-ran-requires-in-Gen-clause-turn
+run_anew-ran-requires-in-Gen-clause-turn g c κs within = λ several. c.requires.turn (λ alone. several (subst WaitsForNobody c.in-Gen.is alone))
+
+pub run_on-ran-requires-clause-turn : goal.run_on-ran-requires-clause-turn
+run_on-ran-requires-clause-turn g c κs within = λ several. c.requires.turn (λ alone. several (subst WaitsForNobody c.in-Resume.is alone))
 
 pub returns-in-Run : goal.returns-in-Run
 returns-in-Run g c =
@@ -65,4 +75,4 @@ returns-in-Shard g c =
 pub returns-in_default : goal.returns-in_default
 returns-in_default g c =
     let held = (g.F.Shelf.seen c.args.shelf).content (name_by c.args.names.now which.Result) in
-    λ reads set ready. c.do_alone-status.ensures held reads set ready
+    λ reads set ready. c.do_at_once-status.ensures held reads set ready

@@ -7,7 +7,7 @@ use Rattle.command_reads.specs.Judging.{made_by}
 use Rattle.fmeda_top.specs.Doing.{IsReady}
 use Rattle.fmeda_top.proofs.Printing.{printed_does}
 use Rattle.fmeda_top.proofs.Writing.{told_does}
-use Rattle.fmeda_top.proofs.perform.do_alone.Goals as goal
+use Rattle.fmeda_top.proofs.perform.do_at_once.Goals as goal
 
 pub returns-in-Merge : goal.returns-in-Merge
 returns-in-Merge g c =
