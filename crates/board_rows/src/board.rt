@@ -107,7 +107,7 @@ fn begin<F: Shelf + Drop, N: Origin>(
     own: &Line,
 ) -> Option<BatchList>
     requires fresh { (board.old.rows ≡ []) × (N.start.rows ≡ []) × (board.old.written ≡ false) × (board.old.failed ≡ false) }
-    requires own { own.now ≡ N.start.header }
+    requires own { (own.now ≡ N.start.header) × (N.start.whole ≡ 0) }
     requires batches { batches ≡ length N.start.entries }
     ensures rows { board.new.rows ≡ [] }
     ensures begun { IfSome result (λ todo. (board.new.written ≡ true) × (board.new.failed ≡ false) × (todo ≡ batches_missing N.start)) }
@@ -125,7 +125,7 @@ fn play_over<F: Shelf + Drop, N: Origin, R: Wait>(
     entries: &[Entry],
 ) -> Option<Played<F>>
     requires start { IsStart N.start (string_bytes name.now) [] (length entries.now) (F.seen shelf) }
-    requires own { own.now ≡ N.start.header }
+    requires own { (own.now ≡ N.start.header) × (N.start.whole ≡ 0) }
     requires entries { entries.now ≡ N.start.entries }
 {
     let batches = entries.len() as u32;

@@ -5,7 +5,7 @@ use Rattle.metric_sums.specs.declared.Sums.{Sums}
 use Rattle.metric_sums.specs.Totals.{plus, AreSmall}
 use Rattle.result_file.specs.declared.Row.{Row}
 use Rattle.result_file.specs.ResultText.{row_text}
-use Rattle.fm_shelf.specs.Shelf.{ShelfState, OnlyWrites, Appends, MayAppend}
+use Rattle.fm_shelf.specs.Shelf.{ShelfState, OnlyWrites, Appends, MayAppend, Takes, Tears}
 use Rattle.campaign_board.specs.declared.entry.Entry.{Entry}
 use Rattle.fm_base.specs.Once.{Lacks}
 use Rattle.campaign_board.specs.Boards.{Start, board_entry, batches_of, sums_over, next_row}
@@ -54,28 +54,31 @@ is_next o rows sums now_sums failed written shelf entry h asked e =
 
 pub post_kept : (o : Start) (rows : List Row) (sums now_sums : Sums) (failed written : Bool) (before now : ShelfState) (entry : Entry) (name : List ℕ)
     → IsBoard o rows sums failed written before → failed ≡ false → written ≡ true → IsAsked o rows entry → now_sums ≡ plus sums entry.own → name ≡ o.name
-    → OnlyWrites before now name → Appends before now name (row_text (row_of_entry entry now_sums))
+    → OnlyWrites before now name → Appends before now name (row_text (row_of_entry entry now_sums)) → Takes before now name (row_text (row_of_entry entry now_sums))
     → IsBoard o (rows ++ row_of_entry entry now_sums ∷ []) now_sums failed written now
-post_kept o rows sums now_sums failed written before now entry name h f w asked e named writes has =
+post_kept o rows sums now_sums failed written before now entry name h f w asked e named writes has takes =
     let row = is_next o rows sums now_sums failed written before entry h asked e in
     let P : Bool → Bool → Type 0 = λ a b. IsBoard o rows sums a b before in
     let start : IsBoard o rows sums false true before = subst (λ b. P false b) w (subst (λ a. P a written) f h) in
     let has_o : Appends before now o.name (row_text (row_of_entry entry now_sums)) = subst (λ n. Appends before now n (row_text (row_of_entry entry now_sums))) named has in
+    let takes_o : Takes before now o.name (row_text (row_of_entry entry now_sums)) = subst (λ n. Takes before now n (row_text (row_of_entry entry now_sums))) named takes in
     let board : IsBoard o (rows ++ next_row o.entries rows entry.batch ∷ []) now_sums false true now =
     added_row o rows sums now_sums before now entry.batch start asked.within asked.lacks (subst (OnlyWrites before now) named writes)
-    (subst (λ r. Appends before now o.name (row_text r)) row has_o) (e ∙ sums_now o rows sums failed written before entry h asked) in
+    (subst (λ r. Appends before now o.name (row_text r)) row has_o) (subst (λ r. Takes before now o.name (row_text r)) row takes_o) (e ∙ sums_now o rows sums failed written before entry h asked) in
     subst (λ r. IsBoard o (rows ++ r ∷ []) now_sums failed written now) (sym row)
     (subst (λ a. IsBoard o (rows ++ next_row o.entries rows entry.batch ∷ []) now_sums a written now) (sym f)
     (subst (λ b. IsBoard o (rows ++ next_row o.entries rows entry.batch ∷ []) now_sums false b now) (sym w) board))
 
 pub post_stopped : (o : Start) (rows : List Row) (sums now_sums : Sums) (failed written : Bool) (before now : ShelfState) (entry : Entry) (name : List ℕ)
     → IsBoard o rows sums failed written before → failed ≡ false → written ≡ true → IsAsked o rows entry → now_sums ≡ plus sums entry.own → name ≡ o.name
-    → OnlyWrites before now name → MayAppend before now name (row_text (row_of_entry entry now_sums)) → IsBoard o rows sums true written now
-post_stopped o rows sums now_sums failed written before now entry name h f w asked e named writes more =
+    → OnlyWrites before now name → MayAppend before now name (row_text (row_of_entry entry now_sums)) → Tears before now name (row_text (row_of_entry entry now_sums))
+    → IsBoard o rows sums true written now
+post_stopped o rows sums now_sums failed written before now entry name h f w asked e named writes more tears =
     let row = is_next o rows sums now_sums failed written before entry h asked e in
     let P : Bool → Bool → Type 0 = λ a b. IsBoard o rows sums a b before in
     let start : IsBoard o rows sums false true before = subst (λ b. P false b) w (subst (λ a. P a written) f h) in
     let more_o : MayAppend before now o.name (row_text (row_of_entry entry now_sums)) = subst (λ n. MayAppend before now n (row_text (row_of_entry entry now_sums))) named more in
+    let tears_o : Tears before now o.name (row_text (row_of_entry entry now_sums)) = subst (λ n. Tears before now n (row_text (row_of_entry entry now_sums))) named tears in
     subst (λ b. IsBoard o rows sums true b now) (sym w)
     (failed_row o rows sums before now entry.batch start asked.within asked.lacks (subst (OnlyWrites before now) named writes)
-    (subst (λ r. MayAppend before now o.name (row_text r)) row more_o))
+    (subst (λ r. MayAppend before now o.name (row_text r)) row more_o) (subst (λ r. Tears before now o.name (row_text r)) row tears_o))

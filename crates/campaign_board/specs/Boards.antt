@@ -7,12 +7,14 @@ use Rattle.result_file.specs.declared.Row.{Row}
 use Rattle.result_file.specs.ResultText.{row_text}
 use Rattle.campaign_board.specs.declared.entry.Entry.{Entry}
 
--- the entries, one for each batch; the header line; the file's name; the rows at the start, and what was seen of the shelf then
+-- the entries, one for each batch; the header line; the file's name; the rows at the start, and how many bytes of the file are kept for them;
+-- and what was seen of the shelf then
 pub record Start : Type 0 where
   pub entries : List Entry
   pub header : List ℕ
   pub name : List ℕ
   pub rows : List Row
+  pub whole : ℕ
   pub shelf : ShelfState
 
 abbrev pub board_entry : List Entry → ℕ → Entry

@@ -1,10 +1,11 @@
 -- What each board keeps.
-use Rattle.std.specs.Prelude.{◌≡◌, ◌≢◌, ℕ, ◌+◌, ◌*◌, ◌<◌, ◌≤◌, Bool, true, false, List, [], ◌++◌, length, take, All, ◌⊎◌}
+use Rattle.std.specs.Prelude.{◌≡◌, ◌≢◌, ℕ, ◌+◌, ◌*◌, ◌<◌, ◌≤◌, Bool, true, false, List, [], ◌∷◌, ◌++◌, length, take, All, ◌⊎◌}
 use Rattle.metric_sums.specs.declared.Sums.{Sums}
 use Rattle.result_file.specs.declared.Row.{Row}
 use Rattle.result_file.specs.ResultText.{row_text}
 use Rattle.fm_shelf.specs.Content.{Content, IsIfKnown, HasIfKnown, bytes_of}
-use Rattle.fm_shelf.specs.Shelf.{ShelfState, CountRose}
+use Rattle.fm_shelf.specs.Past.{Change, WritesOn, StopsOn}
+use Rattle.fm_shelf.specs.Shelf.{ShelfState, CountRose, KeepsOthers}
 use Rattle.fm_base.specs.Once.{Lacks, IsOnce}
 use Rattle.campaign_board.specs.Boards.{Start, AreEntries, batches_of, sums_over, row_due, next_row, row_at_place, file_text}
 
@@ -22,13 +23,28 @@ pub record IsTorn (o : Start) (rows : List Row) (bytes : List ℕ) : Type 0 wher
   pub taken : ℕ
   pub is : bytes ≡ file_text o.header rows ++ take taken (row_text (next_row o.entries rows batch))
 
+-- the file was written on up to an append that failed, of the row of one more batch
+pub record StopsAtRow (o : Start) (rows : List Row) (now : List Change) : Type 0 where
+  pub batch : ℕ
+  pub within : batch < length o.entries
+  pub lacks : Lacks (batches_of rows) batch
+  pub stops : StopsOn o.whole (file_text o.header (rows ++ next_row o.entries rows batch ∷ [])) (o.shelf.changed o.name) now
+
+-- kept: no more bytes are kept than the header and the rows have
+-- unwritten, wrote, stopped: what the calls told of the file, known or not: it is as it was; or it was cut to the kept bytes, and has taken the
+-- rest of the header and the rows; or so up to an append that failed
 pub record IsBoard (o : Start) (rows : List Row) (sums : Sums) (failed written : Bool) (now : ShelfState) : Type 0 where
   pub entries : AreEntries o.entries
   pub rows_are : AreRows o rows
   pub added : sums ≡ sums_over o.entries (batches_of rows)
   pub file : written ≡ true → failed ≡ false → HasIfKnown (now.content o.name) (file_text o.header rows)
   pub torn : written ≡ true → failed ≡ true → IsIfKnown (now.content o.name) (IsTorn o rows)
-  pub others : (other : List ℕ) → other ≢ o.name → now.content other ≡ o.shelf.content other
+  pub kept : written ≡ true → o.whole ≤ length (file_text o.header rows)
+  pub unwritten : written ≡ false → failed ≡ false → now.changed o.name ≡ o.shelf.changed o.name
+  pub wrote : written ≡ true → failed ≡ false → WritesOn o.whole (file_text o.header rows) (o.shelf.changed o.name) (now.changed o.name)
+  pub stopped : written ≡ true → failed ≡ true → StopsAtRow o rows (now.changed o.name)
+  pub others : KeepsOthers o.shelf now o.name
+  pub given : now.given ≡ o.shelf.given
   pub grows : o.shelf.write_faults o.name ≤ now.write_faults o.name
   pub rose : failed ≡ true → CountRose (o.shelf.write_faults o.name) (now.write_faults o.name)
 
@@ -52,7 +68,8 @@ pub record BoardState (F : Type 0) : Type 0 where
 abbrev pub AreKeptBytes : (o : Start) (rows : List Row) (whole : ℕ) (held : Content) → Type 0
 AreKeptBytes o rows whole held =
     ((whole ≡ 0) × (rows ≡ []))
-    ⊎ ((whole ≡ 89 + 130 * length rows) × IsIfKnown held (λ bytes. take whole bytes ≡ file_text o.header rows))
+    ⊎ ((whole ≡ 89 + 130 * length rows) × IsIfKnown held (λ bytes. take whole bytes ≡ file_text o.header rows)
+    × (whole ≡ length (file_text o.header rows)))
 
 -- the file is as before the call, or it is its first bytes, followed by a part of the header where none were kept
 abbrev pub IsHeaderTorn : (header : List ℕ) (whole : ℕ) (before now : Content) → Type 0

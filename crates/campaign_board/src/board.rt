@@ -1,7 +1,8 @@
 ghost use Rattle.std.specs.Prelude.{◌≡◌, ◌<◌, ◌≤◌, vec_capacity, ◌++◌, ◌∷◌, [], true, false, length, IfOk, IfErr, OnOk, OnErr};
+ghost use Rattle.fm_shelf.specs.Past.{StopsOn};
 ghost use Rattle.fm_shelf.specs.Shelf.{CountRose};
 ghost use Rattle.fm_base.specs.Once.{Lacks};
-ghost use Rattle.campaign_board.specs.Boards.{AreEntries, board_entry, batches_of, sums_over, next_row};
+ghost use Rattle.campaign_board.specs.Boards.{AreEntries, board_entry, batches_of, file_text, sums_over, next_row};
 ghost use Rattle.campaign_board.specs.Kept.{AreRows, IsBoard, IsStart, AreKeptBytes, IsHeaderTorn};
 ghost use Rattle.campaign_board.specs.Posts.{TellsPost, sums_at_end};
 
@@ -23,9 +24,9 @@ pub trait Origin {
 
 impl Origin for Brand {
     ghost use Rattle.std.specs.Prelude.{[]};
-    ghost use Rattle.fm_shelf.specs.Content.{Unknown};
+    ghost use Rattle.fm_shelf.specs.Entries.{known_files};
 
-    ghost start = { record { entries = []; header = []; name = []; rows = []; shelf = record { content = λ _. Unknown; read_faults = λ _. 0; write_faults = λ _. 0 } } };
+    ghost start = { record { entries = []; header = []; name = []; rows = []; whole = 0; shelf = known_files [] } };
 }
 
 /// Rows with their sums, over the entries of the origin, and the file that they are appended to. There is room for all rows.
@@ -94,12 +95,14 @@ impl<F: Shelf + Drop, N: Origin> Board<F, N> {
     pub fn append_header(&mut self, whole: u64, own: &Line) -> Result<(), Failed>
         requires fresh { (self.old.written ≡ false) × (self.old.failed ≡ false) }
         requires own { own.now ≡ N.start.header }
-        requires whole { AreKeptBytes N.start self.old.rows whole ((F.seen self.old.shelf).content N.start.name) }
+        requires whole { (whole ≡ N.start.whole) × AreKeptBytes N.start self.old.rows whole ((F.seen self.old.shelf).content N.start.name) }
         ensures rows { self.new.rows ≡ self.old.rows }
         ensures ok { OnOk result ((self.new.written ≡ true) × (self.new.failed ≡ false)) }
         ensures failed { OnErr result ((self.new.failed ≡ true) × CountRose ((F.seen self.old.shelf).write_faults N.start.name) ((F.seen self.new.shelf).write_faults N.start.name)) }
         ensures torn { OnErr result (IsHeaderTorn N.start.header whole ((F.seen self.old.shelf).content N.start.name)
             ((F.seen self.new.shelf).content N.start.name)) }
+        ensures stops { OnErr result (StopsOn N.start.whole (file_text N.start.header self.old.rows) (N.start.shelf.changed N.start.name)
+            ((F.seen self.new.shelf).changed N.start.name)) }
     {
         if self.shelf.cut(self.name.as_str(), whole).is_err() {
             self.failed = true;

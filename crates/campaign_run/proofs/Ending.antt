@@ -1,10 +1,12 @@
 -- How a campaign has ended.
-use Rattle.std.proofs.Common.{◌≡◌, ℕ, ◌<◌, ◌≤◌, inl, inr, true, false, map, length, take, refl, sym, subst, ◌∙◌}
+use Rattle.std.proofs.Common.{◌≡◌, ℕ, ◌<◌, ◌≤◌, inl, inr, true, false, map, length, take, refl, sym, subst, ◌∙◌, arith}
 use Rattle.std.specs.Prelude.{All}
 use Rattle.std.proofs.lemmas.Bool.{false≢true}
 use Rattle.fm_shelf.specs.Content.{HasIfKnown, bytes_of}
+use Rattle.fm_shelf.specs.Past.{WritesOn}
 use Rattle.fm_shelf.specs.Shelf.{ShelfState}
 use Rattle.fm_shelf.specs.Sink.{Wrote, WrotePrefix}
+use Rattle.fm_shelf.proofs.Appends.{keeps_none}
 use Rattle.fm_shelf.specs.Outside.{Outside}
 use Rattle.metric_sums.specs.declared.Sums.{Sums}
 use Rattle.campaign_plan.specs.Analysis.{batch_count}
@@ -20,11 +22,11 @@ use Rattle.campaign_run.specs.Outside.{had_written}
 use Rattle.campaign_run.specs.Starting.{StartsFrom}
 use Rattle.campaign_run.specs.Origins.{origin_of}
 use Rattle.campaign_run.specs.Steps.{HasWorked, HaveAll, TellsEnd}
-use Rattle.campaign_run.specs.Ran.{Campaign, HasRun, IsReported, IsTruncatedResult, EndsAs, campaign_planes, text_for, campaign_text as written_by}
+use Rattle.campaign_run.specs.Ran.{Campaign, HasRun, HasStopped, IsReported, IsTruncatedResult, EndsAs, campaign_planes, text_for, campaign_text as written_by}
 use Rattle.campaign_run.proofs.Entries.{are_entries, length_entries}
 use Rattle.campaign_run.proofs.Keeping.{starts_kept, starts_text, kept_rows_due, same_batches}
 use Rattle.campaign_run.proofs.Reporting.{are_part, hold_each, text_same, text_result, begin_kept}
-use Rattle.campaign_run.proofs.Leaving.{left_torn, begins_torn, left_header}
+use Rattle.campaign_run.proofs.Leaving.{left_torn, begins_torn, left_header, stopped_row, stopped_header}
 
 -- what a campaign begins with is a start of its board
 pub starts : (c : Campaign) (shelf : ShelfState) (batches : ℕ) → IsPlan c.p → length c.own ≡ 89
@@ -80,6 +82,8 @@ reports c before after sums board (worked, kept) fine wrote =
         entries = map planed board.rows;
         whole = (are_part c.p (campaign_planes c) o board.rows refl kept.rows_are, hold.each);
         result = subst (HasIfKnown (after.shelf.content c.name)) (text_result c.p (campaign_planes c) o board.rows refl kept.entries kept.rows_are) (kept.file finished.0 fine);
+        written = subst (λ text. WritesOn c.k.whole text (before.shelf.changed c.name) (after.shelf.changed c.name))
+            (text_result c.p (campaign_planes c) o board.rows refl kept.entries kept.rows_are) (kept.wrote finished.0 fine);
       };
       first = begin_kept c.k.rows board.rows finished.1.starts;
     }
@@ -102,6 +106,18 @@ leaves c before now sums board many start (worked, kept) bad =
           (kept_rows_due c.p c.k o refl (starts_kept c.own c.p (before.content c.name) c.k many start)) from torn.1
     ]
 
+-- what was told of it then
+stops : {F : Type 0} (c : Campaign) (before now : ShelfState) (sums : Sums) (board : Board F) → length c.own ≡ 89 → StartsFrom c.own c.p (before.content c.name) c.k
+    → IsWorked c before now sums board → board.failed ≡ true → HasStopped c before now
+stops c before now sums board many start (worked, kept) bad =
+    let o : Start = origin_of c before in
+    elim worked as (λ _. HasStopped c before now) [
+      | inl finished ↦ stopped_row c.p (campaign_planes c) o board.rows (now.changed c.name) refl kept.entries kept.rows_are (kept.stopped finished.0 bad)
+      | inr torn ↦
+          stopped_header c.p (campaign_planes c) o (now.changed c.name) refl kept.entries
+          (kept_rows_due c.p c.k o refl (starts_kept c.own c.p (before.content c.name) c.k many start)) torn.2
+    ]
+
 -- by how it ended
 ends : {F : Type 0} (end : End) (c : Campaign) (before after : Outside) (sums : Sums) (board : Board F) → length c.own ≡ 89 → StartsFrom c.own c.p (before.shelf.content c.name) c.k
     → IsWorked c before.shelf after.shelf sums board
@@ -110,13 +126,21 @@ ends Done c before after sums board many start worked told =
     let text = text_is c before.shelf after.shelf sums board many start worked told.0 in
     reports c before after sums board worked told.0 (subst (Wrote before.out after.out) text told.1)
 ends NoMemory c before after sums board many start worked told = absurd told
-ends ResultFault c before after sums board many start worked told =
-    (worked.1.rose told.0, leaves c before.shelf after.shelf sums board many start worked told.0, told.1)
+ends ResultFault c before after sums board many start worked told = (
+  worked.1.rose told.0,
+  leaves c before.shelf after.shelf sums board many start worked told.0,
+  told.1,
+  stops c before.shelf after.shelf sums board many start worked told.0,
+)
 ends OutFault c before after sums board many start worked told =
     let text = text_is c before.shelf after.shelf sums board many start worked told.0 in (
       reports c before (had_written before after (written_by c)) sums board worked told.0 refl,
       subst (WrotePrefix before.out after.out) text told.1,
     )
+
+-- without memory nothing was done
+pub none_ran : (c : Campaign) (before : Outside) → HasRun NoMemory c before before
+none_ran c before = record { ends = refl; others = keeps_none before.shelf c.name; given = refl; faults = omega arith; out_faults = omega arith }
 
 pub has_run : {F : Type 0} (end : End) (c : Campaign) (before after : Outside) (sums : Sums) (board : Board F) → length c.own ≡ 89
     → StartsFrom c.own c.p (before.shelf.content c.name) c.k → HasWorked (origin_of c before.shelf) c.k.whole before.shelf after.shelf board
@@ -124,7 +148,8 @@ pub has_run : {F : Type 0} (end : End) (c : Campaign) (before after : Outside) (
     → TellsEnd end board.failed (text_for c.text c.p (planes_in board.rows)) before.out after.out → before.out.faults ≤ after.out.faults → HasRun end c before after
 has_run end c before after sums board many start worked kept told grows = record {
   ends = ends end c before after sums board many start (worked, kept) told;
-  others = λ name ne. kept.others name ne;
+  others = kept.others;
+  given = kept.given;
   faults = kept.grows;
   out_faults = grows;
 }

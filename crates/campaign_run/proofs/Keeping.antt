@@ -1,6 +1,6 @@
 -- The rows that a campaign goes on from are rows of its board.
-use Rattle.std.proofs.Common.{◌≡◌, ◌≢◌, ℕ, zero, suc, ◌+◌, ◌<◌, ◌⊎◌, inl, inr, true, false, List, [], ◌∷◌, map, length, take, get_or, refl, ap, sym, subst, ◌∙◌, arith}
-use Rattle.std.specs.Prelude.{All, Some, find, ◌==◌, sum_by, unwrap_or, option_map}
+use Rattle.std.proofs.Common.{◌≡◌, ◌≢◌, ℕ, zero, suc, ◌+◌, ◌*◌, ◌<◌, ◌⊎◌, inl, inr, true, false, List, [], ◌∷◌, map, length, take, get_or, refl, ap, sym, subst, ◌∙◌, arith, length-append}
+use Rattle.std.specs.Prelude.{All, Some, find, ◌==◌, flat_map, sum_by, unwrap_or, option_map}
 use Rattle.std.proofs.lemmas.List.{length-map, get_or-map, take-map}
 use Rattle.std.proofs.lemmas.List.Elements.{All-head, All-tail, All-take}
 use Rattle.std.proofs.lemmas.List.Sums.{sum_by-cons}
@@ -14,7 +14,8 @@ use Rattle.campaign_plan.specs.Batches.{Entry, batches, own_sums, total, true_pl
 use Rattle.result_file.specs.declared.Row.{Row}
 use Rattle.result_file.specs.declared.KeptRows.{KeptRows}
 use Rattle.result_file.specs.KeptRows.{entry_of as planed}
-use Rattle.result_file.proofs.Whole.{no_row}
+use Rattle.result_file.specs.ResultText.{row_text}
+use Rattle.result_file.proofs.Whole.{no_row, length-rows}
 use Rattle.campaign_board.specs.declared.entry.Entry.{Entry as BoardEntry}
 use Rattle.campaign_board.specs.Boards.{Start, board_entry, batches_of, sums_over, row_with, file_text}
 use Rattle.campaign_board.specs.Kept.{AreRows, AreKeptBytes}
@@ -132,6 +133,10 @@ starts_kept own p held k many start = elim start as (λ _. AreKept p k.rows) [
   | inr from ↦ (kept_is own p from.0 k many from.2).rows
 ]
 
+-- the length of a header and rows
+length_file : (own : List ℕ) (rows : List Row) → length own ≡ 89 → length (file_text own rows) ≡ 89 + 130 * length rows
+length_file own rows many = length-append own (flat_map row_text rows) ∙ omega (arith, many, length-rows rows)
+
 pub starts_whole : (own : List ℕ) (p : Analysis) (held : Content) (k : KeptRows) (o : Start) → length own ≡ 89 → StartsFrom own p held k → o.header ≡ own
     → AreKeptBytes o k.rows k.whole held
 starts_whole own p held k o many start e = elim start as (λ _. AreKeptBytes o k.rows k.whole held) [
@@ -139,7 +144,11 @@ starts_whole own p held k o many start e = elim start as (λ _. AreKeptBytes o k
   | inr from ↦
       elim ((kept_is own p from.0 k many from.2).whole) as (λ _. AreKeptBytes o k.rows k.whole held) [
         | inl none ↦ inl (ap (λ (j : KeptRows). j.whole) none, ap (λ (j : KeptRows). j.rows) none)
-        | inr some ↦ inr (some.0, is_where_has held from.0 (λ bytes. take k.whole bytes ≡ file_text o.header k.rows) from.1 (some.1 ∙ ap (λ h. file_text h k.rows) (sym e)))
+        | inr some ↦ inr (
+          some.0,
+          is_where_has held from.0 (λ bytes. take k.whole bytes ≡ file_text o.header k.rows) from.1 (some.1 ∙ ap (λ h. file_text h k.rows) (sym e)),
+          some.0 ∙ sym (length_file o.header k.rows (ap length e ∙ many)),
+        )
       ]
 ]
 

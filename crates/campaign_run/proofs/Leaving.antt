@@ -7,16 +7,17 @@ use Rattle.std.proofs.lemmas.List.Concat.{flat_map-append}
 use Rattle.std.proofs.Math.Seq.{take-append_seam, take-append-add, take-length}
 use mathlib.Core.List.{IsPrefix}
 use Rattle.fm_shelf.specs.Content.{Content, Unknown, Absent, Held, IsIfKnown, bytes_of}
+use Rattle.fm_shelf.specs.Past.{Change, StopsOn}
 use Rattle.campaign_plan.specs.declared.Outcome.{Outcome}
 use Rattle.campaign_plan.specs.Analysis.{Analysis}
 use Rattle.result_file.specs.declared.Row.{Row}
 use Rattle.result_file.specs.ResultText.{row_text}
 use Rattle.result_file.specs.KeptRows.{entry_of as planed}
 use Rattle.campaign_board.specs.Boards.{Start, AreEntries, next_row, file_text}
-use Rattle.campaign_board.specs.Kept.{AreRows, IsTorn, IsHeaderTorn}
+use Rattle.campaign_board.specs.Kept.{AreRows, IsTorn, IsHeaderTorn, StopsAtRow}
 use Rattle.campaign_board.proofs.Adding.{rows_push, text_push}
 use Rattle.campaign_run.specs.Reported.{BeginsWith}
-use Rattle.campaign_run.specs.Left.{LeftPrefix, BeginsAs}
+use Rattle.campaign_run.specs.Left.{LeftPrefix, BeginsAs, StoppedRows}
 use Rattle.campaign_run.specs.Origins.{entries_for}
 use Rattle.campaign_run.proofs.Reporting.{are_part, text_result}
 
@@ -109,3 +110,26 @@ left_header p planes o rows whole before now e are h from torn = elim torn as (�
           },
           ap (take (length start)) is.1 ∙ take-append_seam start (take is.0 o.header),
         )
+
+-- ---- what was told of the file
+
+-- a row was torn, behind others
+pub stopped_row : (p : Analysis) (planes : ℕ → Outcome) (o : Start) (rows : List Row) (now : List Change) → o.entries ≡ entries_for p planes → AreEntries o.entries
+    → AreRows o rows → StopsAtRow o rows now → StoppedRows o.header p planes o.whole (o.shelf.changed o.name) now
+stopped_row p planes o rows now e are h torn =
+    let row : Row = next_row o.entries rows torn.batch in
+    let more : AreRows o (rows ++ row ∷ []) = rows_push o rows torn.batch are h torn.within torn.lacks in
+    record {
+      entries = map planed (rows ++ row ∷ []);
+      part = are_part p planes o (rows ++ row ∷ []) e more;
+      stops = subst (λ text. StopsOn o.whole text (o.shelf.changed o.name) now) (text_result p planes o (rows ++ row ∷ []) e are more) torn.stops;
+    }
+
+-- the header was torn, or the file couldn't be cut
+pub stopped_header : (p : Analysis) (planes : ℕ → Outcome) (o : Start) (now : List Change) → o.entries ≡ entries_for p planes → AreEntries o.entries
+    → AreRows o o.rows → StopsOn o.whole (file_text o.header o.rows) (o.shelf.changed o.name) now → StoppedRows o.header p planes o.whole (o.shelf.changed o.name) now
+stopped_header p planes o now e are h stops = record {
+  entries = map planed o.rows;
+  part = are_part p planes o o.rows e h;
+  stops = subst (λ text. StopsOn o.whole text (o.shelf.changed o.name) now) (text_result p planes o o.rows e are h) stops;
+}

@@ -1,6 +1,7 @@
 -- What a campaign has left when it couldn't write its result file.
 use Rattle.std.specs.Prelude.{◌≡◌, ℕ, List, length, take}
 use Rattle.fm_shelf.specs.Content.{Content, IsIfKnown}
+use Rattle.fm_shelf.specs.Past.{Change, StopsOn}
 use Rattle.campaign_plan.specs.declared.Outcome.{Outcome}
 use Rattle.campaign_plan.specs.Analysis.{Analysis}
 use Rattle.campaign_plan.specs.Batches.{Entry}
@@ -21,3 +22,10 @@ pub record LeftPrefix (own : Bytes) (p : Analysis) (planes : ℕ → Outcome) (h
 -- where anything is known of it, the file begins with these bytes
 abbrev pub BeginsAs : Content → (start : Bytes) → Type 0
 BeginsAs held start = IsIfKnown held (λ bytes. take (length start) bytes ≡ start)
+
+-- ROWS THAT WERE WRITTEN STAY: what the calls told of a file, known or not. It was cut to so many bytes, and has taken what follows them in a
+-- result file of the plan with these planes, up to an append that failed; or the cut failed
+pub record StoppedRows (own : Bytes) (p : Analysis) (planes : ℕ → Outcome) (kept_bytes : ℕ) (before now : List Change) : Type 0 where
+  pub entries : List Entry
+  pub part : IsPart p planes entries
+  pub stops : StopsOn kept_bytes (result_text own p entries) before now

@@ -29,5 +29,6 @@ origin_of c shelf = record {
   header = c.own;
   name = c.name;
   rows = c.k.rows;
+  whole = c.k.whole;
   shelf = shelf;
 }

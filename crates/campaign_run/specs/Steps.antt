@@ -1,10 +1,11 @@
 -- What the steps of a campaign leave to the next one.
 use Rattle.std.specs.Prelude.{◌≡◌, ◌⊎◌, ℕ, ◌<◌, Bool, true, false, List, length, Contains}
+use Rattle.fm_shelf.specs.Past.{StopsOn}
 use Rattle.fm_shelf.specs.Shelf.{ShelfState}
 use Rattle.fm_shelf.specs.Sink.{SinkState, Wrote, WrotePrefix}
 use Rattle.fm_base.specs.Names.{Bytes}
 use Rattle.result_file.specs.declared.Row.{Row}
-use Rattle.campaign_board.specs.Boards.{Start, batches_of}
+use Rattle.campaign_board.specs.Boards.{Start, batches_of, file_text}
 use Rattle.campaign_board.specs.Kept.{BoardState, IsHeaderTorn}
 use Rattle.campaign_workers.specs.Finish.{IsFinished}
 use Rattle.campaign_run.specs.declared.run.End.{End}
@@ -17,11 +18,15 @@ pub record IsNewBoard {F : Type 0} (o : Start) (shelf : F) (board : BoardState F
   pub written : board.written ≡ false
   pub shelf_is : board.shelf ≡ shelf
 
+-- the header couldn't be written, or the cut before it failed
+abbrev pub HeaderStops : Start → (after : ShelfState) → Type 0
+HeaderStops o after = StopsOn o.whole (file_text o.header o.rows) (o.shelf.changed o.name) (after.changed o.name)
+
 -- the board of a campaign whose workers have ended; or its header couldn't be written, and it has failed
 abbrev pub HasWorked : {F : Type 0} → Start → (whole : ℕ) → (before after : ShelfState) → BoardState F → Type 0
 HasWorked o whole before after board =
     ((board.written ≡ true) × IsFinished o board.rows board.failed)
-    ⊎ ((board.failed ≡ true) × IsHeaderTorn o.header whole (before.content o.name) (after.content o.name))
+    ⊎ ((board.failed ≡ true) × IsHeaderTorn o.header whole (before.content o.name) (after.content o.name) × HeaderStops o after)
 
 -- each batch has a row
 abbrev pub HaveAll : Start → List Row → Type 0

@@ -85,7 +85,7 @@ fn worked<
     requires made { crew.workshop ≡ plan.now }
     requires fresh { IsNewBoard N.start crew.board.shelf crew.board }
     requires own { own.now ≡ N.start.header }
-    requires whole { AreKeptBytes N.start crew.board.rows whole ((F.seen crew.board.shelf).content N.start.name) }
+    requires whole { (whole ≡ N.start.whole) × AreKeptBytes N.start crew.board.rows whole ((F.seen crew.board.shelf).content N.start.name) }
     requires entries { HasTrueEntries plan.now N.start }
     ensures { HasWorked N.start whole (F.seen crew.entry.board.shelf) (F.seen result.shelf) result }
 {

@@ -6,9 +6,11 @@ use Rattle.std.proofs.lemmas.List.{length-map}
 use Rattle.std.proofs.lemmas.List.Sums.{sum_by-cons}
 use Rattle.metric_sums.specs.declared.Sums.{Sums}
 use Rattle.fm_shelf.specs.Content.{HasIfKnown}
+use Rattle.fm_shelf.specs.Past.{WritesOn}
 use Rattle.fm_shelf.specs.Shelf.{ShelfState}
 use Rattle.fm_shelf.specs.Sink.{SinkState, with_more, Wrote}
 use Rattle.fm_shelf.specs.Outside.{Outside}
+use Rattle.fm_shelf.proofs.Appends.{keeps_none}
 use Rattle.fm_base.specs.Names.{Bytes}
 use Rattle.campaign_core.specs.Machines.{times}
 use Rattle.campaign_plan.specs.Analysis.{Analysis, batch_count}
@@ -24,13 +26,13 @@ use Rattle.campaign_run.specs.declared.run.End.{End}
 use Rattle.campaign_run.specs.declared.run.End.TheVariants.{Done, NoMemory, ResultFault, OutFault}
 use Rattle.campaign_run.specs.Outside.{had_written}
 use Rattle.campaign_run.specs.Starting.{no_kept_rows}
-use Rattle.campaign_run.specs.Left.{LeftPrefix}
+use Rattle.campaign_run.specs.Left.{LeftPrefix, StoppedRows}
 use Rattle.campaign_run.specs.Steps.{TellsEnd}
 use Rattle.campaign_run.proofs.Entries.{length_entries}
 use Rattle.campaign_run.proofs.Keeping.{same_batches}
 use Rattle.campaign_run.proofs.Finding.{have_true}
 use Rattle.campaign_run.proofs.Reporting.{are_part, text_result}
-use Rattle.campaign_run.proofs.Leaving.{left_torn, left_header}
+use Rattle.campaign_run.proofs.Leaving.{left_torn, left_header, stopped_row, stopped_header}
 use Rattle.campaign_run.proofs.Ending.{starts as campaign_starts}
 use Rattle.refusals.specs.Texts.{shard_line}
 use Rattle.result_merge.specs.Parts.{is_of_part, HasPart}
@@ -118,8 +120,21 @@ module _ (c : PartCampaign) (before : ShelfState) where
           entries = map planed board.rows;
           has = has_part board.rows kept.rows_are done.1;
           result = subst (HasIfKnown (now.content c.name)) (text_result c.p (true_planes c.p) start board.rows refl kept.entries kept.rows_are) (kept.file done.0 fine);
+          written = subst (λ text. WritesOn 0 text (before.changed c.name) (now.changed c.name))
+              (text_result c.p (true_planes c.p) start board.rows refl kept.entries kept.rows_are) (kept.wrote done.0 fine);
           wrote = out ∙ ap (λ n. with_more old.written (shard_line c.part c.parts n)) (sym (length-map board.rows planed));
         }
+
+    none : AreRows start []
+    none = record { due = λ k lt. absurd (omega (arith, lt)); once = tt; within = λ i d lt. absurd (omega (arith, lt)) }
+
+    -- what was told of the file, up to the call that failed
+    stops : HasPartWorked start c.part c.parts before now board → IsBoard start board.rows sums board.failed board.written now → board.failed ≡ true
+        → StoppedRows c.own c.p (true_planes c.p) 0 (before.changed c.name) (now.changed c.name)
+    stops worked kept bad = elim worked as (λ _. StoppedRows c.own c.p (true_planes c.p) 0 (before.changed c.name) (now.changed c.name)) [
+      | inl done ↦ stopped_row c.p (true_planes c.p) start board.rows (now.changed c.name) refl kept.entries kept.rows_are (kept.stopped done.0 bad)
+      | inr torn ↦ stopped_header c.p (true_planes c.p) start (now.changed c.name) refl kept.entries none torn.2
+    ]
 
     leaves : HasPartWorked start c.part c.parts before now board → IsBoard start board.rows sums board.failed board.written now → board.failed ≡ true
         → (now.content c.name ≡ before.content c.name) ⊎ LeftPrefix c.own c.p (true_planes c.p) (now.content c.name)
@@ -128,9 +143,6 @@ module _ (c : PartCampaign) (before : ShelfState) where
       | inr torn ↦ header torn.1
     ]
       where
-        none : AreRows start []
-        none = record { due = λ k lt. absurd (omega (arith, lt)); once = tt; within = λ i d lt. absurd (omega (arith, lt)) }
-
         header : IsHeaderTorn start.header 0 (before.content c.name) (now.content c.name)
             → (now.content c.name ≡ before.content c.name) ⊎ LeftPrefix c.own c.p (true_planes c.p) (now.content c.name)
         header torn =
@@ -143,10 +155,19 @@ ends : {F : Type 0} (end : End) (c : PartCampaign) (before after : Outside) (sum
     → TellsEnd end board.failed (shard_line c.part c.parts (length board.rows)) before.out after.out → EndsPartAs end c before after
 ends Done c before after sums board worked kept told = tells c before.shelf board sums after.shelf worked kept told.0 before.out after.out told.1
 ends NoMemory c before after sums board worked kept told = absurd told
-ends ResultFault c before after sums board worked kept told = (kept.rose told.0, leaves c before.shelf board sums after.shelf worked kept told.0, told.1)
+ends ResultFault c before after sums board worked kept told = (
+  kept.rose told.0,
+  leaves c before.shelf board sums after.shelf worked kept told.0,
+  told.1,
+  stops c before.shelf board sums after.shelf worked kept told.0,
+)
 ends OutFault c before after sums board worked kept told =
     let line : Bytes = shard_line c.part c.parts (length board.rows) in
     (line, tells c before.shelf board sums after.shelf worked kept told.0 before.out (had_written before after line).out refl, told.1)
+
+-- without memory nothing was done
+pub none_ran : (c : PartCampaign) (before : Outside) → HasRunPart NoMemory c before before
+none_ran c before = record { ends = refl; others = keeps_none before.shelf c.name; given = refl; faults = omega arith; out_faults = omega arith }
 
 pub has_run : {F : Type 0} (end : End) (c : PartCampaign) (before after : Outside) (sums : Sums) (board : Board F)
     → HasPartWorked (part_origin c.name c.own c.p before.shelf) c.part c.parts before.shelf after.shelf board
@@ -155,7 +176,8 @@ pub has_run : {F : Type 0} (end : End) (c : PartCampaign) (before after : Outsid
     → HasRunPart end c before after
 has_run end c before after sums board worked kept told grows = record {
   ends = ends end c before after sums board worked kept told;
-  others = λ name ne. kept.others name ne;
+  others = kept.others;
+  given = kept.given;
   faults = kept.grows;
   out_faults = grows;
 }

@@ -11,6 +11,7 @@ use Rattle.campaign_run.specs.declared.run.Text.TheVariants.{Report}
 use Rattle.campaign_run.specs.Starting.{no_kept_rows}
 use Rattle.campaign_run.specs.Ran.{Campaign}
 use Rattle.campaign_run.specs.Origins.{origin_of}
+use Rattle.campaign_run.specs.Steps.{HeaderStops}
 use Rattle.campaign_shard.specs.PartSeats.{IsPartDone}
 
 -- the whole campaign of the plan, which keeps nothing of its file; no board knows what it writes at its end
@@ -30,4 +31,4 @@ pub record IsOpening (c : Counter) (p : Seated) : Type 0 where
 abbrev pub HasPartWorked : {F : Type 0} → Start → (part parts : ℕ) → (before after : ShelfState) → BoardState F → Type 0
 HasPartWorked o part parts before after board =
     ((board.written ≡ true) × IsPartDone o part parts board.rows board.failed)
-    ⊎ ((board.failed ≡ true) × IsHeaderTorn o.header 0 (before.content o.name) (after.content o.name))
+    ⊎ ((board.failed ≡ true) × IsHeaderTorn o.header 0 (before.content o.name) (after.content o.name) × HeaderStops o after)

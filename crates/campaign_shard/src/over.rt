@@ -116,7 +116,7 @@ fn worked<F: Shelf + Drop, N: Origin>(
     prepared: Prepared<'_, F, N>,
 ) -> Board<F, N>
     requires parts { 0 < shard.parts }
-    requires own { own.now ≡ N.start.header }
+    requires own { (own.now ≡ N.start.header) × (N.start.whole ≡ 0) }
     requires fresh { IsNewBoard N.start prepared.board.shelf prepared.board × (N.start.rows ≡ []) }
     requires simulator { prepared.place.simulator ≡ simulated_of plan.now }
     requires seat { IsOpening prepared.place.shared prepared.place.seat }

@@ -1,13 +1,17 @@
 -- Files that are read one after the other.
 use Rattle.std.proofs.Common.{◌≡◌, ◌≢◌, ◌∙◌, refl, subst, sym, arith, ℕ, ◌+◌, ◌<◌, ◌≤◌, Bool, true, false, List, length, get_or, take, inl, inr}
-use Rattle.std.specs.Prelude.{◌⊎◌, All}
+use Rattle.std.specs.Prelude.{◌⊎◌, ◌++◌, All}
+use Rattle.std.proofs.lemmas.Bool.{false≢true}
 use Rattle.std.specs.List.{AllByRecursion as ForEach}
 use Rattle.std.proofs.lemmas.List.{take_all}
 use Rattle.std.proofs.lemmas.List.Elements.{All-more, All-weaker, recursion_from_All}
 use denote.Enum.Bare.{sameb, same_true, same_false}
 use Rattle.fm_base.specs.Names.{Bytes}
-use Rattle.fm_shelf.specs.Content.{HasIfKnown, IsIfKnown, greatest}
+use Rattle.fm_shelf.specs.Content.{Content, Unknown, Absent, Held, HasIfKnown, IfPresent, IsIfKnown, greatest}
+use Rattle.fm_shelf.specs.Past.{gave_from, gave_whole}
 use Rattle.fm_shelf.specs.Shelf.{ShelfState, OnlyReads, OnlyReadsAny}
+use Rattle.fm_shelf.proofs.Pasts.{prefix_same, prefix_then}
+use Rattle.fm_shelf.proofs.Reading.{gives_all, gives_within}
 use Rattle.commands.specs.declared.command.Which.{Which}
 use Rattle.commands.specs.declared.command.Which.TheVariants.{Netlist}
 use Rattle.commands.specs.contracts.command.Which.{the_type}
@@ -15,27 +19,54 @@ use Rattle.command_reads.specs.declared.files.FileRead.{FileRead}
 use Rattle.command_reads.specs.declared.files.FileRead.TheVariants.{Whole, TooLong, Failed}
 use Rattle.command_reads.specs.Files.{Reads, AreShort, IsShort, WasRead}
 
+-- all of a file was read
+pub read_whole : (before after : ShelfState) (name bytes : Bytes) → IfPresent (before.content name) (λ held. bytes ≡ held)
+    → (before.content name ≡ Absent → false ≡ true) → length bytes ≤ greatest → after.given name ≡ before.given name ++ gave_whole bytes
+    → WasRead before after name (Whole bytes)
+read_whole before after name bytes is there short given =
+    (known_as (before.content name) is there, short, gives_all before after name (gave_whole bytes) given)
+  where
+    known_as : (content : Content) → IfPresent content (λ held. bytes ≡ held) → (content ≡ Absent → false ≡ true) → HasIfKnown content bytes
+    known_as Unknown is there = tt
+    known_as Absent is there = absurd (false≢true (there refl))
+    known_as (Held held) is there = sym is
+
 -- nothing was done
 none_read : (shelf : ShelfState) → OnlyReadsAny shelf shelf
-none_read shelf = record { content = refl; counts = λ name. omega arith; writes = λ name. refl }
+none_read shelf = record {
+  content = refl;
+  counts = λ name. omega arith;
+  writes = λ name. refl;
+  more = λ name. prefix_same (shelf.given name);
+  changed = refl;
+}
 
 -- one file was read
 one_read : {before after : ShelfState} {name : Bytes} → OnlyReads before after name → OnlyReadsAny before after
-one_read only = record { content = only.content; counts = only.counts.grows; writes = only.writes }
+one_read only = record { content = only.content; counts = only.counts.grows; writes = only.writes; more = only.more; changed = only.changed }
 
 -- files were read, and then one more
 pub more_read : {before mid after : ShelfState} {name : Bytes} → OnlyReadsAny before mid → OnlyReads mid after name → OnlyReadsAny before after
-more_read first next = record {
+more_read {before = before} {mid = mid} {after = after} first next = record {
   content = next.content ∙ first.content;
   counts = λ name. omega (arith, first.counts name, next.counts.grows name);
   writes = λ name. next.writes name ∙ first.writes name;
+  more = λ name. prefix_then (before.given name) (mid.given name) (after.given name) (first.more name) (next.more name);
+  changed = next.changed ∙ first.changed;
 }
 
 -- a file that was read between two states was read between any that lie around them
 read_within : {before start end after : ShelfState} (name : Bytes) (read : FileRead) → OnlyReadsAny before start → OnlyReadsAny end after
     → WasRead start end name read → WasRead before after name read
-read_within name (Whole bytes) first last (has, short) = (subst (λ content. HasIfKnown (content name) bytes) first.content has, short)
-read_within name TooLong first last is = subst (λ content. IsIfKnown (content name) (λ held. greatest < length held)) first.content is
+read_within {before = before} {start = start} {end = end} {after = after} name (Whole bytes) first last (has, short, gives) = (
+  subst (λ content. HasIfKnown (content name) bytes) first.content has,
+  short,
+  gives_within before start end after name (gave_whole bytes) (first.more name) (last.more name) gives,
+)
+read_within {before = before} {start = start} {end = end} {after = after} name TooLong first last (is, (bytes, long, gives)) = (
+  subst (λ content. IsIfKnown (content name) (λ held. greatest < length held)) first.content is,
+  (bytes, long, gives_within before start end after name (gave_from 0 bytes) (first.more name) (last.more name) gives),
+)
 read_within name Failed first last rose = λ small. omega (arith, first.counts name, last.counts name, rose (omega (arith, last.counts name)))
 
 same_or_not : (a b : Which) → (a ≡ b) ⊎ (a ≢ b)

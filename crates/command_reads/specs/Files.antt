@@ -3,7 +3,8 @@ use Rattle.std.specs.Prelude.{◌≡◌, ◌<◌, ◌≤◌, ℕ, [], ◌∷◌,
 use Rattle.std.specs.List.{AllByRecursion as ForEach}
 use Rattle.fm_base.specs.Names.{Bytes}
 use Rattle.fm_shelf.specs.Content.{Content, Unknown, Held, HasIfKnown, IsIfKnown, greatest}
-use Rattle.fm_shelf.specs.Shelf.{ShelfState, CountRose}
+use Rattle.fm_shelf.specs.Past.{gave_from, gave_whole}
+use Rattle.fm_shelf.specs.Shelf.{ShelfState, CountRose, Gives}
 use Rattle.sample_gen.specs.Sample.{netlist_text, workload_text, rates_text, points_text}
 use Rattle.commands.specs.declared.command.Kind.{Kind}
 use Rattle.commands.specs.declared.command.Kind.TheVariants.{Generated}
@@ -18,10 +19,14 @@ use Rattle.command_reads.specs.declared.files.Reads.{Reads as ReadsOf}
 abbrev pub Reads : Type 0
 Reads = Which → FileRead
 
--- a file of this name was read: these are its bytes, where they are known; or it is longer; or the read has failed, which was counted
+-- a file of this name was read: these are its bytes, where they are known, AND READS GAVE THEM, from place 0 to the end, whatever is known; or
+-- it is longer, and reads gave more; or the read has failed, which was counted
 abbrev pub WasRead : (before after : ShelfState) → (name : Bytes) → FileRead → Type 0
-WasRead before after name (Whole bytes) = HasIfKnown (before.content name) bytes × (length bytes ≤ greatest)
-WasRead before after name TooLong = IsIfKnown (before.content name) (λ held. greatest < length held)
+WasRead before after name (Whole bytes) =
+    HasIfKnown (before.content name) bytes × (length bytes ≤ greatest) × Gives before after name (gave_whole bytes)
+WasRead before after name TooLong =
+    IsIfKnown (before.content name) (λ held. greatest < length held)
+    × ((bytes : Bytes) × (greatest < length bytes) × Gives before after name (gave_from 0 bytes))
 WasRead before after name Failed = CountRose (before.read_faults name) (after.read_faults name)
 
 -- the texts that are generated for so many stages

@@ -3,6 +3,7 @@
 
 pub mod files;
 pub mod memory;
+pub mod past;
 pub mod real;
 pub mod shelf;
 pub mod sure;

@@ -8,6 +8,7 @@ ghost use Rattle.fm_shelf.specs.Given.{given_files};
 ghost use Rattle.fm_shelf.specs.Entries.{AllApart, HasName, content_in, files_of, entry_count};
 
 use crate::files::{Calls, File, Files};
+use crate::past::{Note, Past};
 use crate::shelf::{Failed, Shelf, Sink};
 use fm_base::Seq;
 use std::alloc::{AllocError, Global};
@@ -330,6 +331,7 @@ pub struct MemoryShelf {
     taken: u64,
     calls: u64,
     failures: u64,
+    past: Past,
 }
 
 impl MemoryShelf {
@@ -380,6 +382,7 @@ impl MemoryShelf {
             taken,
             calls: 0,
             failures: 0,
+            past: Past::new(),
         })
     }
 
@@ -429,13 +432,21 @@ fn taken_of(fails: bool, whole: usize, taken: u64) -> usize
 impl Shelf for MemoryShelf {
     ghost use Rattle.fm_shelf.specs.Entries.{state_of};
 
-    ghost seen = { λ m. state_of m.other_reads m.other_writes m.entries.items };
+    ghost seen = { λ m. state_of m.other_reads m.other_writes m.entries.items m.past.events };
 
     fn read(&mut self, name: &str, at: u64, piece: &mut [u8]) -> Result<usize, Failed> {
         self.calls = self.calls.saturating_add(1);
         if !is_listed(self.failing.as_slice(), self.calls) {
             if let Some(n) = read_entry(&self.entries, name, at, piece) {
-                return Ok(n);
+                let answer = Ok(n);
+                let piece = &*piece;
+                self.past = self.past.then(&Note::Read {
+                    name,
+                    at,
+                    piece,
+                    answer,
+                });
+                return answer;
             }
         }
         self.failures = self.failures.saturating_add(1);
@@ -462,11 +473,23 @@ impl Shelf for MemoryShelf {
             piece.len(),
         );
         if done && !fails {
-            return Ok(piece.len());
+            let answer = Ok(piece.len());
+            self.past = self.past.then(&Note::Append {
+                name,
+                piece,
+                answer,
+            });
+            return answer;
         }
+        let answer = Err(Failed);
+        self.past = self.past.then(&Note::Append {
+            name,
+            piece,
+            answer,
+        });
         self.failures = self.failures.saturating_add(1);
         note_write(&mut self.entries, &mut self.other_writes, name);
-        Err(Failed)
+        answer
     }
 
     fn cut(&mut self, name: &str, len: u64) -> Result<(), Failed> {
@@ -480,10 +503,14 @@ impl Shelf for MemoryShelf {
         };
         let done = shorten(&mut self.entries, &mut self.spares, limits, name, len);
         if done && !fails {
-            return Ok(());
+            let answer = Ok(());
+            self.past = self.past.then(&Note::Cut { name, len, answer });
+            return answer;
         }
+        let answer = Err(Failed);
+        self.past = self.past.then(&Note::Cut { name, len, answer });
         self.failures = self.failures.saturating_add(1);
         note_write(&mut self.entries, &mut self.other_writes, name);
-        Err(Failed)
+        answer
     }
 }

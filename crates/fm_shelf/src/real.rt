@@ -2,6 +2,7 @@
 ghost use Rattle.std.specs.Prelude.{◌≡◌, ◌≤◌, List, ℕ, [], false, None, length, IfOk};
 ghost use Rattle.fm_shelf.specs.Entries.{known_files};
 
+use crate::past::{Note, Past};
 use crate::shelf::{Failed, Shelf, Sink};
 use std::fs::{OpenFile, OpenOptions};
 use std::io::{Read, Seek, SeekFrom, Write};
@@ -36,7 +37,8 @@ fn shorten<R: Files>(rt: &R, name: &str, len: u64) -> io::Result<()> {
     Ok(())
 }
 
-/// Files of the system, by their paths. It tells nothing of what they hold.
+/// Files of the system, by their paths. It tells nothing of what they hold, but what its calls told: it notes each call that it makes, which
+/// takes no memory.
 ///
 /// One count of failed reads and one of failed writes stand for every name. Each rises at every error of the system, want of
 /// memory inside that call included, and stands still at the end of `u64`.
@@ -45,6 +47,7 @@ pub struct FileShelf<'a, R: Files + Sync> {
     rt: &'a R,
     failed_reads: u64,
     failed_writes: u64,
+    past: Past,
 }
 
 impl<'a, R: Files + Sync> FileShelf<'a, R> {
@@ -56,43 +59,61 @@ impl<'a, R: Files + Sync> FileShelf<'a, R> {
             rt,
             failed_reads: 0,
             failed_writes: 0,
+            past: Past::new(),
         }
     }
 }
 
 impl<'a, R: Files + Sync> Shelf for FileShelf<'a, R> {
     ghost use Rattle.fm_shelf.specs.Content.{Unknown};
+    ghost use Rattle.fm_shelf.specs.Entries.{told};
 
-    ghost seen = { λ s. record { content = λ _. Unknown; read_faults = λ _. s.failed_reads; write_faults = λ _. s.failed_writes } };
+    ghost seen = { λ s. told (λ _. Unknown) (λ _. s.failed_reads) (λ _. s.failed_writes) s.past.events };
 
     fn read(&mut self, name: &str, at: u64, piece: &mut [u8]) -> Result<usize, Failed> {
-        match read_some(self.rt, name, at, piece) {
+        let answer = match read_some(self.rt, name, at, piece) {
             Ok(n) => Ok(n),
-            Err(_) => {
-                self.failed_reads = self.failed_reads.saturating_add(1);
-                Err(Failed)
-            }
+            Err(_) => Err(Failed),
+        };
+        if answer.is_err() {
+            self.failed_reads = self.failed_reads.saturating_add(1);
         }
+        let piece = &*piece;
+        self.past = self.past.then(&Note::Read {
+            name,
+            at,
+            piece,
+            answer,
+        });
+        answer
     }
 
     fn append(&mut self, name: &str, piece: &[u8]) -> Result<usize, Failed> {
-        match add(self.rt, name, piece) {
+        let answer = match add(self.rt, name, piece) {
             Ok(()) => Ok(piece.len()),
-            Err(_) => {
-                self.failed_writes = self.failed_writes.saturating_add(1);
-                Err(Failed)
-            }
+            Err(_) => Err(Failed),
+        };
+        if answer.is_err() {
+            self.failed_writes = self.failed_writes.saturating_add(1);
         }
+        self.past = self.past.then(&Note::Append {
+            name,
+            piece,
+            answer,
+        });
+        answer
     }
 
     fn cut(&mut self, name: &str, len: u64) -> Result<(), Failed> {
-        match shorten(self.rt, name, len) {
+        let answer = match shorten(self.rt, name, len) {
             Ok(()) => Ok(()),
-            Err(_) => {
-                self.failed_writes = self.failed_writes.saturating_add(1);
-                Err(Failed)
-            }
+            Err(_) => Err(Failed),
+        };
+        if answer.is_err() {
+            self.failed_writes = self.failed_writes.saturating_add(1);
         }
+        self.past = self.past.then(&Note::Cut { name, len, answer });
+        answer
     }
 }
 

@@ -1,6 +1,7 @@
 // A set of named files, and a sink of bytes.
-ghost use Rattle.std.specs.Prelude.{◌≡◌, ◌<◌, ◌≤◌, ℕ, List, length, take, OnOk, OnErr, IfOk, IsErr};
+ghost use Rattle.std.specs.Prelude.{◌≡◌, ◌<◌, ◌≤◌, ◌++◌, ℕ, List, length, take, OnOk, OnErr, IfOk, IsErr};
 ghost use Rattle.fm_shelf.specs.Content.{Absent, IfPresent};
+ghost use Rattle.fm_shelf.specs.Past.{given_by, taken_by, cut_by};
 ghost use Rattle.fm_shelf.specs.Shelf.{ShelfState, CountRose, IsPieceRead, OnlyReads, OnlyWrites, Becomes, MayBecome, Appends, MayAppend};
 ghost use Rattle.fm_shelf.specs.Sink.{SinkState, Wrote};
 
@@ -14,8 +15,11 @@ pub struct Failed;
 /// A file may become unknown in a call that changes it, and then stays so. Failures are counted for each name, reads
 /// apart from writes: a call that answers `Failed` has raised the count of its own name, and none of a file that is there
 /// under another one.
+///
+/// Of each file, known or not, it tells what its calls told: what reads gave, and how the file was changed, with the calls that failed.
+/// This is a record for contracts; no shelf keeps it in memory.
 pub trait Shelf {
-    /// What contracts see of it: the content of each file, and the counts of failures.
+    /// What contracts see of it: the content of each file, the counts of failures, and the record of its calls.
     ghost seen: { Self → ShelfState };
 
     /// Reads bytes of a file, from a place on, into the front of the piece, and answers how many. `Ok(0)` for a piece that
@@ -25,6 +29,7 @@ pub trait Shelf {
         ensures bytes { IfOk result (λ n. IfPresent ((seen self.old).content name.now) (λ bytes. IsPieceRead bytes at n piece.new)) }
         ensures absent { (seen self.old).content name.now ≡ Absent → IsErr result }
         ensures failed { OnErr result (CountRose ((seen self.old).read_faults name.now) ((seen self.new).read_faults name.now)) }
+        ensures given { (seen self.new).given name.now ≡ (seen self.old).given name.now ++ given_by at piece.new result }
         ensures rest { OnlyReads (seen self.old) (seen self.new) name.now };
 
     /// Adds the first bytes of the piece to the end of a file, and answers how many: one at least, where there is one. An
@@ -34,6 +39,7 @@ pub trait Shelf {
         ensures some { IfOk result (λ n. 0 < length piece.now → 0 < n) }
         ensures ok { IfOk result (λ n. Appends (seen self.old) (seen self.new) name.now (take n piece.now)) }
         ensures failed { OnErr result (MayAppend (seen self.old) (seen self.new) name.now piece.now) }
+        ensures taken { (seen self.new).changed name.now ≡ (seen self.old).changed name.now ++ taken_by piece.now result }
         ensures rest { OnlyWrites (seen self.old) (seen self.new) name.now };
 
     /// Cuts a file to its first `len` bytes; a shorter one stays, and an absent one becomes empty. After `Failed` the file is
@@ -41,6 +47,7 @@ pub trait Shelf {
     fn cut(&mut self, name: &str, len: u64) -> Result<(), Failed>
         ensures ok { OnOk result (Becomes (seen self.old) (seen self.new) name.now (take len)) }
         ensures failed { OnErr result (MayBecome (seen self.old) (seen self.new) name.now (take len)) }
+        ensures changed { (seen self.new).changed name.now ≡ (seen self.old).changed name.now ++ cut_by len result }
         ensures rest { OnlyWrites (seen self.old) (seen self.new) name.now };
 }
 

@@ -1,11 +1,14 @@
 // A shelf and a sink that never fail.
 ghost use Rattle.std.specs.Prelude.{◌≡◌, ◌≤◌, ℕ, List, [], None, filter, not, length, IfOk};
 ghost use Rattle.std.specs.Str.{bytes_eq};
-ghost use Rattle.fm_shelf.specs.Entries.{known_files};
+ghost use Rattle.fm_shelf.specs.Content.{Absent, IfPresent};
+ghost use Rattle.fm_shelf.specs.Entries.{content_in, files_of, known_files};
 ghost use Rattle.fm_shelf.specs.Given.{given_files};
+ghost use Rattle.fm_shelf.specs.Shelf.{IsPieceRead};
 
 use crate::files::Files;
 use crate::memory::{Entry, entries_of, is_same, read_entry};
+use crate::past::{Note, Past};
 use crate::shelf::{Failed, Shelf, Sink};
 use std::alloc::{AllocError, Global};
 
@@ -14,6 +17,7 @@ use std::alloc::{AllocError, Global};
 #[derive(Drop)]
 pub struct SureShelf {
     told: Vec<Entry>,
+    past: Past,
 }
 
 fn is_other(entry: &Entry, name: &str) -> bool
@@ -29,6 +33,17 @@ fn forget(told: &mut Vec<Entry>, name: &str)
     told.retain(|entry| is_other(entry, name));
 }
 
+// Reads from the file of a name, where it is told; another is at its end.
+fn read_told(told: &[Entry], name: &str, at: u64, piece: &mut [u8]) -> usize
+    ensures fits { result ≤ length piece.new }
+    ensures read { IfPresent (content_in (files_of told.now) Absent name.now) (λ bytes. IsPieceRead bytes at result piece.new) }
+{
+    match read_entry(told, name, at, piece) {
+        Some(n) => n,
+        None => 0,
+    }
+}
+
 impl SureShelf {
     /// A shelf that tells these files. No later call takes memory.
     pub fn new(alloc: Global, files: Files) -> Result<Self, AllocError>
@@ -36,30 +51,45 @@ impl SureShelf {
     {
         Ok(SureShelf {
             told: entries_of(alloc, files.as_slice(), 0)?,
+            past: Past::new(),
         })
     }
 }
 
 impl Shelf for SureShelf {
-    ghost use Rattle.fm_shelf.specs.Entries.{known_files, files_of};
+    ghost use Rattle.fm_shelf.specs.Content.{Unknown};
+    ghost use Rattle.fm_shelf.specs.Entries.{content_in, files_of, unfailing};
 
-    ghost seen = { λ s. known_files (files_of s.told.items) };
+    ghost seen = { λ s. unfailing (content_in (files_of s.told.items) Unknown) s.past.events };
 
     fn read(&mut self, name: &str, at: u64, piece: &mut [u8]) -> Result<usize, Failed> {
-        match read_entry(&self.told, name, at, piece) {
-            Some(n) => Ok(n),
-            None => Ok(0),
-        }
+        let answer = Ok(read_told(&self.told, name, at, piece));
+        let piece = &*piece;
+        self.past = self.past.then(&Note::Read {
+            name,
+            at,
+            piece,
+            answer,
+        });
+        answer
     }
 
     fn append(&mut self, name: &str, piece: &[u8]) -> Result<usize, Failed> {
         forget(&mut self.told, name);
-        Ok(piece.len())
+        let answer = Ok(piece.len());
+        self.past = self.past.then(&Note::Append {
+            name,
+            piece,
+            answer,
+        });
+        answer
     }
 
-    fn cut(&mut self, name: &str, _len: u64) -> Result<(), Failed> {
+    fn cut(&mut self, name: &str, len: u64) -> Result<(), Failed> {
         forget(&mut self.told, name);
-        Ok(())
+        let answer = Ok(());
+        self.past = self.past.then(&Note::Cut { name, len, answer });
+        answer
     }
 }
 

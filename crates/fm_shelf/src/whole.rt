@@ -1,8 +1,9 @@
 // Whole files and whole pieces.
-ghost use Rattle.std.specs.Prelude.{◌≡◌, ◌<◌, ◌≤◌, ◌^◌, length, OnOk, OnErr, IfOk, IsErr, IsErrOf};
+ghost use Rattle.std.specs.Prelude.{◌≡◌, ◌<◌, ◌≤◌, ◌^◌, ◌++◌, ℕ, List, length, OnOk, OnErr, IfOk, IsErr, IsErrOf};
 ghost use Rattle.std.specs.List.{flat_map};
 ghost use Rattle.fm_shelf.specs.Content.{Absent, IfPresent, IsIfKnown, greatest};
-ghost use Rattle.fm_shelf.specs.Shelf.{CountRose, OnlyReads, OnlyWrites, Appends, MayAppend};
+ghost use Rattle.fm_shelf.specs.Past.{gave_from, gave_whole};
+ghost use Rattle.fm_shelf.specs.Shelf.{CountRose, OnlyReads, OnlyWrites, Appends, MayAppend, Takes, Tears};
 ghost use Rattle.fm_shelf.specs.Sink.{Sends};
 ghost use Rattle.fm_shelf.specs.declared.whole.ReadRefusal.TheVariants.{Memory, Failed as ReadFailed};
 
@@ -69,6 +70,8 @@ pub fn write_pieces<O: Sink>(out: &mut O, pieces: &[&[u8]]) -> Result<(), Failed
 pub fn append_all<F: Shelf>(shelf: &mut F, name: &str, piece: &[u8]) -> Result<(), Failed>
     ensures ok { OnOk result (Appends (F.seen shelf.old) (F.seen shelf.new) name.now piece.now) }
     ensures failed { OnErr result (MayAppend (F.seen shelf.old) (F.seen shelf.new) name.now piece.now) }
+    ensures takes { OnOk result (Takes (F.seen shelf.old) (F.seen shelf.new) name.now piece.now) }
+    ensures tears { OnErr result (Tears (F.seen shelf.old) (F.seen shelf.new) name.now piece.now) }
     ensures rest { OnlyWrites (F.seen shelf.old) (F.seen shelf.new) name.now }
 {
     let mut done = shelf.append(name, piece)?;
@@ -93,6 +96,9 @@ pub fn read_all<F: Shelf>(alloc: Global, shelf: &mut F, name: &str) -> Result<Se
     ensures absent { (F.seen shelf.old).content name.now ≡ Absent → IsErr result }
     ensures failed { IsErrOf result ReadFailed → CountRose ((F.seen shelf.old).read_faults name.now) ((F.seen shelf.new).read_faults name.now) }
     ensures too_long { IsErrOf result ReadRefusal.TooLong → IsIfKnown ((F.seen shelf.old).content name.now) (λ held. greatest < length held) }
+    ensures given { IfOk result (λ bytes. (F.seen shelf.new).given name.now ≡ (F.seen shelf.old).given name.now ++ gave_whole bytes) }
+    ensures gave_more { IsErrOf result ReadRefusal.TooLong → (bytes : List ℕ) × (greatest < length bytes)
+        × ((F.seen shelf.new).given name.now ≡ (F.seen shelf.old).given name.now ++ gave_from 0 bytes) }
     ensures rest { OnlyReads (F.seen shelf.old) (F.seen shelf.new) name.now }
 {
     let mut room = room_of_a_piece(alloc)?;

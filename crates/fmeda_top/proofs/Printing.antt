@@ -4,7 +4,7 @@ use Rattle.std.specs.Prelude.{◌⊎◌, Option, Some, Result, MatchOption}
 use Rattle.fm_base.specs.Names.{Bytes}
 use Rattle.fm_shelf.specs.Content.{Content, Unknown}
 use Rattle.fm_shelf.specs.Outside.{Outside, outside}
-use Rattle.fm_shelf.specs.Shelf.{ShelfState}
+use Rattle.fm_shelf.specs.Shelf.{IsUnchanged, ShelfState}
 use Rattle.fm_shelf.specs.Sink.{SinkState, Wrote, WrotePrefix}
 use Rattle.campaign_run.specs.Outside.{KeepsOthers}
 use Rattle.commands.specs.declared.command.Which.TheVariants as which
@@ -41,11 +41,14 @@ module _ (command : Command) (made : Judged) (reads : Reads) (shelf : ShelfState
       MatchOption text (KeepsOthers before.shelf after.shelf name × WritesAs command.task made reads name before after ended)
       (λ t. PrintsAs t ended before after)
 
+  unchanged : IsUnchanged shelf shelf
+  unchanged = record { content = refl; changed = refl }
+
   -- a text went out, or a prefix of it, and nothing else
   does_print : (how : Status) → TellsAs command.task made out mid (Ok how) → PrintedAs (Ok how) ended mid now command.files
       → DoesItsTask command made reads ended before after
   does_print how (free, grows, (text, is, sent)) (same, kept) =
-      inl (subst DoesUnless (sym free) (subst HasTold (sym is) (refl, by_sent sent)))
+      inl (subst DoesUnless (sym free) (subst HasTold (sym is) (unchanged, by_sent sent)))
     where
       by_sent : ((how ≡ status.Done) × Wrote out mid text) ⊎ ((how ≡ status.OutFault) × WrotePrefix out mid text)
           → ((ended ≡ status.Done) × Wrote out now text) ⊎ ((ended ≡ status.OutFault) × WrotePrefix out now text)
@@ -61,14 +64,14 @@ module _ (command : Command) (made : Judged) (reads : Reads) (shelf : ShelfState
       said held = subst (λ s. IsSaidOf held s now command.files why) kept (line held plain)
 
       by_cause : (why ≡ status.Memory) ⊎ (task_refusal command.task made ≡ Some why) → DoesItsTask command made reads ended before after
-      by_cause (inl memory) = inr (memory_said ended why command.files Unknown before after (is ∙ memory) memory refl (said Unknown))
-      by_cause (inr refusal) = inl (subst DoesUnless (sym refusal) (is, record { files = refl; said = said (known_by (reads which.Netlist)) }))
+      by_cause (inl memory) = inr (memory_said ended why command.files Unknown before after (is ∙ memory) memory unchanged (said Unknown))
+      by_cause (inr refusal) = inl (subst DoesUnless (sym refusal) (is, record { files = unchanged; said = said (known_by (reads which.Netlist)) }))
 
   -- A TASK THAT PRINTS has done what it promises, where it told its text or the line of its refusal
   pub printed_does : (told : Result Status Refused) → TellsAs command.task made out mid told → PrintedAs told ended mid now command.files
       → DoesAs command made reads ended before after
   printed_does (Ok how) tells printed =
-      (does_print how tells printed, subst (λ (s : SinkState). out.faults ≤ s.faults) (sym printed.1) tells.1)
+      (does_print how tells printed, subst (λ (s : SinkState). out.faults ≤ s.faults) (sym printed.1) tells.1, refl)
   printed_does (Err (By why)) tells printed =
-      (does_refuse why tells printed, subst (λ (s : SinkState). s.faults ≤ now.faults) tells.2 (printed.1 Unknown tells.1).2.1)
+      (does_refuse why tells printed, subst (λ (s : SinkState). s.faults ≤ now.faults) tells.2 (printed.1 Unknown tells.1).2.1, refl)
   printed_does (Err (Looped walk net)) tells printed = absurd tells

@@ -52,17 +52,19 @@ module _ (before : Outside) (shelf : ShelfState) (written : Option Bytes) (low h
   prints_later text ended (files, inl done) = (files, inl done)
   prints_later text ended (files, inr (is, torn)) = (files, inr (is, prefix_later text torn))
 
-  abbrev reported_later : (own text : Bytes) (p : Analysis) (planes : ℕ → Outcome) (name : Bytes) → HasReported own text p planes name before early → HasReported own text p planes name before late
-  reported_later own text p planes name is = record { wrote = is.wrote; entries = is.entries; whole = is.whole; result = is.result }
+  abbrev reported_later : (own text : Bytes) (p : Analysis) (planes : ℕ → Outcome) (kept_bytes : ℕ) (name : Bytes) → HasReported own text p planes kept_bytes name before early
+      → HasReported own text p planes kept_bytes name before late
+  reported_later own text p planes kept_bytes name is =
+      record { wrote = is.wrote; entries = is.entries; whole = is.whole; result = is.result; written = is.written }
 
   resumed_later : (own text : Bytes) (p : Analysis) (planes : ℕ → Outcome) (bytes name : Bytes) → ResumedAs own text p planes bytes name before early
       → ResumedAs own text p planes bytes name before late
   resumed_later own text p planes bytes name is =
-      record { k = is.k; kept_rows = is.kept_rows; reported = reported_later own text p planes name is.reported; first = is.first }
+      record { k = is.k; kept_rows = is.kept_rows; reported = reported_later own text p planes is.k.whole name is.reported; first = is.first }
 
   written_later : (own : Task) (made : Judged) (reads : Reads) (name : Bytes) → HasWritten own made reads name before early → HasWritten own made reads name before late
-  written_later (task.Run workers) (Planned p) reads name is = reported_later _ _ p _ name is
-  written_later (task.Gen stages workers) (Planned p) reads name is = reported_later _ _ p _ name is
+  written_later (task.Run workers) (Planned p) reads name is = reported_later _ _ p _ 0 name is
+  written_later (task.Gen stages workers) (Planned p) reads name is = reported_later _ _ p _ 0 name is
   written_later (task.Resume workers) (Begun p k) reads name is = record {
     resumed = resumed_later _ _ p _ _ name is.resumed;
     stopped = λ left. resumed_later _ _ p _ _ name (is.stopped left);
@@ -85,7 +87,7 @@ module _ (before : Outside) (shelf : ShelfState) (written : Option Bytes) (low h
   writes_later own made reads name (OutFailed text torn is) =
       OutFailed text (prefix_later before shelf written low high grows text torn)
       (written_later before shelf (with_more before.out.written text) low high grows own made reads name is)
-  writes_later own made reads name (ResultFailed rose left said) = ResultFailed rose left (line_later before shelf written low high grows _ said)
+  writes_later own made reads name (ResultFailed rose left stops said) = ResultFailed rose left stops (line_later before shelf written low high grows _ said)
 
   done_later : (command : Command) (made : Judged) (reads : Reads) (ended : Status) → IsDoneOrFailed command made reads ended before sooner
       → IsDoneOrFailed command made reads ended before later

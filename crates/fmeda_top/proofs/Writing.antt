@@ -5,6 +5,7 @@ use Rattle.std.proofs.lemmas.List.{take_all}
 use Rattle.fm_base.specs.Names.{Bytes}
 use Rattle.fm_base.specs.Text.{line}
 use Rattle.fm_shelf.specs.Content.{Held, HasIfKnown}
+use Rattle.fm_shelf.specs.Past.{StopsOn, WritesOn}
 use Rattle.fm_shelf.specs.Shelf.{ShelfState}
 use Rattle.fm_shelf.specs.Sink.{SinkState, Wrote, WroteOrFailed}
 use Rattle.fm_shelf.specs.Outside.{Outside, outside}
@@ -24,9 +25,9 @@ use Rattle.campaign_run.specs.declared.run.End.TheVariants as end
 use Rattle.campaign_run.specs.declared.run.Text.{Text}
 use Rattle.campaign_run.specs.declared.run.Text.TheVariants.{Report, Summary}
 use Rattle.campaign_run.specs.Found.{checkpointed_or_true}
-use Rattle.campaign_run.specs.Left.{IsPrefixOf, LeftPrefix}
+use Rattle.campaign_run.specs.Left.{IsPrefixOf, LeftPrefix, StoppedRows}
 use Rattle.campaign_run.specs.Outside.{KeepsOthers}
-use Rattle.campaign_run.specs.Ran.{Campaign, HasRun, IsReported, IsTruncatedResult, campaign_text}
+use Rattle.campaign_run.specs.Ran.{Campaign, HasRun, HasStopped, IsReported, IsTruncatedResult, campaign_text}
 use Rattle.campaign_run.specs.Reported.{HasReported, ResumedAs}
 use Rattle.campaign_run.specs.Starting.{no_kept_rows}
 use Rattle.campaign_run.specs.Stopped.{StoppedAreTakenUp}
@@ -48,7 +49,7 @@ use Rattle.command_reads.specs.Files.{Reads, bytes_of as bytes_read, known_by}
 use Rattle.command_reads.specs.FirstRefusal.{Judged, Begun, Merged, Planned, own_header}
 use Rattle.fmeda_top.specs.TaskRefusals.{task_refusal}
 use Rattle.fmeda_top.specs.Doing.{DoesAs, EndSaid, HasEnded, HasRefused, IsHeld, task_of_text}
-use Rattle.fmeda_top.specs.Ends.{HasWritten, IsDoneOrFailed, MayLeave, PrintsAs, WritesAs, text_of}
+use Rattle.fmeda_top.specs.Ends.{HasWritten, IsDoneOrFailed, MayLeave, MayStop, PrintsAs, WritesAs, text_of}
 use Rattle.fmeda_top.specs.Ends.WritesAs.{All, OutFailed, ResultFailed}
 use Rattle.fmeda_top.specs.Written.{rows_file}
 
@@ -62,9 +63,9 @@ module _ (command : Command) (it : Judged) (reads : Reads) (before after : Outsi
   abbrev at_end : Outside
   at_end = outside after.shelf out
 
-  writes_end : (ended : Status) → before.out.faults ≤ out.faults → KeepsOthers before.shelf after.shelf name → WritesAs command.task it reads name before at_end ended
+  writes_end : (ended : Status) → before.out.faults ≤ out.faults → after.shelf.given ≡ before.shelf.given → KeepsOthers before.shelf after.shelf name → WritesAs command.task it reads name before at_end ended
       → DoesAs command it reads ended before at_end
-  writes_end ended grows others writes = (
+  writes_end ended grows given others writes = (
     inl (subst
         (λ refusal. MatchOption refusal (IsDoneOrFailed command it reads ended before at_end)
         (λ why. (ended ≡ why) × HasRefused command.files (known_by (reads which.Netlist)) why before at_end))
@@ -74,35 +75,37 @@ module _ (command : Command) (it : Judged) (reads : Reads) (before after : Outsi
         (λ text. PrintsAs text ended before at_end))
         (sym no_text) (others, writes))),
     grows,
+    given,
   )
 
   -- it is told at this status, with nothing more to say
-  silent_end : (ended own : Status) → ended ≡ own → out ≡ after.out → before.out.faults ≤ after.out.faults → KeepsOthers before.shelf after.shelf name
-      → WritesAs command.task it reads name before after own → DoesAs command it reads ended before at_end
-  silent_end ended own is same grows others writes =
-      writes_end ended (subst (λ (s : SinkState). before.out.faults ≤ s.faults) (sym same) grows) others
+  silent_end : (ended own : Status) → ended ≡ own → out ≡ after.out → before.out.faults ≤ after.out.faults → after.shelf.given ≡ before.shelf.given
+      → KeepsOthers before.shelf after.shelf name → WritesAs command.task it reads name before after own → DoesAs command it reads ended before at_end
+  silent_end ended own is same grows given others writes =
+      writes_end ended (subst (λ (s : SinkState). before.out.faults ≤ s.faults) (sym same) grows) given others
       (subst (λ s. WritesAs command.task it reads name before at_end s) (sym is)
       (subst (λ now. WritesAs command.task it reads name before (outside after.shelf now) own) (sym same) writes))
 
   -- HOW A TASK THAT WRITES A RESULT FILE ENDS
   pub told_ends : (how : End) (ended : Status) → HasEnded how command.task it reads name before after → EndSaid how ended after.out out command.files
       → DoesAs command it reads ended before at_end
-  told_ends end.Done ended ran (is, same) = silent_end ended status.Done is same ran.grows ran.others (All ran.ends)
+  told_ends end.Done ended ran (is, same) = silent_end ended status.Done is same ran.grows ran.given ran.others (All ran.ends)
   told_ends end.OutFault ended ran (is, same) =
-      silent_end ended status.OutFault is same ran.grows ran.others (OutFailed ran.ends.0 ran.ends.2 ran.ends.1)
+      silent_end ended status.OutFault is same ran.grows ran.given ran.others (OutFailed ran.ends.0 ran.ends.2 ran.ends.1)
   told_ends end.ResultFault ended ran (is, (said, more)) =
-      writes_end ended (omega (arith, ran.grows, more)) ran.others
+      writes_end ended (omega (arith, ran.grows, more)) ran.given ran.others
       (subst (λ s. WritesAs command.task it reads name before at_end s) (sym is)
-      (ResultFailed ran.ends.0 ran.ends.1 (subst (λ from. WroteOrFailed from out (line (codes "refused: cannot write" ∷ name ∷ []))) ran.ends.2 said)))
+      (ResultFailed ran.ends.0 ran.ends.1 ran.ends.3 (subst (λ from. WroteOrFailed from out (line (codes "refused: cannot write" ∷ name ∷ []))) ran.ends.2 said)))
   told_ends end.NoMemory ended ran (is, (said, more)) = (
     inr (
       is,
       (
-        ap (λ (s : Outside). s.shelf.content) ran.ends,
+        record { content = ap (λ (s : Outside). s.shelf.content) ran.ends; changed = ap (λ (s : Outside). s.shelf.changed) ran.ends },
         subst (λ from. WroteOrFailed from out (codes "refused: out of memory\n")) (ap (λ (s : Outside). s.out) ran.ends) said,
       ),
     ),
     omega (arith, ran.grows, more),
+    ran.given,
   )
 
 -- ---- where the task is this one, and what was made is this
@@ -137,9 +140,9 @@ module _ (planned : PlannedOf) (reads : Reads) (name : Bytes) (workers : ℕ) (b
   anew_written : (text : Text) (after : Outside) → IsReported (begun_anew planned name text) before after
       → HasWritten (task_of_text text workers) (Planned planned.plan) reads name before after
   anew_written Report after is =
-      subst (λ own. HasReported own (true_report planned.plan) planned.plan (true_planes planned.plan) name before after) sound.own is.reported
+      subst (λ own. HasReported own (true_report planned.plan) planned.plan (true_planes planned.plan) 0 name before after) sound.own is.reported
   anew_written (Summary stages) after is =
-      subst (λ own. HasReported own (summary stages planned.plan (true_planes planned.plan)) planned.plan (true_planes planned.plan) name before after) sound.own is.reported
+      subst (λ own. HasReported own (summary stages planned.plan (true_planes planned.plan)) planned.plan (true_planes planned.plan) 0 name before after) sound.own is.reported
 
   anew_left : (text : Text) (after : Outside) → IsTruncatedResult (begun_anew planned name text) before.shelf after.shelf
       → (after.shelf.content name ≡ before.shelf.content name)
@@ -147,14 +150,25 @@ module _ (planned : PlannedOf) (reads : Reads) (name : Bytes) (workers : ℕ) (b
   anew_left text after (inl same) = inl same
   anew_left text after (inr left) = inr (subst (λ own. LeftPrefix own planned.plan (true_planes planned.plan) (after.shelf.content name)) sound.own left.0)
 
+  anew_stopped : (text : Text) (after : Outside) → HasStopped (begun_anew planned name text) before.shelf after.shelf
+      → MayStop (Planned planned.plan) reads (before.shelf.changed name) (after.shelf.changed name)
+  anew_stopped text after stopped =
+      subst (λ own. StoppedRows own planned.plan (true_planes planned.plan) 0 (before.shelf.changed name) (after.shelf.changed name)) sound.own stopped
+
   pub anew_ended : (how : End) (text : Text) (after : Outside) → HasRun how (begun_anew planned name text) before after
       → HasEnded how (task_of_text text workers) (Planned planned.plan) reads name before after
-  anew_ended end.Done text after ran = record { ends = anew_written text after ran.ends; others = ran.others; grows = ran.out_faults }
-  anew_ended end.NoMemory text after ran = record { ends = ran.ends; others = ran.others; grows = ran.out_faults }
-  anew_ended end.ResultFault text after ran = record { ends = (ran.ends.0, anew_left text after ran.ends.1, ran.ends.2); others = ran.others; grows = ran.out_faults }
+  anew_ended end.Done text after ran = record { ends = anew_written text after ran.ends; others = ran.others; given = ran.given; grows = ran.out_faults }
+  anew_ended end.NoMemory text after ran = record { ends = ran.ends; others = ran.others; given = ran.given; grows = ran.out_faults }
+  anew_ended end.ResultFault text after ran = record {
+    ends = (ran.ends.0, anew_left text after ran.ends.1, ran.ends.2, anew_stopped text after ran.ends.3);
+    others = ran.others;
+    given = ran.given;
+    grows = ran.out_faults;
+  }
   anew_ended end.OutFault text after ran = record {
     ends = (campaign_text (begun_anew planned name text), anew_written text _ ran.ends.0, ran.ends.1);
     others = ran.others;
+    given = ran.given;
     grows = ran.out_faults;
   }
 
@@ -197,12 +211,22 @@ module _ (law : StoppedAreTakenUp) (begun : BegunOf) (reads : Reads) (name : Byt
   on_left after (inl same) = inl same
   on_left after (inr left) = inr (subst (λ own. LeftPrefix own p planes (after.shelf.content name)) sound.own left.0, left.1)
 
+  on_stopped : (after : Outside) → HasStopped (going_on begun name) before.shelf after.shelf
+      → MayStop (Begun p begun.kept) reads (before.shelf.changed name) (after.shelf.changed name)
+  on_stopped after stopped =
+      subst (λ own. StoppedRows own p planes begun.kept.whole (before.shelf.changed name) (after.shelf.changed name)) sound.own stopped
+
   pub on_ended : (how : End) (after : Outside) → HasRun how (going_on begun name) before after
       → HasEnded how (task.Resume workers) (Begun p begun.kept) reads name before after
-  on_ended end.Done after ran = record { ends = on_written after ran.ends; others = ran.others; grows = ran.out_faults }
-  on_ended end.NoMemory after ran = record { ends = ran.ends; others = ran.others; grows = ran.out_faults }
-  on_ended end.ResultFault after ran = record { ends = (ran.ends.0, on_left after ran.ends.1, ran.ends.2); others = ran.others; grows = ran.out_faults }
-  on_ended end.OutFault after ran = record { ends = (campaign_text (going_on begun name), on_written _ ran.ends.0, ran.ends.1); others = ran.others; grows = ran.out_faults }
+  on_ended end.Done after ran = record { ends = on_written after ran.ends; others = ran.others; given = ran.given; grows = ran.out_faults }
+  on_ended end.NoMemory after ran = record { ends = ran.ends; others = ran.others; given = ran.given; grows = ran.out_faults }
+  on_ended end.ResultFault after ran = record {
+    ends = (ran.ends.0, on_left after ran.ends.1, ran.ends.2, on_stopped after ran.ends.3);
+    others = ran.others;
+    given = ran.given;
+    grows = ran.out_faults;
+  }
+  on_ended end.OutFault after ran = record { ends = (campaign_text (going_on begun name), on_written _ ran.ends.0, ran.ends.1); others = ran.others; given = ran.given; grows = ran.out_faults }
 
 -- ---- merged rows
 
@@ -239,8 +263,17 @@ module _ (it : MergedOf) (reads : Reads) (name : Bytes) (before : Outside) (soun
 
   pub merge_written : (after : Outside) → HasIfKnown (after.shelf.content name) (rows_file it.planned.own it.rows)
       → Wrote before.out after.out (merge_line (length it.rows) (batch_count it.planned.plan))
+      → WritesOn 0 (rows_file it.planned.own it.rows) (before.shelf.changed name) (after.shelf.changed name)
       → HasWritten task.Merge (Merged it.planned.plan it.rows) reads name before after
-  merge_written after has wrote = (subst (HasIfKnown (after.shelf.content name)) file_is has, wrote)
+  merge_written after has wrote written = (
+    subst (HasIfKnown (after.shelf.content name)) file_is has,
+    wrote,
+    subst (λ text. WritesOn 0 text (before.shelf.changed name) (after.shelf.changed name)) file_is written,
+  )
+
+  pub merge_stopped : (after : Outside) → StopsOn 0 (rows_file it.planned.own it.rows) (before.shelf.changed name) (after.shelf.changed name)
+      → MayStop (Merged it.planned.plan it.rows) reads (before.shelf.changed name) (after.shelf.changed name)
+  merge_stopped after stopped = subst (λ text. StopsOn 0 text (before.shelf.changed name) (after.shelf.changed name)) file_is stopped
 
   pub merge_left : (after : Outside)
       → (after.shelf.content name ≡ before.shelf.content name) ⊎ IsPrefixOf (after.shelf.content name) (rows_file it.planned.own it.rows)

@@ -3,7 +3,7 @@ use Rattle.std.specs.Prelude.{◌≡◌, ◌≤◌, ◌⊎◌, ℕ, Bool, not, �
 use Rattle.fm_base.specs.Names.{Bytes}
 use Rattle.fm_base.specs.Text.{line}
 use Rattle.fm_shelf.specs.Content.{Content, HasIfKnown}
-use Rattle.fm_shelf.specs.Shelf.{CountRose, ShelfState}
+use Rattle.fm_shelf.specs.Shelf.{CountRose, IsUnchanged, ShelfState}
 use Rattle.fm_shelf.specs.Sink.{SinkState, Wrote, WrotePrefix}
 use Rattle.fm_shelf.specs.Outside.{Outside}
 use Rattle.campaign_plan.specs.declared.Outcome.{Outcome}
@@ -40,7 +40,7 @@ use Rattle.fm_base.specs.declared.Refusal.TheVariants.{Fault, Memory}
 use Rattle.fm_shelf.specs.declared.shelf.Failed.{Failed}
 use Rattle.fmeda_top.specs.TaskRefusals.{false_row, not_there, task_refusal}
 use Rattle.command_reads.specs.Judging.{AreSound, IsOfKind, JudgesAs}
-use Rattle.fmeda_top.specs.Ends.{HasWritten, IsDoneOrFailed, MayLeave, text_of}
+use Rattle.fmeda_top.specs.Ends.{HasWritten, IsDoneOrFailed, MayLeave, MayStop, text_of}
 use Rattle.fmeda_top.specs.Promises.{CommandEnds, RanOut}
 
 -- the files of a command were read and judged
@@ -70,13 +70,15 @@ EndsWith end.ResultFault own made reads name before after =
     CountRose (before.shelf.write_faults name) (after.shelf.write_faults name)
     × ((after.shelf.content name ≡ before.shelf.content name) ⊎ MayLeave made reads (before.shelf.content name) (after.shelf.content name))
     × (after.out ≡ before.out)
+    × MayStop made reads (before.shelf.changed name) (after.shelf.changed name)
 EndsWith end.OutFault own made reads name before after =
     (text : Bytes) × HasWritten own made reads name before (had_written before after text) × WrotePrefix before.out after.out text
 
--- the same; files of other names are as before, and no fewer writes of `out` have failed
+-- the same; files of other names are as before, none was read, and no fewer writes of `out` have failed
 pub record HasEnded (how : End) (own : Task) (made : Judged) (reads : Reads) (name : Bytes) (before after : Outside) : Type 0 where
   pub ends : EndsWith how own made reads name before after
   pub others : KeepsOthers before.shelf after.shelf name
+  pub given : after.shelf.given ≡ before.shelf.given
   pub grows : before.out.faults ≤ after.out.faults
 
 -- what a command says at the end of its campaign: nothing where it has written its text, or the line of a refusal
@@ -141,9 +143,9 @@ abbrev pub ChoosesAs : Analysis → KeptRows → Result Chosen Status → Type 0
 ChoosesAs p k (Ok c) = (option_map status.Pairs (pair_refusal p k.rows) ≡ None) × (c ≡ chosen p (planes_in k.rows))
 ChoosesAs p k (Err ended) = ((ended ≡ status.Memory) ⊎ (option_map status.Pairs (pair_refusal p k.rows) ≡ Some ended)) × IsPlain ended
 
--- no file has changed, and the line of a refusal went out, by the nets of the netlist as far as it is known
+-- no file was changed, and the line of a refusal went out, by the nets of the netlist as far as it is known
 pub record HasRefused (names : Which → Bytes) (netlist : Content) (why : Status) (before after : Outside) : Type 0 where
-  pub files : after.shelf.content ≡ before.shelf.content
+  pub files : IsUnchanged before.shelf after.shelf
   pub said : IsSaidOf netlist before.out after.out names why
 
 -- what a command does behind its checks: what its task refuses, or it is done or a write has failed; or memory ran out
@@ -153,9 +155,9 @@ DoesItsTask command made reads ended before after =
     (λ why. (ended ≡ why) × HasRefused command.files (known_by (reads which.Netlist)) why before after)
     ⊎ RanOut ended before after
 
--- the same, and no fewer writes of `out` have failed
+-- the same; no fewer writes of `out` have failed, and no file was read
 abbrev pub DoesAs : Command → Judged → Reads → Status → (before after : Outside) → Type 0
-DoesAs command made reads ended before after = DoesItsTask command made reads ended before after × (before.out.faults ≤ after.out.faults)
+DoesAs command made reads ended before after = DoesItsTask command made reads ended before after × (before.out.faults ≤ after.out.faults) × (after.shelf.given ≡ before.shelf.given)
 
 -- what a command has done, or memory ran out
 abbrev pub EndsOrRanOut : Command → Status → (before after : Outside) → Type 0

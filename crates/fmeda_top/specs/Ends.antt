@@ -3,7 +3,8 @@ use Rattle.std.specs.Prelude.{◌≡◌, ◌⊎◌, ℕ, List, [], ◌∷◌, �
 use Rattle.fm_base.specs.Names.{Bytes}
 use Rattle.fm_base.specs.Text.{line}
 use Rattle.fm_shelf.specs.Content.{Content, Held, HasIfKnown, IsIfKnown, bytes_of}
-use Rattle.fm_shelf.specs.Shelf.{CountRose}
+use Rattle.fm_shelf.specs.Past.{Change, StopsOn, WritesOn}
+use Rattle.fm_shelf.specs.Shelf.{CountRose, IsUnchanged}
 use Rattle.fm_shelf.specs.Sink.{Wrote, WroteOrFailed, WrotePrefix}
 use Rattle.fm_shelf.specs.Outside.{Outside}
 use Rattle.campaign_plan.specs.Analysis.{Analysis, batch_count}
@@ -27,7 +28,7 @@ use Rattle.row_audit.specs.Audited.{each_nth}
 use Rattle.campaign_run.specs.Outside.{KeepsOthers, had_written}
 use Rattle.campaign_run.specs.Found.{checkpointed_or_true}
 use Rattle.campaign_run.specs.Reported.{BeginsWith, HasReported, ResumedAs}
-use Rattle.campaign_run.specs.Left.{IsPrefixOf, LeftPrefix}
+use Rattle.campaign_run.specs.Left.{IsPrefixOf, LeftPrefix, StoppedRows}
 use Rattle.commands.specs.declared.command.Task.{Task}
 use Rattle.commands.specs.declared.command.Task.TheVariants as task
 use Rattle.commands.specs.declared.command.Which.TheVariants as which
@@ -57,10 +58,10 @@ text_of (task.Trace run fault nets) (Driven c runs set) =
     Some (elim (waves_asked c runs set.flips set.pulses run fault nets) [ Ok waves ↦ dump_text waves | Err why ↦ [] ])
 text_of _ _ = None
 
--- a command that prints this text: no file has changed; the text went out, or `out` failed and a prefix of it did
+-- a command that prints this text: no file was changed; the text went out, or `out` failed and a prefix of it did
 abbrev pub PrintsAs : (text : Bytes) → Status → (before after : Outside) → Type 0
 PrintsAs text ended before after =
-    (after.shelf.content ≡ before.shelf.content)
+    IsUnchanged before.shelf after.shelf
     × (((ended ≡ status.Done) × Wrote before.out after.out text) ⊎ ((ended ≡ status.OutFault) × WrotePrefix before.out after.out text))
 
 -- ---- commands that write a result file
@@ -71,21 +72,24 @@ pub record Resumed (own : Bytes) (p : Analysis) (k : KeptRows) (bytes name : Byt
   pub resumed : ResumedAs own (report p (checkpointed_or_true p k)) p (checkpointed_or_true p k) bytes name before after
   pub stopped : LeftPrefix own p (true_planes p) (Held bytes) → ResumedAs own (true_report p) p (true_planes p) bytes name before after
 
--- A PART OF A CAMPAIGN: the file holds a row for each batch of the part, once, with its true planes; the line tells how many
+-- A PART OF A CAMPAIGN: the file holds a row for each batch of the part, once, with its true planes; the line tells how many. Whatever is known
+-- of the file, it was cut to nothing, and has then taken this text
 abbrev pub HasShard : (part parts : ℕ) → (own : Bytes) → Analysis → (name : Bytes) → (before after : Outside) → Type 0
 HasShard part parts own p name before after =
     (entries : List Entry) × HasPart p (true_planes p) part parts entries
     × HasIfKnown (after.shelf.content name) (result_text own p entries) × Wrote before.out after.out (shard_line part parts (length entries))
+    × WritesOn 0 (result_text own p entries) (before.shelf.changed name) (after.shelf.changed name)
 
--- MERGING: the file holds the rows of both files
+-- MERGING: the file holds the rows of both files, and was written so
 abbrev pub HasMerged : (own : Bytes) → Analysis → List Row → (name : Bytes) → (before after : Outside) → Type 0
 HasMerged own p both name before after =
     HasIfKnown (after.shelf.content name) (own ++ flat_map row_text both) × Wrote before.out after.out (merge_line (length both) (batch_count p))
+    × WritesOn 0 (own ++ flat_map row_text both) (before.shelf.changed name) (after.shelf.changed name)
 
 -- WHAT A TASK HAS WRITTEN to the result file of this name and to `out`
 abbrev pub HasWritten : Task → Judged → Reads → (name : Bytes) → (before after : Outside) → Type 0
-HasWritten (task.Run workers) (Planned p) reads = HasReported (own_header reads p) (true_report p) p (true_planes p)
-HasWritten (task.Gen stages workers) (Planned p) reads = HasReported (own_header reads p) (summary stages p (true_planes p)) p (true_planes p)
+HasWritten (task.Run workers) (Planned p) reads = HasReported (own_header reads p) (true_report p) p (true_planes p) 0
+HasWritten (task.Gen stages workers) (Planned p) reads = HasReported (own_header reads p) (summary stages p (true_planes p)) p (true_planes p) 0
 HasWritten (task.Resume workers) (Begun p k) reads = Resumed (own_header reads p) p k (bytes_read (reads which.Result))
 HasWritten (task.Shard part parts) (Planned p) reads = HasShard part parts (own_header reads p) p
 HasWritten task.Merge (Merged p both) reads = HasMerged (own_header reads p) p both
@@ -100,14 +104,23 @@ MayLeave (Begun p k) reads before after =
 MayLeave (Merged p both) reads before after = IsPrefixOf after (own_header reads p ++ flat_map row_text both)
 MayLeave _ reads before after = ⊥
 
+-- ROWS THAT WERE WRITTEN STAY: what was told of such a file, known or not. Up to the call that failed it was written as such a file, from the
+-- bytes that were kept on, and was not cut again
+abbrev pub MayStop : Judged → Reads → (before after : List Change) → Type 0
+MayStop (Planned p) reads = StoppedRows (own_header reads p) p (true_planes p) 0
+MayStop (Begun p k) reads = StoppedRows (own_header reads p) p (checkpointed_or_true p k) k.whole
+MayStop (Merged p both) reads = StopsOn 0 (own_header reads p ++ flat_map row_text both)
+MayStop _ reads = λ before after. ⊥
+
 -- a command that writes the result file of this name: files of other names are as before. All was written; or `out` failed, and all is as
--- then but for a part of a text; or a write to the file failed: it is as before, or so, and the line of this fault went out
+-- then but for a part of a text; or a write to the file failed: it is as before, or so, what was written stays, and the line of this fault went out
 pub data WritesAs (own : Task) (made : Judged) (reads : Reads) (name : Bytes) (before after : Outside) : Status → Type 0 where
   All : HasWritten own made reads name before after → WritesAs own made reads name before after status.Done
   OutFailed : (text : Bytes) → WrotePrefix before.out after.out text → HasWritten own made reads name before (had_written before after text)
       → WritesAs own made reads name before after status.OutFault
   ResultFailed : CountRose (before.shelf.write_faults name) (after.shelf.write_faults name)
       → (after.shelf.content name ≡ before.shelf.content name) ⊎ MayLeave made reads (before.shelf.content name) (after.shelf.content name)
+      → MayStop made reads (before.shelf.changed name) (after.shelf.changed name)
       → WroteOrFailed before.out after.out (line (codes "refused: cannot write" ∷ name ∷ []))
       → WritesAs own made reads name before after status.ResultFault
 
@@ -121,6 +134,6 @@ IsDoneOrFailed command made reads ended before after =
     (KeepsOthers before.shelf after.shelf name × WritesAs command.task made reads name before after ended)
     (λ text. PrintsAs text ended before after)
 
--- AFTER A REFUSAL: no file has changed, and its line was written, or a prefix of it where `out` failed
+-- AFTER A REFUSAL: no file was changed, and its line was written, or a prefix of it where `out` failed
 abbrev pub RefusedAs : (line : Bytes) → (before after : Outside) → Type 0
-RefusedAs line before after = (after.shelf.content ≡ before.shelf.content) × WroteOrFailed before.out after.out line
+RefusedAs line before after = IsUnchanged before.shelf after.shelf × WroteOrFailed before.out after.out line

@@ -25,7 +25,7 @@ CommandEnds command ended before after =
     (λ made. IsDoneOrFailed command made reads ended before after)
     (λ why. (ended ≡ why) × RefusedAs (refusal_line command.files c why) before after))
 
--- MEMORY may run out at any time before a file is changed; no file has changed then, and the line of this was written
+-- MEMORY may run out at any time before a file is changed; no file was changed then, and the line of this was written
 abbrev pub RanOut : Status → (before after : Outside) → Type 0
 RanOut ended before after = (ended ≡ status.Memory) × RefusedAs (codes "refused: out of memory\n") before after
 

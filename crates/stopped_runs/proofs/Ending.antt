@@ -65,12 +65,12 @@ module _ (words : List Bytes) (command : Command) (ended : Status) (before after
           → HasDone command ended before after ⊎ HasStayed ended before after
       by_judged (Ok made) got done = inl (record { reads = reads; read = read; walk = walk; made = made; judged_is = got; done = done })
       by_judged (Err why) got (same, (files, said)) =
-          inr (files, λ done. not_done walk reads (got ∙ ap (λ (s : Status). Err s) (sym same ∙ done)))
+          inr (files.content, λ done. not_done walk reads (got ∙ ap (λ (s : Status). Err s) (sym same ∙ done)))
 
   pub ended_as : Promises words ended before after → HasDone command ended before after ⊎ HasStayed ended before after
   ended_as (inl (own, of, alone, ends)) = by_ends (subst (λ it. CommandEnds it ended before after) (sym (alone command is)) ends)
   ended_as (inr (inl (none, usage, refused))) = absurd (none command is)
-  ended_as (inr (inr (memory, (files, said)))) = inr (files, λ done. absurd (cc))
+  ended_as (inr (inr (memory, (files, said)))) = inr (files.content, λ done. absurd (cc))
 
 -- ---- what it has written
 
@@ -80,41 +80,43 @@ whole_prefix Absent text is = absurd is
 whole_prefix (Held bytes) text is = (length text, is ∙ sym (take-length text))
 
 -- a file that is reported is such a prefix
-reported_left : (own text : Bytes) (p : Analysis) (planes : ℕ → Outcome) (name : Bytes) (before after : Outside) → HasReported own text p planes name before after
-    → LeftPrefix own p planes (after.shelf.content name)
-reported_left own text p planes name before after is =
+reported_left : (own text : Bytes) (p : Analysis) (planes : ℕ → Outcome) (kept_bytes : ℕ) (name : Bytes) (before after : Outside)
+    → HasReported own text p planes kept_bytes name before after → LeftPrefix own p planes (after.shelf.content name)
+reported_left own text p planes kept_bytes name before after is =
     record { entries = is.entries; part = is.whole.0; prefix = whole_prefix (after.shelf.content name) (result_text own p is.entries) is.result }
 
 -- RESULT is as before, or a byte prefix of true rows; and where all was done, it is reported
 abbrev WritesTruly : Bytes → Analysis → Status → (name : Bytes) → (before after : Outside) → Type 0
 WritesTruly own p ended name before after =
     ((after.shelf.content name ≡ before.shelf.content name) ⊎ LeftPrefix own p (true_planes p) (after.shelf.content name))
-    × (ended ≡ status.Done → HasReported own (true_report p) p (true_planes p) name before after)
+    × (ended ≡ status.Done → (kept_bytes : ℕ) × HasReported own (true_report p) p (true_planes p) kept_bytes name before after)
 
 run_writes : (workers : ℕ) (p : Analysis) (reads : Reads) (name : Bytes) (before after : Outside) {ended : Status}
     → WritesAs (task.Run workers) (Planned p) reads name before after ended → WritesTruly (own_header reads p) p ended name before after
 run_writes workers p reads name before after (All is) =
-    (inr (reported_left (own_header reads p) (true_report p) p (true_planes p) name before after is), λ done. is)
+    (inr (reported_left (own_header reads p) (true_report p) p (true_planes p) 0 name before after is), λ done. (0, is))
 run_writes workers p reads name before after (OutFailed text torn is) =
-    (inr (reported_left (own_header reads p) (true_report p) p (true_planes p) name before (had_written before after text) is), λ done. absurd (cc))
-run_writes workers p reads name before after (ResultFailed rose left said) = (left, λ done. absurd (cc))
+    (inr (reported_left (own_header reads p) (true_report p) p (true_planes p) 0 name before (had_written before after text) is), λ done. absurd (cc))
+run_writes workers p reads name before after (ResultFailed rose left stops said) = (left, λ done. absurd (cc))
 
 module _ (workers : ℕ) (p : Analysis) (k : KeptRows) (same : checkpointed_or_true p k ≡ true_planes p) (reads : Reads) (name : Bytes) (before : Outside) where
   abbrev own : Bytes
   own = own_header reads p
 
-  truly : (after : Outside) → HasReported own (report p (checkpointed_or_true p k)) p (checkpointed_or_true p k) name before after
-      → HasReported own (true_report p) p (true_planes p) name before after
-  truly after is = subst (λ (planes : ℕ → Outcome). HasReported own (report p planes) p planes name before after) same is
+  truly : (after : Outside) (kept_bytes : ℕ) → HasReported own (report p (checkpointed_or_true p k)) p (checkpointed_or_true p k) kept_bytes name before after
+      → HasReported own (true_report p) p (true_planes p) kept_bytes name before after
+  truly after kept_bytes is = subst (λ (planes : ℕ → Outcome). HasReported own (report p planes) p planes kept_bytes name before after) same is
 
   resume_writes : (after : Outside) {ended : Status} → WritesAs (task.Resume workers) (Begun p k) reads name before after ended → WritesTruly own p ended name before after
   resume_writes after (All is) =
-      let reported = truly after is.resumed.reported in (inr (reported_left own (true_report p) p (true_planes p) name before after reported), λ done. reported)
+      let whole = is.resumed.k.whole in
+      let reported = truly after whole is.resumed.reported in
+      (inr (reported_left own (true_report p) p (true_planes p) whole name before after reported), λ done. (whole, reported))
   resume_writes after (OutFailed text torn is) = (
-    inr (reported_left own (true_report p) p (true_planes p) name before (had_written before after text) (truly (had_written before after text) is.resumed.reported)),
+    inr (reported_left own (true_report p) p (true_planes p) is.resumed.k.whole name before (had_written before after text) (truly (had_written before after text) is.resumed.k.whole is.resumed.reported)),
     λ done. absurd (cc),
   )
-  resume_writes after (ResultFailed rose left said) = (by_left left, λ done. absurd (cc))
+  resume_writes after (ResultFailed rose left stops said) = (by_left left, λ done. absurd (cc))
     where
       by_left : (after.shelf.content name ≡ before.shelf.content name) ⊎ MayLeave (Begun p k) reads (before.shelf.content name) (after.shelf.content name)
           → (after.shelf.content name ≡ before.shelf.content name) ⊎ LeftPrefix own p (true_planes p) (after.shelf.content name)
@@ -127,7 +129,7 @@ module _ (workers : ℕ) (p : Analysis) (k : KeptRows) (same : checkpointed_or_t
 known_whole : (before after : ShelfState) (name held : Bytes) (got : FileRead) → before.content name ≡ Held held → WasRead before after name got
     → (bytes : Bytes) × (got ≡ Whole bytes) → got ≡ Whole held
 known_whole before after name held got known was (bytes, is) =
-    let own : HasIfKnown (before.content name) bytes × (length bytes ≤ 67108864) = subst (WasRead before after name) is was in
+    let own = subst (WasRead before after name) is was in
     let same : held ≡ bytes = subst (λ content. HasIfKnown content bytes) known own.0 in
     is ∙ ap (λ b. Whole b) (sym same)
 
@@ -218,7 +220,7 @@ module _ (c : Campaign) (met : Content) (before after : Outside) (holds : Holds 
   pub reports : (ended : Status) → ended ≡ status.Done → Ends ended → Reports c before after
   reports ended done (inr stayed) = absurd (stayed.1 done)
   reports ended done (inl end) =
-      let is = end.writes.1 done in
+      let is = (end.writes.1 done).1 in
       record { p = end.p; plan = end.plan; wrote = is.wrote; entries = is.entries; whole = is.whole; result = is.result }
 
   -- its inputs stay, where RESULT is none of them
@@ -235,10 +237,10 @@ module _ (c : Campaign) (met : Content) (before after : Outside) (holds : Holds 
   }
   inputs_stay ended apart (inl end) = record {
     inputs = (
-      end.others (c.files which.Netlist) apart.0 ∙ holds.inputs.0,
+      end.others.content (c.files which.Netlist) apart.0 ∙ holds.inputs.0,
       (
-        end.others (c.files which.Workload) apart.1.0 ∙ holds.inputs.1.0,
-        (end.others (c.files which.Rates) apart.1.1.0 ∙ holds.inputs.1.1.0, (end.others (c.files which.Points) apart.1.1.1.0 ∙ holds.inputs.1.1.1.0, tt)),
+        end.others.content (c.files which.Workload) apart.1.0 ∙ holds.inputs.1.0,
+        (end.others.content (c.files which.Rates) apart.1.1.0 ∙ holds.inputs.1.1.0, (end.others.content (c.files which.Points) apart.1.1.1.0 ∙ holds.inputs.1.1.1.0, tt)),
       ),
     );
     here = refl;

@@ -8,6 +8,9 @@ use Rattle.std.proofs.lemmas.List.{take_all, take_more, drop_more, map-append, l
 use Rattle.std.proofs.Math.Seq.{set_at, get_or-append_seam}
 use Rattle.fm_base.specs.Names.{Bytes}
 use Rattle.fm_shelf.specs.Content.{Content, Unknown, Absent, Held, IsThere}
+use Rattle.fm_shelf.specs.Past.{Given}
+use Rattle.fm_shelf.specs.Event.{Event, Read, given_of}
+use Rattle.fm_shelf.proofs.Pasts.{NotesChange, prefix_same, noted_read}
 use Rattle.fm_shelf.specs.Shelf.{CountRose, MayHaveMore, OnlyReads, OnlyWrites, ShelfState}
 use Rattle.stopped_runs.specs.declared.names.Told.{Told}
 use Rattle.stopped_runs.specs.declared.names.ToldNames.{ToldNames}
@@ -172,7 +175,56 @@ writes_of told name = count_told (λ it. it.writes) told.other_writes told.names
 sum_rises : (a b c d : ℕ) → a ≤ b → CountRose c d → CountRose (a + c) (b + d)
 sum_rises a b c d le rose = λ under. let more : c < d = rose (omega arith) in omega arith
 
-module _ (inner now : ShelfState) (name : Bytes) (before after : ToldNames) where
+-- a file that is told to be there is there
+there_inner : (b : Bool) (content : Content) → IsThere (if b then content else Unknown) → IsThere content
+there_inner true content there = there
+there_inner false content there = absurd there
+
+-- ---- a call that goes to the shelf behind
+
+module _ (inner now : ShelfState) (name : Bytes) (names : ToldNames) (events later : List Event) where
+  pub read_passes : (given : List Given) → OnlyReads inner now name → later ≡ Read name given ∷ events
+      → OnlyReads (stopping_state inner names events) (stopping_state now names later) name
+  read_passes given rest is =
+      let own =
+      noted_read inner.content inner.read_faults inner.read_faults inner.write_faults events later name given is
+      (record { grows = λ other. omega arith; others = λ other ne there. refl }) in
+      record {
+        content = ap (λ (content : Bytes → Content). content_told content names.names.items) rest.content;
+        counts = record {
+          grows = λ other. let grown = rest.counts.grows other in omega (arith, grown);
+          others = λ other ne there.
+              ap (λ n. n + reads_of names other) (rest.counts.others other ne (there_inner (is_told names.names.items other) (inner.content other) there));
+        };
+        writes = λ other. ap (λ n. n + writes_of names other) (rest.writes other);
+        more = own.more;
+        gives = own.gives;
+        changed = own.changed;
+      }
+
+  pub write_passes : OnlyWrites inner now name → NotesChange events later name
+      → OnlyWrites (stopping_state inner names events) (stopping_state now names later) name
+  write_passes rest noted = record {
+    others = λ other ne. ap (λ content. if is_told names.names.items other then content else Unknown) (rest.others other ne);
+    unknown = λ none. unknown_passes (is_told names.names.items name) none rest.unknown;
+    counts = record {
+      grows = λ other. let grown = rest.counts.grows other in omega (arith, grown);
+      others = λ other ne there.
+          ap (λ n. n + writes_of names other) (rest.counts.others other ne (there_inner (is_told names.names.items other) (inner.content other) there));
+    };
+    reads = λ other. ap (λ n. n + reads_of names other) (rest.reads other);
+    changes = noted.changes;
+    given = noted.given;
+  }
+    where
+      unknown_passes : (b : Bool) → (if b then inner.content name else Unknown) ≡ Unknown → (inner.content name ≡ Unknown → now.content name ≡ Unknown)
+          → (if b then now.content name else Unknown) ≡ Unknown
+      unknown_passes true none kept = kept none
+      unknown_passes false none kept = refl
+
+-- ---- a call behind the stop
+
+module _ (inner now : ShelfState) (name : Bytes) (before after : ToldNames) (events : List Event) where
   -- a read fails by the stop
   module _ (notes : NotesRead name before after) where
     pub read_rises : CountRose (inner.read_faults name + reads_of before name) (inner.read_faults name + reads_of after name)
@@ -185,7 +237,7 @@ module _ (inner now : ShelfState) (name : Bytes) (before after : ToldNames) wher
     read_grows other =
         rw (notes.names, notes.reads) (counts_grow name (read_noted name) (read_keeps name) (λ it. it.reads) (read_hits name) (read_misses name) before.other_reads before.names.items other)
 
-    pub read_stops : OnlyReads (stopping_state inner before) (stopping_state inner after) name
+    pub read_stops : OnlyReads (stopping_state inner before events) (stopping_state inner after events) name
     read_stops = record {
       content = λ i other. content_told_at (is_same other i) other;
       counts = record {
@@ -193,6 +245,9 @@ module _ (inner now : ShelfState) (name : Bytes) (before after : ToldNames) wher
         others = λ other ne there. ap (λ n. inner.read_faults other + n) (stays other ne (there_told inner.content before.names.items other there));
       };
       writes = λ other. ap (λ n. inner.write_faults other + n) (writes_same other);
+      more = λ other. prefix_same (given_of events other);
+      gives = λ other ne. refl;
+      changed = refl;
     }
       where
         content_told_at : Bool → Bytes → Content
@@ -227,8 +282,9 @@ module _ (inner now : ShelfState) (name : Bytes) (before after : ToldNames) wher
     pub told_as : (other : Bytes) → is_told after.names.items other ≡ is_told before.names.items other
     told_as other = ap (λ names. is_told names other) notes.names ∙ told_same name (write_noted name) (write_keeps name) before.names.items other
 
-    pub write_stops : OnlyWrites (stopping_state inner before) (stopping_state now after) name
-    write_stops = record {
+    pub write_stops : (later : List Event) → NotesChange events later name
+        → OnlyWrites (stopping_state inner before events) (stopping_state now after later) name
+    write_stops later noted = record {
       others = λ other ne. by_told other (told_as other) (rest.others other ne);
       unknown = λ none. unknown_told (is_told before.names.items name) (is_told after.names.items name) (told_as name) none rest.unknown;
       counts = record {
@@ -236,6 +292,8 @@ module _ (inner now : ShelfState) (name : Bytes) (before after : ToldNames) wher
         others = λ other ne there. stays other ne (there_told inner.content before.names.items other there) (there_inner (is_told before.names.items other) (inner.content other) there);
       };
       reads = λ other. ap (λ n. n + reads_of after other) (rest.reads other) ∙ ap (λ n. inner.read_faults other + n) (reads_same other);
+      changes = noted.changes;
+      given = noted.given;
     }
       where
         by_told : (other : Bytes) → is_told after.names.items other ≡ is_told before.names.items other → now.content other ≡ inner.content other
@@ -246,10 +304,6 @@ module _ (inner now : ShelfState) (name : Bytes) (before after : ToldNames) wher
             → (if d then now.content name else Unknown) ≡ Unknown
         unknown_told true d is none kept = ap (λ x. if x then now.content name else Unknown) is ∙ kept none
         unknown_told false d is none kept = ap (λ x. if x then now.content name else Unknown) is
-
-        there_inner : (b : Bool) (content : Content) → IsThere (if b then content else Unknown) → IsThere content
-        there_inner true content there = there
-        there_inner false content there = absurd there
 
         stays : (other : Bytes) → other ≢ name → is_told before.names.items other ≡ true → IsThere (inner.content other)
             → now.write_faults other + writes_of after other ≡ inner.write_faults other + writes_of before other
@@ -281,6 +335,8 @@ unwritten inner name = record {
   unknown = λ none. none;
   counts = record { grows = λ other. omega arith; others = λ other ne there. refl };
   reads = λ other. refl;
+  changes = λ other ne. refl;
+  given = refl;
 }
 
 pub unappended : (content : Content) (piece : Bytes) → MayHaveMore content content piece
@@ -291,4 +347,4 @@ unappended (Held now) piece = (0, omega arith, sym (append-nil now))
 pub same_told : (inner : ShelfState) (name : Bytes) (before after : ToldNames) → NotesWrite name before after
     → content_told inner.content after.names.items name ≡ content_told inner.content before.names.items name
 same_told inner name before after notes =
-    ap (λ b. if b then inner.content name else Unknown) (told_as inner inner name before after (unwritten inner name) notes name)
+    ap (λ b. if b then inner.content name else Unknown) (told_as inner inner name before after [] (unwritten inner name) notes name)

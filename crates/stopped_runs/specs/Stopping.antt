@@ -4,6 +4,8 @@ use Rattle.std.specs.Prelude.{◌≡◌, ◌⊎◌, ◌==◌, ℕ, ◌+◌, ◌-
 use Rattle.std.specs.Str.{bytes_eq}
 use Rattle.fm_base.specs.Names.{Bytes}
 use Rattle.fm_shelf.specs.Content.{Content, Unknown}
+use Rattle.fm_shelf.specs.Entries.{told as seen_with}
+use Rattle.fm_shelf.specs.Event.{Event}
 use Rattle.fm_shelf.specs.Shelf.{ShelfState, Appends, CountRose}
 use Rattle.stopped_runs.specs.declared.names.Told.{Told}
 use Rattle.stopped_runs.specs.declared.names.ToldNames.{ToldNames}
@@ -23,13 +25,13 @@ count_told count others (told ∷ rest) name = if bytes_eq told.name.items name 
 abbrev pub content_told : (Bytes → Content) → List Told → Bytes → Content
 content_told content names name = if is_told names name then content name else Unknown
 
--- what is seen of it, of what is seen of the shelf behind it: the counts have the faults of the calls that failed by the stop
-abbrev pub stopping_state : ShelfState → ToldNames → ShelfState
-stopping_state inner told = record {
-  content = content_told inner.content told.names.items;
-  read_faults = λ name. inner.read_faults name + count_told (λ it. it.reads) told.other_reads told.names.items name;
-  write_faults = λ name. inner.write_faults name + count_told (λ it. it.writes) told.other_writes told.names.items name;
-}
+-- what is seen of it, of what is seen of the shelf behind it: the counts have the faults of the calls that failed by the stop, and the record is
+-- of its own calls
+abbrev pub stopping_state : ShelfState → ToldNames → List Event → ShelfState
+stopping_state inner named events =
+    seen_with (content_told inner.content named.names.items)
+    (λ name. inner.read_faults name + count_told (λ it. it.reads) named.other_reads named.names.items name)
+    (λ name. inner.write_faults name + count_told (λ it. it.writes) named.other_writes named.names.items name) events
 
 -- when the stop comes, one call later: an append can't be torn behind it
 abbrev pub behind_call : Stop → Stop

@@ -1,10 +1,12 @@
 // A shelf on which a stop comes.
-ghost use Rattle.std.specs.Prelude.{◌≡◌, ◌<◌, ◌≤◌, ◌-◌, Some, None, length, take, map, OnOk, OnErr, IfOk, IsErr, true};
+ghost use Rattle.std.specs.Prelude.{◌≡◌, ◌++◌, ◌<◌, ◌≤◌, ◌-◌, Some, None, length, take, map, OnOk, OnErr, IfOk, IsErr, true};
 ghost use Rattle.fm_shelf.specs.Content.{Absent, IfPresent};
+ghost use Rattle.fm_shelf.specs.Past.{cut_by, given_by, taken_by};
 ghost use Rattle.fm_shelf.specs.Shelf.{CountRose, IsPieceRead, OnlyReads, OnlyWrites, Becomes, MayBecome, Appends, MayAppend, MayHaveMore};
 ghost use Rattle.stopped_runs.specs.Stopping.{TakesTorn, behind_call, stopping_state};
 
 use crate::names::ToldNames;
+use fm_shelf::past::{Note, Past};
 use fm_shelf::shelf::{Failed, Shelf};
 use fm_shelf::whole::append_all;
 use std::alloc::{AllocError, Global};
@@ -25,6 +27,7 @@ pub struct Stop {
 pub struct StoppingShelf<F: Shelf + Drop> {
     shelf: F,
     told: ToldNames,
+    past: Past,
     /// When the stop comes, from now on.
     pub stop: Stop,
 }
@@ -54,7 +57,12 @@ impl<F: Shelf + Drop> StoppingShelf<F> {
         ensures names { IfOk result (λ s. map (λ told. told.name.items) s.told.names.items ≡ map (λ name. name.now) names.now) }
     {
         let told = ToldNames::new(alloc, names)?;
-        Ok(StoppingShelf { shelf, told, stop })
+        Ok(StoppingShelf {
+            shelf,
+            told,
+            past: Past::new(),
+            stop,
+        })
     }
 
     /// Whether it tells the files of these names, and no other.
@@ -75,16 +83,18 @@ impl<F: Shelf + Drop> StoppingShelf<F> {
 impl<F: Shelf + Drop> Shelf for StoppingShelf<F> {
     ghost use Rattle.stopped_runs.specs.Stopping.{stopping_state};
 
-    ghost seen = { λ s. stopping_state (F.seen s.shelf) s.told };
+    ghost seen = { λ s. stopping_state (F.seen s.shelf) s.told s.past.events };
 
     /// Behind the stop it fails, and leaves the shelf behind as it is.
     fn read(&mut self, name: &str, at: u64, piece: &mut [u8]) -> Result<usize, Failed>
         ensures fits { IfOk result (λ n. n ≤ length piece.new) }
-        ensures bytes { IfOk result (λ n. IfPresent ((stopping_state (F.seen self.old.shelf) self.old.told).content name.now) (λ bytes. IsPieceRead bytes at n piece.new)) }
-        ensures absent { (stopping_state (F.seen self.old.shelf) self.old.told).content name.now ≡ Absent → IsErr result }
-        ensures failed { OnErr result (CountRose ((stopping_state (F.seen self.old.shelf) self.old.told).read_faults name.now)
-            ((stopping_state (F.seen self.new.shelf) self.new.told).read_faults name.now)) }
-        ensures rest { OnlyReads (stopping_state (F.seen self.old.shelf) self.old.told) (stopping_state (F.seen self.new.shelf) self.new.told) name.now }
+        ensures bytes { IfOk result (λ n. IfPresent ((stopping_state (F.seen self.old.shelf) self.old.told self.old.past.events).content name.now) (λ bytes. IsPieceRead bytes at n piece.new)) }
+        ensures absent { (stopping_state (F.seen self.old.shelf) self.old.told self.old.past.events).content name.now ≡ Absent → IsErr result }
+        ensures failed { OnErr result (CountRose ((stopping_state (F.seen self.old.shelf) self.old.told self.old.past.events).read_faults name.now)
+            ((stopping_state (F.seen self.new.shelf) self.new.told self.new.past.events).read_faults name.now)) }
+        ensures given { (stopping_state (F.seen self.new.shelf) self.new.told self.new.past.events).given name.now
+            ≡ (stopping_state (F.seen self.old.shelf) self.old.told self.old.past.events).given name.now ++ given_by at piece.new result }
+        ensures rest { OnlyReads (stopping_state (F.seen self.old.shelf) self.old.told self.old.past.events) (stopping_state (F.seen self.new.shelf) self.new.told self.new.past.events) name.now }
         ensures stop { self.new.stop ≡ behind_call self.old.stop }
         ensures fails { self.old.stop.calls ≡ 0 → IsErr result }
         ensures stays { self.old.stop.calls ≡ 0 → self.new.shelf ≡ self.old.shelf }
@@ -95,18 +105,28 @@ impl<F: Shelf + Drop> Shelf for StoppingShelf<F> {
             return Err(Failed);
         }
         self.stop.calls -= 1;
-        self.shelf.read(name, at, piece)
+        let answer = self.shelf.read(name, at, piece);
+        let piece = &*piece;
+        self.past = self.past.then(&Note::Read {
+            name,
+            at,
+            piece,
+            answer,
+        });
+        answer
     }
 
     /// Behind the stop it fails, and leaves the shelf behind as it is, but for a torn append.
     fn append(&mut self, name: &str, piece: &[u8]) -> Result<usize, Failed>
         ensures fits { IfOk result (λ n. n ≤ length piece.now) }
         ensures some { IfOk result (λ n. 0 < length piece.now → 0 < n) }
-        ensures ok { IfOk result (λ n. Appends (stopping_state (F.seen self.old.shelf) self.old.told) (stopping_state (F.seen self.new.shelf) self.new.told)
+        ensures ok { IfOk result (λ n. Appends (stopping_state (F.seen self.old.shelf) self.old.told self.old.past.events) (stopping_state (F.seen self.new.shelf) self.new.told self.new.past.events)
             name.now (take n piece.now)) }
-        ensures failed { OnErr result (MayAppend (stopping_state (F.seen self.old.shelf) self.old.told) (stopping_state (F.seen self.new.shelf) self.new.told)
+        ensures failed { OnErr result (MayAppend (stopping_state (F.seen self.old.shelf) self.old.told self.old.past.events) (stopping_state (F.seen self.new.shelf) self.new.told self.new.past.events)
             name.now piece.now) }
-        ensures rest { OnlyWrites (stopping_state (F.seen self.old.shelf) self.old.told) (stopping_state (F.seen self.new.shelf) self.new.told) name.now }
+        ensures taken { (stopping_state (F.seen self.new.shelf) self.new.told self.new.past.events).changed name.now
+            ≡ (stopping_state (F.seen self.old.shelf) self.old.told self.old.past.events).changed name.now ++ taken_by piece.now result }
+        ensures rest { OnlyWrites (stopping_state (F.seen self.old.shelf) self.old.told self.old.past.events) (stopping_state (F.seen self.new.shelf) self.new.told self.new.past.events) name.now }
         ensures stop { self.new.stop ≡ behind_call self.old.stop }
         ensures fails { self.old.stop.calls ≡ 0 → IsErr result }
         ensures takes { self.old.stop.calls ≡ 0 → TakesTorn (F.seen self.old.shelf) (F.seen self.new.shelf) self.old.stop.torn name.now piece.now }
@@ -115,19 +135,33 @@ impl<F: Shelf + Drop> Shelf for StoppingShelf<F> {
             let torn = self.stop.torn.take();
             tear(&mut self.shelf, torn, name, piece);
             self.told.note_write(name);
-            return Err(Failed);
+            let answer = Err(Failed);
+            self.past = self.past.then(&Note::Append {
+                name,
+                piece,
+                answer,
+            });
+            return answer;
         }
         self.stop.calls -= 1;
-        self.shelf.append(name, piece)
+        let answer = self.shelf.append(name, piece);
+        self.past = self.past.then(&Note::Append {
+            name,
+            piece,
+            answer,
+        });
+        answer
     }
 
     /// Behind the stop it fails, and leaves the shelf behind as it is.
     fn cut(&mut self, name: &str, len: u64) -> Result<(), Failed>
-        ensures ok { OnOk result (Becomes (stopping_state (F.seen self.old.shelf) self.old.told) (stopping_state (F.seen self.new.shelf) self.new.told)
+        ensures ok { OnOk result (Becomes (stopping_state (F.seen self.old.shelf) self.old.told self.old.past.events) (stopping_state (F.seen self.new.shelf) self.new.told self.new.past.events)
             name.now (take len)) }
-        ensures failed { OnErr result (MayBecome (stopping_state (F.seen self.old.shelf) self.old.told) (stopping_state (F.seen self.new.shelf) self.new.told)
+        ensures failed { OnErr result (MayBecome (stopping_state (F.seen self.old.shelf) self.old.told self.old.past.events) (stopping_state (F.seen self.new.shelf) self.new.told self.new.past.events)
             name.now (take len)) }
-        ensures rest { OnlyWrites (stopping_state (F.seen self.old.shelf) self.old.told) (stopping_state (F.seen self.new.shelf) self.new.told) name.now }
+        ensures changed { (stopping_state (F.seen self.new.shelf) self.new.told self.new.past.events).changed name.now
+            ≡ (stopping_state (F.seen self.old.shelf) self.old.told self.old.past.events).changed name.now ++ cut_by len result }
+        ensures rest { OnlyWrites (stopping_state (F.seen self.old.shelf) self.old.told self.old.past.events) (stopping_state (F.seen self.new.shelf) self.new.told self.new.past.events) name.now }
         ensures stop { self.new.stop ≡ behind_call self.old.stop }
         ensures fails { self.old.stop.calls ≡ 0 → IsErr result }
         ensures stays { self.old.stop.calls ≡ 0 → self.new.shelf ≡ self.old.shelf }
@@ -135,9 +169,13 @@ impl<F: Shelf + Drop> Shelf for StoppingShelf<F> {
         if self.stop.calls == 0 {
             self.stop.torn = None;
             self.told.note_write(name);
-            return Err(Failed);
+            let answer = Err(Failed);
+            self.past = self.past.then(&Note::Cut { name, len, answer });
+            return answer;
         }
         self.stop.calls -= 1;
-        self.shelf.cut(name, len)
+        let answer = self.shelf.cut(name, len);
+        self.past = self.past.then(&Note::Cut { name, len, answer });
+        answer
     }
 }

@@ -10,6 +10,7 @@ ghosts-play_over g a = record {
     header = a.own.now;
     name = string_bytes a.name.now;
     rows = [];
+    whole = 0;
     shelf = g.F.Shelf.seen a.shelf;
   };
 }

@@ -18,10 +18,12 @@ worked-board-requires-clause-whole g c κs within =
     let fresh = c.in-Ok.ensures.board in
     let start = rw (← c.campaign.view_is) at c.requires.kept in
     let origin = rw (← c.campaign.view_is) at c.requires.origin in
-    rw (fresh.shelf_is, fresh.rows, origin)
-    (starts_whole c.campaign.inside.own.now c.campaign.inside.plan.now _ c.campaign.inside.kept
-    (origin_of (record { name = c.campaign.inside.name.now; own = c.campaign.inside.own.now; p = c.campaign.inside.plan.now; k = c.campaign.inside.kept; text = c.campaign.inside.text }) (g.F.Shelf.seen c.args.shelf))
-    c.campaign.invariant.1 start refl)
+    rw (fresh.shelf_is, fresh.rows, origin) (
+      refl,
+      starts_whole c.campaign.inside.own.now c.campaign.inside.plan.now _ c.campaign.inside.kept
+          (origin_of (record { name = c.campaign.inside.name.now; own = c.campaign.inside.own.now; p = c.campaign.inside.plan.now; k = c.campaign.inside.kept; text = c.campaign.inside.text }) (g.F.Shelf.seen c.args.shelf))
+          c.campaign.invariant.1 start refl,
+    )
 
 pub worked-board-requires-clause-entries : goal.worked-board-requires-clause-entries
 worked-board-requires-clause-entries g c κs within =

@@ -7,7 +7,8 @@ pub returns-then-is_err : goal.returns-then-is_err
 returns-then-is_err g c =
     let bad : is_err c.append_header.result ≡ true = sym c.is_err.ensures.value ∙ c.if-is_err.true in
     let torn = rw c.board.ensures.value at (on_err c.append_header.result bad c.append_header.ensures.torn) in
-    rw c.into_board.ensures (inr ((on_err c.append_header.result bad c.append_header.ensures.failed).0, torn))
+    let stops = rw (c.board.ensures.value, c.requires.fresh.rows) at (on_err c.append_header.result bad c.append_header.ensures.stops) in
+    rw c.into_board.ensures (inr ((on_err c.append_header.result bad c.append_header.ensures.failed).0, torn, stops))
 
 pub campaign-requires-clause-written : goal.campaign-requires-clause-written
 campaign-requires-clause-written g c κs within =

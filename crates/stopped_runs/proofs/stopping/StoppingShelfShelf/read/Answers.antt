@@ -1,10 +1,24 @@
-use Rattle.stopped_runs.proofs.Noting.{read_rises, read_stops}
+use Rattle.std.proofs.Common.{append-nil, sym}
+use Rattle.fm_shelf.proofs.Pasts.{adds_given}
+use Rattle.stopped_runs.proofs.Noting.{read_passes, read_rises, read_stops}
 use Rattle.stopped_runs.proofs.stopping.StoppingShelfShelf.read.Goals as goal
 
 pub returns-then-self-eq0-clause-failed : goal.returns-then-self-eq0-clause-failed
 returns-then-self-eq0-clause-failed g c =
-    read_rises (g.F.Shelf.seen c.args.self.now.shelf) (g.F.Shelf.seen c.args.self.now.shelf) c.args.name.now c.args.self.now.told c.note_read.new.self c.note_read.ensures
+    read_rises (g.F.Shelf.seen c.args.self.now.shelf) (g.F.Shelf.seen c.args.self.now.shelf) c.args.name.now c.args.self.now.told c.note_read.new.self c.args.self.now.past.events c.note_read.ensures
 
 pub returns-then-self-eq0-clause-rest : goal.returns-then-self-eq0-clause-rest
 returns-then-self-eq0-clause-rest g c =
-    read_stops (g.F.Shelf.seen c.args.self.now.shelf) (g.F.Shelf.seen c.args.self.now.shelf) c.args.name.now c.args.self.now.told c.note_read.new.self c.note_read.ensures
+    read_stops (g.F.Shelf.seen c.args.self.now.shelf) (g.F.Shelf.seen c.args.self.now.shelf) c.args.name.now c.args.self.now.told c.note_read.new.self c.args.self.now.past.events c.note_read.ensures
+
+-- a read that failed has given nothing
+pub returns-then-self-eq0-clause-given : goal.returns-then-self-eq0-clause-given
+returns-then-self-eq0-clause-given g c = sym (append-nil _)
+
+pub returns-clause-given : goal.returns-clause-given
+returns-clause-given g c = adds_given c.args.self.now.past.events c.then.result.events c.args.name.now _ c.then.ensures
+
+pub returns-clause-rest : goal.returns-clause-rest
+returns-clause-rest g c =
+    read_passes (g.F.Shelf.seen c.args.self.now.shelf) (g.F.Shelf.seen c.read-answer.new.self) c.args.name.now c.args.self.now.told c.args.self.now.past.events c.then.result.events _
+    c.read-answer.ensures.rest c.then.ensures

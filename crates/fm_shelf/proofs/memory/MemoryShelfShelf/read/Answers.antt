@@ -1,0 +1,14 @@
+use Rattle.std.proofs.Common.{refl, arith}
+use Rattle.fm_shelf.specs.Content.{Absent}
+use Rattle.fm_shelf.specs.declared.memory.Entry.{Entry}
+use Rattle.fm_shelf.specs.Entries.{content_in, entry_count, files_of}
+use Rattle.fm_shelf.proofs.Pasts.{noted_read}
+use Rattle.fm_shelf.proofs.memory.MemoryShelfShelf.read.Goals as goal
+
+pub returns-in-Some-clause-rest : goal.returns-in-Some-clause-rest
+returns-in-Some-clause-rest c =
+    let entries = c.args.self.now.entries.items in
+    let reads = entry_count (λ (entry : Entry). entry.reads) c.args.self.now.other_reads entries in
+    let writes = entry_count (λ (entry : Entry). entry.writes) c.args.self.now.other_writes entries in
+    noted_read (content_in (files_of entries) Absent) reads reads writes c.args.self.now.past.events c.then-self.result.events c.args.name.now _ c.then-self.ensures
+    (record { grows = λ other. omega arith; others = λ other ne there. refl })
