@@ -18,7 +18,7 @@ use Rattle.result_file.specs.declared.KeptRows.{KeptRows}
 use Rattle.result_file.specs.KeptRows.{kept}
 use Rattle.result_merge.specs.Merged.{merged}
 use Rattle.row_audit.specs.Audited.{first_false}
-use Rattle.row_audit.specs.declared.audit.FalseRow.{FalseRow}
+use Rattle.result_file.specs.declared.FalseRow.{FalseRow}
 use Rattle.wave_dump.specs.Asked.{waves_asked}
 use Rattle.wave_dump.specs.declared.DumpFault.{DumpFault}
 use Rattle.wave_dump.specs.declared.DumpFault.TheVariants as dump
@@ -39,7 +39,7 @@ use Rattle.command_reads.specs.declared.files.FileRead.TheVariants.{Whole, TooLo
 use Rattle.command_reads.specs.Answers.{LoopsAnswered, generated_settings}
 use Rattle.command_reads.specs.Files.{Reads, bytes_of as bytes_read}
 use Rattle.command_reads.specs.FirstRefusal.{Judged, classes_plan_of, judge, netlist_read, netlist_step, own_header, plan_of, read_as, rows_in, unless, whole, ◌>>=◌}
-use Rattle.fmeda_top.specs.TaskRefusals.{false_row, judged, not_there, refusal_in, task_refusal}
+use Rattle.fmeda_top.specs.TaskRefusals.{judged, not_there, refusal_in, task_refusal}
 use Rattle.command_reads.specs.FirstRefusal as stands
 use Rattle.fmeda_top.specs.Laws.{circuit_in}
 
@@ -219,7 +219,7 @@ module _ (HasFailed : Which → Type 0) where
 
   -- ---- what a task itself refuses
 
-  row_of_files : (P : Type 0) → P → (found : Option FalseRow) → MatchOption (option_map false_row found) P IsOfFiles
+  row_of_files : (P : Type 0) → P → (found : Option FalseRow) → MatchOption (option_map status.Disagrees found) P IsOfFiles
   row_of_files P h None = h
   row_of_files P h (Some row) = tt
 

@@ -32,8 +32,7 @@ use Rattle.refusals.specs.declared.status.Status.TheVariants as status
 use Rattle.refusals.specs.Refusals.{IsPlain}
 use Rattle.command_reads.specs.FirstRefusal.{Begun}
 use Rattle.row_audit.specs.Audited.{first_false}
-use Rattle.row_audit.specs.declared.audit.FalseRow.{FalseRow}
-use Rattle.fmeda_top.specs.TaskRefusals.{false_row}
+use Rattle.result_file.specs.declared.FalseRow.{FalseRow}
 use Rattle.fmeda_top.specs.Doing.{ChecksAs, TellsAs}
 
 -- ---- `audit`
@@ -45,9 +44,9 @@ checks_tell every by p k out (By ended) (why, plain) = (why, plain, refl)
 checks_tell every by p k out (Looped walk net) none = absurd none
 
 -- the refusal is that of the first false row
-pub row_refused : (p : Analysis) (every : ℕ) (k : KeptRows) (row : FalseRow) (ended : Status) → first_false p every k.rows ≡ Some row → ended ≡ false_row row
-    → ((ended ≡ status.Memory) ⊎ (option_map false_row (first_false p every k.rows) ≡ Some ended)) × IsPlain ended
-row_refused p every k row ended is told = (inr (ap (option_map false_row) is ∙ ap Some (sym told)), subst IsPlain (sym told) tt)
+pub row_refused : (p : Analysis) (every : ℕ) (k : KeptRows) (row : FalseRow) (ended : Status) → first_false p every k.rows ≡ Some row → ended ≡ status.Disagrees row
+    → ((ended ≡ status.Memory) ⊎ (option_map status.Disagrees (first_false p every k.rows) ≡ Some ended)) × IsPlain ended
+row_refused p every k row ended is told = (inr (ap (option_map status.Disagrees) is ∙ ap Some (sym told)), subst IsPlain (sym told) tt)
 
 -- ---- `pairs`
 

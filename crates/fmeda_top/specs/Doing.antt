@@ -38,7 +38,7 @@ use Rattle.row_audit.specs.Audited.{first_false}
 use Rattle.fm_base.specs.declared.Refusal.{Refusal}
 use Rattle.fm_base.specs.declared.Refusal.TheVariants.{Fault, Memory}
 use Rattle.fm_shelf.specs.declared.shelf.Failed.{Failed}
-use Rattle.fmeda_top.specs.TaskRefusals.{false_row, not_there, task_refusal}
+use Rattle.fmeda_top.specs.TaskRefusals.{not_there, task_refusal}
 use Rattle.command_reads.specs.Judging.{AreSound, IsOfKind, JudgesAs}
 use Rattle.fmeda_top.specs.Ends.{HasWritten, IsDoneOrFailed, MayLeave, MayStop, text_of}
 use Rattle.fmeda_top.specs.Promises.{CommandEnds, RanOut}
@@ -129,7 +129,7 @@ PrintedAs (Err refused) ended before after names =
 -- all of the audited rows have the planes that their batches truly have, or the first that hasn't is refused
 abbrev pub ChecksAs : (every : ℕ) → Analysis → KeptRows → Result (Unit {0}) Refused → Type 0
 ChecksAs every p k (Ok done) = first_false p every k.rows ≡ None
-ChecksAs every p k (Err (By ended)) = ((ended ≡ status.Memory) ⊎ (option_map false_row (first_false p every k.rows) ≡ Some ended)) × IsPlain ended
+ChecksAs every p k (Err (By ended)) = ((ended ≡ status.Memory) ⊎ (option_map status.Disagrees (first_false p every k.rows) ≡ Some ended)) × IsPlain ended
 ChecksAs every p k (Err (Looped walk net)) = ⊥
 
 -- the status of a text that needs memory beside: it went out, or a prefix of it where `out` failed; or there was no memory, and nothing did

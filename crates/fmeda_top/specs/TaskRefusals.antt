@@ -5,7 +5,6 @@ use Rattle.campaign_plan.specs.Analysis.{Analysis}
 use Rattle.result_file.specs.declared.KeptRows.{KeptRows}
 use Rattle.pair_list.specs.Chosen.{pair_refusal}
 use Rattle.row_audit.specs.Audited.{first_false}
-use Rattle.row_audit.specs.declared.audit.FalseRow.{FalseRow}
 use Rattle.wave_dump.specs.Asked.{waves_asked}
 use Rattle.wave_dump.specs.Dump.{Waves}
 use Rattle.wave_dump.specs.declared.DumpFault.{DumpFault}
@@ -19,10 +18,6 @@ use Rattle.refusals.specs.declared.status.Status.TheVariants as status
 use Rattle.command_reads.specs.Files.{Reads}
 use Rattle.command_reads.specs.FirstRefusal.{◌>>=◌, Judged, Begun, Driven, judge, unless}
 
--- the status of a row that keeps other planes than those that its batch truly has
-abbrev pub false_row : FalseRow → Status
-false_row row = status.Disagrees row.batch row.kept row.computed
-
 -- the status of a run, a fault or a net that isn't there
 abbrev pub not_there : DumpFault → Status
 not_there = elim [ dump.NoRun ↦ status.NoRun | dump.NoFault ↦ status.NoFault | dump.NoNet ↦ status.NoNet ]
@@ -34,7 +29,7 @@ refusal_in told answer = elim answer [ Ok x ↦ None | Err why ↦ Some (told wh
 -- AUDIT: the first of each N-th row that isn't true. PAIRS: a batch has no row, or there are too many pairs. TRACE: a run, a fault or a net that
 -- isn't there
 abbrev pub task_refusal : Task → Judged → Option Status
-task_refusal (task.Audit every by) (Begun p k) = option_map false_row (first_false p every k.rows)
+task_refusal (task.Audit every by) (Begun p k) = option_map status.Disagrees (first_false p every k.rows)
 task_refusal (task.Pairs workers) (Begun p k) = option_map status.Pairs (pair_refusal p k.rows)
 task_refusal (task.Trace run fault nets) (Driven c runs set) = refusal_in not_there (waves_asked c runs set.flips set.pulses run fault nets)
 task_refusal _ _ = None

@@ -122,7 +122,7 @@ refusal_line file c ended =
       | status.TooLong which ↦ line (codes "refused:" ∷ file which ∷ codes "is longer than 67108864 bytes" ∷ [])
       | status.Result (Foreign it own) ↦ line (codes "refused: foreign result file, found" ∷ (head it ++ codes ",") ∷ codes "own" ∷ take 88 own ∷ [])
       | status.Result (BadRow number why) ↦ line (codes "refused: result row" ∷ decimal number ∷ row_why why)
-      | status.Disagrees n kept own ↦ line (codes "refused: batch" ∷ decimal n ∷ both (codes "kept") kept ++ both (codes "computed") own)
+      | status.Disagrees row ↦ line (codes "refused: batch" ∷ decimal row.batch ∷ both (codes "kept") row.kept ++ both (codes "computed") row.computed)
       | status.Merge (Differs n one two) ↦ line (codes "refused: batch" ∷ decimal n ∷ both (codes "first") one ++ both (codes "second") two)
       | status.Pairs (Incomplete n all) ↦ line (codes "refused: result file has" ∷ decimal n ∷ codes "of" ∷ decimal all ∷ codes "batches" ∷ [])
       | status.Pairs TooMany ↦ codes "refused: more than 1048576 pairs\n"
@@ -143,20 +143,15 @@ code_of (status.Netlist fault) = 3
 code_of (status.Bench fault) = 14
 code_of (status.Loop walk) = 4
 code_of (status.Rates fault) = 5
-code_of (status.Plan (plan.MissingRate net name)) = 6
-code_of (status.Plan (plan.IdleRate part permanent)) = 7
-code_of (status.Plan plan.TooManyFaults) = 10
-code_of (status.Plan plan.Memory) = 30
+code_of (status.Plan refusal) = elim refusal [ plan.MissingRate net name ↦ 6 | plan.IdleRate part permanent ↦ 7 | plan.TooManyFaults ↦ 10 | plan.Memory ↦ 30 ]
 code_of (status.Points fault) = 8
 code_of (status.Workload fault) = 9
 code_of status.ManyOutputs = 10
 code_of (status.TooLong which) = 10
-code_of (status.Result (Foreign found own)) = 11
-code_of (status.Result (BadRow number why)) = 12
-code_of (status.Disagrees batch kept computed) = 13
+code_of (status.Result refusal) = elim refusal [ Foreign found own ↦ 11 | BadRow number why ↦ 12 ]
+code_of (status.Disagrees row) = 13
 code_of (status.Merge refusal) = 15
-code_of (status.Pairs (Incomplete have batches)) = 16
-code_of (status.Pairs TooMany) = 10
+code_of (status.Pairs refusal) = elim refusal [ Incomplete have batches ↦ 16 | TooMany ↦ 10 ]
 code_of status.NoRun = 17
 code_of status.NoFault = 17
 code_of status.NoNet = 17

@@ -148,18 +148,14 @@ pub fn refuse<O: Sink>(out: &mut O, names: &FileNames, nets: &[Name], status: &S
         ),
         Status::Plan(cause) => refuse_plan(out, cause),
         Status::Result(cause) => refuse_result(out, cause),
-        Status::Disagrees {
-            batch,
-            kept,
-            computed,
-        } => refuse_planes(
+        Status::Disagrees(row) => refuse_planes(
             out,
             b"batch",
-            *batch,
+            row.batch,
             b"kept",
-            *kept,
+            row.kept,
             b"computed",
-            *computed,
+            row.computed,
         ),
         Status::Merge(cause) => refuse_merge(out, *cause),
         Status::Pairs(cause) => refuse_pairs(out, *cause),

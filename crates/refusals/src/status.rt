@@ -5,13 +5,13 @@ ghost use Rattle.refusals.specs.RefusalLines.{code_of};
 use alarm_points::PointsFault;
 use bench_reader::BenchFault;
 use blif_text::NetlistFault;
-use campaign_plan::{Outcome, PlanRefusal};
+use campaign_plan::PlanRefusal;
 use commands::Which;
 use fm_shelf::shelf::Failed;
 use netlist_levels::Walk;
 use pair_list::PairRefusal;
 use rate_table::RatesFault;
-use result_file::ResultRefusal;
+use result_file::{FalseRow, ResultRefusal};
 use result_merge::MergeRefusal;
 use workload::file::WorkloadFault;
 
@@ -30,11 +30,7 @@ pub enum Status {
     ManyOutputs,
     TooLong(Which),
     Result(ResultRefusal),
-    Disagrees {
-        batch: u32,
-        kept: Outcome,
-        computed: Outcome,
-    },
+    Disagrees(FalseRow),
     Merge(MergeRefusal),
     Pairs(PairRefusal),
     NoRun,
@@ -67,7 +63,7 @@ impl Status {
             Status::ManyOutputs | Status::TooLong(_) => 10,
             Status::Result(ResultRefusal::Foreign { .. }) => 11,
             Status::Result(ResultRefusal::BadRow { .. }) => 12,
-            Status::Disagrees { .. } => 13,
+            Status::Disagrees(_) => 13,
             Status::Merge(_) => 15,
             Status::Pairs(PairRefusal::Incomplete { .. }) => 16,
             Status::Pairs(PairRefusal::TooMany) => 10,

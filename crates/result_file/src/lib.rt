@@ -9,6 +9,7 @@ mod read;
 mod text;
 
 pub use back::read_result;
+use campaign_plan::Outcome;
 pub use digest::own_digest;
 use fm_base::{Line, Seq};
 pub use law::written_reads_back;
@@ -23,6 +24,14 @@ pub struct Row {
     pub danger: u64,
     pub noticed: u64,
     pub sums: Sums,
+}
+
+/// A row that keeps other planes than those that were computed of its batch.
+#[derive(Clone, Copy)]
+pub struct FalseRow {
+    pub batch: u32,
+    pub kept: Outcome,
+    pub computed: Outcome,
 }
 
 /// Rows, in the order in which they were appended.

@@ -8,7 +8,7 @@ use Rattle.alarm_points.specs.declared.Points.{Points}
 use Rattle.campaign_plan.specs.Analysis.{Analysis, all_faults}
 use Rattle.campaign_plan.specs.Batches.{true_planes}
 use Rattle.result_file.specs.declared.Row.{Row}
-use Rattle.row_audit.specs.declared.audit.FalseRow.{FalseRow}
+use Rattle.result_file.specs.declared.FalseRow.{FalseRow}
 
 -- each N-th of a list: what stands at the places 0, N, 2N and so on
 abbrev pub each_nth : {A : Type 0} → ℕ → List A → List A

@@ -17,7 +17,7 @@ use crate::one_circuit::circuits_for;
 use crate::watcher::Watcher;
 use campaign_plan::{Outcome, Plan};
 use netlist_levels::Order;
-use result_file::Row;
+use result_file::{FalseRow, Row};
 use std::alloc::{AllocError, Global};
 
 /// What an audit simulates by.
@@ -27,14 +27,6 @@ pub enum Kernel {
     EveryTable,
     /// One circuit at a time, by the rows of its tables: the 64 faults of a batch one by one, and the golden circuit.
     OneCircuit,
-}
-
-/// A row that keeps other planes than its batch truly has.
-#[derive(Clone, Copy)]
-pub struct FalseRow {
-    pub batch: u32,
-    pub kept: Outcome,
-    pub computed: Outcome,
 }
 
 // Whether a row of this number is one of those that are looked at.

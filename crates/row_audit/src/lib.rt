@@ -14,5 +14,5 @@ mod run;
 mod see;
 mod watcher;
 
-pub use audit::{FalseRow, Kernel, audited, first_false_row};
+pub use audit::{Kernel, audited, first_false_row};
 pub use law::each_first_is_each;

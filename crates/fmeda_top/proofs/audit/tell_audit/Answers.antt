@@ -8,7 +8,7 @@ use Rattle.refusals.specs.Texts.{audit_line}
 use Rattle.result_file.specs.declared.Row.{Row}
 use Rattle.row_audit.specs.Audited.{each_nth}
 use Rattle.command_reads.specs.FirstRefusal.{Begun}
-use Rattle.fmeda_top.specs.TaskRefusals.{false_row}
+use Rattle.refusals.specs.declared.status.Status.TheVariants as status
 use Rattle.fmeda_top.proofs.RowTexts.{checks_tell}
 use Rattle.fmeda_top.proofs.Telling.{told}
 use Rattle.fmeda_top.proofs.audit.tell_audit.Goals as goal
@@ -25,5 +25,5 @@ returns g c =
     let count : c.audited-count.result ≡ length (each_nth c.args.every begun.kept.rows) =
     c.audited-count.ensures ∙ ap (λ (rows : List Row). length (each_nth c.args.every rows)) c.as_slice.ensures in
     told (task.Audit c.args.every c.args.by) (Begun begun.planned.plan begun.kept) _ _ (audit_line c.args.every (length (each_nth c.args.every begun.kept.rows)) (batch_count begun.planned.plan)) c.write_audit.result
-    c.after_text.result (ap (option_map false_row) c.in_ok-check_rows.ensures) refl (sends_as (λ j. audit_line c.args.every (count j) (c.batches.ensures.count j)) c.write_audit.ensures)
+    c.after_text.result (ap (option_map status.Disagrees) c.in_ok-check_rows.ensures) refl (sends_as (λ j. audit_line c.args.every (count j) (c.batches.ensures.count j)) c.write_audit.ensures)
     c.after_text.ensures.done c.after_text.ensures.failed
