@@ -32,12 +32,10 @@ module _ (rows : List Row) where
   abbrev pub text_or : (default id : Text) → Text
   text_or default id = unwrap_or (first_of id rows) default
 
-  -- an argument or an option, its default included, is this number, read as unsigned numbers of 32 bits are, and within these bounds; where
-  -- the command has none, this text is
+  -- an argument or an option, its default included, or this text where the command has none, is this number of 32 bits, within these bounds
   pub record HasNumber (default id : Text) (low high n : ℕ) : Type 0 where
     pub number : ParsesUnsigned {E = ParseIntError} 32 10 (unwrap_or (one_of id rows) default) (Ok n)
-    pub least : low ≤ n
-    pub most : n ≤ high
+    pub within : (low ≤ n) × (n ≤ high)
 
   -- the interval in cycles; the cycles of flips, at most 16, and of pulses, at most 4: `none`, or decimal numbers joined by commas, strictly
   -- rising, up to 65535; the ASIL. Where the command has no such option: 0, `none`, `none` and D

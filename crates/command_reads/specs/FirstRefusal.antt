@@ -103,8 +103,7 @@ pub data Judged : Type 0 where
   Merged : (p : Analysis) → (both : List Row) → Judged
 
 -- what the files of this kind stand for, or the first refusal. Of two result files FIRST is judged whole before SECOND, and then the batches
--- that stand in both; a net that has no rate is none where a netlist and rates are read; a generated netlist has no name, is BLIF, and has
--- flips in cycle 1 and no pulses
+-- of both; with a netlist and rates alone a net may lack a rate; a generated netlist has no name, is BLIF, and has flips in cycle 1 and no pulses
 unfoldable pub judge : Bytes → Option (List NetId) → Settings → Reads → Kind → Result Judged Status
 judge netlist walk set reads kind.Observed = classes_plan_of netlist walk reads >>= (λ p. Ok (Planned p))
 judge netlist walk set reads kind.Planned = plan_of netlist walk set reads >>= (λ p. Ok (Planned p))

@@ -37,8 +37,7 @@ pub struct FalseRow {
 /// Rows, in the order in which they were appended.
 pub type RowList = Seq<Row>;
 
-/// The rows that are kept of a file, and the number of its first bytes that hold the header and them: what follows is torn.
-/// It is 0 where not even the header is whole.
+/// The rows that are kept of a file, and how many bytes the header and they have: what follows is torn. It is 0 without a whole header.
 #[derive(Drop)]
 pub struct KeptRows {
     pub rows: RowList,
