@@ -1,20 +1,15 @@
 -- What the faults of a batch are found to be, where there may be none.
-use Rattle.std.specs.Prelude.{ℕ, List, [], ◌∷◌, length, Option, None, Some, slice_index_or, if◌then◌else◌}
+use Rattle.std.specs.Prelude.{ℕ, List, [], ◌∷◌, Option, None, Some, slice_index_or}
 use Rattle.circuit.specs.declared.parts.Fault.{Fault}
 use Rattle.circuit.specs.Circuit.{Circuit}
 use Rattle.workload.specs.declared.run.Run.{Run}
 use Rattle.alarm_points.specs.declared.Points.{Points}
-use Rattle.fault_list.specs.Faults.{fault_at, fault_number, is_used}
+use Rattle.fault_list.specs.Faults.{fault_in_lane}
 use Rattle.lane_words.specs.Loads.{somes}
 use Rattle.campaign_plan.specs.declared.Outcome.{Outcome}
 use Rattle.campaign_plan.specs.Batches.{outcome_of}
 
--- the fault in a lane of a batch, where there is a batch and the lane holds a fault
-abbrev pub fault_in_lane : List Fault → Option ℕ → ℕ → Option Fault
-fault_in_lane faults None lane = None
-fault_in_lane faults (Some batch) lane = if is_used (length faults) batch lane then Some (fault_at faults (fault_number batch lane)) else None
-
--- the same as a list
+-- the fault in a lane of a batch, where there is one, as a list
 abbrev pub alone_in : List Fault → Option ℕ → ℕ → List Fault
 alone_in faults batch lane = somes (fault_in_lane faults batch lane ∷ [])
 

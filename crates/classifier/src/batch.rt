@@ -10,7 +10,7 @@ ghost use Rattle.alarm_points.specs.Watch.{AreMadeFor};
 ghost use Rattle.campaign_plan.specs.Batches.{outcome_of};
 ghost use Rattle.golden_difference.specs.Lanes.{IsMadeFor};
 ghost use Rattle.lane_words.specs.Loads.{loaded_faults};
-ghost use Rattle.classifier.specs.Batch.{alone_in, batch_at, fault_in_lane, outcome_for};
+ghost use Rattle.classifier.specs.Batch.{alone_in, batch_at, outcome_for};
 ghost use Rattle.classifier.specs.Load.{load_of};
 ghost use Rattle.classifier.specs.OutOfReach.{AreAllOutOfReach};
 ghost use Rattle.classifier.specs.Planes.{HasPlanes, outcome_at};
@@ -29,26 +29,13 @@ use std::sync::ledger::Ledger;
 
 const LANES: u32 = 64;
 
-// The fault in a lane of a batch, where there is a batch and the lane holds a fault.
-fn fault_in(faults: &FaultList, batch: Option<u32>, lane: u32) -> Option<Fault>
-    ensures { result ≡ fault_in_lane faults.now batch lane }
-{
-    let batch = batch?;
-    let number = u64::from(LANES) * u64::from(batch) + u64::from(lane);
-    if number < u64::from(faults.len()) {
-        Some(faults.fault(number as u32))
-    } else {
-        None
-    }
-}
-
 // The faults of a batch, each alone in its lane.
 fn loads_of(faults: &FaultList, batch: Option<u32>) -> [[Option<Fault>; 2]; 64]
     ensures { (k : ℕ) → k < 64 → loaded_faults result k ≡ alone_in faults.now batch k }
 {
     let mut loads = [[None, None]; 64];
     for lane in 0..LANES {
-        loads[lane as usize] = [fault_in(faults, batch, lane), None];
+        loads[lane as usize] = [faults.in_lane(batch, lane), None];
     }
     loads
 }

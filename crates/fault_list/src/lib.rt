@@ -4,7 +4,7 @@
 ghost use Rattle.std.specs.Prelude.{◌≡◌, ◌<◌, ◌≤◌, ◌+◌, ◌*◌, ◌/◌, ◌%◌, ◌^◌, ◌-◌, min, length, slice_index, IfOk, OnOk, OnErr};
 ghost use Rattle.fault_list.specs.declared.FaultRefusal.TheVariants.{Memory};
 ghost use Rattle.fault_list.specs.Answers.{AnswersFaults};
-ghost use Rattle.fault_list.specs.Faults.{AreCycles, batches_for, fault_at, fault_name, faults_for, faults_of, used_plane};
+ghost use Rattle.fault_list.specs.Faults.{AreCycles, batches_for, fault_at, fault_in_lane, fault_name, faults_for, faults_of, used_plane};
 ghost use Rattle.fault_list.specs.Kept.{IsShort, count_for, most_faults};
 ghost use Rattle.fm_base.specs.Planes.{lanes};
 ghost use Rattle.fm_shelf.specs.Sink.{Sends};
@@ -163,6 +163,18 @@ impl FaultList {
         }
         let (net, cycle) = row_and_cycle(self.pulses.as_slice(), i - stuck - flipped);
         Fault::Pulse(NetId(net), cycle)
+    }
+
+    /// The fault in a lane of a batch, where there is a batch and the lane holds a fault: lane k of batch b is fault 64b + k.
+    pub fn in_lane(&self, batch: Option<u32>, lane: u32) -> Option<Fault>
+        ensures { result ≡ fault_in_lane self.now batch lane }
+    {
+        let number = LANES * u64::from(batch?) + u64::from(lane);
+        if number < u64::from(self.len()) {
+            Some(self.fault(number as u32))
+        } else {
+            None
+        }
     }
 
     /// Writes the name of a fault of this netlist: that of its net, then `/0` or `/1` for a stuck-at fault, `^` and the

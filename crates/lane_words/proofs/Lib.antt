@@ -7,3 +7,4 @@ pub mod FlipOnce
 pub mod WideRows
 pub mod TableGates
 pub mod Latches
+pub mod Loading

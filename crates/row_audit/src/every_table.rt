@@ -4,7 +4,7 @@ ghost use Rattle.circuit.specs.Order.{IsOrder};
 ghost use Rattle.lane_words.specs.Bank.{AreAfter, IsBankFor, KeepsBankLoads};
 ghost use Rattle.lane_words.specs.Bits.{quad_bit};
 ghost use Rattle.lane_words.specs.Loads.{loaded_faults};
-ghost use Rattle.classifier.specs.Batch.{alone_in, fault_in_lane};
+ghost use Rattle.classifier.specs.Batch.{alone_in};
 ghost use Rattle.row_audit.specs.Loaded.{HasGoldenWord, in_lanes};
 
 use crate::circuits::Circuits;
@@ -24,26 +24,13 @@ const LANES: u32 = 64;
 // The last of four words, whose lanes have no fault.
 const GOLDEN_WORD: u32 = 3;
 
-// The fault in a lane of a batch, where there is a batch and the lane holds a fault.
-pub(crate) fn fault_in(faults: &FaultList, batch: Option<u32>, lane: u32) -> Option<Fault>
-    ensures { result ≡ fault_in_lane faults.now batch lane }
-{
-    let batch = batch?;
-    let number = u64::from(LANES) * u64::from(batch) + u64::from(lane);
-    if number < u64::from(faults.len()) {
-        Some(faults.fault(number as u32))
-    } else {
-        None
-    }
-}
-
 // The faults of a batch, each alone in its lane.
 fn loads_of(faults: &FaultList, batch: Option<u32>) -> [[Option<Fault>; 2]; 64]
     ensures { (k : ℕ) → k < 64 → loaded_faults result k ≡ alone_in faults.now batch k }
 {
     let mut loads = [[None, None]; 64];
     for lane in 0..LANES {
-        loads[lane as usize] = [fault_in(faults, batch, lane), None];
+        loads[lane as usize] = [faults.in_lane(batch, lane), None];
     }
     loads
 }

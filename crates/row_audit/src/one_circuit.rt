@@ -9,11 +9,10 @@ ghost use Rattle.circuit.specs.declared.parts.NetId.{NetId as NetIdValue};
 ghost use Rattle.cycle_sim.specs.Sim.{IsSimulationFor, Simulation};
 ghost use Rattle.fm_base.specs.Planes.{plane_of};
 ghost use Rattle.lane_words.specs.Loads.{somes};
-ghost use Rattle.classifier.specs.Batch.{fault_in_lane};
+ghost use Rattle.fault_list.specs.Faults.{fault_in_lane};
 ghost use Rattle.row_audit.specs.Alone.{AreOfOneNetlist, AreSims, HaveRun, fault_alone, in_circuits, sim_at};
 
 use crate::circuits::Circuits;
-use crate::every_table::fault_in;
 use circuit::netlist::Netlist;
 use circuit::parts::{Fault, NetId};
 use cycle_sim::sim::Sim;
@@ -79,7 +78,7 @@ fn load_lanes(faults: &FaultList, batch: Option<u32>, lanes: &mut [Option<Fault>
     ensures { (k : ℕ) → k < 64 → slice_index_or lanes.new k None ≡ fault_in_lane faults.now batch k }
 {
     for lane in 0..LANES {
-        lanes[lane] = fault_in(faults, batch, lane as u32);
+        lanes[lane] = faults.in_lane(batch, lane as u32);
     }
 }
 

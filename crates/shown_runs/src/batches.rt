@@ -2,7 +2,7 @@
 ghost use Rattle.std.specs.Prelude.{◌≡◌, ◌<◌, ◌≤◌, ◌+◌, ◌*◌, ◌^◌, ℕ, Some};
 ghost use Rattle.golden_difference.specs.Lanes.{IsMadeFor};
 ghost use Rattle.lane_words.specs.Loads.{loaded_faults};
-ghost use Rattle.classifier.specs.Batch.{alone_in, fault_in_lane};
+ghost use Rattle.classifier.specs.Batch.{alone_in};
 ghost use Rattle.classifier.specs.Load.{lane_faults, load_of};
 
 use circuit::parts::Fault;
@@ -12,25 +12,13 @@ use lane_words::Word;
 
 const LANES: u32 = 64;
 
-/// The fault in a lane of a batch, where the lane holds one.
-pub(crate) fn fault_in(faults: &FaultList, batch: u32, lane: u32) -> Option<Fault>
-    ensures { result ≡ fault_in_lane faults.now (Some batch) lane }
-{
-    let number = u64::from(LANES) * u64::from(batch) + u64::from(lane);
-    if number < u64::from(faults.len()) {
-        Some(faults.fault(number as u32))
-    } else {
-        None
-    }
-}
-
 // The faults of a batch, each alone in its lane.
 fn batch_faults(faults: &FaultList, batch: u32) -> [[Option<Fault>; 2]; 64]
     ensures { (k : ℕ) → k < 64 → loaded_faults result k ≡ alone_in faults.now (Some batch) k }
 {
     let mut loads = [[None, None]; 64];
     for lane in 0..LANES {
-        loads[lane as usize] = [fault_in(faults, batch, lane), None];
+        loads[lane as usize] = [faults.in_lane(Some(batch), lane), None];
     }
     loads
 }

@@ -10,7 +10,6 @@ ghost use Rattle.classifier.specs.Batch.{alone_in};
 ghost use Rattle.shown_runs.specs.Record.{alarm_at};
 ghost use Rattle.shown_runs.specs.Beyond.{ArePathsTo, IsBeyond, IsReachFor, alarm_alone as alone, beyond_at};
 
-use crate::batches::fault_in;
 use alarm_points::Points;
 use circuit::netlist::Netlist;
 use circuit::parts::{Fault, Latch, NetId};
@@ -139,7 +138,7 @@ fn lanes_beyond(reach: &Reach, latches: &[Latch], faults: &FaultList, batch: u32
 {
     let mut lanes = 0u64;
     for lane in 0..LANES {
-        let changes = can_change(reach, latches, fault_in(faults, batch, lane), sort);
+        let changes = can_change(reach, latches, faults.in_lane(Some(batch), lane), sort);
         lanes = lanes.put(lane, !changes);
     }
     lanes

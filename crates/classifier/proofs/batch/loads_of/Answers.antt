@@ -1,25 +1,18 @@
-use Rattle.std.proofs.Common.{◌≡◌, ◌≢◌, ◌<◌, List, [], ◌∷◌, length, refl, ap, ◌∙◌, arith, below_more, get_or-set_other, get_or-set_same, length-set}
-use Rattle.std.specs.Prelude.{Option, Some, None}
+use Rattle.std.proofs.Common.{List, [], ◌∷◌, ap, ◌∙◌, arith, length-set}
+use Rattle.std.specs.Prelude.{Option, None}
 use Rattle.circuit.specs.declared.parts.Fault.{Fault}
 use Rattle.lane_words.specs.Loads.{somes}
+use Rattle.lane_words.proofs.Loading.{alone, one_more}
+use Rattle.classifier.specs.Batch.{alone_in}
 use Rattle.classifier.proofs.batch.loads_of.Goals as goal
-
--- one fault, or none
-alone : (fault : Option Fault) → somes (fault ∷ None ∷ []) ≡ somes (fault ∷ [])
-alone (Some fault) = refl
-alone None = refl
 
 pub loop-lane-preserved : goal.loop-lane-preserved
 loop-lane-preserved c =
     let lane = c.loop-lane.lane in
-    let loads = c.loop-lane.loads in
     let inv = c.loop-lane.invariant in
-    let within : lane < length loads = omega (arith, inv.count) in
-    let own : List (Option Fault) = c.fault_in.result ∷ None ∷ [] in
+    let fault : Option Fault = c.in_lane.result in
     record {
-      count = length-set loads lane own ∙ inv.count;
-      held = below_more _ _
-          (λ k before. let other : k ≢ lane = omega (arith, before) in ap somes (get_or-set_other loads lane k own [] other) ∙ inv.held k before)
-          (ap somes (get_or-set_same loads lane own [] within) ∙ alone c.fault_in.result
-          ∙ ap (λ (fault : Option Fault). somes (fault ∷ [])) c.fault_in.ensures);
+      count = length-set c.loop-lane.loads lane (fault ∷ None ∷ []) ∙ inv.count;
+      held = one_more c.loop-lane.loads lane (fault ∷ None ∷ []) (alone_in c.args.faults.now c.args.batch) (omega (arith, inv.count)) inv.held
+          (alone fault ∙ ap (λ (own : Option Fault). somes (own ∷ [])) c.in_lane.ensures);
     }

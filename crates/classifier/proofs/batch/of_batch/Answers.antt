@@ -2,14 +2,14 @@ use Rattle.std.proofs.Common.{◌≡◌, ◌<◌, ◌^◌, ◌&&◌, ℕ, Bool, 
 use Rattle.std.specs.Prelude.{Option, Some, None, if◌then◌else◌}
 use Rattle.std.proofs.lemmas.Nat.{and_le_r}
 use Rattle.circuit.specs.declared.parts.Fault.{Fault}
-use Rattle.fault_list.specs.Faults.{fault_at, fault_number, is_used}
+use Rattle.fault_list.specs.Faults.{fault_at, fault_in_lane, fault_number, is_used}
 use Rattle.fm_base.specs.Planes.{bit}
 use Rattle.fm_base.proofs.Bits.{bit-plane_of, bit_of_and}
 use Rattle.lane_words.specs.Loads.{somes}
 use Rattle.campaign_plan.specs.declared.Outcome.{Outcome}
 use Rattle.campaign_plan.specs.Batches.{outcome_of}
 use Rattle.campaign_plan.specs.Danger.{is_dangerous, is_noticed}
-use Rattle.classifier.specs.Batch.{fault_in_lane, outcome_for}
+use Rattle.classifier.specs.Batch.{outcome_for}
 use Rattle.classifier.proofs.PlaneBits.{plane_is}
 use Rattle.classifier.proofs.batch.of_batch.Goals as goal
 use Rattle.std.proofs.Math.Bool.{and-true, and-false}

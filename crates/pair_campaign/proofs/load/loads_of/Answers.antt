@@ -1,19 +1,14 @@
-use Rattle.std.proofs.Common.{◌≢◌, ◌<◌, List, [], length, ap, ◌∙◌, arith, below_more, get_or-set_other, get_or-set_same, length-set}
-use Rattle.std.specs.Prelude.{Option}
-use Rattle.circuit.specs.declared.parts.Fault.{Fault}
-use Rattle.lane_words.specs.Loads.{somes}
+use Rattle.std.proofs.Common.{◌∙◌, arith, length-set}
+use Rattle.lane_words.proofs.Loading.{one_more}
+use Rattle.pair_campaign.specs.Work.{faults_in_lane}
 use Rattle.pair_campaign.proofs.load.loads_of.Goals as goal
 
 pub loop-lane-preserved : goal.loop-lane-preserved
 loop-lane-preserved c =
     let lane = c.loop-lane.lane in
-    let loads = c.loop-lane.loads in
     let inv = c.loop-lane.invariant in
-    let within : lane < length loads = omega (arith, inv.count) in
-    let own : List (Option Fault) = c.both_in.result in
     record {
-      count = length-set loads lane own ∙ inv.count;
-      held = below_more _ _
-          (λ k before. let other : k ≢ lane = omega (arith, before) in ap somes (get_or-set_other loads lane k own [] other) ∙ inv.held k before)
-          (ap somes (get_or-set_same loads lane own [] within) ∙ c.both_in.ensures);
+      count = length-set c.loop-lane.loads lane c.both_in.result ∙ inv.count;
+      held = one_more c.loop-lane.loads lane c.both_in.result (faults_in_lane c.args.plan.now c.args.pairs.now c.args.plane) (omega (arith, inv.count)) inv.held
+          c.both_in.ensures;
     }

@@ -8,11 +8,11 @@ loop-lane-preserved c =
     let lane = c.loop-lane.lane in
     let lanes = c.loop-lane.lanes in
     let inv = c.loop-lane.invariant in
-    let own : Option Fault = c.fault_in.result in
+    let own : Option Fault = c.in_lane.result in
     let within : lane < length lanes = omega (arith, inv.count, c.loop-lane-test.true) in
     record {
       count = length-set lanes lane own ∙ inv.count;
       held = below_more _ _
           (λ k before. let other : k ≢ lane = omega (arith, before) in get_or-set_other lanes lane k own None other ∙ inv.held k before)
-          (get_or-set_same lanes lane own None within ∙ c.fault_in.ensures);
+          (get_or-set_same lanes lane own None within ∙ c.in_lane.ensures);
     }

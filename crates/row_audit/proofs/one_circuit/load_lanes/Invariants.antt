@@ -1,6 +1,6 @@
 use Rattle.std.proofs.Common.{◌≡◌, ◌<◌, ℕ, length, get_or}
 use Rattle.std.specs.Prelude.{None}
-use Rattle.classifier.specs.Batch.{fault_in_lane}
+use Rattle.fault_list.specs.Faults.{fault_in_lane}
 use Rattle.row_audit.proofs.one_circuit.load_lanes.Given as goal
 
 -- the lanes so far have their faults

@@ -12,5 +12,5 @@ loop-lane-preserved c = λ k lane marked.
     let net = c.args.reach.now.circuit in
     let nets = nets_of c.args.reach.now.points c.args.sort in
     marked_lane net nets (alone_in c.args.faults.now (Some c.args.batch)) c.loop-lane.lanes c.put-lanes.result c.loop-lane.lane c.can_change-changes.result c.put-lanes.ensures
-    (λ none. subst (λ (fault : Option Fault). AreBeyond net nets (somes (fault ∷ []))) c.fault_in.ensures (c.can_change-changes.ensures none))
+    (λ none. subst (λ (fault : Option Fault). AreBeyond net nets (somes (fault ∷ []))) c.in_lane.ensures (c.can_change-changes.ensures none))
     c.loop-lane.invariant k lane marked
