@@ -1,6 +1,5 @@
-use Rattle.std.proofs.Common.{◌≡◌, ◌⊎◌, ◌∙◌, ◌<◌, ◌++◌, take, sym, subst, arith}
+use Rattle.std.proofs.Common.{◌≡◌, ◌⊎◌, ◌∙◌, ◌++◌, take, sym, subst, arith}
 use Rattle.std.proofs.lemmas.Grind.{common_steps}
-use Rattle.std.specs.Result.{is_err}
 use Rattle.fm_shelf.specs.Content.{HasIfKnown, bytes_of}
 use Rattle.campaign_board.proofs.Posting.{on_err, on_ok}
 use Rattle.campaign_board.proofs.Boards.{cut_done, headed_anew, headed_on, stops_anew, torn_cut}
