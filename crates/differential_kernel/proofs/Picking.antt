@@ -1,10 +1,31 @@
 -- Lanes that are picked out of others.
-use Rattle.std.proofs.Common.{◌≡◌, ◌≢◌, inl, inr, ℕ, ◌+◌, ◌<◌, ◌≤◌, ◌==◌, ◌⊎◌, ◌&&◌, ◌||◌, Bool, true, false, cond, List, length, set, get_or, refl, ap, sym, ◌∙◌, subst, arith, get_or-set_other, get_or-set_same, length-set}
+use Rattle.std.proofs.Common.{◌≡◌, ◌≢◌, inl, inr, ℕ, ◌+◌, ◌*◌, ◌<◌, ◌≤◌, ◌==◌, ◌⊎◌, ◌&&◌, ◌||◌, Bool, true, false, cond, set, refl, ap, sym, ◌∙◌, subst, arith, lit≤, get_or-set_other, get_or-set_same, length-set}
 use Rattle.std.specs.Prelude.{nat_lt, Option, None, Some}
 use Rattle.std.proofs.lemmas.Bool.{cases_eq, cases_lt, eq-eqb, le-ltb, lt-ltb, ne_eqb}
+use Rattle.std.proofs.Math.ListN.{replicate}
+use Rattle.std.proofs.lemmas.List.{get_or-replicate, get_or_past, length-replicate}
 use Rattle.std.proofs.lemmas.Option.{none-some, same_Some}
 use Rattle.std.proofs.Math.Bool.{or-true}
+use Rattle.fm_base.specs.Planes.{bit}
 use Rattle.differential_kernel.specs.Picked.{AreBelow, ArePicks, Picks, is_place, lane_at, picked, place_in}
+
+-- no lane
+abbrev pub no_lanes : Picks
+no_lanes = record { count = 0; lanes = replicate 64 0; places = replicate 256 None }
+
+nowhere : (lane : ℕ) → place_in no_lanes lane ≡ None
+nowhere lane = elim (cases_lt lane 256) [
+  | inl lt ↦ get_or-replicate 256 lane None None lt
+  | inr le ↦ get_or_past (replicate 256 None) lane None (omega (arith, le, length-replicate {A = Option ℕ} 256 None))
+]
+
+pub are_none : ArePicks no_lanes
+are_none = record {
+  few = lit≤ tt;
+  lanes = length-replicate {A = ℕ} 64 0;
+  places = length-replicate {A = Option ℕ} 256 None;
+  picked_there = λ lane place is. absurd (none-some place (sym (nowhere lane) ∙ is));
+}
 
 -- one lane more
 abbrev pub with_lane : Picks → ℕ → Picks
@@ -110,3 +131,32 @@ here_or_before (Some place) own old new is set = elim (cases_eq own place) [
   | inl same ↦ inl (ap Some (sym same))
   | inr apart ↦ inr (sym (is ∙ ap (λ b. b || old) (ne_eqb own place apart)) ∙ set)
 ]
+
+-- so far those of all lanes before one, and now that of this lane too
+pub places_more : (picks : Picks) (word plane lane old new : ℕ) → ArePicks picks
+    → ((other : ℕ) → other < 64 → bit new other ≡ (is_place other (place_in picks (word * 64 + lane)) || bit old other))
+    → ((k place : ℕ) → k < lane → bit plane k ≡ true → place_in picks (word * 64 + k) ≡ Some place → bit old place ≡ true)
+    → (k place : ℕ) → k < lane + 1 → bit plane k ≡ true → place_in picks (word * 64 + k) ≡ Some place → bit new place ≡ true
+places_more picks word plane lane old new are is before k place lt set there =
+    let own = place_in picks (word * 64 + lane) in
+    let within = are.picked_there (word * 64 + k) place there in
+    let now = is place (omega (arith, within.0, are.few)) in
+    elim (cases_eq k lane) [
+      | inl same ↦ set_here own place (bit old place) (bit new place) now (sym (ap (λ l. place_in picks (word * 64 + l)) same) ∙ there)
+      | inr apart ↦ set_stays own place (bit old place) (bit new place) now (before k place (omega (arith, lt, apart)) set there)
+    ]
+
+-- a bit that is set is that of one of the lanes
+abbrev pub IsOfLane : Picks → ℕ → ℕ → ℕ → ℕ → Type 0
+IsOfLane picks word plane lanes place = (k : ℕ) × (k < lanes) × (bit plane k ≡ true) × (place_in picks (word * 64 + k) ≡ Some place)
+
+pub of_lane_stays : (picks : Picks) (word plane lane place : ℕ) → IsOfLane picks word plane lane place → IsOfLane picks word plane (lane + 1) place
+of_lane_stays picks word plane lane place found = (found.0, omega (arith, found.1), found.2, found.3)
+
+pub of_lane_more : (picks : Picks) (word plane lane old new place : ℕ) → bit plane lane ≡ true → bit new place ≡ (is_place place (place_in picks (word * 64 + lane)) || bit old place)
+    → (bit old place ≡ true → IsOfLane picks word plane lane place) → bit new place ≡ true → IsOfLane picks word plane (lane + 1) place
+of_lane_more picks word plane lane old new place set is before now =
+    elim (here_or_before (place_in picks (word * 64 + lane)) place (bit old place) (bit new place) is now) [
+      | inl here ↦ (lane, omega arith, set, here)
+      | inr there ↦ of_lane_stays picks word plane lane place (before there)
+    ]

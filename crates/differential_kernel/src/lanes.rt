@@ -218,6 +218,7 @@ impl<W: Word> DifferentialLanes<W> {
         ensures beside { (vectors : List (List Bool)) → AreBeside V.lanes V.lane_bit vectors (bank_of other.now) → AreBeside W.lanes W.lane_bit vectors (bank_of self.new) }
     {
         let _some = V::words();
+        let _few = W::words();
         take_faults(picks, &other.in_force, &mut self.in_force);
         take_words(
             picks,

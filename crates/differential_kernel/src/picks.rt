@@ -68,7 +68,8 @@ fn with_place(bits: u64, place: Option<u32>) -> u64
 impl Picks {
     /// No lane.
     pub fn none() -> Self
-        ensures { result.count ≡ 0 }
+        ensures none { result.count ≡ 0 }
+        ensures sound { ArePicks result }
     {
         Picks {
             count: 0,
@@ -81,6 +82,7 @@ impl Picks {
     fn add(&mut self, lane: usize)
         requires few { self.old.count < 64 }
         requires lane { lane < 256 }
+        ensures sound { ArePicks self.new }
         ensures below { (bound : ℕ) → lane < bound → AreBelow bound self.old → AreBelow bound self.new }
         ensures others { (other : ℕ) → place_in self.new other ≡ None → place_in self.old other ≡ None }
         ensures own { place_in self.new lane ≡ None → ⊥ }
@@ -140,6 +142,7 @@ impl Picks {
         ensures bits { (k : ℕ) → k < 64 → bit result k ≡ bit_at_place bits (place_in self.now (word * 64 + k)) }
         ensures sound { ArePicks self.now }
     {
+        let _few = self.count;
         if bits == 0 {
             return 0;
         }
@@ -159,6 +162,7 @@ impl Picks {
             → bit result place ≡ false }
         ensures sound { ArePicks self.now }
     {
+        let _few = self.count;
         let mut bits = 0u64;
         for lane in 0..MOST {
             if plane.get(lane) {

@@ -1,4 +1,4 @@
-use Rattle.std.proofs.Common.{ap, sym, ◌∙◌, arith}
+use Rattle.std.proofs.Common.{ap, ◌∙◌}
 use Rattle.differential_kernel.proofs.Picking.{picked_more}
 use Rattle.differential_kernel.proofs.take.gather.Goals as goal
 

@@ -1,4 +1,4 @@
-use Rattle.std.proofs.Common.{◌≡◌, ◌<◌, ◌≤◌, ℕ, [], length}
+use Rattle.std.proofs.Common.{◌≡◌, ◌<◌, ◌≤◌, ℕ, []}
 use Rattle.lane_words.specs.Loads.{loaded_faults}
 use Rattle.differential_kernel.specs.Picked.{lane_at}
 use Rattle.differential_kernel.proofs.take.take_faults.Given as goal

@@ -1,4 +1,4 @@
-use Rattle.std.proofs.Common.{◌≡◌, inl, inr, ◌<◌, List, length, refl, ap, sym, ◌∙◌, subst, arith}
+use Rattle.std.proofs.Common.{◌≡◌, inl, inr, List, length, refl, ap, sym, ◌∙◌, subst, arith}
 use Rattle.std.specs.Prelude.{Option}
 use Rattle.std.proofs.lemmas.Bool.{cases_lt, false≢true}
 use Rattle.std.proofs.lemmas.Grind.{common_steps}
@@ -12,6 +12,7 @@ use Rattle.lane_words.specs.Bank.{lane_of}
 use Rattle.lane_words.specs.Gates.{plane}
 use Rattle.lane_words.specs.Loads.{loaded_faults}
 use Rattle.golden_difference.specs.Lanes.{Lanes, bank_of}
+use Rattle.differential_kernel.specs.Differences.{AreSameOff}
 use Rattle.differential_kernel.specs.Kernel.{lanes_of}
 use Rattle.differential_kernel.specs.Picked.{lane_at}
 use Rattle.differential_kernel.proofs.Dropping.{beside_dropped, beside_kept}
@@ -51,6 +52,27 @@ invariant_of-self g c =
       held = λ n none k lt. ap (λ ws. bit_at (plane bit k ws) n) raw ∙ c.take_words.ensures.same n none k lt;
       same = λ n none k lt. ap (λ ws. bit_at (plane bit k ws) n) words ∙ c.take_words-2.ensures.same n none k lt;
     }
+
+pub take_faults-requires-clause-few : goal.take_faults-requires-clause-few
+take_faults-requires-clause-few g c =
+    let size : length c.deref_mut.result.now ≡ g.W.Word.lanes = ap (λ (ls : List (List (Option Fault))). length ls) c.deref_mut.ensures.value ∙ c.self.invariant.loads in
+    omega (arith, size, g.met.W.Word.whole, c.words-few.ensures.few)
+
+pub take_words-requires-clause-others : goal.take_words-requires-clause-others
+take_words-requires-clause-others g c =
+    subst (λ (ws : List g.row.V.Denot). AreSameOff g.V.Word.lanes g.V.Word.lane_bit c.other.inside.latches.live ws) (sym c.deref-2.ensures.value) c.other.invariant.held
+
+pub take_words-requires-clause-same : goal.take_words-requires-clause-same
+take_words-requires-clause-same g c =
+    subst (λ (ws : List g.row.W.Denot). AreSameOff g.W.Word.lanes g.W.Word.lane_bit c.self.inside.latches.live ws) (sym c.deref_mut-2.ensures.value) c.self.invariant.held
+
+pub take_words-requires-2-clause-others : goal.take_words-requires-2-clause-others
+take_words-requires-2-clause-others g c =
+    subst (λ (ws : List g.row.V.Denot). AreSameOff g.V.Word.lanes g.V.Word.lane_bit c.other.inside.nets.touched ws) (sym c.deref-3.ensures.value) c.other.invariant.same
+
+pub take_words-requires-2-clause-same : goal.take_words-requires-2-clause-same
+take_words-requires-2-clause-same g c =
+    subst (λ (ws : List g.row.W.Denot). AreSameOff g.W.Word.lanes g.W.Word.lane_bit c.self.inside.nets.touched ws) (sym c.deref_mut-3.ensures.value) c.self.invariant.same
 
 pub returns-clause-taken : goal.returns-clause-taken
 returns-clause-taken g c = λ place lt.
@@ -109,7 +131,7 @@ returns-clause-beside g c = λ vectors stood place lt.
       | inr behind ↦
           beside_dropped s.circuit.value faults vectors new
           (ap (λ (ls : List (List (Option Fault))). loaded_faults ls place) loads ∙ c.take_faults.ensures.rest place behind)
-          (beside 0 (omega (arith, g.met.V.Word.whole, c.words-_some.ensures.some))).cycle
+          (beside 0 (omega (arith, g.met.V.Word.whole, c.words-some.ensures.some))).cycle
           (λ l.
           ap (λ ws. bit_at (plane bit place ws) l) raw ∙ c.take_words.ensures.words place l lt
           ∙ picked_behind picks (λ k. bit_at (plane others k c.deref-2.result.now) l) place behind)
