@@ -1,36 +1,45 @@
 -- Lanes that are followed from cycle to cycle.
 use Rattle.std.proofs.Common.{◌≡◌, ◌≢◌, ◌<◌, ◌≤◌, ◌+◌, ◌*◌, ◌⊎◌, ◌||◌, ◌&&◌, inl, inr, ℕ, true, false, List, [], length, ap, sym, ◌∙◌, arith}
-use Rattle.std.specs.Prelude.{Option}
 use Rattle.std.proofs.lemmas.Bool.{cases_lt, true≢false}
 use Rattle.std.proofs.Math.Bool.{or-false}
 use Rattle.circuit.specs.declared.parts.Fault.{Fault}
 use Rattle.circuit.specs.Circuit.{Circuit}
 use Rattle.workload.specs.declared.run.Run.{Run}
 use Rattle.alarm_points.specs.declared.Points.{Points}
+use Rattle.std.specs.Prelude.{Option}
+use Rattle.alarm_points.specs.FourWatches.{windows_at}
 use Rattle.alarm_points.specs.Watch.{Watches, window_at}
 use Rattle.fm_base.specs.Lists.{some_below}
 use Rattle.fm_base.specs.Planes.{bit}
 use Rattle.classifier.specs.Load.{in_lane}
-use Rattle.classifier.specs.Seen.{AreFollowed, HaveSeen, has_left, is_dropped}
+use Rattle.classifier.specs.Seen.{AreAllFollowed, AreFollowed, HaveSeen, has_left, is_dropped, known_at}
+use Rattle.classifier.specs.declared.decided.Decided.{Decided}
 use Rattle.classifier.proofs.Leaving.{left_stays, not_dropped}
 
 -- where the same faults are in force
-pub followed_alike : (c : Circuit) (points : Points) (ftti : ℕ) (run : Run) (faults : ℕ → List Fault) (known n word : ℕ) (old new : List (List (Option Fault)))
-    → ((k : ℕ) → k < 64 → in_lane new word k ≡ in_lane old word k)
-    → AreFollowed c points ftti run faults known n old word → AreFollowed c points ftti run faults known n new word
-followed_alike c points ftti run faults known n word old new same is = record {
+pub followed_alike : (c : Circuit) (points : Points) (ftti : ℕ) (run : Run) (faults : ℕ → List Fault) (known n : ℕ) (old new : ℕ → List Fault)
+    → ((k : ℕ) → k < 64 → new k ≡ old k)
+    → AreFollowed c points ftti run faults known n old → AreFollowed c points ftti run faults known n new
+followed_alike c points ftti run faults known n old new same is = record {
   follow = λ k lane stays. same k lane ∙ is.follow k lane stays;
 }
 
+-- the same in each word
+pub same_followed : (c : Circuit) (points : Points) (run : Run) (words : ℕ) (faults : List (List (Option Fault))) (decided : List Decided) (n : ℕ) (windows : List Watches) (old new : ℕ → ℕ → List Fault)
+    → ((word k : ℕ) → new word k ≡ old word k)
+    → AreAllFollowed c points run words faults decided n windows old → AreAllFollowed c points run words faults decided n windows new
+same_followed c points run words faults decided n windows old new same are word lt =
+    followed_alike c points (windows_at windows word).ftti run (in_lane faults word) (known_at decided word) n (old word) (new word) (λ k lane. same word k) (are word lt)
+
 -- one cycle more, behind which those lanes are dropped in which nothing more decides
-pub followed_more : (c : Circuit) (points : Points) (ftti : ℕ) (run : Run) (faults : ℕ → List Fault) (known t word : ℕ) (old new : List (List (Option Fault))) (ws : Watches) (left out : ℕ)
+pub followed_more : (c : Circuit) (points : Points) (ftti : ℕ) (run : Run) (faults : ℕ → List Fault) (known t : ℕ) (old new : ℕ → List Fault) (ws : Watches) (left out : ℕ)
     → ws.ftti ≡ ftti
-    → AreFollowed c points ftti run faults known t old word
+    → AreFollowed c points ftti run faults known t old
     → HaveSeen c points run faults known (t + 1) ws left
     → ((k : ℕ) → bit out k ≡ is_dropped known ws left k)
-    → ((k : ℕ) → k < 64 → (in_lane new word k ≡ in_lane old word k) ⊎ ((bit out k ≡ true) × (in_lane new word k ≡ [])))
-    → AreFollowed c points ws.ftti run faults known (t + 1) new word
-followed_more c points ftti run faults known t word old new ws left out keeps before seen is dropped = record {
+    → ((k : ℕ) → k < 64 → (new k ≡ old k) ⊎ ((bit out k ≡ true) × (new k ≡ [])))
+    → AreFollowed c points ws.ftti run faults known (t + 1) new
+followed_more c points ftti run faults known t old new ws left out keeps before seen is dropped = record {
   follow = λ k lane stays.
       let here : has_left c points ftti (bit known k) (faults k) run (t + 1) ≡ false =
       sym (ap (λ f. has_left c points f (bit known k) (faults k) run (t + 1)) keeps) ∙ stays in

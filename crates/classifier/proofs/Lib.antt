@@ -15,3 +15,5 @@ pub mod Beyond
 pub mod Leaving
 pub mod BareLanes
 pub mod Following
+pub mod Finishing
+pub mod Narrowing

@@ -7,3 +7,4 @@ pub mod Batch
 pub mod Simulator
 pub mod Simulated
 pub mod Batches
+pub mod Narrowed

@@ -70,9 +70,9 @@ pub record HaveSeenRun (c : Circuit) (points : Points) (run : Run) (faults : ℕ
   pub seen : HaveSeen c points run faults known n windows left
   pub still : (k t : ℕ) → k < 64 → has_left c points windows.ftti (bit known k) (faults k) run n ≡ false → n ≤ t → t < cycles_of run → IsStill c points run (faults k) t
 
--- after n cycles the faults of each lane that hasn't left are in force in this word
-pub record AreFollowed (c : Circuit) (points : Points) (ftti : ℕ) (run : Run) (faults : ℕ → List Fault) (known n : ℕ) (in_force : List (List (Option Fault))) (word : ℕ) : Type 0 where
-  pub follow : (k : ℕ) → k < 64 → has_left c points ftti (bit known k) (faults k) run n ≡ false → in_lane in_force word k ≡ faults k
+-- after n cycles the faults of each lane that hasn't left are in force in it
+pub record AreFollowed (c : Circuit) (points : Points) (ftti : ℕ) (run : Run) (faults : ℕ → List Fault) (known n : ℕ) (in_force : ℕ → List Fault) : Type 0 where
+  pub follow : (k : ℕ) → k < 64 → has_left c points ftti (bit known k) (faults k) run n ≡ false → in_force k ≡ faults k
 
 -- the lanes that have left, in a word
 abbrev pub left_at : List ℕ → ℕ → ℕ
@@ -107,9 +107,9 @@ AllBegin kind words load decided faults =
     (word k : ℕ) → word < words → k < 64 → Begins kind (decided_at decided word) k (lane_faults load word k) (in_lane faults word k)
 
 -- in each word the faults of each lane that hasn't left are in force
-abbrev pub AreAllFollowed : Circuit → Points → Run → ℕ → List (List (Option Fault)) → List Decided → ℕ → List Watches → List (List (Option Fault)) → Type 0
+abbrev pub AreAllFollowed : Circuit → Points → Run → ℕ → List (List (Option Fault)) → List Decided → ℕ → List Watches → (ℕ → ℕ → List Fault) → Type 0
 AreAllFollowed c points run words faults decided n windows in_force =
-    (word : ℕ) → word < words → AreFollowed c points (windows_at windows word).ftti run (in_lane faults word) (known_at decided word) n in_force word
+    (word : ℕ) → word < words → AreFollowed c points (windows_at windows word).ftti run (in_lane faults word) (known_at decided word) n (in_force word)
 
 -- the windows of each word keep the interval of the settings
 abbrev pub KeepSettings : List Watches → List Watches → Type 0

@@ -12,9 +12,11 @@ ghost use Rattle.golden_difference.specs.Lanes.{IsMadeFor};
 ghost use Rattle.lane_words.specs.Loads.{loaded_faults};
 ghost use Rattle.classifier.specs.Batch.{alone_in, batch_at, outcome_for};
 ghost use Rattle.classifier.specs.Load.{load_of};
+ghost use Rattle.classifier.specs.Narrowed.{AreNarrowFor};
 ghost use Rattle.classifier.specs.OutOfReach.{AreAllOutOfReach};
 ghost use Rattle.classifier.specs.Planes.{HasPlanes, outcome_at};
 
+use crate::narrow::Narrow;
 use crate::outcome::{NOTHING, loaded_quad, word_outcome};
 use crate::reached::{OutOfReach, WITHIN_REACH, out_of_reach};
 use crate::testbench::Testbench;
@@ -115,6 +117,32 @@ fn of_batches(faults: &FaultList, batches: &[Option<u32>; 4], outcomes: &mut [Ou
     }
 }
 
+/// The same as `quad_outcomes`, where the last lanes of a run go on in the one of `narrow`, if there is one.
+pub fn narrowed_outcomes<L: Ledger>(
+    bench: &Testbench<'_>,
+    faults: &FaultList,
+    batches: &[Option<u32>; 4],
+    lanes: &mut DifferentialLanes4,
+    narrow: &mut [Narrow],
+    windows: &mut Windows4,
+    steps: &mut Steps<L>,
+) -> [Outcome; 4]
+    requires lanes { IsMadeFor bench.now.circuit bench.now.order lanes.old }
+    requires narrow { AreNarrowFor bench.now.circuit bench.now.order narrow.old }
+    requires windows { AreFourMadeFor bench.now.points windows.old }
+    ensures outcomes { result ≡ map (outcome_for bench.now.circuit bench.now.points windows.old.ftti bench.now.runs faults.now) batches.now }
+    ensures lanes { IsMadeFor bench.now.circuit bench.now.order lanes.new }
+    ensures narrow { AreNarrowFor bench.now.circuit bench.now.order narrow.new }
+    ensures windows { AreFourMadeFor bench.now.points windows.new }
+    ensures ftti { windows.new.ftti ≡ windows.old.ftti }
+    ensures cost { steps.new ≤ steps.old + all_cycles bench.now.runs * length bench.now.circuit.tables }
+{
+    let reach = load_words(bench, faults, batches, lanes);
+    let mut outcomes = loaded_quad(bench, &reach, lanes, narrow, windows, steps);
+    of_batches(faults, batches, &mut outcomes);
+    outcomes
+}
+
 /// The planes of danger and of notice of up to four batches at once, one in each word, each fault alone in its lane; both planes
 /// are 0 where there is no batch. What lanes and windows held before is no matter. It takes no memory, and at most one step for
 /// each table and cycle, for all four words together.
@@ -134,8 +162,5 @@ pub fn quad_outcomes<L: Ledger>(
     ensures ftti { windows.new.ftti ≡ windows.old.ftti }
     ensures cost { steps.new ≤ steps.old + all_cycles bench.now.runs * length bench.now.circuit.tables }
 {
-    let reach = load_words(bench, faults, batches, lanes);
-    let mut outcomes = loaded_quad(bench, &reach, lanes, windows, steps);
-    of_batches(faults, batches, &mut outcomes);
-    outcomes
+    narrowed_outcomes(bench, faults, batches, lanes, &mut [], windows, steps)
 }

@@ -4,6 +4,8 @@
 mod batch;
 mod batch_simulator;
 mod decided;
+mod followed;
+mod narrow;
 mod noise;
 mod outcome;
 mod points;

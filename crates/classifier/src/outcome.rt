@@ -10,6 +10,7 @@ ghost use Rattle.fm_base.specs.Planes.{bit};
 ghost use Rattle.golden_difference.specs.Lanes.{IsMadeFor};
 ghost use Rattle.lane_words.specs.Loads.{loaded_faults};
 ghost use Rattle.classifier.specs.Load.{Load, lane_faults, load_of};
+ghost use Rattle.classifier.specs.Narrowed.{AreNarrowFor};
 ghost use Rattle.classifier.specs.OutOfReach.{AreAllDecidedBy, AreAllOutOfReach, AreOutOfReach};
 ghost use Rattle.classifier.specs.declared.reached.OutOfReach.{OutOfReach as OutOfReachValue};
 ghost use Rattle.classifier.specs.Planes.{HasPlanes, outcome_at, planes_of};
@@ -18,6 +19,7 @@ ghost use Rattle.alarm_points.specs.Watch.{AreMadeFor};
 ghost use Rattle.classifier.specs.Seen.{AllBegin, HaveAllSeenRun, HaveSeenRun, KeepSettings};
 
 use crate::decided::{Decided, OPEN, decide};
+use crate::narrow::Narrow;
 use crate::points::{either_lanes, lanes_without};
 use crate::reached::{OutOfReach, WITHIN_REACH};
 use crate::run::watch_run;
@@ -103,6 +105,7 @@ fn judge_runs<W: Word, L: Ledger>(
     bench: &Testbench<'_>,
     reach: &[OutOfReach],
     lanes: &mut DifferentialLanes<W>,
+    narrow: &mut [Narrow],
     windows: &mut [Windows],
     left: &mut [u64],
     decided: &mut [Decided],
@@ -113,12 +116,14 @@ fn judge_runs<W: Word, L: Ledger>(
     requires reach { AreAllOutOfReach bench.now.circuit bench.now.points W.words (load_of lanes.old) reach.now }
     requires decided { length decided.old ≡ W.words }
     requires made { IsMadeFor bench.now.circuit bench.now.order lanes.old }
+    requires narrow { AreNarrowFor bench.now.circuit bench.now.order narrow.old }
     requires windows { length windows.old ≡ W.words }
     requires windows_made { AreAllMadeFor bench.now.points windows.old }
     requires left { length left.old ≡ W.words }
     requires outcomes { length outcomes.old ≡ W.words }
     requires nothing { (word : ℕ) → word < W.words → outcome_at outcomes.old word ≡ record { danger = 0; noticed = 0 } }
     ensures load { load_of lanes.new ≡ load_of lanes.old }
+    ensures narrow { AreNarrowFor bench.now.circuit bench.now.order narrow.new }
     ensures windows_made { AreAllMadeFor bench.now.points windows.new }
     ensures ftti { KeepSettings windows.old windows.new }
     ensures planes { (word : ℕ) → word < W.words
@@ -127,7 +132,7 @@ fn judge_runs<W: Word, L: Ledger>(
 {
     for run in 0..bench.runs() {
         decide(outcomes, reach, decided);
-        watch_run(bench, run, decided, lanes, windows, left, steps);
+        watch_run(bench, run, decided, lanes, narrow, windows, left, steps);
         add_run(bench.kind(run), windows, decided, left, outcomes);
     }
 }
@@ -149,11 +154,13 @@ pub fn loaded_outcomes<W: Word, L: Ledger>(
     bench: &Testbench<'_>,
     reach: &[OutOfReach],
     lanes: &mut DifferentialLanes<W>,
+    narrow: &mut [Narrow],
     windows: &mut [Windows],
     outcomes: &mut [Outcome],
     steps: &mut Steps<L>,
 )
     requires lanes { IsMadeFor bench.now.circuit bench.now.order lanes.old }
+    requires narrow { AreNarrowFor bench.now.circuit bench.now.order narrow.old }
     requires reach_count { length reach.now ≡ W.words }
     requires reach { AreAllOutOfReach bench.now.circuit bench.now.points W.words (load_of lanes.old) reach.now }
     requires count { length windows.old ≡ W.words }
@@ -162,6 +169,7 @@ pub fn loaded_outcomes<W: Word, L: Ledger>(
     ensures outcomes { (word : ℕ) → word < W.words
         → outcome_at outcomes.new word ≡ planes_of bench.now.circuit bench.now.points (windows_at windows.old word).ftti bench.now.runs (lane_faults (load_of lanes.old) word) }
     ensures loads { load_of lanes.new ≡ load_of lanes.old }
+    ensures narrow { AreNarrowFor bench.now.circuit bench.now.order narrow.new }
     ensures windows { AreAllMadeFor bench.now.points windows.new }
     ensures ftti { KeepSettings windows.old windows.new }
     ensures cost { steps.new ≤ steps.old + all_cycles bench.now.runs * length bench.now.circuit.tables }
@@ -174,6 +182,7 @@ pub fn loaded_outcomes<W: Word, L: Ledger>(
         bench,
         reach,
         lanes,
+        narrow,
         windows,
         &mut left[..words],
         &mut decided[..words],
@@ -206,6 +215,7 @@ pub fn word_outcome<L: Ledger>(
         bench,
         &[reach],
         lanes,
+        &mut [],
         from_mut(windows),
         &mut outcomes,
         steps,
@@ -238,26 +248,38 @@ pub fn loaded_outcome<L: Ledger>(
 /// Simulates all runs in the 256 circuits of `lanes`, as they are loaded, and answers the planes of danger and of notice of each
 /// word: bit k of word w's is that of the faults of lane 64w + k together. `windows` has the fault tolerant time intervals. What
 /// lanes and windows held of earlier runs is no matter. It takes no memory, and at most one step for each table and cycle, for all four
-/// words together. `reach` tells of each word in which lanes points are out of reach.
+/// words together. `reach` tells of each word in which lanes points are out of reach. The last lanes of a run go on in the one of `narrow`,
+/// where there is one.
 pub fn loaded_quad<L: Ledger>(
     bench: &Testbench<'_>,
     reach: &[OutOfReach; 4],
     lanes: &mut DifferentialLanes4,
+    narrow: &mut [Narrow],
     windows: &mut Windows4,
     steps: &mut Steps<L>,
 ) -> [Outcome; 4]
     requires reach { AreAllOutOfReach bench.now.circuit bench.now.points 4 (load_of lanes.old) reach.now }
     requires lanes { IsMadeFor bench.now.circuit bench.now.order lanes.old }
+    requires narrow { AreNarrowFor bench.now.circuit bench.now.order narrow.old }
     requires windows { AreFourMadeFor bench.now.points windows.old }
     ensures outcomes { (word : ℕ) → word < 4
         → outcome_at result word ≡ planes_of bench.now.circuit bench.now.points windows.old.ftti bench.now.runs (lane_faults (load_of lanes.old) word) }
     ensures lanes { IsMadeFor bench.now.circuit bench.now.order lanes.new }
     ensures loads { lanes.new.loads ≡ lanes.old.loads }
+    ensures narrow { AreNarrowFor bench.now.circuit bench.now.order narrow.new }
     ensures windows { AreFourMadeFor bench.now.points windows.new }
     ensures ftti { windows.new.ftti ≡ windows.old.ftti }
     ensures cost { steps.new ≤ steps.old + all_cycles bench.now.runs * length bench.now.circuit.tables }
 {
     let mut outcomes = [NOTHING; 4];
-    loaded_outcomes(bench, reach, lanes, windows.words(), &mut outcomes, steps);
+    loaded_outcomes(
+        bench,
+        reach,
+        lanes,
+        narrow,
+        windows.words(),
+        &mut outcomes,
+        steps,
+    );
     outcomes
 }

@@ -1,5 +1,5 @@
 // One run in all lanes.
-ghost use Rattle.std.specs.Prelude.{◌≡◌, ◌≢◌, ◌<◌, ◌≤◌, ◌+◌, ◌*◌, ◌⊎◌, ℕ, Bool, List, [], Option, true, false, length, take};
+ghost use Rattle.std.specs.Prelude.{◌≡◌, ◌≢◌, ◌<◌, ◌≤◌, ◌+◌, ◌*◌, ◌⊎◌, ℕ, Bool, List, [], Option, true, false, length, slice_index_or, take};
 ghost use Rattle.circuit.specs.declared.parts.Fault.{Fault};
 ghost use Rattle.circuit.specs.Circuit.{Circuit};
 ghost use Rattle.workload.specs.declared.run.Run.{Run};
@@ -7,15 +7,19 @@ ghost use Rattle.workload.specs.Runs.{cycles_of, run_at};
 ghost use Rattle.alarm_points.specs.PointsKept.{ArePointsFor};
 ghost use Rattle.alarm_points.specs.Watch.{KeepsIntervals};
 ghost use Rattle.fm_base.specs.Planes.{bit};
-ghost use Rattle.golden_difference.specs.Beside.{IsGoldenRow, IsOver, AreBeside};
+ghost use Rattle.golden_difference.specs.Beside.{AreBeside, IsGoldenRow, IsOver};
 ghost use Rattle.classifier.specs.Load.{in_lane, load_of};
+ghost use Rattle.classifier.specs.Narrowed.{AreNarrowFor, narrow_faults};
+ghost use Rattle.classifier.specs.declared.narrow.Narrow.{Narrow as NarrowValue};
 ghost use Rattle.classifier.specs.OutOfReach.{decided_at};
 ghost use Rattle.classifier.specs.declared.decided.Decided.{Decided as DecidedValue};
 ghost use Rattle.alarm_points.specs.FourWatches.{AreAllMadeFor};
 ghost use Rattle.classifier.specs.Seen.{AllBegin, AreAllFollowed, AreFollowed, Begins, HaveAllSeen, HaveAllSeenRun, HaveSeen, KeepSettings, is_decided, is_dropped};
-ghost use Rattle.golden_difference.specs.Lanes.{bank_of, IsMadeFor};
+ghost use Rattle.golden_difference.specs.Lanes.{IsMadeFor, bank_of};
 
 use crate::decided::Decided;
+use crate::followed::Followed;
+use crate::narrow::Narrow;
 use crate::points::either_lanes;
 use crate::see::see_cycle;
 use crate::testbench::Testbench;
@@ -26,6 +30,9 @@ use fm_base::Steps;
 use lane_words::Word;
 use std::sync::ledger::Ledger;
 use workload::run::Kind;
+
+// After so many cycles it is looked whether few lanes are left.
+const STRETCH: u32 = 32;
 
 // Forgets what was seen of earlier runs.
 fn start_windows(points: &Points, windows: &mut [Windows], left: &mut [u64])
@@ -41,15 +48,15 @@ fn start_windows(points: &Points, windows: &mut [Windows], left: &mut [u64])
 }
 
 // Drops some lanes of a word, where there are more than before.
-fn drop_more<W: Word>(lanes: &mut DifferentialLanes<W>, word: u32, before: u64, out: u64)
-    requires { word < W.words }
-    ensures load { load_of lanes.new ≡ load_of lanes.old }
-    ensures cycles { lanes.new.cycle ≡ lanes.old.cycle }
-    ensures after { (vectors : List (List Bool)) → AreBeside W.lanes W.lane_bit vectors (bank_of lanes.old) → AreBeside W.lanes W.lane_bit vectors (bank_of lanes.new) }
-    ensures others { (other k : ℕ) → other < W.words → k < 64 → (other ≢ word) ⊎ (bit out k ≡ false)
-        → in_lane lanes.new.in_force other k ≡ in_lane lanes.old.in_force other k }
-    ensures dropped { (other k : ℕ) → other < W.words → k < 64 → (in_lane lanes.new.in_force other k ≡ in_lane lanes.old.in_force other k)
-        ⊎ ((other ≡ word) × (bit out k ≡ true) × (in_lane lanes.new.in_force other k ≡ [])) }
+fn drop_more<F: Followed>(lanes: &mut F, word: u32, before: u64, out: u64)
+    requires { word < F.words }
+    ensures load { F.load lanes.new ≡ F.load lanes.old }
+    ensures cycles { F.cycle lanes.new ≡ F.cycle lanes.old }
+    ensures after { (vectors : List (List Bool)) → F.IsAfter vectors lanes.old → F.IsAfter vectors lanes.new }
+    ensures others { (other k : ℕ) → other < F.words → k < 64 → (other ≢ word) ⊎ (bit out k ≡ false)
+        → F.faults lanes.new other k ≡ F.faults lanes.old other k }
+    ensures dropped { (other k : ℕ) → other < F.words → k < 64 → (F.faults lanes.new other k ≡ F.faults lanes.old other k)
+        ⊎ ((other ≡ word) × (bit out k ≡ true) × (F.faults lanes.new other k ≡ [])) }
 {
     if out != before {
         lanes.drop_lanes(word, out);
@@ -66,30 +73,30 @@ fn all_left(decided: Decided, windows: &Windows, left: u64) -> u64
 
 // Shows the last cycle of a run of this kind to the windows of a word, and drops its lanes in which nothing more decides. `row` has
 // the golden values of the cycle.
-fn see_word<W: Word>(
+fn see_word<F: Followed>(
     points: &Points,
     kind: Kind,
     row: &[u64],
     decided: Decided,
     word: u32,
-    lanes: &mut DifferentialLanes<W>,
+    lanes: &mut F,
     windows: &mut Windows,
     left: &mut u64,
 )
-    requires word { word < W.words }
-    requires points { ArePointsFor lanes.old.circuit points.now }
+    requires word { word < F.words }
+    requires points { ArePointsFor (F.load lanes.old).circuit points.now }
     requires windows { length windows.old.windows ≡ length points.now.goals }
-    ensures load { load_of lanes.new ≡ load_of lanes.old }
-    ensures cycles { lanes.new.cycle ≡ lanes.old.cycle }
-    ensures after { (vectors : List (List Bool)) → AreBeside W.lanes W.lane_bit vectors (bank_of lanes.old) → AreBeside W.lanes W.lane_bit vectors (bank_of lanes.new) }
+    ensures load { F.load lanes.new ≡ F.load lanes.old }
+    ensures cycles { F.cycle lanes.new ≡ F.cycle lanes.old }
+    ensures after { (vectors : List (List Bool)) → F.IsAfter vectors lanes.old → F.IsAfter vectors lanes.new }
     ensures keeps { KeepsIntervals windows.old windows.new }
-    ensures seen { (run : Run) (faults : ℕ → List Fault) (t : ℕ) → run.kind ≡ kind → t < cycles_of run → AreBeside W.lanes W.lane_bit (take (t + 1) run.vectors) (bank_of lanes.old)
-        → IsGoldenRow lanes.old.circuit run.vectors t row.now
-        → AreFollowed lanes.old.circuit points.now windows.old.ftti run faults decided.notice t lanes.old.in_force word
-        → HaveSeen lanes.old.circuit points.now run faults decided.notice t windows.old left.old
-        → HaveSeen lanes.old.circuit points.now run faults decided.notice (t + 1) windows.new left.new
-        × AreFollowed lanes.old.circuit points.now windows.new.ftti run faults decided.notice (t + 1) lanes.new.in_force word }
-    ensures others { (other k : ℕ) → other < W.words → k < 64 → other ≢ word → in_lane lanes.new.in_force other k ≡ in_lane lanes.old.in_force other k }
+    ensures seen { (run : Run) (faults : ℕ → List Fault) (t : ℕ) → run.kind ≡ kind → t < cycles_of run → F.IsAfter (take (t + 1) run.vectors) lanes.old
+        → IsGoldenRow (F.load lanes.old).circuit run.vectors t row.now
+        → AreFollowed (F.load lanes.old).circuit points.now windows.old.ftti run faults decided.notice t (F.faults lanes.old word)
+        → HaveSeen (F.load lanes.old).circuit points.now run faults decided.notice t windows.old left.old
+        → HaveSeen (F.load lanes.old).circuit points.now run faults decided.notice (t + 1) windows.new left.new
+        × AreFollowed (F.load lanes.old).circuit points.now windows.new.ftti run faults decided.notice (t + 1) (F.faults lanes.new word) }
+    ensures others { (other k : ℕ) → other < F.words → k < 64 → other ≢ word → F.faults lanes.new other k ≡ F.faults lanes.old other k }
 {
     let before = *left;
     see_cycle(lanes, word, points, kind, row, windows, left);
@@ -100,33 +107,34 @@ fn see_word<W: Word>(
 
 // Shows the last cycle of a run of this kind to the windows of each word, and drops the lanes in which nothing more decides. `row`
 // has the golden values of the cycle.
-fn see_words<W: Word>(
+fn see_words<F: Followed>(
     points: &Points,
     kind: Kind,
     row: &[u64],
     decided: &[Decided],
-    lanes: &mut DifferentialLanes<W>,
+    lanes: &mut F,
     windows: &mut [Windows],
     left: &mut [u64],
 )
-    requires points { ArePointsFor lanes.old.circuit points.now }
-    requires decided { length decided.now ≡ W.words }
-    requires windows { length windows.old ≡ W.words }
-    requires left { length left.old ≡ W.words }
+    requires points { ArePointsFor (F.load lanes.old).circuit points.now }
+    requires decided { length decided.now ≡ F.words }
+    requires windows { length windows.old ≡ F.words }
+    requires left { length left.old ≡ F.words }
     requires made { AreAllMadeFor points.now windows.old }
-    ensures load { load_of lanes.new ≡ load_of lanes.old }
-    ensures cycles { lanes.new.cycle ≡ lanes.old.cycle }
+    ensures load { F.load lanes.new ≡ F.load lanes.old }
+    ensures cycles { F.cycle lanes.new ≡ F.cycle lanes.old }
+    ensures after { (vectors : List (List Bool)) → F.IsAfter vectors lanes.old → F.IsAfter vectors lanes.new }
     ensures made { AreAllMadeFor points.now windows.new }
-    ensures seen { (run : Run) (faults : List (List (Option Fault))) (t : ℕ) → run.kind ≡ kind → t < cycles_of run → AreBeside W.lanes W.lane_bit (take (t + 1) run.vectors) (bank_of lanes.old)
-        → IsGoldenRow lanes.old.circuit run.vectors t row.now
-        → AreAllFollowed lanes.old.circuit points.now run W.words faults decided.now t windows.old lanes.old.in_force
-        → HaveAllSeen lanes.old.circuit points.now run faults decided.now t windows.old left.old
-        → AreBeside W.lanes W.lane_bit (take (t + 1) run.vectors) (bank_of lanes.new)
-        × AreAllFollowed lanes.old.circuit points.now run W.words faults decided.now (t + 1) windows.new lanes.new.in_force
-        × HaveAllSeen lanes.old.circuit points.now run faults decided.now (t + 1) windows.new left.new }
+    ensures seen { (run : Run) (faults : List (List (Option Fault))) (t : ℕ) → run.kind ≡ kind → t < cycles_of run → F.IsAfter (take (t + 1) run.vectors) lanes.old
+        → IsGoldenRow (F.load lanes.old).circuit run.vectors t row.now
+        → AreAllFollowed (F.load lanes.old).circuit points.now run F.words faults decided.now t windows.old (F.faults lanes.old)
+        → HaveAllSeen (F.load lanes.old).circuit points.now run faults decided.now t windows.old left.old
+        → F.IsAfter (take (t + 1) run.vectors) lanes.new
+        × AreAllFollowed (F.load lanes.old).circuit points.now run F.words faults decided.now (t + 1) windows.new (F.faults lanes.new)
+        × HaveAllSeen (F.load lanes.old).circuit points.now run faults decided.now (t + 1) windows.new left.new }
     ensures ftti { KeepSettings windows.old windows.new }
 {
-    for word in 0..W::words() {
+    for word in 0..F::words() {
         let at = word as usize;
         see_word(
             points,
@@ -142,40 +150,42 @@ fn see_words<W: Word>(
 }
 
 // Simulates the next cycle of a run, and shows it to the windows of each word.
-fn run_cycle<W: Word, L: Ledger>(
+fn run_cycle<F: Followed, L: Ledger>(
     bench: &Testbench<'_>,
     run: u32,
     t: u32,
     decided: &[Decided],
-    lanes: &mut DifferentialLanes<W>,
+    lanes: &mut F,
     windows: &mut [Windows],
     left: &mut [u64],
     steps: &mut Steps<L>,
 )
     requires run { run < length bench.now.runs }
     requires cycle { t < cycles_of (run_at bench.now.runs run) }
-    requires decided { length decided.now ≡ W.words }
+    requires decided { length decided.now ≡ F.words }
     requires few { t < 65536 }
-    requires made { IsMadeFor bench.now.circuit bench.now.order lanes.old }
-    requires cycles { lanes.old.cycle ≡ t }
-    requires after { AreBeside W.lanes W.lane_bit (take t (run_at bench.now.runs run).vectors) (bank_of lanes.old) }
-    requires windows { length windows.old ≡ W.words }
-    requires left { length left.old ≡ W.words }
+    requires circuit { (F.load lanes.old).circuit ≡ bench.now.circuit }
+    requires order { (F.load lanes.old).order ≡ bench.now.order }
+    requires cycles { F.cycle lanes.old ≡ t }
+    requires after { F.IsAfter (take t (run_at bench.now.runs run).vectors) lanes.old }
+    requires windows { length windows.old ≡ F.words }
+    requires left { length left.old ≡ F.words }
     requires windows_made { AreAllMadeFor bench.now.points windows.old }
-    ensures load { load_of lanes.new ≡ load_of lanes.old }
-    ensures cycles { lanes.new.cycle ≡ t + 1 }
+    ensures load { F.load lanes.new ≡ F.load lanes.old }
+    ensures cycles { F.cycle lanes.new ≡ t + 1 }
+    ensures after { F.IsAfter (take (t + 1) (run_at bench.now.runs run).vectors) lanes.new }
     ensures windows_made { AreAllMadeFor bench.now.points windows.new }
     ensures seen { (faults : List (List (Option Fault)))
-        → AreAllFollowed bench.now.circuit bench.now.points (run_at bench.now.runs run) W.words faults decided.now t windows.old lanes.old.in_force
+        → AreAllFollowed bench.now.circuit bench.now.points (run_at bench.now.runs run) F.words faults decided.now t windows.old (F.faults lanes.old)
         → HaveAllSeen bench.now.circuit bench.now.points (run_at bench.now.runs run) faults decided.now t windows.old left.old
-        → AreBeside W.lanes W.lane_bit (take (t + 1) (run_at bench.now.runs run).vectors) (bank_of lanes.new)
-        × AreAllFollowed bench.now.circuit bench.now.points (run_at bench.now.runs run) W.words faults decided.now (t + 1) windows.new lanes.new.in_force
+        → F.IsAfter (take (t + 1) (run_at bench.now.runs run).vectors) lanes.new
+        × AreAllFollowed bench.now.circuit bench.now.points (run_at bench.now.runs run) F.words faults decided.now (t + 1) windows.new (F.faults lanes.new)
         × HaveAllSeen bench.now.circuit bench.now.points (run_at bench.now.runs run) faults decided.now (t + 1) windows.new left.new }
     ensures ftti { KeepSettings windows.old windows.new }
     ensures cost { steps.new ≤ steps.old + length bench.now.circuit.tables }
 {
     let row = bench.row(run, t);
-    bench.advance(row, lanes, steps);
+    lanes.advance(bench, row, steps);
     see_words(
         bench.points(),
         bench.kind(run),
@@ -198,39 +208,121 @@ fn left_out(kind: Kind, decided: Decided) -> u64
 }
 
 // Drops the lanes that are decided before a run of this kind.
-fn drop_decided<W: Word>(kind: Kind, decided: &[Decided], lanes: &mut DifferentialLanes<W>)
-    requires { length decided.now ≡ W.words }
-    ensures load { load_of lanes.new ≡ load_of lanes.old }
-    ensures cycles { lanes.new.cycle ≡ lanes.old.cycle }
-    ensures after { (vectors : List (List Bool)) → AreBeside W.lanes W.lane_bit vectors (bank_of lanes.old) → AreBeside W.lanes W.lane_bit vectors (bank_of lanes.new) }
-    ensures begin { (word k : ℕ) → word < W.words → k < 64
-        → Begins kind (decided_at decided.now word) k (in_lane lanes.old.in_force word k) (in_lane lanes.new.in_force word k) }
+fn drop_decided<F: Followed>(kind: Kind, decided: &[Decided], lanes: &mut F)
+    requires { length decided.now ≡ F.words }
+    ensures load { F.load lanes.new ≡ F.load lanes.old }
+    ensures cycles { F.cycle lanes.new ≡ F.cycle lanes.old }
+    ensures after { (vectors : List (List Bool)) → F.IsAfter vectors lanes.old → F.IsAfter vectors lanes.new }
+    ensures begin { (word k : ℕ) → word < F.words → k < 64
+        → Begins kind (decided_at decided.now word) k (F.faults lanes.old word k) (F.faults lanes.new word k) }
 {
-    for word in 0..W::words() {
+    for word in 0..F::words() {
         let out = left_out(kind, decided[word as usize]);
         drop_more(lanes, word, 0, out);
     }
 }
 
-// Whether a run of so many cycles goes on in cycle t: there is one, and the run isn't over.
-fn goes_on<W: Word>(lanes: &DifferentialLanes<W>, t: u32, cycles: u32) -> bool
-    ensures more { result ≡ true → t < cycles }
-    ensures over { (vectors : List (List Bool)) (word k : ℕ) → result ≡ false → t < cycles → AreBeside W.lanes W.lane_bit vectors (bank_of lanes.now) → word < W.words → k < 64
-        → IsOver lanes.now.circuit (in_lane lanes.now.in_force word k) vectors 65536 }
+// Whether a run goes on in cycle t, up to a bound: it isn't over.
+fn goes_on<F: Followed>(lanes: &F, t: u32, bound: u32) -> bool
+    ensures more { result ≡ true → t < bound }
+    ensures over { (vectors : List (List Bool)) (word k : ℕ) → result ≡ false → t < bound → F.IsAfter vectors lanes.now → word < F.words → k < 64
+        → IsOver (F.load lanes.now).circuit (F.faults lanes.now word k) vectors 65536 }
 {
-    if t < cycles { !lanes.is_over() } else { false }
+    if t < bound { !lanes.is_over() } else { false }
+}
+
+// Simulates the cycles of a run from one on, up to a bound or until the run is over, shows each to the windows of each word, and answers
+// how many cycles of the run are simulated then.
+fn follow<F: Followed, L: Ledger>(
+    bench: &Testbench<'_>,
+    run: u32,
+    from: u32,
+    bound: u32,
+    decided: &[Decided],
+    lanes: &mut F,
+    windows: &mut [Windows],
+    left: &mut [u64],
+    steps: &mut Steps<L>,
+) -> u32
+    requires run { run < length bench.now.runs }
+    requires from { from ≤ bound }
+    requires bound { bound ≤ cycles_of (run_at bench.now.runs run) }
+    requires few { bound ≤ 65536 }
+    requires decided { length decided.now ≡ F.words }
+    requires circuit { (F.load lanes.old).circuit ≡ bench.now.circuit }
+    requires order { (F.load lanes.old).order ≡ bench.now.order }
+    requires cycles { F.cycle lanes.old ≡ from }
+    requires after { F.IsAfter (take from (run_at bench.now.runs run).vectors) lanes.old }
+    requires windows { length windows.old ≡ F.words }
+    requires left { length left.old ≡ F.words }
+    requires windows_made { AreAllMadeFor bench.now.points windows.old }
+    ensures load { F.load lanes.new ≡ F.load lanes.old }
+    ensures cycles { F.cycle lanes.new ≡ result }
+    ensures within { (from ≤ result) × (result ≤ bound) }
+    ensures after { F.IsAfter (take result (run_at bench.now.runs run).vectors) lanes.new }
+    ensures windows_made { AreAllMadeFor bench.now.points windows.new }
+    ensures seen { (faults : List (List (Option Fault)))
+        → AreAllFollowed bench.now.circuit bench.now.points (run_at bench.now.runs run) F.words faults decided.now from windows.old (F.faults lanes.old)
+        → HaveAllSeen bench.now.circuit bench.now.points (run_at bench.now.runs run) faults decided.now from windows.old left.old
+        → AreAllFollowed bench.now.circuit bench.now.points (run_at bench.now.runs run) F.words faults decided.now result windows.new (F.faults lanes.new)
+        × HaveAllSeen bench.now.circuit bench.now.points (run_at bench.now.runs run) faults decided.now result windows.new left.new }
+    ensures over { (word k : ℕ) → result < bound → word < F.words → k < 64
+        → IsOver bench.now.circuit (F.faults lanes.new word k) (take result (run_at bench.now.runs run).vectors) 65536 }
+    ensures ftti { KeepSettings windows.old windows.new }
+    ensures cost { steps.new + from * length bench.now.circuit.tables ≤ steps.old + result * length bench.now.circuit.tables }
+{
+    let mut t = from;
+    'clock: while goes_on(lanes, t, bound) {
+        run_cycle(bench, run, t, decided, lanes, windows, left, steps);
+        t += 1;
+    }
+    t
+}
+
+// The end of the stretch of cycles that begins here.
+fn stretch_end(t: u32, cycles: u32) -> u32
+    requires { t < cycles }
+    ensures more { t < result }
+    ensures within { result ≤ cycles }
+{
+    if cycles - t <= STRETCH {
+        cycles
+    } else {
+        t + STRETCH
+    }
+}
+
+// Whether four words go on in one: at most 64 of their lanes have a fault in force.
+fn goes_narrow<W: Word>(narrow: &mut [Narrow], lanes: &DifferentialLanes<W>) -> bool
+    requires { AreNarrowFor lanes.now.circuit lanes.now.order narrow.old }
+    ensures made { AreNarrowFor lanes.now.circuit lanes.now.order narrow.new }
+    ensures some { result ≡ true → 0 < length narrow.new }
+    ensures four { result ≡ true → W.words ≡ 4 }
+    ensures cycle { (d : NarrowValue) → result ≡ true → (slice_index_or narrow.new 0 d).lanes.cycle ≡ lanes.now.cycle }
+    ensures faults { (d : NarrowValue) (word k : ℕ) → result ≡ true → word < 4 → k < 64
+        → narrow_faults (slice_index_or narrow.new 0 d) word k ≡ in_lane lanes.now.in_force word k }
+    ensures beside { (d : NarrowValue) (vectors : List (List Bool)) → result ≡ true → AreBeside W.lanes W.lane_bit vectors (bank_of lanes.now)
+        → AreBeside 64 bit vectors (bank_of (slice_index_or narrow.new 0 d).lanes) }
+{
+    if narrow.len() > 0 && W::words() == 4 {
+        narrow[0].take(lanes)
+    } else {
+        false
+    }
 }
 
 /// Simulates a run from its start in all lanes that aren't decided before, and shows each cycle to the windows of each word. A lane
 /// leaves it, and is dropped, once nothing more of the run decides: it is noticed; or its notice is decided before, and it is dangerous
 /// whatever comes. `left` are then the lanes of each word that have left: of those whose notice isn't decided before, the ones that the run
-/// gives notice of. The run ends where it is over in all lanes. It takes at most one step for each table and cycle. What lanes, windows and
-/// `left` held before is no matter.
+/// gives notice of. The run ends where it is over in all lanes, and once no more than 64 lanes of four words are left, these go on in the
+/// one of `narrow`, where there is one. It takes at most one step for each table and cycle. What lanes, windows and `left` held before is
+/// no matter.
 pub fn watch_run<W: Word, L: Ledger>(
     bench: &Testbench<'_>,
     run: u32,
     decided: &[Decided],
     lanes: &mut DifferentialLanes<W>,
+    narrow: &mut [Narrow],
     windows: &mut [Windows],
     left: &mut [u64],
     steps: &mut Steps<L>,
@@ -238,10 +330,12 @@ pub fn watch_run<W: Word, L: Ledger>(
     requires run { run < length bench.now.runs }
     requires decided { length decided.now ≡ W.words }
     requires made { IsMadeFor bench.now.circuit bench.now.order lanes.old }
+    requires narrow { AreNarrowFor bench.now.circuit bench.now.order narrow.old }
     requires windows { length windows.old ≡ W.words }
     requires left { length left.old ≡ W.words }
     requires windows_made { AreAllMadeFor bench.now.points windows.old }
     ensures load { load_of lanes.new ≡ load_of lanes.old }
+    ensures narrow { AreNarrowFor bench.now.circuit bench.now.order narrow.new }
     ensures seen { (faults : List (List (Option Fault)))
         × AllBegin (run_at bench.now.runs run).kind W.words (load_of lanes.old) decided.now faults
         × HaveAllSeenRun bench.now.circuit bench.now.points (run_at bench.now.runs run) faults decided.now windows.new left.new }
@@ -251,9 +345,27 @@ pub fn watch_run<W: Word, L: Ledger>(
     lanes.start();
     start_windows(bench.points(), windows, left);
     drop_decided(bench.kind(run), decided, lanes);
+    let cycles = bench.cycles(run);
     let mut t = 0;
-    'clock: while goes_on(lanes, t, bench.cycles(run)) {
-        run_cycle(bench, run, t, decided, lanes, windows, left, steps);
-        t += 1;
+    'stretches: while t < cycles {
+        let bound = stretch_end(t, cycles);
+        t = follow(bench, run, t, bound, decided, lanes, windows, left, steps);
+        if t < bound {
+            return;
+        }
+        if t < cycles && goes_narrow(narrow, lanes) {
+            let _end = follow(
+                bench,
+                run,
+                t,
+                cycles,
+                decided,
+                &mut narrow[0],
+                windows,
+                left,
+                steps,
+            );
+            return;
+        }
     }
 }

@@ -9,42 +9,33 @@ ghost use Rattle.alarm_points.specs.Watch.{KeepsIntervals, window_at};
 ghost use Rattle.alarm_points.specs.declared.Points.{Points as PointsValue};
 ghost use Rattle.campaign_plan.specs.Danger.{is_raised};
 ghost use Rattle.fm_base.specs.Planes.{bit};
-ghost use Rattle.golden_difference.specs.Beside.{IsGoldenRow, AreBeside};
-ghost use Rattle.classifier.specs.Load.{in_lane};
+ghost use Rattle.golden_difference.specs.Beside.{IsGoldenRow};
 ghost use Rattle.classifier.specs.Seen.{AreFollowed, HasSeen, HaveSeen, goal_at, has_left};
-ghost use Rattle.golden_difference.specs.Lanes.{bank_of};
 
+use crate::followed::Followed;
 use crate::noise::Noise;
-use crate::points::{differing, either_lanes, noise_in};
+use crate::points::either_lanes;
 use alarm_points::windows::Windows;
 use alarm_points::{Goal, Points};
-use differential_kernel::DifferentialLanes;
-use lane_words::Word;
 use workload::run::Kind;
 
 // Shows each goal a cycle of a run: the lanes in which one of its points differs, and those in which an alarm is raised.
-fn see_goals<W: Word>(
-    lanes: &DifferentialLanes<W>,
-    word: u32,
-    goals: &[Goal],
-    raised: u64,
-    windows: &mut Windows,
-)
-    requires word { word < W.words }
+fn see_goals<F: Followed>(lanes: &F, word: u32, goals: &[Goal], raised: u64, windows: &mut Windows)
+    requires word { word < F.words }
     requires few_goals { length goals.now ≤ 4 }
-    requires nets { (g : ℕ) → g < length goals.now → All (IsNet lanes.now.circuit) (goal_at goals.now g).observe }
+    requires nets { (g : ℕ) → g < length goals.now → All (IsNet (F.load lanes.now).circuit) (goal_at goals.now g).observe }
     requires windows { length windows.old.windows ≡ length goals.now }
     ensures keeps { KeepsIntervals windows.old windows.new }
     ensures count { length windows.new.windows ≡ length goals.now }
-    ensures step { (points : PointsValue) (ftti : ℕ) (run : Run) (faults : ℕ → List Fault) (known t g : ℕ) → t < cycles_of run → g < length goals.now → AreBeside W.lanes W.lane_bit (take (t + 1) run.vectors) (bank_of lanes.now)
-        → ((k : ℕ) → k < 64 → has_left lanes.now.circuit points ftti (bit known k) (faults k) run t ≡ false
-        → (in_lane lanes.now.in_force word k ≡ faults k)
-        × (bit raised k ≡ is_raised lanes.now.circuit points (faults k) run t))
-        → HasSeen lanes.now.circuit points ftti run faults known (goal_at goals.now g) t (window_at windows.old g)
-        → HasSeen lanes.now.circuit points ftti run faults known (goal_at goals.now g) (t + 1) (window_at windows.new g) }
+    ensures step { (points : PointsValue) (ftti : ℕ) (run : Run) (faults : ℕ → List Fault) (known t g : ℕ) → t < cycles_of run → g < length goals.now → F.IsAfter (take (t + 1) run.vectors) lanes.now
+        → ((k : ℕ) → k < 64 → has_left (F.load lanes.now).circuit points ftti (bit known k) (faults k) run t ≡ false
+        → (F.faults lanes.now word k ≡ faults k)
+        × (bit raised k ≡ is_raised (F.load lanes.now).circuit points (faults k) run t))
+        → HasSeen (F.load lanes.now).circuit points ftti run faults known (goal_at goals.now g) t (window_at windows.old g)
+        → HasSeen (F.load lanes.now).circuit points ftti run faults known (goal_at goals.now g) (t + 1) (window_at windows.new g) }
 {
     for (g, goal) in goals.iter().enumerate() {
-        let differs = differing(lanes, word, goal.observe.as_slice());
+        let differs = lanes.differing(word, goal.observe.as_slice());
         windows.see(g as u32, differs, raised);
     }
 }
@@ -61,8 +52,8 @@ fn noticed_by(kind: Kind, noise: Noise) -> u64
 
 /// Shows a word's windows the last cycle of a run of this kind, and adds the lanes that are noticed in it. `row` has the golden
 /// values of this cycle.
-pub fn see_cycle<W: Word>(
-    lanes: &DifferentialLanes<W>,
+pub fn see_cycle<F: Followed>(
+    lanes: &F,
     word: u32,
     points: &Points,
     kind: Kind,
@@ -70,17 +61,17 @@ pub fn see_cycle<W: Word>(
     windows: &mut Windows,
     noticed: &mut u64,
 )
-    requires word { word < W.words }
-    requires points { ArePointsFor lanes.now.circuit points.now }
+    requires word { word < F.words }
+    requires points { ArePointsFor (F.load lanes.now).circuit points.now }
     requires windows { length windows.old.windows ≡ length points.now.goals }
-    ensures seen { (run : Run) (faults : ℕ → List Fault) (known t : ℕ) → run.kind ≡ kind → t < cycles_of run → AreBeside W.lanes W.lane_bit (take (t + 1) run.vectors) (bank_of lanes.now)
-        → IsGoldenRow lanes.now.circuit run.vectors t row.now
-        → AreFollowed lanes.now.circuit points.now windows.old.ftti run faults known t lanes.now.in_force word
-        → HaveSeen lanes.now.circuit points.now run faults known t windows.old noticed.old
-        → HaveSeen lanes.now.circuit points.now run faults known (t + 1) windows.new noticed.new }
+    ensures seen { (run : Run) (faults : ℕ → List Fault) (known t : ℕ) → run.kind ≡ kind → t < cycles_of run → F.IsAfter (take (t + 1) run.vectors) lanes.now
+        → IsGoldenRow (F.load lanes.now).circuit run.vectors t row.now
+        → AreFollowed (F.load lanes.now).circuit points.now windows.old.ftti run faults known t (F.faults lanes.now word)
+        → HaveSeen (F.load lanes.now).circuit points.now run faults known t windows.old noticed.old
+        → HaveSeen (F.load lanes.now).circuit points.now run faults known (t + 1) windows.new noticed.new }
     ensures keeps { KeepsIntervals windows.old windows.new }
 {
-    let found = noise_in(lanes, word, row, points.alarm.as_slice());
+    let found = lanes.noise_in(word, row, points.alarm.as_slice());
     see_goals(lanes, word, points.goals.as_slice(), found.raised, windows);
     *noticed = either_lanes(*noticed, noticed_by(kind, found));
 }

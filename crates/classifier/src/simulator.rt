@@ -8,7 +8,8 @@ ghost use Rattle.classifier.specs.OutOfReach.{AreAllOutOfReach};
 ghost use Rattle.classifier.specs.Planes.{outcome_at, planes_of};
 ghost use Rattle.classifier.specs.Simulator.{listed, simulator_of};
 
-use crate::batch::quad_outcomes;
+use crate::batch::narrowed_outcomes;
+use crate::narrow::Narrow;
 use crate::outcome::loaded_quad;
 use crate::reached::{OutOfReach, WITHIN_REACH, out_of_reach};
 use crate::testbench::Testbench;
@@ -21,6 +22,7 @@ use fault_list::FaultList;
 use fm_base::Steps;
 use std::alloc::{AllocError, Global};
 use std::marker::{Brand, Model};
+use std::slice::from_mut;
 use std::snapshot::Snapshot;
 use std::sync::ledger::{Blank, Ledger};
 
@@ -33,18 +35,21 @@ pub type LaneFaults = [[Option<Fault>; 2]; 64];
 pub struct Simulator {
     points: Snapshot<Points>,
     lanes: DifferentialLanes4,
+    // In which the last lanes of a run go on.
+    narrow: Narrow,
     windows: Windows4,
 }
 
 impl Model for Simulator {
     ghost use Rattle.alarm_points.specs.FourWatches.{AreFourMadeFor};
+    ghost use Rattle.golden_difference.specs.Lanes.{IsMadeFor};
     ghost use Rattle.classifier.specs.Simulator.{Simulator};
 
     ghost Value = { Simulator };
 
     ghost view = { λ s. record { circuit = s.lanes.circuit; order = s.lanes.order; points = s.points.value; ftti = s.windows.ftti } };
 
-    ghost invariant = { λ s. AreFourMadeFor s.points.value s.windows };
+    ghost invariant = { λ s. AreFourMadeFor s.points.value s.windows × IsMadeFor s.lanes.circuit s.lanes.order s.narrow.lanes };
 }
 
 impl Simulator {
@@ -54,10 +59,12 @@ impl Simulator {
     {
         let points = bench.points();
         let lanes = DifferentialLanes4::new(alloc, bench.net(), bench.order())?;
+        let narrow = Narrow::new(alloc, bench.net(), bench.order())?;
         let windows = Windows4::new(alloc, points, ftti)?;
         Ok(Simulator {
             points: Snapshot::of(points),
             lanes,
+            narrow,
             windows,
         })
     }
@@ -91,11 +98,12 @@ impl Simulator {
         ensures same { self.new ≡ self.old }
     {
         let mut steps: Steps<L> = Steps::fresh(blank);
-        quad_outcomes(
+        narrowed_outcomes(
             bench,
             faults,
             batches,
             &mut self.lanes,
+            from_mut(&mut self.narrow),
             &mut self.windows,
             &mut steps,
         )
@@ -142,7 +150,14 @@ impl Simulator {
         ensures cost { steps.new ≤ steps.old + all_cycles bench.now.runs * length bench.now.circuit.tables }
     {
         let reach = load_lists(bench, lists, &mut self.lanes);
-        loaded_quad(bench, &reach, &mut self.lanes, &mut self.windows, steps)
+        loaded_quad(
+            bench,
+            &reach,
+            &mut self.lanes,
+            from_mut(&mut self.narrow),
+            &mut self.windows,
+            steps,
+        )
     }
 }
 

@@ -8,3 +8,4 @@ pub mod Walking
 pub mod Begun
 pub mod Stepped
 pub mod Dropping
+pub mod Picking

@@ -1,5 +1,5 @@
 // As many faulty circuits as a word has bits, beside the golden run, cycle by cycle.
-ghost use Rattle.std.specs.Prelude.{◌≡◌, ◌≢◌, ◌<◌, ◌≤◌, ◌+◌, ◌*◌, ◌⊎◌, ◌++◌, ◌∷◌, [], ℕ, Bool, true, false, List, IfOk, length};
+ghost use Rattle.std.specs.Prelude.{◌≡◌, ◌≢◌, ◌<◌, ◌≤◌, ◌+◌, ◌*◌, ◌⊎◌, ◌++◌, ◌∷◌, [], ℕ, Bool, true, false, List, IfOk, IfSome, None, length};
 ghost use Rattle.circuit.specs.Order.{IsOrder};
 ghost use Rattle.circuit.specs.Trace.{trace};
 ghost use Rattle.circuit.specs.Value.{bit_at};
@@ -10,6 +10,7 @@ ghost use Rattle.lane_words.specs.Gates.{plane};
 ghost use Rattle.lane_words.specs.Loads.{loaded_faults};
 ghost use Rattle.place_set.specs.Places.{has};
 ghost use Rattle.differential_kernel.specs.Differences.{IsSame};
+ghost use Rattle.differential_kernel.specs.Picked.{AreBelow, ArePicks, lane_at, place_in};
 
 use crate::cycle::advance;
 use crate::difference::value_word;
@@ -20,8 +21,10 @@ use crate::golden_cycle::GoldenCycle;
 use crate::latches::LatchDifferences;
 use crate::nets::NetDifferences;
 use crate::note::{has_some_stuck, prepare};
+use crate::picks::Picks;
 use crate::program::Program;
 use crate::sources::clear;
+use crate::take::{take_faults, take_words};
 use circuit::netlist::Netlist;
 use circuit::parts::{Fault, NetId};
 use fanout::Fanout;
@@ -190,6 +193,51 @@ impl<W: Word> DifferentialLanes<W> {
         ensures beside { (vectors : List (List Bool)) → AreBeside W.lanes W.lane_bit vectors (bank_of self.old) → AreBeside W.lanes W.lane_bit vectors (bank_of self.new) }
     {
         self.take_out(W::of_part(word, out));
+    }
+
+    /// The lanes in which faults are in force, where there are at most 64.
+    pub fn few(&self) -> Option<Picks>
+        ensures sound { IfSome result ArePicks }
+        ensures below { IfSome result (AreBelow W.lanes) }
+        ensures rest { IfSome result (λ picks. (lane : ℕ) → lane < W.lanes → place_in picks lane ≡ None → loaded_faults self.now.in_force lane ≡ []) }
+    {
+        let _few = W::words();
+        Picks::of(&self.in_force)
+    }
+
+    /// Goes on with these lanes of another simulation as they stand, one behind the other; until the next start no fault is in
+    /// force in those behind them.
+    pub fn take<V: Word>(&mut self, other: &DifferentialLanes<V>, picks: &Picks)
+        requires made { IsMadeFor other.now.circuit other.now.order self.old }
+        requires few { picks.now.count ≤ W.lanes }
+        requires below { AreBelow V.lanes picks.now }
+        ensures keeps { KeepsLoads self.old self.new }
+        ensures cycle { self.new.cycle ≡ other.now.cycle }
+        ensures taken { (place : ℕ) → place < picks.now.count → loaded_faults self.new.in_force place ≡ loaded_faults other.now.in_force (lane_at picks.now place) }
+        ensures rest { (place : ℕ) → picks.now.count ≤ place → loaded_faults self.new.in_force place ≡ [] }
+        ensures beside { (vectors : List (List Bool)) → AreBeside V.lanes V.lane_bit vectors (bank_of other.now) → AreBeside W.lanes W.lane_bit vectors (bank_of self.new) }
+    {
+        let _some = V::words();
+        let _few = W::words();
+        take_faults(picks, &other.in_force, &mut self.in_force);
+        take_words(
+            picks,
+            &other.latches.live,
+            &other.latches.raw,
+            &mut self.latches.live,
+            &mut self.latches.raw,
+        );
+        take_words(
+            picks,
+            &other.nets.touched,
+            &other.nets.words,
+            &mut self.nets.touched,
+            &mut self.nets.words,
+        );
+        self.noted = false;
+        self.whole = false;
+        self.cycle = other.cycle;
+        self.sweeps = other.sweeps;
     }
 
     /// Simulates the next cycle in all lanes, where `row` has the golden value of each net in this cycle. There can be 65,536

@@ -11,10 +11,13 @@ mod lanes;
 mod latches;
 mod nets;
 mod note;
+mod picks;
 mod program;
 mod sources;
 mod sweep;
 mod table;
+mod take;
 mod walk;
 
 pub use lanes::{DifferentialLanes, DifferentialLanes4};
+pub use picks::Picks;

@@ -33,6 +33,7 @@ loop-run-init g c =
     let none : c.args.steps.now ≤ c.args.steps.now + 0 * length net.tables = omega arith in
     record {
       load = refl;
+      narrow = c.requires.narrow;
       made = c.requires.windows_made;
       ftti = λ word. refl;
       planes = λ word lt.
@@ -58,6 +59,7 @@ loop-run-preserved g c =
     let none : Run = record { kind = Mission; vectors = [] } in
     record {
       load = watched.load ∙ inv.load;
+      narrow = watched.narrow;
       made = λ word lt. (watched.seen.2 word lt).seen.made;
       ftti = λ word. watched.ftti word ∙ inv.ftti word;
       planes = λ word lt.

@@ -1,6 +1,7 @@
 use Rattle.std.proofs.Common.{◌≡◌, ◌+◌, ◌*◌, ◌<◌, ◌≤◌, ℕ, length, take}
 use Rattle.workload.specs.Runs.{all_cycles}
 use Rattle.classifier.specs.Load.{lane_faults, load_of}
+use Rattle.classifier.specs.Narrowed.{AreNarrowFor}
 use Rattle.classifier.specs.Planes.{HasPlanes, outcome_at}
 use Rattle.alarm_points.specs.FourWatches.{AreAllMadeFor, windows_at}
 use Rattle.classifier.specs.Seen.{KeepSettings}
@@ -10,6 +11,7 @@ use Rattle.classifier.proofs.outcome.judge_runs.Given as goal
 abbrev pub invariant-loop-run : goal.invariant-loop-run
 invariant-loop-run g l = record {
   load : load_of l.lanes ≡ load_of l.initial.lanes;
+  narrow : AreNarrowFor l.bench.circuit l.bench.order l.narrow;
   made : AreAllMadeFor l.bench.points l.windows;
   ftti : KeepSettings l.initial.windows l.windows;
   planes : (word : ℕ) → word < g.W.Word.words

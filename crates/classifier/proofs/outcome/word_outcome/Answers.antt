@@ -25,3 +25,6 @@ returns-clause-outcome g c =
     let own : lane_faults (load_of c.args.lanes.now) 0 ≡ loaded_faults loads = λ i k. ap (loaded_faults loads) (lane_of k) i in
     c.loaded_outcomes.ensures.outcomes 0 first
     ∙ ap₂ (λ (ftti : ℕ) (faults : ℕ → List Fault). planes_of net points ftti runs faults) same own
+
+pub loaded_outcomes-requires-clause-narrow : goal.loaded_outcomes-requires-clause-narrow
+loaded_outcomes-requires-clause-narrow g c = λ i none lt. absurd (omega (arith, lt))

@@ -1,5 +1,4 @@
 use Rattle.std.proofs.Common.{inl, inr, refl, ap, sym, ◌∙◌}
-use Rattle.classifier.specs.Load.{in_lane}
 use Rattle.classifier.specs.OutOfReach.{decided_at}
 use Rattle.classifier.specs.Seen.{Begins, is_decided}
 use Rattle.classifier.proofs.run.drop_decided.Goals as goal
@@ -13,13 +12,13 @@ loop-word-preserved g c =
     let inv = c.loop-word.invariant in
     let dropped = c.drop_more.ensures in
     let decided = c.args.decided.now in
-    let new = c.drop_more.new.lanes.in_force in
+    let new = g.F.Followed.faults c.drop_more.new.lanes in
     record {
       load = dropped.load ∙ inv.load;
       cycles = dropped.cycles ∙ inv.cycles;
       after = λ vectors after. dropped.after vectors (inv.after vectors after);
       begin = λ word k lt lane.
-          elim (dropped.dropped word k lt lane) as (λ _. Begins c.args.kind (decided_at decided word) k (in_lane c.args.lanes.now.in_force word k) (in_lane new word k)) [
+          elim (dropped.dropped word k lt lane) as (λ _. Begins c.args.kind (decided_at decided word) k (g.F.Followed.faults c.args.lanes.now word k) (new word k)) [
             | inl same ↦
                 elim (inv.begin word k lt lane) [
                   | inl before ↦ inl (same ∙ before)

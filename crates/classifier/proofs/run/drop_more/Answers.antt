@@ -1,24 +1,19 @@
 use Rattle.std.proofs.Common.{◌≡◌, ◌⊎◌, inl, inr, true, [], ap, ◌∙◌}
 use Rattle.std.proofs.lemmas.Bool.{cases_Bool, cases_eq}
 use Rattle.fm_base.specs.Planes.{bit}
-use Rattle.classifier.specs.Load.{in_lane}
-use Rattle.classifier.proofs.Kept.{load_kept}
 use Rattle.classifier.proofs.run.drop_more.Goals as goal
-
-pub returns-then-out-before-clause-load : goal.returns-then-out-before-clause-load
-returns-then-out-before-clause-load g c = load_kept c.args.lanes.now c.drop_lanes.new.self c.drop_lanes.ensures.keeps
 
 pub returns-then-out-before-clause-dropped : goal.returns-then-out-before-clause-dropped
 returns-then-out-before-clause-dropped g c = λ other k lt lane.
     let word = c.args.word in
     let out = c.args.out in
-    let new = c.drop_lanes.new.self.in_force in
-    let old = c.args.lanes.now.in_force in
-    elim (cases_eq other word) as (λ _. (in_lane new other k ≡ in_lane old other k) ⊎ ((other ≡ word) × (bit out k ≡ true) × (in_lane new other k ≡ []))) [
+    let new = g.F.Followed.faults c.drop_lanes.new.self in
+    let old = g.F.Followed.faults c.args.lanes.now in
+    elim (cases_eq other word) as (λ _. (new other k ≡ old other k) ⊎ ((other ≡ word) × (bit out k ≡ true) × (new other k ≡ []))) [
       | inr apart ↦ inl (c.drop_lanes.ensures.others other k lt lane (inl apart))
       | inl same ↦
           elim (cases_Bool (bit out k)) [
-            | inl is ↦ inr (same, is, ap (λ w. in_lane new w k) same ∙ c.drop_lanes.ensures.dropped k lane is)
+            | inl is ↦ inr (same, is, ap (λ w. new w k) same ∙ c.drop_lanes.ensures.dropped k lane is)
             | inr none ↦ inl (c.drop_lanes.ensures.others other k lt lane (inr none))
           ]
     ]

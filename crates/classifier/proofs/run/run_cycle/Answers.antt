@@ -1,7 +1,5 @@
 use Rattle.std.proofs.Common.{◌≡◌, ◌+◌, ◌++◌, ◌∷◌, List, [], Bool, length, take, ap, ap₂, sym, ◌∙◌, subst, arith}
-use Rattle.std.specs.Prelude.{Option}
 use Rattle.std.proofs.lemmas.List.{length-take-le, take_more}
-use Rattle.circuit.specs.declared.parts.Fault.{Fault}
 use Rattle.circuit.specs.Circuit.{Circuit}
 use Rattle.circuit.specs.Trace.{trace, vector_at}
 use Rattle.circuit.proofs.Cycles.{trace_taken}
@@ -9,16 +7,16 @@ use Rattle.workload.specs.Runs.{run_at}
 use Rattle.alarm_points.specs.declared.Points.{Points}
 use Rattle.alarm_points.specs.FourWatches.{AreAllMadeFor}
 use Rattle.alarm_points.specs.PointsKept.{ArePointsFor}
-use Rattle.golden_difference.specs.Beside.{IsGoldenRow, AreBeside}
+use Rattle.golden_difference.specs.Beside.{IsGoldenRow}
 use Rattle.classifier.specs.Load.{Load}
 use Rattle.classifier.specs.Seen.{AreAllFollowed, HaveAllSeen}
-use Rattle.golden_difference.specs.Lanes.{bank_of}
+use Rattle.classifier.proofs.Following.{same_followed}
 use Rattle.classifier.proofs.run.run_cycle.Goals as goal
 
 pub see_words-requires-clause-points : goal.see_words-requires-clause-points
 see_words-requires-clause-points g c =
-    subst (λ (ps : Points). ArePointsFor c.advance.new.lanes.circuit ps) (sym c.points.ensures.points)
-    (subst (λ (m : Circuit). ArePointsFor m c.args.bench.now.points) (sym (ap (λ (l : Load). l.circuit) c.advance.ensures.keeps ∙ c.requires.made.circuit)) c.points.ensures.fit)
+    subst (λ (ps : Points). ArePointsFor (g.F.Followed.load c.advance.new.self).circuit ps) (sym c.points.ensures.points)
+    (subst (λ (m : Circuit). ArePointsFor m c.args.bench.now.points) (sym (ap (λ (l : Load). l.circuit) c.advance.ensures.load ∙ c.requires.circuit)) c.points.ensures.fit)
 
 pub returns : goal.returns
 returns g c =
@@ -28,9 +26,9 @@ returns g c =
     let t = c.args.t in
     let row = c.row-row.result.now in
     let lt = c.requires.cycle in
-    let keeps = c.advance.ensures.keeps in
-    let made = c.requires.made.circuit in
-    let words = g.W.Word.words in
+    let keeps = c.advance.ensures.load in
+    let made = c.requires.circuit in
+    let words = g.F.Followed.words in
     let windows = c.args.windows.now in
     let left = c.args.left.now in
     let decided = c.args.decided.now in
@@ -41,26 +39,27 @@ returns g c =
     let joined : take t run.vectors ++ vector_at run.vectors t ∷ [] ≡ take (t + 1) run.vectors = sym (take_more run.vectors t [] lt) in
     let here : IsGoldenRow net (take t run.vectors ++ vector_at run.vectors t ∷ []) (length (take t run.vectors)) row =
     λ n within. golden n within ∙ sym (trace_taken net [] run.vectors t n lt) ∙ ap₂ (λ (vs : List (List Bool)) m. trace net [] vs m n) (sym joined) (sym size) in
-    let after : AreBeside g.W.Word.lanes g.W.Word.lane_bit (take (t + 1) run.vectors) (bank_of c.advance.new.lanes) =
-    subst (λ (vs : List (List Bool)). AreBeside g.W.Word.lanes g.W.Word.lane_bit vs (bank_of c.advance.new.lanes)) joined (c.advance.ensures.step (take t run.vectors) (vector_at run.vectors t) c.requires.after here) in
+    let after : g.F.Followed.IsAfter (take (t + 1) run.vectors) c.advance.new.self =
+    subst (λ (vs : List (List Bool)). g.F.Followed.IsAfter vs c.advance.new.self) joined (c.advance.ensures.step (take t run.vectors) (vector_at run.vectors t) c.requires.after here) in
     record {
       load = c.see_words.ensures.load ∙ keeps;
-      cycles = c.see_words.ensures.cycles ∙ c.advance.ensures.cycles ∙ ap (λ n. n + 1) c.requires.cycles;
+      cycles = c.see_words.ensures.cycles ∙ c.advance.ensures.cycle ∙ ap (λ n. n + 1) c.requires.cycles;
+      after = c.see_words.ensures.after (take (t + 1) run.vectors) after;
       windows_made = subst (λ (ps : Points). AreAllMadeFor ps c.see_words.new.windows) same c.see_words.ensures.made;
       seen = λ faults followed seen.
           let all = c.see_words.ensures.seen run faults t (sym c.kind.ensures) lt after
           (subst (λ (l : Load). IsGoldenRow l.circuit run.vectors t row) (sym keeps) (subst (λ (m : Circuit). IsGoldenRow m run.vectors t row) (sym made) golden))
-          (subst (λ (l : Load). AreAllFollowed l.circuit shown run words faults decided t windows c.advance.new.lanes.in_force) (sym keeps)
-          (subst (λ (m : Circuit). AreAllFollowed m shown run words faults decided t windows c.advance.new.lanes.in_force) (sym made)
-          (subst (λ (ps : Points). AreAllFollowed net ps run words faults decided t windows c.advance.new.lanes.in_force) (sym same)
-          (subst (λ (fs : List (List (Option Fault))). AreAllFollowed net points run words faults decided t windows fs) (sym c.advance.ensures.in_force) followed))))
+          (subst (λ (l : Load). AreAllFollowed l.circuit shown run words faults decided t windows (g.F.Followed.faults c.advance.new.self)) (sym keeps)
+          (subst (λ (m : Circuit). AreAllFollowed m shown run words faults decided t windows (g.F.Followed.faults c.advance.new.self)) (sym made)
+          (subst (λ (ps : Points). AreAllFollowed net ps run words faults decided t windows (g.F.Followed.faults c.advance.new.self)) (sym same)
+          (same_followed net points run words faults decided t windows (g.F.Followed.faults c.args.lanes.now) (g.F.Followed.faults c.advance.new.self) c.advance.ensures.faults followed))))
           (subst (λ (l : Load). HaveAllSeen l.circuit shown run faults decided t windows left) (sym keeps)
           (subst (λ (m : Circuit). HaveAllSeen m shown run faults decided t windows left) (sym made)
           (subst (λ (ps : Points). HaveAllSeen net ps run faults decided t windows left) (sym same) seen))) in (
             all.0,
-            subst (λ (ps : Points). AreAllFollowed net ps run words faults decided (t + 1) c.see_words.new.windows c.see_words.new.lanes.in_force) same
-                (subst (λ (m : Circuit). AreAllFollowed m shown run words faults decided (t + 1) c.see_words.new.windows c.see_words.new.lanes.in_force) made
-                (subst (λ (l : Load). AreAllFollowed l.circuit shown run words faults decided (t + 1) c.see_words.new.windows c.see_words.new.lanes.in_force) keeps all.1)),
+            subst (λ (ps : Points). AreAllFollowed net ps run words faults decided (t + 1) c.see_words.new.windows (g.F.Followed.faults c.see_words.new.lanes)) same
+                (subst (λ (m : Circuit). AreAllFollowed m shown run words faults decided (t + 1) c.see_words.new.windows (g.F.Followed.faults c.see_words.new.lanes)) made
+                (subst (λ (l : Load). AreAllFollowed l.circuit shown run words faults decided (t + 1) c.see_words.new.windows (g.F.Followed.faults c.see_words.new.lanes)) keeps all.1)),
             subst (λ (ps : Points). HaveAllSeen net ps run faults decided (t + 1) c.see_words.new.windows c.see_words.new.left) same
                 (subst (λ (m : Circuit). HaveAllSeen m shown run faults decided (t + 1) c.see_words.new.windows c.see_words.new.left) made
                 (subst (λ (l : Load). HaveAllSeen l.circuit shown run faults decided (t + 1) c.see_words.new.windows c.see_words.new.left) keeps all.2)),

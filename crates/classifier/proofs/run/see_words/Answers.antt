@@ -5,8 +5,7 @@ use Rattle.alarm_points.specs.Interval.{interval_of}
 use Rattle.alarm_points.specs.PointsKept.{ArePointsFor}
 use Rattle.alarm_points.specs.Watch.{AreMadeFor, Watches}
 use Rattle.golden_difference.specs.Beside.{IsGoldenRow}
-use Rattle.classifier.specs.Load.{Load, in_lane, load_of}
-use Rattle.std.specs.Prelude.{Option}
+use Rattle.classifier.specs.Load.{Load, in_lane}
 use Rattle.circuit.specs.declared.parts.Fault.{Fault}
 use Rattle.circuit.specs.Circuit.{Circuit}
 use Rattle.classifier.specs.Seen.{AreFollowed, HaveSeen, known_at, left_at}
@@ -34,16 +33,16 @@ loop-word-preserved g c =
     let ns = c.loop-word.left in
     let inv = c.loop-word.invariant in
     let decided = c.args.decided.now in
-    let held_force = c.loop-word.lanes.in_force in
-    let new_force = c.see_word.new.lanes.in_force in
+    let held_force = g.F.Followed.faults c.loop-word.lanes in
+    let new_force = g.F.Followed.faults c.see_word.new.lanes in
     let points = c.args.points.now in
-    let load = load_of c.args.lanes.now in
-    let held = load_of c.loop-word.lanes in
+    let load = g.F.Followed.load c.args.lanes.now in
+    let held = g.F.Followed.load c.loop-word.lanes in
     let new = c.see_word.new in
     let none : Watches = windows_at [] 0 in
     let inside : i < length ws = omega (arith, c.loop-word-test.true, c.loop-word.auto.windows, c.requires.windows) in
     let also : i < length ns = omega (arith, c.loop-word-test.true, c.loop-word.auto.left, c.requires.left) in
-    let word_of : i < g.W.Word.words = omega (arith, c.loop-word-test.true, c.words-word-end.ensures.count) in
+    let word_of : i < g.F.Followed.words = omega (arith, c.loop-word-test.true, c.words-word-end.ensures.count) in
     let old : get_or ws i c.index-windows-at.result ≡ windows_at ws i = get_or_default ws i c.index-windows-at.result none inside in
     let made : AreMadeFor points new.windows =
     c.see_word.ensures.keeps.intervals ∙ subst (λ (w : Watches). AreMadeFor points w) (sym old) (inv.made i inside)
@@ -51,13 +50,14 @@ loop-word-preserved g c =
     record {
       load = c.see_word.ensures.load ∙ inv.load;
       cycles = c.see_word.ensures.cycles ∙ inv.cycles;
+      after = λ vectors is. c.see_word.ensures.after vectors (inv.after vectors is);
       made = λ word lt.
           each_set_one (λ j w. AreMadeFor points w) ws i new.windows none inside made word (λ apart. inv.made word (subst (λ n. word < n) (length-set ws i new.windows) lt));
       seen = λ run faults t kind lt at row followed seen.
           let before = inv.seen run faults t kind lt at row followed seen in
           let known = known_at decided i in
-          let both = λ (known n : ℕ) (force : List (List (Option Fault))) (net : Circuit) (j : ℕ) (w : Watches) (m : ℕ).
-          HaveSeen net points run (in_lane faults j) known n w m × AreFollowed net points w.ftti run (in_lane faults j) known n force j in
+          let both = λ (known n : ℕ) (force : ℕ → ℕ → List Fault) (net : Circuit) (j : ℕ) (w : Watches) (m : ℕ).
+          HaveSeen net points run (in_lane faults j) known n w m × AreFollowed net points w.ftti run (in_lane faults j) known n (force j) in
           let waits : both known t held_force load.circuit i (get_or ws i c.index-windows-at.result) (left_at ns i) =
           subst (λ (w : Watches). both known t held_force load.circuit i w (left_at ns i)) (sym old) (before.2 i (omega arith) inside) in
           let first : both known t held_force held.circuit i (get_or ws i c.index-windows-at.result) (left_at ns i) =
@@ -67,9 +67,9 @@ loop-word-preserved g c =
           (subst (λ (l : Load). IsGoldenRow l.circuit run.vectors t c.args.row.now) (sym inv.load) row) first.1 first.0 in
           let here : both known (t + 1) new_force load.circuit i new.windows new.left =
           subst (λ (l : Load). both known (t + 1) new_force l.circuit i new.windows new.left) inv.load now in
-          let others : (j n : ℕ) → j ≢ i → j < g.W.Word.words → (w : Watches) (m : ℕ) → both (known_at decided j) n held_force load.circuit j w m → both (known_at decided j) n new_force load.circuit j w m =
+          let others : (j n : ℕ) → j ≢ i → j < g.F.Followed.words → (w : Watches) (m : ℕ) → both (known_at decided j) n held_force load.circuit j w m → both (known_at decided j) n new_force load.circuit j w m =
           λ j n apart less w m is.
-          (is.0, followed_alike load.circuit points w.ftti run (in_lane faults j) (known_at decided j) n j held_force new_force (λ k lane. c.see_word.ensures.others j k less lane apart) is.1) in (
+          (is.0, followed_alike load.circuit points w.ftti run (in_lane faults j) (known_at decided j) n (held_force j) (new_force j) (λ k lane. c.see_word.ensures.others j k less lane apart) is.1) in (
             c.see_word.ensures.after (take (t + 1) run.vectors) before.0,
             λ word less.
                 each_set (λ j w m. both (known_at decided j) (t + 1) new_force load.circuit j w m) ws ns i new.windows none new.left 0 inside also here word
@@ -105,6 +105,7 @@ pub loop-word-init : goal.loop-word-init
 loop-word-init g c = record {
   load = refl;
   cycles = refl;
+  after = λ vectors is. is;
   made = c.requires.made;
   seen = λ run faults t kind lt at row followed seen. (
     at,

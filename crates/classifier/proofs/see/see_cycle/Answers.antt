@@ -12,7 +12,6 @@ use Rattle.alarm_points.specs.Interval.{interval_of}
 use Rattle.alarm_points.specs.Watch.{window_at}
 use Rattle.campaign_plan.specs.Danger.{golden, is_raised, is_silenced, with_faults}
 use Rattle.fm_base.specs.Planes.{bit}
-use Rattle.classifier.specs.Load.{in_lane, load_of}
 use Rattle.classifier.specs.Seen.{HasSeen, goal_at, has_left, is_noticed_by}
 use Rattle.classifier.proofs.Leaving.{left_stays, open_stays}
 use Rattle.classifier.proofs.Notice.{notice_after, noticed_more}
@@ -20,17 +19,17 @@ use Rattle.classifier.proofs.see.see_cycle.Goals as goal
 
 pub noise_in-found-requires-clause-nets : goal.noise_in-found-requires-clause-nets
 noise_in-found-requires-clause-nets g c =
-    subst (λ (ns : List NetId). All (IsNet c.args.lanes.now.circuit) ns) (sym c.as_slice.ensures) c.requires.points.alarm
+    subst (λ (ns : List NetId). All (IsNet (g.F.Followed.load c.args.lanes.now).circuit) ns) (sym c.as_slice.ensures) c.requires.points.alarm
 
 pub see_goals-requires-clause-nets : goal.see_goals-requires-clause-nets
 see_goals-requires-clause-nets g c = λ h lt.
     let goals : c.as_slice-2.result.now ≡ c.args.points.now.goals = c.as_slice-2.ensures in
-    subst (λ (gs : List Goal). All (IsNet c.args.lanes.now.circuit) (goal_at gs h).observe) (sym goals)
+    subst (λ (gs : List Goal). All (IsNet (g.F.Followed.load c.args.lanes.now).circuit) (goal_at gs h).observe) (sym goals)
     (c.requires.points.goals h (goal_at [] 0) (subst (λ (gs : List Goal). h < length gs) goals lt)).nets
 
 pub returns-clause-seen : goal.returns-clause-seen
 returns-clause-seen g c = λ run faults known t kind within at row followed seen.
-    let load = load_of c.args.lanes.now in
+    let load = g.F.Followed.load c.args.lanes.now in
     let points = c.args.points.now in
     let goals : c.as_slice-2.result.now ≡ points.goals = c.as_slice-2.ensures in
     let old = c.args.noticed.now in
@@ -39,7 +38,7 @@ returns-clause-seen g c = λ run faults known t kind within at row followed seen
     let found = c.noise_in-found.result in
     let alarms : c.as_slice.result.now ≡ points.alarm = c.as_slice.ensures in
     let same : new.ftti ≡ old_ftti = c.see_goals.ensures.keeps.ftti in
-    let in_force = in_lane c.args.lanes.now.in_force c.args.word in
+    let in_force = g.F.Followed.faults c.args.lanes.now c.args.word in
     let raised_bit : (k : ℕ) → k < 64 → bit found.raised k ≡ is_raised load.circuit points (in_force k) run t =
     λ k lane.
     c.noise_in-found.ensures.raised run t k within at row lane

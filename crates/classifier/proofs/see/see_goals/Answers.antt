@@ -20,7 +20,7 @@ differing-differs-requires-clause-nets o c =
     let own = c.index-goals-g.result in
     let nets : c.as_slice.result.now ≡ (goal_at goals g).observe =
     c.as_slice.ensures ∙ ap (λ (o : Goal). o.observe) (c.index-goals-g.is ∙ get_or_default goals g own _ c.loop-g-test.true) in
-    subst (λ (ns : List NetId). All (IsNet c.args.lanes.now.circuit) ns) (sym nets) (c.requires.nets g c.loop-g-test.true)
+    subst (λ (ns : List NetId). All (IsNet (o.F.Followed.load c.args.lanes.now).circuit) ns) (sym nets) (c.requires.nets g c.loop-g-test.true)
 
 pub loop-g-preserved : goal.loop-g-preserved
 loop-g-preserved o c =
@@ -29,7 +29,7 @@ loop-g-preserved o c =
     let own = c.index-goals-g.result in
     let inv = c.loop-g.invariant in
     let new = c.see.new.self in
-    let net = c.args.lanes.now.circuit in
+    let net = (o.F.Followed.load c.args.lanes.now).circuit in
     let nets : c.as_slice.result.now ≡ (goal_at goals g).observe =
     c.as_slice.ensures ∙ ap (λ (o : Goal). o.observe) (c.index-goals-g.is ∙ get_or_default goals g own _ c.loop-g-test.true) in
     record {

@@ -14,7 +14,7 @@ loaded_quad-requires-clause-lanes g c =
 
 pub loaded_quad-requires-clause-windows : goal.loaded_quad-requires-clause-windows
 loaded_quad-requires-clause-windows g c =
-    windows_fit c.args.bench.now c.args.self.now c.self.inside.lanes c.self.inside.points.value c.self.inside.windows c.self.view_is c.requires c.self.invariant
+    windows_fit c.args.bench.now c.args.self.now c.self.inside.lanes c.self.inside.points.value c.self.inside.windows c.self.view_is c.requires c.self.invariant.0
 
 pub invariant_of-self : goal.invariant_of-self
 invariant_of-self g c =

@@ -4,25 +4,25 @@ use Rattle.classifier.specs.Simulator.{Simulator}
 use Rattle.classifier.proofs.Simulators.{lanes_fit, same_as_before, windows_fit, windows_kept}
 use Rattle.classifier.proofs.simulator.Simulator.quad_by.Goals as goal
 
-pub quad_outcomes-requires-clause-lanes : goal.quad_outcomes-requires-clause-lanes
-quad_outcomes-requires-clause-lanes g c = lanes_fit c.args.bench.now c.args.self.now c.self.inside.lanes c.self.inside.points.value c.self.inside.windows c.self.view_is c.requires.made
+pub narrowed_outcomes-requires-clause-lanes : goal.narrowed_outcomes-requires-clause-lanes
+narrowed_outcomes-requires-clause-lanes g c = lanes_fit c.args.bench.now c.args.self.now c.self.inside.lanes c.self.inside.points.value c.self.inside.windows c.self.view_is c.requires.made
 
-pub quad_outcomes-requires-clause-windows : goal.quad_outcomes-requires-clause-windows
-quad_outcomes-requires-clause-windows g c =
-    windows_fit c.args.bench.now c.args.self.now c.self.inside.lanes c.self.inside.points.value c.self.inside.windows c.self.view_is c.requires.made c.self.invariant
+pub narrowed_outcomes-requires-clause-windows : goal.narrowed_outcomes-requires-clause-windows
+narrowed_outcomes-requires-clause-windows g c =
+    windows_fit c.args.bench.now c.args.self.now c.self.inside.lanes c.self.inside.points.value c.self.inside.windows c.self.view_is c.requires.made c.self.invariant.0
 
 pub invariant_of-self : goal.invariant_of-self
 invariant_of-self g c =
-    windows_kept c.args.bench.now c.args.self.now c.self.inside.lanes c.self.inside.points.value c.self.inside.windows c.self.view_is c.requires.made c.quad_outcomes.new.windows
-    c.quad_outcomes.ensures.windows
+    windows_kept c.args.bench.now c.args.self.now c.self.inside.lanes c.self.inside.points.value c.self.inside.windows c.self.view_is c.requires.made c.narrowed_outcomes.new.windows
+    c.narrowed_outcomes.ensures.windows
 
 pub returns-clause-outcomes : goal.returns-clause-outcomes
 returns-clause-outcomes g c =
     let bench = c.args.bench.now in
-    c.quad_outcomes.ensures.outcomes
+    c.narrowed_outcomes.ensures.outcomes
     ∙ ap (λ ftti. map (outcome_for bench.circuit bench.points ftti bench.runs c.args.faults.now) c.args.batches.now) (ap (λ (s : Simulator). s.ftti) c.self.view_is)
 
 pub returns-clause-same : goal.returns-clause-same
 returns-clause-same g c =
     same_as_before c.args.bench.now c.args.self.now c.self.inside.lanes c.self.inside.points.value c.self.inside.windows c.self.view_is c.requires.made
-    c.quad_outcomes.new.lanes c.quad_outcomes.new.windows c.quad_outcomes.ensures.lanes c.quad_outcomes.ensures.ftti
+    c.narrowed_outcomes.new.lanes c.narrowed_outcomes.new.windows c.narrowed_outcomes.ensures.lanes c.narrowed_outcomes.ensures.ftti

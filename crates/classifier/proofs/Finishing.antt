@@ -1,0 +1,38 @@
+-- A run that was followed to its end.
+use Rattle.std.proofs.Common.{◌≡◌, ◌<◌, ◌≤◌, ℕ, false, List, length, take, drop, ap, sym, ◌∙◌, subst, arith, ◌++◌}
+use Rattle.std.specs.Prelude.{Option}
+use Rattle.std.proofs.lemmas.List.{length-take-le, take-append-drop}
+use Rattle.circuit.specs.declared.parts.Fault.{Fault}
+use Rattle.circuit.specs.Circuit.{Circuit}
+use Rattle.workload.specs.declared.run.Run.{Run}
+use Rattle.workload.specs.Runs.{cycles_of}
+use Rattle.alarm_points.specs.FourWatches.{windows_at}
+use Rattle.alarm_points.specs.PointsKept.{ArePointsFor}
+use Rattle.alarm_points.specs.Watch.{Watches}
+use Rattle.alarm_points.specs.declared.Points.{Points}
+use Rattle.golden_difference.specs.Beside.{IsOver, trace_differs}
+use Rattle.classifier.specs.Load.{in_lane}
+use Rattle.classifier.specs.Seen.{AreAllFollowed, HaveAllSeen, HaveAllSeenRun, known_at, left_at}
+use Rattle.classifier.specs.declared.decided.Decided.{Decided}
+use Rattle.classifier.proofs.Stillness.{over_still}
+
+-- after cycles behind which the run is over in each lane that hasn't left, or ends, the run has been seen
+pub seen_to_end : (c : Circuit) (points : Points) (run : Run) (words : ℕ) (faults : List (List (Option Fault))) (decided : List Decided) (n : ℕ)
+    (windows : List Watches) (left : List ℕ) (in_force : ℕ → ℕ → List Fault)
+    → ArePointsFor c points → cycles_of run ≤ 65536 → length windows ≤ words → n ≤ cycles_of run
+    → AreAllFollowed c points run words faults decided n windows in_force → HaveAllSeen c points run faults decided n windows left
+    → ((word k : ℕ) → n < cycles_of run → word < words → k < 64 → IsOver c (in_force word k) (take n run.vectors) 65536)
+    → HaveAllSeenRun c points run faults decided windows left
+seen_to_end c points run words faults decided n windows left in_force fit few count within followed seen over word lt = record {
+  n = n;
+  within = within;
+  seen = seen word lt;
+  still = λ k u lane none from late.
+      over_still c points run (in_lane faults word k) u fit
+      (λ net inside.
+      let vectors = run.vectors in
+      let in_words : word < words = omega (arith, lt, count) in
+      sym (ap (λ vs. trace_differs c (in_lane faults word k) vs u net) (take-append-drop n vectors))
+      ∙ sym (ap (λ (fs : List Fault). trace_differs c fs (take n vectors ++ drop n vectors) u net) ((followed word in_words).follow k lane none))
+      ∙ over word k (omega (arith, from, late)) in_words lane (drop n vectors) u net (omega (arith, length-take-le n vectors within, from)) (omega (arith, late, few)) inside);
+}
