@@ -23,8 +23,7 @@ pub record LeftPrefix (own : Bytes) (p : Analysis) (planes : ℕ → Outcome) (h
 abbrev pub BeginsAs : Content → (start : Bytes) → Type 0
 BeginsAs held start = IsIfKnown held (λ bytes. take (length start) bytes ≡ start)
 
--- ROWS THAT WERE WRITTEN STAY: what the calls told of a file, known or not. It was cut to so many bytes, and has taken what follows them in a
--- result file of the plan with these planes, up to an append that failed; or the cut failed
+-- ROWS THAT WERE WRITTEN STAY: known or not, the file was cut to so many bytes, and took a result file from there on up to a call that failed
 pub record StoppedRows (own : Bytes) (p : Analysis) (planes : ℕ → Outcome) (kept_bytes : ℕ) (before now : List Change) : Type 0 where
   pub entries : List Entry
   pub part : IsPart p planes entries

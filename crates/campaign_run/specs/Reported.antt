@@ -13,8 +13,7 @@ use Rattle.result_file.specs.KeptRows.{kept, kept_entries}
 use Rattle.fm_base.specs.Names.{Bytes}
 use Rattle.campaign_run.specs.Found.{IsWhole}
 
--- WHAT IS PROMISED OF A CAMPAIGN: the text of one thread that takes the faults in order was written; the result file has each batch once
--- written: whatever is known of the file, it was cut to so many bytes, and has then taken the rest of this text
+-- WHAT IS PROMISED OF A CAMPAIGN: the text of one thread was written; the result file has each batch once, and took it behind the kept bytes
 pub record HasReported (own text : Bytes) (p : Analysis) (planes : ℕ → Outcome) (kept_bytes : ℕ) (name : Bytes) (before after : Outside) : Type 0 where
   pub wrote : Wrote before.out after.out text
   pub entries : List Entry

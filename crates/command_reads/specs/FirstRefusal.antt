@@ -93,8 +93,7 @@ own_header reads p =
 abbrev pub rows_in : Which → Reads → Analysis → Result KeptRows Status
 rows_in file reads p = read_as file status.Result (kept (own_header reads p) p) reads
 
--- what the files of a command stand for: a plan; a netlist and its workload, under these settings; a netlist and its rates; a plan and what is
--- kept of its result file; a plan and the rows of two of its result files
+-- what the files stand for: a plan; a netlist, its workload and settings; a netlist and rates; a plan and its kept rows, or those of two files
 pub data Judged : Type 0 where
   Planned : (p : Analysis) → Judged
   Driven : (c : Circuit) → (runs : List Run) → (set : Settings) → Judged

@@ -121,10 +121,9 @@ pub enum AuditBy {
     Alone,
 }
 
-/// What a command does, with what is its own alone: 1 to 32 workers, 1 to 1,000 stages of generated texts, and one of up to 1,024
-/// parts of a campaign, which has the batches b with b mod `parts` = `part`. An audit is of each row of that number, 1 to 16,384. A
-/// breakdown is over intervals, at most 16 rising numbers of cycles up to 4,096. A trace is of a run, from 1 to 65,536, whether there is one
-/// or not, of a fault and of nets by their names, which are empty where none is asked for.
+/// What a command does, with what is its own alone: 1 to 32 workers, 1 to 1,000 stages of generated texts, one of up to 1,024 parts of a
+/// campaign, which has the batches b with b mod `parts` = `part`, each N-th row to audit, 1 to 16,384, at most 16 rising intervals of up to
+/// 4,096 cycles, a run from 1 to 65,536, whether there is one or not, with the names of a fault and of nets, empty where none is asked for.
 #[derive(Drop)]
 pub enum Task {
     Classes,

@@ -7,8 +7,7 @@ pub data Given : Type 0 where
   Gave : (place byte : ℕ) → Given
   Ended : (place : ℕ) → Given
 
--- an append took this byte; an append of these bytes failed, and the file may have a prefix of them more; the file was cut to so many bytes;
--- such a cut failed, and may have been done
+-- an append took this byte; one of these bytes failed, and the file may have a prefix of them; a cut to so many bytes; one that failed, or not
 pub data Change : Type 0 where
   Took : (byte : ℕ) → Change
   Tore : (bytes : List ℕ) → Change

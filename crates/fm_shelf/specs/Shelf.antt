@@ -5,8 +5,8 @@ use mathlib.Core.List.{IsPrefix}
 use Rattle.fm_shelf.specs.Content.{Content, Unknown, Absent, Held, IsThere, HasIfKnown, bytes_of}
 use Rattle.fm_shelf.specs.Past.{Given, Change, Took, Tore}
 
--- what is known of each file, by its name; how often reads of it have failed; how often cuts of it and appends to it have; and, of each file,
--- known or not, what the calls told: what reads of it gave, and how it was changed
+-- of each file by its name: what is known of it; how often reads of it, and how often writes, have failed; and, known or not, what its reads gave
+-- and how it was changed
 pub record ShelfState : Type 0 where
   pub content : List ℕ → Content
   pub read_faults : List ℕ → ℕ

@@ -72,8 +72,7 @@ pub record Resumed (own : Bytes) (p : Analysis) (k : KeptRows) (bytes name : Byt
   pub resumed : ResumedAs own (report p (checkpointed_or_true p k)) p (checkpointed_or_true p k) bytes name before after
   pub stopped : LeftPrefix own p (true_planes p) (Held bytes) → ResumedAs own (true_report p) p (true_planes p) bytes name before after
 
--- A PART OF A CAMPAIGN: the file holds a row for each batch of the part, once, with its true planes; the line tells how many. Whatever is known
--- of the file, it was cut to nothing, and has then taken this text
+-- A PART OF A CAMPAIGN: the file holds a row for each batch of the part, once, with its true planes, and took them so; the line tells how many
 abbrev pub HasShard : (part parts : ℕ) → (own : Bytes) → Analysis → (name : Bytes) → (before after : Outside) → Type 0
 HasShard part parts own p name before after =
     (entries : List Entry) × HasPart p (true_planes p) part parts entries
@@ -95,8 +94,7 @@ HasWritten (task.Shard part parts) (Planned p) reads = HasShard part parts (own_
 HasWritten task.Merge (Merged p both) reads = HasMerged (own_header reads p) p both
 HasWritten _ _ reads = λ name before after. ⊥
 
--- what may be left of a result file that can't be written: a byte prefix of one of the plan; of a campaign that was resumed, it begins with
--- the bytes that were kept; of `merge`, a byte prefix of the file that Done would leave
+-- what may be left of a result file that can't be written: a byte prefix of one of the plan, or of that of `merge`, with the bytes that were kept
 abbrev pub MayLeave : Judged → Reads → (before after : Content) → Type 0
 MayLeave (Planned p) reads before after = LeftPrefix (own_header reads p) p (true_planes p) after
 MayLeave (Begun p k) reads before after =
@@ -104,8 +102,7 @@ MayLeave (Begun p k) reads before after =
 MayLeave (Merged p both) reads before after = IsPrefixOf after (own_header reads p ++ flat_map row_text both)
 MayLeave _ reads before after = ⊥
 
--- ROWS THAT WERE WRITTEN STAY: what was told of such a file, known or not. Up to the call that failed it was written as such a file, from the
--- bytes that were kept on, and was not cut again
+-- ROWS THAT WERE WRITTEN STAY: known or not, up to the call that failed it was written so from the kept bytes on, and was not cut again
 abbrev pub MayStop : Judged → Reads → (before after : List Change) → Type 0
 MayStop (Planned p) reads = StoppedRows (own_header reads p) p (true_planes p) 0
 MayStop (Begun p k) reads = StoppedRows (own_header reads p) p (checkpointed_or_true p k) k.whole

@@ -15,8 +15,7 @@ abbrev pub failed_code : Status → ℕ
 failed_code status.Done = code_of status.OutFault
 failed_code ended = code_of ended
 
--- a call that ends so has this exit status: it has kept its promise by what went out; or a write has failed, and it would have kept it had some
--- rest gone out too
+-- a call that ends so has this exit status: it has kept its promise; or a write has failed, and it would have kept it had a rest gone out too
 abbrev pub ExitsWith : (code : ℕ) → (words : List Bytes) → (ended : Status) → (before after : Outside) → Type 0
 ExitsWith code words ended before after =
     ((code ≡ code_of ended) × Promises words ended before after)

@@ -15,8 +15,7 @@ use Rattle.command_reads.specs.FirstRefusal.{IsLoopAnswer}
 use Rattle.fmeda_top.specs.TaskRefusals.{judged}
 use Rattle.fmeda_top.specs.Ends.{IsDoneOrFailed, RefusedAs}
 
--- WHAT IS PROMISED OF A COMMAND: its files were read, and over what was read the first refusal is the answer, with its line; where nothing
--- refuses, the command is done, or a write has failed
+-- WHAT IS PROMISED OF A COMMAND: its files were read; the first refusal of what was read is the answer, or it is done, or a write has failed
 abbrev pub CommandEnds : Command → Status → (before after : Outside) → Type 0
 CommandEnds command ended before after =
     (reads : Reads) × WereRead before.shelf after.shelf command.files reads (kind_of command.task)
@@ -29,8 +28,7 @@ CommandEnds command ended before after =
 abbrev pub RanOut : Status → (before after : Outside) → Type 0
 RanOut ended before after = (ended ≡ status.Memory) × RefusedAs (codes "refused: out of memory\n") before after
 
--- WHAT IS PROMISED OF A CALL: its words are a command, and no other, and this is promised of it; or they are none, which is Usage; or memory
--- ran out
+-- WHAT IS PROMISED OF A CALL: its words are one command, and this is promised of it; or they are none, which is Usage; or memory ran out
 abbrev pub Promises : (words : List Bytes) → (ended : Status) → (before after : Outside) → Type 0
 Promises words ended before after =
     ((command : Command) × IsCommand words command × IsAlone words command × CommandEnds command ended before after)

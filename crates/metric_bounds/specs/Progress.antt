@@ -23,11 +23,10 @@ abbrev pub stands : (worst best : Option Bool) → Bytes
 stands (Some worst) (Some best) = if worst then codes "met" else if best then codes "open" else codes "missed"
 stands _ _ = codes "-"
 
--- THE TEXT of `progress` for these kept batches: how many rows of all are kept, and the weight without class outside in them of that in all
--- batches, which any planes give alike; the bounds of the metrics, and of the term in units of 10^-6 FIT; and how the targets stand.
--- AT BEST each fault of a missing batch is noticed, and none is dangerous. AT WORST each is dangerous. MOST LATENT they are where a fault
--- of a mechanism is neither dangerous nor noticed, and each other one is dangerous: there the latent fault metric is least. Where it has no
--- value there, since all faults are then dangerous, no planes have a latent fault, and each value is that at best
+-- THE TEXT of `progress` for these kept batches: their rows of all, and their weight without class outside of that in all batches; the bounds
+-- of the metrics, and of the term in units of 10^-6 FIT; and how the targets stand. AT BEST each fault of a missing batch is noticed, and none is
+-- dangerous. AT WORST each is dangerous. MOST LATENT they are where a fault of a mechanism is neither, and each other one is dangerous: there the
+-- latent fault metric is least. Where it has no value there, no planes have a latent fault, and each value is that at best
 unfoldable pub progress : Analysis → List Entry → Bytes
 progress p entries =
     let used : ℕ → ℕ → Bool = is_used (fault_count p) in
