@@ -80,6 +80,8 @@ IsCommand words command = (fault_of fmeda_app words ≡ [])
 abbrev pub IsAlone : List Text → Command → Type 0
 IsAlone words command = (other : Command) → IsCommand words other → other ≡ command
 
+-- ---- a private step, to which what the promise says unfolds
+
 -- the words are no command
 abbrev pub IsNoCommand : List Text → Type 0
 IsNoCommand words = (command : Command) → ¬ (IsCommand words command)

@@ -6,7 +6,7 @@ use Rattle.circuit.specs.declared.parts.NetId.{NetId}
 use Rattle.circuit.specs.Circuit.{Circuit}
 use Rattle.commands.specs.declared.command.Which.TheVariants as which
 use Rattle.commands.specs.Commands.{Command, kind_of}
-use Rattle.command_line.specs.Words.{IsAlone, IsCommand, IsNoCommand}
+use Rattle.command_line.specs.Words.{IsAlone, IsCommand}
 use Rattle.refusals.specs.declared.status.Status.{Status}
 use Rattle.refusals.specs.declared.status.Status.TheVariants as status
 use Rattle.refusals.specs.RefusalLines.{refusal_line}
@@ -32,5 +32,5 @@ RanOut ended before after = (ended ≡ status.Memory) × RefusedAs (codes "refus
 abbrev pub Promises : (words : List Bytes) → (ended : Status) → (before after : Outside) → Type 0
 Promises words ended before after =
     ((command : Command) × IsCommand words command × IsAlone words command × CommandEnds command ended before after)
-    ⊎ ((IsNoCommand words × (ended ≡ status.Usage) × RefusedAs (codes "refused: usage\n") before after)
+    ⊎ ((((command : Command) → ¬ (IsCommand words command)) × (ended ≡ status.Usage) × RefusedAs (codes "refused: usage\n") before after)
     ⊎ RanOut ended before after)

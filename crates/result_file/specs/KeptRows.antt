@@ -48,8 +48,7 @@ row_fault p before piece =
     ∷ given (list_any (λ earlier. earlier.batch == row.batch) rows) why.Repeated ∷ given unused why.UnusedLane
     ∷ given (not (same_sums row.sums computed)) (why.Sums row.sums computed) ∷ [])
 
--- what is kept of a file under the plan's own header of 89 bytes, with rows of 130, or the first rule that it breaks: nothing where it is
--- shorter than a header, and begins as the own one does; a last row of fewer bytes isn't looked at
+-- what is kept of a file under the own header (89 bytes; rows have 130), or the first rule broken; a part of the header, or of a last row, is nothing
 unfoldable pub kept : Bytes → Analysis → Bytes → Result KeptRows ResultRefusal
 kept own p bytes =
     let rows : List Bytes = map (λ k. slice_range bytes (89 + 130 * k) (89 + 130 * (k + 1))) (below ((length bytes - 89) / 130)) in
