@@ -6,6 +6,7 @@ use Rattle.metric_sums.specs.declared.Role.{Role}
 use Rattle.metric_sums.specs.declared.Role.TheVariants.{Mission, Mechanism, Other}
 use Rattle.fm_base.specs.declared.refusal.Refusal.{Refusal}
 use Rattle.fm_base.specs.declared.refusal.Refusal.TheVariants.{Fault, Memory}
+use Rattle.fm_base.specs.Answers.{Gives}
 use Rattle.fm_base.specs.Firsts.{given, first_answer}
 use Rattle.fm_base.specs.Lists.{same_bit}
 use Rattle.fm_base.specs.Names.{Bytes, is_label, has_repeat}
@@ -18,9 +19,9 @@ use Rattle.rate_table.specs.declared.RatesKind.TheVariants.{BadCsv, BadPart, Bad
 use Rattle.rate_table.specs.declared.reading.Reading.{Reading}
 use Rattle.rate_table.specs.declared.reading.Terms.{Terms}
 use Rattle.rate_table.specs.Rate.{units_of}
-use Rattle.rate_table.specs.Table.{all_rates, part_names}
+use Rattle.rate_table.specs.Table.{IsRateTable, RateTable, all_rates, part_names}
 use Rattle.rate_table.specs.RatesFile.{rate_parts, row_fault}
-use Rattle.rate_table.specs.RatesSteps.{role_of, covered_of, has_star, without_star, pattern_of}
+use Rattle.rate_table.specs.RatesSteps.{role_of, covered_of, has_star, without_star, pattern_of, rates_under}
 
 -- a part has this name
 abbrev pub is_named_part : Bytes → Part → Bool
@@ -155,3 +156,12 @@ abbrev pub RowIsRead : List Fields → Fields → Reading → Result (Unit {0}) 
 RowIsRead before row new (Ok done) = (row_fault before row ≡ None) × (length before < 4096) × HoldsReadRows (before ++ row ∷ []) new
 RowIsRead before row new (Err (Fault kind)) = row_fault before row ≡ Some kind
 RowIsRead before row new (Err Memory) = Unit {0}
+
+-- the tables of a reader
+abbrev pub table_of : Reading → RateTable
+table_of r = record { patterns = r.patterns; parts = r.parts }
+
+-- the rows that were left are read into the tables, or the file is refused for the first faulty one
+abbrev pub RowsAreRead : List Fields → Reading → Result (Unit {0}) (Refusal (FaultyRow RatesKind)) → Type 0
+RowsAreRead rows r (Ok done) = (rates_under true rows ≡ Ok (table_of r)) × IsRateTable (table_of r)
+RowsAreRead rows r (Err refusal) = Gives (rates_under true rows) (Err refusal)

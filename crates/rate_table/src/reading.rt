@@ -2,11 +2,12 @@
 ghost use Rattle.std.specs.Prelude.{◌≡◌, ◌+◌, ◌*◌, ◌^◌, ◌<◌, ◌≤◌, ◌++◌, ◌∷◌, [], List, length, position, nat_le, slice_index_or, false, true, OnOk, IfOk};
 ghost use Rattle.std.specs.List.{list_any};
 ghost use Rattle.std.specs.Str.{bytes_eq};
-ghost use Rattle.csv_rows.specs.Rows.{Fields, field, is_row};
+ghost use Rattle.csv_rows.specs.Rows.{Fields, field, is_row, rows_of};
 ghost use Rattle.fm_base.specs.Answers.{Gives};
+ghost use Rattle.fm_base.specs.Names.{Bytes};
 ghost use Rattle.rate_table.specs.RatesFile.{rates_of};
 ghost use Rattle.rate_table.specs.RatesSteps.{header, role_of, covered_of, has_star, without_star, rates_under};
-ghost use Rattle.rate_table.specs.Reading.{is_same, name_texts, HoldsReadRows, IsReading, AddsPart, AddsOrIsPast, TellsRow, Numbers, RowIsRead, known, is_too_large, at_row};
+ghost use Rattle.rate_table.specs.Reading.{is_same, name_texts, HoldsReadRows, IsReading, AddsPart, AddsOrIsPast, TellsRow, Numbers, RowIsRead, RowsAreRead, known, is_too_large, at_row};
 
 use crate::units::units_of;
 use crate::{Part, Parts, Pattern, Patterns, Rates, RatesFault, RatesKind};
@@ -281,22 +282,28 @@ fn at_row(refusal: Refusal<RatesKind>, row: u32) -> Refusal<RatesFault>
     }
 }
 
-// The rates of the rows under the header.
-fn read_under(alloc: Global, rows: &mut Rows) -> Result<Rates, Refusal<RatesFault>>
-    ensures { Gives (rates_under true rows.old) result }
+// Reads the rows that are left into the table.
+fn read_into(alloc: Global, rows: &mut Rows, table: &mut Reading) -> Result<(), Refusal<RatesFault>>
+    requires { HoldsReadRows [] table.old }
+    ensures { RowsAreRead rows.old table.new result }
 {
-    let mut table = Reading::new(alloc);
     let mut number = 2;
-    'rows: loop {
-        let row = match rows.next()? {
-            Some(row) => row,
-            None => return Ok(Rates::new(alloc, table.patterns, table.parts)?),
-        };
+    'rows: while let Some(row) = rows.next()? {
         match table.take_row(alloc, &row) {
             Ok(()) => number += 1,
             Err(refusal) => return Err(at_row(refusal, number)),
         }
     }
+    Ok(())
+}
+
+// The rates of the rows under the header.
+fn read_under(alloc: Global, rows: &mut Rows) -> Result<Rates, Refusal<RatesFault>>
+    ensures { Gives (rates_under true rows.old) result }
+{
+    let mut table = Reading::new(alloc);
+    read_into(alloc, rows, &mut table)?;
+    Ok(Rates::new(alloc, table.patterns, table.parts)?)
 }
 
 fn no_header() -> Refusal<RatesFault>
@@ -308,20 +315,27 @@ fn no_header() -> Refusal<RatesFault>
     })
 }
 
-/// The rates of a file's bytes. A fault names the first faulty row, the header being row 1, and the first kind on it.
-pub fn read_rates(alloc: Global, bytes: &[u8]) -> Result<Rates, Refusal<RatesFault>>
-    requires { length bytes.now ≤ 2 ^ 26 }
-    ensures { Gives (rates_of bytes.now) result }
+// The rates of a file's rows, the header being the first.
+fn read_all(alloc: Global, rows: &mut Rows) -> Result<Rates, Refusal<RatesFault>>
+    ensures { (bytes : Bytes) → rows.old ≡ rows_of bytes → Gives (rates_of bytes) result }
 {
-    let mut rows = Rows::new(alloc, bytes);
     match rows.next()? {
         Some(header) => {
             if is_header(&header) {
-                read_under(alloc, &mut rows)
+                read_under(alloc, rows)
             } else {
                 Err(no_header())
             }
         }
         None => Err(no_header()),
     }
+}
+
+/// The rates of a file's bytes. A fault names the first faulty row, the header being row 1, and the first kind on it.
+pub fn read_rates(alloc: Global, bytes: &[u8]) -> Result<Rates, Refusal<RatesFault>>
+    requires { length bytes.now ≤ 2 ^ 26 }
+    ensures { Gives (rates_of bytes.now) result }
+{
+    let mut rows = Rows::new(alloc, bytes);
+    read_all(alloc, &mut rows)
 }

@@ -5,12 +5,11 @@ use Rattle.std.proofs.lemmas.List.{append-nil, length-map, map-append}
 use Rattle.std.proofs.lemmas.List.Sums.{sum_by-cons}
 use Rattle.std.proofs.lemmas.List.Elements.{All-cons, All-nil}
 use Rattle.circuit.specs.Circuit.{Circuit}
-use Rattle.csv_rows.specs.Rows.{Fields, first_faulty_row, rows_of}
+use Rattle.csv_rows.specs.Rows.{Fields, first_faulty_row}
 use Rattle.fm_base.specs.Answers.{Gives}
 use Rattle.fm_base.specs.declared.refusal.Refusal.{Refusal}
 use Rattle.fm_base.specs.declared.refusal.Refusal.TheVariants.{Fault, Memory}
 use Rattle.fm_base.specs.Firsts.{first_after, first_fault, numbered_fault}
-use Rattle.fm_base.specs.Names.{Bytes}
 use Rattle.fm_base.proofs.OnePass.{first_fault-later, first_fault-here}
 use Rattle.workload.specs.Built.{AreGrouped, IsAdded, IsHalfway, IsLayout, LaysOut, fault_by, finished, runs_in}
 use Rattle.workload.specs.RunsKept.{AreRuns}
@@ -20,10 +19,9 @@ use Rattle.csv_rows.specs.declared.FaultyRow.{FaultyRow}
 use Rattle.workload.specs.declared.file.WorkloadKind.{WorkloadKind}
 use Rattle.workload.specs.declared.file.WorkloadKind.TheVariants.{BadCsv}
 use Rattle.workload.specs.declared.run.Run.{Run}
-use Rattle.workload.specs.WorkloadFile.{row_fault, workload_of, workloads}
+use Rattle.workload.specs.WorkloadFile.{row_fault, workloads}
 use Rattle.workload.specs.WorkloadSteps.{run_of, header_fault, runs_of_rows, runs_unless, vector_of}
 use Rattle.workload.proofs.Building.{built_step}
-use Rattle.workload.proofs.FileRows.{said_by_rows}
 use Rattle.workload.proofs.Groups.{workloads-counted, workloads-each, workloads-nil}
 use Rattle.workload.proofs.RowFaults.{fault_by-is}
 use Rattle.fm_base.proofs.Distinct.{distinct-nil}
@@ -31,9 +29,9 @@ use Rattle.fm_base.proofs.Distinct.{distinct-nil}
 -- ---- the loop
 
 -- no row yet
-pub halfway_start : (c : Circuit) (bytes : Bytes) (b : Builder) (header : Fields) (left : List Fields) → rows_of bytes ≡ header ∷ left → header_fault c header ≡ None
-    → IsLayout c header b.layout → b.names ≡ [] → b.runs ≡ [] → b.last ≡ None → b.rows ≡ 0 → IsHalfway c bytes b left
-halfway_start c bytes b header left whole sound layout names runs last rows = record {
+pub halfway_start : (c : Circuit) (all : List Fields) (b : Builder) (header : Fields) (left : List Fields) → all ≡ header ∷ left → header_fault c header ≡ None
+    → IsLayout c header b.layout → b.names ≡ [] → b.runs ≡ [] → b.last ≡ None → b.rows ≡ 0 → IsHalfway c all b left
+halfway_start c all b header left whole sound layout names runs last rows = record {
   header = header;
   before = [];
   sound = sound;
@@ -51,9 +49,9 @@ halfway_start c bytes b header left whole sound layout names runs last rows = re
 }
 
 -- a row without a fault
-pub halfway_step : (c : Circuit) (bytes : Bytes) (b b2 : Builder) (row : Fields) (old left : List Fields) → IsHalfway c bytes b old → old ≡ row ∷ left
-    → fault_by b row ≡ None → IsAdded b b2 row → IsHalfway c bytes b2 left
-halfway_step c bytes b b2 row old left h e none added =
+pub halfway_step : (c : Circuit) (all : List Fields) (b b2 : Builder) (row : Fields) (old left : List Fields) → IsHalfway c all b old → old ≡ row ∷ left
+    → fault_by b row ≡ None → IsAdded b b2 row → IsHalfway c all b2 left
+halfway_step c all b b2 row old left h e none added =
     let again : (h.before ++ row ∷ []) ++ left ≡ h.before ++ old = append_assoc h.before (row ∷ []) left ∙ ap (λ more. h.before ++ more) (sym e) in
     let good : row_fault h.header h.before row ≡ None = sym (fault_by-is c h.header h.before b row h.built) ∙ none in
     record {
@@ -71,31 +69,31 @@ rows_opened : (c : Circuit) (header : Fields) (rows : List Fields) → header_fa
 unfolding runs_of_rows
 rows_opened c header rows e = rw e refl
 
-pub no_header : (c : Circuit) (bytes : Bytes) → rows_of bytes ≡ [] → workload_of c bytes ≡ Err (record { row = 1; kind = BadCsv })
+pub no_header : (c : Circuit) (all : List Fields) → all ≡ [] → runs_of_rows c all ≡ Err (record { row = 1; kind = BadCsv })
 unfolding runs_of_rows
-no_header c bytes e = said_by_rows c bytes [] e
+no_header c all e = ap (runs_of_rows c) e
 
-pub header_refused : (c : Circuit) (bytes : Bytes) (header : Fields) (left : List Fields) (kind : WorkloadKind) → rows_of bytes ≡ header ∷ left → header_fault c header ≡ Some kind
-    → workload_of c bytes ≡ Err (record { row = 1; kind = kind })
+pub header_refused : (c : Circuit) (all : List Fields) (header : Fields) (left : List Fields) (kind : WorkloadKind) → all ≡ header ∷ left → header_fault c header ≡ Some kind
+    → runs_of_rows c all ≡ Err (record { row = 1; kind = kind })
 unfolding runs_of_rows
-header_refused c bytes header left kind e fault =
-    said_by_rows c bytes (header ∷ left) e ∙ ap (λ f. runs_unless f (first_faulty_row (row_fault header) left) c header left) fault
+header_refused c all header left kind e fault =
+    ap (runs_of_rows c) e ∙ ap (λ f. runs_unless f (first_faulty_row (row_fault header) left) c header left) fault
 
-pub header_gives : (c : Circuit) (bytes : Bytes) (header : Fields) (left : List Fields) (refusal : Refusal (FaultyRow WorkloadKind)) → rows_of bytes ≡ header ∷ left
-    → LaysOut c header (Err refusal) → Gives (workload_of c bytes) (Err refusal)
-header_gives c bytes header left (Fault fault) e found =
-    header_refused c bytes header left fault.kind e found.1 ∙ ap (λ n. Err (record { row = n; kind = fault.kind })) (sym found.0)
-header_gives c bytes header left Memory e found = tt
+pub header_gives : (c : Circuit) (all : List Fields) (header : Fields) (left : List Fields) (refusal : Refusal (FaultyRow WorkloadKind)) → all ≡ header ∷ left
+    → LaysOut c header (Err refusal) → Gives (runs_of_rows c all) (Err refusal)
+header_gives c all header left (Fault fault) e found =
+    header_refused c all header left fault.kind e found.1 ∙ ap (λ n. Err (record { row = n; kind = fault.kind })) (sym found.0)
+header_gives c all header left Memory e found = tt
 
 -- a row with a fault
-pub row_refused : (c : Circuit) (bytes : Bytes) (b : Builder) (row : Fields) (old left : List Fields) (kind : WorkloadKind) → IsHalfway c bytes b old → old ≡ row ∷ left
-    → fault_by b row ≡ Some kind → workload_of c bytes ≡ Err (record { row = b.rows + 2; kind = kind })
-row_refused c bytes b row old left kind h e fault =
+pub row_refused : (c : Circuit) (all : List Fields) (b : Builder) (row : Fields) (old left : List Fields) (kind : WorkloadKind) → IsHalfway c all b old → old ≡ row ∷ left
+    → fault_by b row ≡ Some kind → runs_of_rows c all ≡ Err (record { row = b.rows + 2; kind = kind })
+row_refused c all b row old left kind h e fault =
     let bad : row_fault h.header h.before row ≡ Some kind = sym (fault_by-is c h.header h.before b row h.built) ∙ fault in
     let first : first_fault (row_fault h.header) (h.before ++ old) ≡ Some (length h.before + 1, kind) =
     h.faultless ∙ ap (first_after (numbered_fault (row_fault h.header)) h.before) e ∙ first_fault-here (row_fault h.header) h.before row left kind bad in
     let number : length h.before + 1 + 1 ≡ b.rows + 2 = omega (arith, h.built.rows) in
-    said_by_rows c bytes (h.header ∷ (h.before ++ old)) h.whole ∙ rows_opened c h.header (h.before ++ old) h.sound
+    ap (runs_of_rows c) h.whole ∙ rows_opened c h.header (h.before ++ old) h.sound
     ∙ ap (λ f. runs_unless None (option_map (λ found. (found.0 + 1, found.1)) f) c h.header (h.before ++ old)) first
     ∙ ap (λ n. Err (record { row = n; kind = kind })) number
 
@@ -116,12 +114,12 @@ ends c header [] b (Some last) w e = let none : w.0 ++ w.1 ∷ [] ≡ [] = sym w
 ends c header (x ∷ xs) b (Some last) w e =
     rw e (ap Ok (rw (w.4, w.5) (sym (map-append (run_of c header) w.0 (w.1 ∷ []))) ∙ ap (map (run_of c header)) (sym w.2)))
 
-pub gives_runs : (c : Circuit) (bytes : Bytes) (b : Builder) (left : List Fields) → IsHalfway c bytes b left → left ≡ [] → workload_of c bytes ≡ finished b
-gives_runs c bytes b left h e =
+pub gives_runs : (c : Circuit) (all : List Fields) (b : Builder) (left : List Fields) → IsHalfway c all b left → left ≡ [] → runs_of_rows c all ≡ finished b
+gives_runs c all b left h e =
     let rows : h.before ++ left ≡ h.before = ap (λ more. h.before ++ more) e ∙ append-nil h.before in
     let none : first_fault (row_fault h.header) h.before ≡ None =
     ap (first_fault (row_fault h.header)) (sym rows) ∙ h.faultless ∙ ap (first_after (numbered_fault (row_fault h.header)) h.before) e ∙ none_after (row_fault h.header) h.before in
-    said_by_rows c bytes (h.header ∷ h.before) (h.whole ∙ ap (λ more. h.header ∷ more) rows) ∙ rows_opened c h.header h.before h.sound
+    ap (runs_of_rows c) (h.whole ∙ ap (λ more. h.header ∷ more) rows) ∙ rows_opened c h.header h.before h.sound
     ∙ ap (λ f. runs_unless None (option_map (λ found. (found.0 + 1, found.1)) f) c h.header h.before) none
     ∙ sym (ends c h.header h.before b b.last h.built.grouped refl)
 
@@ -145,8 +143,8 @@ cycles_counted c header (g ∷ gs) =
     let one : length (map (vector_of c header) g) ≡ length g = rw length-map refl in
     omega (arith, one, cycles_counted c header gs, sum_by-cons (λ (run : Run). length run.vectors) (run_of c header g) (map (run_of c header) gs), sum_by-cons (length {A = Fields}) g gs)
 
-pub halfway_runs : (c : Circuit) (bytes : Bytes) (b : Builder) (left : List Fields) → IsHalfway c bytes b left → AreRuns (runs_in b)
-halfway_runs c bytes b left h =
+pub halfway_runs : (c : Circuit) (all : List Fields) (b : Builder) (left : List Fields) → IsHalfway c all b left → AreRuns (runs_in b)
+halfway_runs c all b left h =
     let is = runs_are c h.header h.before b b.last h.built.grouped refl in
     let count : sum_by (λ (run : Run). length run.vectors) (map (run_of c h.header) (workloads h.before)) ≡ length h.before =
     cycles_counted c h.header (workloads h.before) ∙ workloads-counted h.before in

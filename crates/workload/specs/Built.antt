@@ -15,8 +15,9 @@ use Rattle.workload.specs.declared.run.Run.{Run}
 use Rattle.workload.specs.declared.run.Kind.{Kind}
 use Rattle.workload.specs.declared.run.Kind.TheVariants.{Mission, Test}
 use Rattle.workload.specs.WorkloadFile.{row_fault, workloads}
-use Rattle.workload.specs.WorkloadSteps.{input_names, run_of, header_columns, header_fault, run_kind, workload_refusal}
-use Rattle.csv_rows.specs.Rows.{same_field, Fields, field, has_word, rows_of}
+use Rattle.workload.specs.WorkloadSteps.{input_names, run_of, runs_of_rows, header_columns, header_fault, run_kind, workload_refusal}
+use Rattle.csv_rows.specs.Rows.{same_field, Fields, field, has_word}
+use Rattle.fm_base.specs.Answers.{Gives}
 use Rattle.fm_base.specs.Firsts.{first_after, first_answer, first_fault, given, numbered_fault}
 use Rattle.fm_base.specs.Names.{Name, Bytes, distinct, has_repeat, is_one_of}
 use Rattle.fm_base.specs.Index.{with_name}
@@ -156,11 +157,16 @@ pub record IsBuilt (c : Circuit) (header : Fields) (before : List Fields) (b : B
   pub rows : b.rows ≡ length before
   pub few : b.rows ≤ 65536
 
--- a reader between two rows: none of the rows before has a fault
-pub record IsHalfway (c : Circuit) (bytes : Bytes) (b : Builder) (left : List Fields) : Type 0 where
+-- a reader between two rows of a file: none of the rows before has a fault
+pub record IsHalfway (c : Circuit) (all : List Fields) (b : Builder) (left : List Fields) : Type 0 where
   pub header : Fields
   pub before : List Fields
   pub sound : header_fault c header ≡ None
   pub built : IsBuilt c header before b
-  pub whole : rows_of bytes ≡ header ∷ (before ++ left)
+  pub whole : all ≡ header ∷ (before ++ left)
   pub faultless : first_fault (row_fault header) (before ++ left) ≡ first_after (numbered_fault (row_fault header)) before left
+
+-- the rows that were left are taken in, or the file is refused for the first faulty one
+abbrev pub TakesIn : Circuit → List Fields → Builder → Result (Unit {0}) (Refusal (FaultyRow WorkloadKind)) → Type 0
+TakesIn c all b (Ok done) = IsHalfway c all b []
+TakesIn c all b (Err refusal) = Gives (runs_of_rows c all) (Err refusal)

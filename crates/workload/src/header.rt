@@ -86,10 +86,14 @@ impl Layout {
         }
         let width = header.len();
         let inputs = inputs_of(alloc, net)?;
-        let Some(columns) = columns_of(alloc, &inputs, header)? else {
+        let columns = columns_of(alloc, &inputs, header);
+        drop(inputs);
+        let Some(columns) = columns? else {
             return Err(refusal(1, WorkloadKind::BadColumn));
         };
-        let Some(places) = places_of(alloc, net, &columns)? else {
+        let places = places_of(alloc, net, &columns);
+        drop(columns);
+        let Some(places) = places? else {
             return Err(refusal(1, WorkloadKind::MissingInput));
         };
         Ok(Layout { width, places })
