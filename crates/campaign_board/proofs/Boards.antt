@@ -8,13 +8,13 @@ use Rattle.metric_sums.specs.declared.Sums.{Sums}
 use Rattle.result_file.specs.declared.Row.{Row}
 use Rattle.result_file.specs.ResultText.{row_text}
 use Rattle.fm_shelf.specs.Content.{Content, Unknown, Absent, Held, IsIfKnown, HasIfKnown, bytes_of}
-use Rattle.fm_shelf.specs.Past.{Took, Tore, Cut, MayCut, cut_by, WritesOn, StopsOn, AtCut, AtPiece}
+use Rattle.fm_shelf.specs.Past.{Took, Cut, MayCut, cut_by, WritesOn, StopsOn, AtCut}
 use Rattle.fm_shelf.specs.Shelf.{ShelfState, CountRose, KeepsOthers, OnlyWrites, MayHaveMore, Becomes, Appends, MayAppend, Takes, Tears}
 use Rattle.fm_shelf.proofs.Appends.{has_on, keeps_none, keeps_on, writes_on}
 use Rattle.fm_shelf.proofs.Written.{writes_begin, writes_more, stops_begin, stops_more}
 use Rattle.fm_base.specs.Once.{Lacks}
 use Rattle.campaign_board.specs.Boards.{Start, batches_of, sums_over, next_row, file_text}
-use Rattle.campaign_board.specs.Kept.{AreRows, IsTorn, StopsAtRow, IsBoard, IsStart, AreKeptBytes, IsHeaderTorn}
+use Rattle.campaign_board.specs.Kept.{AreRows, IsTorn, IsBoard, IsStart, AreKeptBytes, IsHeaderTorn}
 use Rattle.campaign_board.specs.Posts.{sums_at_end}
 use Rattle.fm_base.proofs.SumsBelow.{once_few}
 use Rattle.campaign_board.proofs.Adding.{rows_push, batches_push, text_push}

@@ -1,10 +1,22 @@
-use Rattle.std.proofs.Common.{◌≡◌, ◌∙◌, ◌<◌, ◌++◌, sym, subst, arith}
+use Rattle.std.proofs.Common.{◌≡◌, ◌⊎◌, ◌∙◌, ◌++◌, take, sym, subst, arith}
 use Rattle.std.proofs.lemmas.Grind.{common_steps}
-use Rattle.std.specs.Result.{is_err}
+use Rattle.fm_shelf.specs.Content.{HasIfKnown, bytes_of}
 use Rattle.campaign_board.proofs.Posting.{on_err, on_ok}
-use Rattle.campaign_board.proofs.Boards.{cut_done, headed_anew, headed_on, stops_anew}
+use Rattle.campaign_board.proofs.Boards.{cut_done, headed_anew, headed_on, stops_anew, torn_cut}
 use Rattle.campaign_board.proofs.board.Board.append_header.Goals as goal
 use Rattle.campaign_board.proofs.board.Board.append_header.Goals.{then-whole-eq0+else-is_err-2, else-whole-eq0}
+
+pub returns-then-is_err-clause-torn : goal.returns-then-is_err-clause-torn
+returns-then-is_err-clause-torn g c =
+    let o = g.N.Origin.start in
+    let before = g.F.Shelf.seen c.self.inside.shelf in
+    let now = g.F.Shelf.seen c.cut.new.self in
+    let failed = sym c.is_err.ensures.value ∙ c.if-is_err.true in
+    let torn = (on_err c.cut.result failed c.cut.ensures.failed).1 in
+    rw (← c.self.view_is)
+    (torn_cut o.header c.args.whole (before.content o.name) (now.content o.name)
+    (subst (λ n. (now.content n ≡ before.content n) ⊎ HasIfKnown (now.content n) (take c.args.whole (bytes_of (before.content n))))
+    (c.as_str.ensures.value ∙ c.self.invariant.1) torn))
 
 pub returns-then-is_err-2-clause-stops : goal.returns-then-is_err-2-clause-stops
 returns-then-is_err-2-clause-stops g c =
