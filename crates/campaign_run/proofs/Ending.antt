@@ -1,12 +1,11 @@
 -- How a campaign has ended.
-use Rattle.std.proofs.Common.{◌≡◌, ℕ, ◌<◌, ◌≤◌, inl, inr, true, false, map, length, take, refl, sym, subst, ◌∙◌, arith}
+use Rattle.std.proofs.Common.{◌≡◌, ℕ, ◌<◌, ◌≤◌, inl, inr, true, false, map, length, take, refl, sym, subst, ◌∙◌}
 use Rattle.std.specs.Prelude.{All}
 use Rattle.std.proofs.lemmas.Bool.{false≢true}
 use Rattle.fm_shelf.specs.Content.{HasIfKnown, bytes_of}
 use Rattle.fm_shelf.specs.Past.{WritesOn}
 use Rattle.fm_shelf.specs.Shelf.{ShelfState}
 use Rattle.fm_shelf.specs.Sink.{Wrote, WrotePrefix}
-use Rattle.fm_shelf.proofs.Appends.{keeps_none}
 use Rattle.fm_shelf.specs.Outside.{Outside}
 use Rattle.metric_sums.specs.declared.Sums.{Sums}
 use Rattle.campaign_plan.specs.Analysis.{batch_count}
@@ -137,10 +136,6 @@ ends OutFault c before after sums board many start worked told =
       reports c before (had_written before after (written_by c)) sums board worked told.0 refl,
       subst (WrotePrefix before.out after.out) text told.1,
     )
-
--- without memory nothing was done
-pub none_ran : (c : Campaign) (before : Outside) → HasRun NoMemory c before before
-none_ran c before = record { ends = refl; others = keeps_none before.shelf c.name; given = refl; faults = omega arith; out_faults = omega arith }
 
 pub has_run : {F : Type 0} (end : End) (c : Campaign) (before after : Outside) (sums : Sums) (board : Board F) → length c.own ≡ 89
     → StartsFrom c.own c.p (before.shelf.content c.name) c.k → HasWorked (origin_of c before.shelf) c.k.whole before.shelf after.shelf board
