@@ -6,6 +6,7 @@ use Rattle.std.specs.Str.{bytes_eq}
 use Rattle.std.proofs.lemmas.Slice.Eq.{bytes_eq-Decides}
 use Rattle.fm_base.specs.Names.{Bytes}
 use Rattle.fm_shelf.specs.Content.{Content, Unknown}
+use Rattle.fm_shelf.specs.Event.{Event}
 use Rattle.fm_shelf.specs.Shelf.{ShelfState}
 use Rattle.fm_shelf.specs.Sink.{SinkState}
 use Rattle.fm_shelf.specs.Outside.{Outside, outside}
@@ -36,9 +37,9 @@ told_true (told ∷ rest) name (suc k, lt, at) =
     either true = refl
     either false = refl
 
-pub tells : (inner : ShelfState) (told : ToldNames) (names : List Bytes) → map (λ it. it.name.items) told.names.items ≡ names
-    → Tells names (stopping_state inner told) inner
-tells inner told names are name has =
+pub tells : (inner : ShelfState) (told : ToldNames) (events : List Event) (names : List Bytes) → map (λ it. it.name.items) told.names.items ≡ names
+    → Tells names (stopping_state inner told events) inner
+tells inner told events names are name has =
     ap (λ b. if b then inner.content name else Unknown) (told_true told.names.items name (subst (λ them. Contains them name) (sym are) has))
 
 -- ---- a campaign's files

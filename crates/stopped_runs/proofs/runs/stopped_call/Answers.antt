@@ -13,13 +13,13 @@ returns g c =
     let left = c.fmeda-shelf.result.shelf in
     record {
       ended = c.fmeda-shelf.result.status;
-      met = outside (stopping_state (g.F.Shelf.seen met.shelf) met.told) (g.O.Sink.seen c.args.out.now);
-      left = outside (stopping_state (g.F.Shelf.seen left.shelf) left.told) (g.O.Sink.seen c.fmeda-shelf.new.out);
+      met = outside (stopping_state (g.F.Shelf.seen met.shelf) met.told met.past.events) (g.O.Sink.seen c.args.out.now);
+      left = outside (stopping_state (g.F.Shelf.seen left.shelf) left.told left.past.events) (g.O.Sink.seen c.fmeda-shelf.new.out);
       promised = c.fmeda-shelf.ensures.promises;
       tells =
-          subst (λ (shelf : g.row.F.Denot). Tells names (stopping_state (g.F.Shelf.seen met.shelf) met.told) (g.F.Shelf.seen shelf)) c.in-Ok.ensures.shelf
-          (tells_all (g.F.Shelf.seen met.shelf) met.told names c.in-Ok.ensures.names);
+          subst (λ (shelf : g.row.F.Denot). Tells names (stopping_state (g.F.Shelf.seen met.shelf) met.told met.past.events) (g.F.Shelf.seen shelf)) c.in-Ok.ensures.shelf
+          (tells_all (g.F.Shelf.seen met.shelf) met.told met.past.events names c.in-Ok.ensures.names);
       keeps =
-          subst (λ (shelf : g.row.F.Denot). Tells names (stopping_state (g.F.Shelf.seen left.shelf) left.told) (g.F.Shelf.seen shelf)) (sym c.into_inner.ensures)
-          (tells_all (g.F.Shelf.seen left.shelf) left.told names (c.tells.ensures c.if-not-tells.false));
+          subst (λ (shelf : g.row.F.Denot). Tells names (stopping_state (g.F.Shelf.seen left.shelf) left.told left.past.events) (g.F.Shelf.seen shelf)) (sym c.into_inner.ensures)
+          (tells_all (g.F.Shelf.seen left.shelf) left.told left.past.events names (c.tells.ensures c.if-not-tells.false));
     }

@@ -13,15 +13,15 @@ returns-then-self-eq0-clause-failed g c =
 pub returns-then-self-eq0-clause-rest : goal.returns-then-self-eq0-clause-rest
 returns-then-self-eq0-clause-rest g c =
     write_stops (g.F.Shelf.seen c.args.self.now.shelf) (g.F.Shelf.seen c.tear.new.shelf) c.args.name.now c.args.self.now.told c.note_write.new.self c.args.self.now.past.events
-    c.tear.ensures.rest c.note_write.ensures c.then.result.events (notes_change c.args.self.now.past.events c.then.result.events c.args.name.now _ c.then.ensures)
+    c.tear.ensures.rest c.note_write.ensures c.then-self.result.events (notes_change c.args.self.now.past.events c.then-self.result.events c.args.name.now _ c.then-self.ensures)
 
 pub returns-then-self-eq0-clause-taken : goal.returns-then-self-eq0-clause-taken
-returns-then-self-eq0-clause-taken g c = adds_change c.args.self.now.past.events c.then.result.events c.args.name.now _ c.then.ensures
+returns-then-self-eq0-clause-taken g c = adds_change c.args.self.now.past.events c.then-self.result.events c.args.name.now _ c.then-self.ensures
 
 pub returns-clause-taken : goal.returns-clause-taken
-returns-clause-taken g c = adds_change c.args.self.now.past.events c.then-2.result.events c.args.name.now _ c.then-2.ensures
+returns-clause-taken g c = adds_change c.args.self.now.past.events c.then-self-2.result.events c.args.name.now _ c.then-self-2.ensures
 
 pub returns-clause-rest : goal.returns-clause-rest
 returns-clause-rest g c =
-    write_passes (g.F.Shelf.seen c.args.self.now.shelf) (g.F.Shelf.seen c.append-answer.new.self) c.args.name.now c.args.self.now.told c.args.self.now.past.events c.then-2.result.events
-    c.append-answer.ensures.rest (notes_change c.args.self.now.past.events c.then-2.result.events c.args.name.now _ c.then-2.ensures)
+    write_passes (g.F.Shelf.seen c.args.self.now.shelf) (g.F.Shelf.seen c.append-answer.new.self) c.args.name.now c.args.self.now.told c.args.self.now.past.events c.then-self-2.result.events
+    c.append-answer.ensures.rest (notes_change c.args.self.now.past.events c.then-self-2.result.events c.args.name.now _ c.then-self-2.ensures)

@@ -16,9 +16,9 @@ pub returns-then-self-eq0-clause-given : goal.returns-then-self-eq0-clause-given
 returns-then-self-eq0-clause-given g c = sym (append-nil _)
 
 pub returns-clause-given : goal.returns-clause-given
-returns-clause-given g c = adds_given c.args.self.now.past.events c.then.result.events c.args.name.now _ c.then.ensures
+returns-clause-given g c = adds_given c.args.self.now.past.events c.then-self.result.events c.args.name.now _ c.then-self.ensures
 
 pub returns-clause-rest : goal.returns-clause-rest
 returns-clause-rest g c =
-    read_passes (g.F.Shelf.seen c.args.self.now.shelf) (g.F.Shelf.seen c.read-answer.new.self) c.args.name.now c.args.self.now.told c.args.self.now.past.events c.then.result.events _
-    c.read-answer.ensures.rest c.then.ensures
+    read_passes (g.F.Shelf.seen c.args.self.now.shelf) (g.F.Shelf.seen c.read-answer.new.self) c.args.name.now c.args.self.now.told c.args.self.now.past.events c.then-self.result.events _
+    c.read-answer.ensures.rest c.then-self.ensures
