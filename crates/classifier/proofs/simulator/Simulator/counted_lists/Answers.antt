@@ -1,9 +1,11 @@
-use Rattle.std.proofs.Common.{ap, ◌∙◌}
+use Rattle.std.proofs.Common.{List, ap, sym, subst, ◌∙◌}
 use Rattle.classifier.specs.Load.{lane_faults, load_of}
+use Rattle.classifier.specs.Narrowed.{AreNarrowFor}
 use Rattle.classifier.specs.Planes.{planes_of}
+use Rattle.classifier.specs.declared.narrow.Narrow.{Narrow}
 use Rattle.classifier.specs.Simulator.{Simulator, listed}
 use Rattle.classifier.proofs.PlaneBits.{planes_same}
-use Rattle.classifier.proofs.Simulators.{lanes_fit, same_as_before, windows_fit, windows_kept}
+use Rattle.classifier.proofs.Simulators.{lanes_fit, narrow_fits, same_as_before, windows_fit, windows_kept}
 use Rattle.classifier.proofs.simulator.Simulator.counted_lists.Goals as goal
 
 pub loaded_quad-requires-clause-lanes : goal.loaded_quad-requires-clause-lanes
@@ -15,6 +17,11 @@ loaded_quad-requires-clause-lanes g c =
 pub loaded_quad-requires-clause-windows : goal.loaded_quad-requires-clause-windows
 loaded_quad-requires-clause-windows g c =
     windows_fit c.args.bench.now c.args.self.now c.self.inside.lanes c.self.inside.points.value c.self.inside.windows c.self.view_is c.requires c.self.invariant.0
+
+pub loaded_quad-requires-clause-narrow : goal.loaded_quad-requires-clause-narrow
+loaded_quad-requires-clause-narrow g c =
+    subst (λ (ns : List Narrow). AreNarrowFor c.args.bench.now.circuit c.args.bench.now.order ns) (sym c.from_mut.ensures.value)
+    (narrow_fits c.args.bench.now c.args.self.now c.self.inside.lanes c.self.inside.points.value c.self.inside.windows c.self.view_is c.requires c.self.inside.narrow c.self.invariant.1)
 
 pub invariant_of-self : goal.invariant_of-self
 invariant_of-self g c =

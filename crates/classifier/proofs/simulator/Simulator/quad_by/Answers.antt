@@ -1,7 +1,9 @@
-use Rattle.std.proofs.Common.{map, ap, ◌∙◌}
+use Rattle.std.proofs.Common.{List, map, ap, sym, subst, ◌∙◌}
 use Rattle.classifier.specs.Batch.{outcome_for}
+use Rattle.classifier.specs.Narrowed.{AreNarrowFor}
 use Rattle.classifier.specs.Simulator.{Simulator}
-use Rattle.classifier.proofs.Simulators.{lanes_fit, same_as_before, windows_fit, windows_kept}
+use Rattle.classifier.specs.declared.narrow.Narrow.{Narrow}
+use Rattle.classifier.proofs.Simulators.{lanes_fit, narrow_fits, same_as_before, windows_fit, windows_kept}
 use Rattle.classifier.proofs.simulator.Simulator.quad_by.Goals as goal
 
 pub narrowed_outcomes-requires-clause-lanes : goal.narrowed_outcomes-requires-clause-lanes
@@ -10,6 +12,11 @@ narrowed_outcomes-requires-clause-lanes g c = lanes_fit c.args.bench.now c.args.
 pub narrowed_outcomes-requires-clause-windows : goal.narrowed_outcomes-requires-clause-windows
 narrowed_outcomes-requires-clause-windows g c =
     windows_fit c.args.bench.now c.args.self.now c.self.inside.lanes c.self.inside.points.value c.self.inside.windows c.self.view_is c.requires.made c.self.invariant.0
+
+pub narrowed_outcomes-requires-clause-narrow : goal.narrowed_outcomes-requires-clause-narrow
+narrowed_outcomes-requires-clause-narrow g c =
+    subst (λ (ns : List Narrow). AreNarrowFor c.args.bench.now.circuit c.args.bench.now.order ns) (sym c.from_mut.ensures.value)
+    (narrow_fits c.args.bench.now c.args.self.now c.self.inside.lanes c.self.inside.points.value c.self.inside.windows c.self.view_is c.requires.made c.self.inside.narrow c.self.invariant.1)
 
 pub invariant_of-self : goal.invariant_of-self
 invariant_of-self g c =
