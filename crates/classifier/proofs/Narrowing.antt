@@ -1,5 +1,5 @@
 -- Lanes that are picked, and the words that they come from.
-use Rattle.std.proofs.Common.{◌≡◌, ◌<◌, ◌&&◌, ℕ, zero, suc, Bool, true, false, not, List, [], ◌∷◌, ◌++◌, ◌+◌, ◌*◌, length, set, get_or, refl, ap, sym, subst, arith, length-set}
+use Rattle.std.proofs.Common.{◌≡◌, ◌<◌, ◌&&◌, ℕ, zero, suc, Bool, true, false, not, List, [], ◌∷◌, ◌++◌, ◌+◌, ◌*◌, length, set, get_or, refl, ap, sym, ◌∙◌, subst, arith, length-set}
 use Rattle.std.specs.Prelude.{Option, None, Some}
 use Rattle.std.specs.List.{list_any}
 use Rattle.std.proofs.lemmas.List.Folds.{list_any_none}
@@ -80,3 +80,7 @@ pub narrow_set : (c : Circuit) (order : List NetId) (narrow : List Narrow) (i : 
     → AreNarrowFor c order (set narrow i new)
 narrow_set c order narrow i new inside made are j none lt =
     each_set_one (λ m (s : Narrow). IsMadeFor c order s.lanes) narrow i new none inside made j (λ apart. are j none (subst (λ n. j < n) (length-set narrow i new) lt))
+
+-- for the same circuit and order
+pub narrow_for : (c d : Circuit) (old new : List NetId) (narrow : List Narrow) → c ≡ d → old ≡ new → AreNarrowFor c old narrow → AreNarrowFor d new narrow
+narrow_for c d old new narrow same nets are i none lt = record { circuit = (are i none lt).circuit ∙ same; order = (are i none lt).order ∙ nets }

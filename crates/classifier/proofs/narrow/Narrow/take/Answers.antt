@@ -1,4 +1,4 @@
-use Rattle.std.proofs.Common.{◌≡◌, ◌+◌, ◌*◌, ◌<◌, ap, ◌∙◌, arith}
+use Rattle.std.proofs.Common.{◌+◌, ◌*◌, ◌<◌, ap, ◌∙◌, arith}
 use Rattle.differential_kernel.specs.Picked.{place_in}
 use Rattle.classifier.specs.Load.{in_lane}
 use Rattle.lane_words.specs.Loads.{loaded_faults}

@@ -1,4 +1,4 @@
-use Rattle.std.proofs.Common.{◌≡◌, ◌+◌, ◌*◌, ◌≤◌, ◌<◌, List, [], inr, refl, sym, ◌∙◌, arith}
+use Rattle.std.proofs.Common.{◌≡◌, ◌+◌, ◌*◌, List, [], inr, refl, sym, ◌∙◌, arith}
 use Rattle.circuit.specs.declared.parts.Fault.{Fault}
 use Rattle.differential_kernel.specs.Picked.{place_in}
 use Rattle.classifier.proofs.Kept.{load_kept}
