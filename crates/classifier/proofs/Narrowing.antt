@@ -1,5 +1,5 @@
 -- Lanes that are picked, and the words that they come from.
-use Rattle.std.proofs.Common.{◌≡◌, ◌<◌, ◌&&◌, ℕ, zero, suc, Bool, true, false, not, List, [], ◌∷◌, ◌++◌, ◌+◌, ◌*◌, length, set, get_or, refl, ap, sym, ◌∙◌, subst, arith, length-set}
+use Rattle.std.proofs.Common.{◌≡◌, ◌<◌, ◌&&◌, ℕ, zero, suc, Bool, true, false, not, List, [], ◌∷◌, ◌++◌, get_or, refl, ap, sym, ◌∙◌, arith}
 use Rattle.std.specs.Prelude.{Option, None, Some}
 use Rattle.std.specs.List.{list_any}
 use Rattle.std.proofs.lemmas.List.Folds.{list_any_none}
@@ -19,7 +19,6 @@ use Rattle.lane_words.specs.Loads.{loaded_faults}
 use Rattle.classifier.specs.Load.{in_lane}
 use Rattle.classifier.specs.Narrowed.{AreNarrowFor, faults_at}
 use Rattle.classifier.specs.declared.narrow.Narrow.{Narrow}
-use Rattle.classifier.proofs.EachWord.{each_set_one}
 use Rattle.classifier.proofs.Stillness.{same_bits}
 
 -- a bit that tells something of the faults at its place tells it of the lane; without faults it isn't so
@@ -75,11 +74,6 @@ bare_over c vectors most more t net from late inside = either_same (trace c [] (
 pub one_narrow : (c : Circuit) (order : List NetId) (s : Narrow) → IsMadeFor c order s.lanes → AreNarrowFor c order (s ∷ [])
 one_narrow c order s made zero none lt = made
 one_narrow c order s made (suc i) none lt = absurd (omega (arith, lt))
-
-pub narrow_set : (c : Circuit) (order : List NetId) (narrow : List Narrow) (i : ℕ) (new : Narrow) → i < length narrow → IsMadeFor c order new.lanes → AreNarrowFor c order narrow
-    → AreNarrowFor c order (set narrow i new)
-narrow_set c order narrow i new inside made are j none lt =
-    each_set_one (λ m (s : Narrow). IsMadeFor c order s.lanes) narrow i new none inside made j (λ apart. are j none (subst (λ n. j < n) (length-set narrow i new) lt))
 
 -- for the same circuit and order
 pub narrow_for : (c d : Circuit) (old new : List NetId) (narrow : List Narrow) → c ≡ d → old ≡ new → AreNarrowFor c old narrow → AreNarrowFor d new narrow

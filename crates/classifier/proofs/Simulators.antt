@@ -1,5 +1,7 @@
 -- What a simulator holds, by what it was made for.
-use Rattle.std.proofs.Common.{◌≡◌, [], ◌∷◌, ap, sym, subst, ◌∙◌}
+use Rattle.std.proofs.Common.{◌≡◌, List, [], ◌∷◌, ap, sym, subst, ◌∙◌}
+use Rattle.circuit.specs.declared.parts.NetId.{NetId}
+use Rattle.circuit.specs.Circuit.{Circuit}
 use Rattle.alarm_points.specs.declared.Points.{Points}
 use Rattle.alarm_points.specs.FourWatches.{AreFourMadeFor, FourWatches}
 use Rattle.golden_difference.specs.Lanes.{IsMadeFor, Lanes}
@@ -13,6 +15,11 @@ use Rattle.classifier.proofs.Narrowing.{one_narrow}
 -- a simulator with these lanes and windows
 abbrev pub holding : Lanes Quad → Points → FourWatches → Simulator
 holding lanes points windows = record { circuit = lanes.circuit; order = lanes.order; points = points; ftti = windows.ftti }
+
+-- what was made for the same stands for one another
+pub made_alike : {V W : Type 0} (c : Circuit) (order : List NetId) (lanes : Lanes V) (other : Lanes W) → IsMadeFor c order lanes → IsMadeFor c order other
+    → IsMadeFor lanes.circuit lanes.order other
+made_alike c order lanes other made own = record { circuit = own.circuit ∙ sym made.circuit; order = own.order ∙ sym made.order }
 
 module _ (bench : Testbench) (s : Simulator) (lanes : Lanes Quad) (points : Points) (windows : FourWatches)
     (is : holding lanes points windows ≡ s) (made : s ≡ simulator_of bench s.ftti) where
