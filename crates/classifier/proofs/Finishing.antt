@@ -1,18 +1,22 @@
 -- A run that was followed to its end.
-use Rattle.std.proofs.Common.{◌≡◌, ◌<◌, ◌≤◌, ℕ, false, List, length, take, drop, ap, sym, ◌∙◌, subst, arith, ◌++◌}
+use Rattle.std.proofs.Common.{◌≡◌, ◌<◌, ◌≤◌, ◌+◌, ◌*◌, ℕ, false, List, [], length, take, drop, ap, sym, ◌∙◌, subst, arith, ◌++◌}
 use Rattle.std.specs.Prelude.{Option}
 use Rattle.std.proofs.lemmas.List.{length-take-le, take-append-drop}
 use Rattle.circuit.specs.declared.parts.Fault.{Fault}
 use Rattle.circuit.specs.Circuit.{Circuit}
 use Rattle.workload.specs.declared.run.Run.{Run}
-use Rattle.workload.specs.Runs.{cycles_of}
+use Rattle.std.proofs.lemmas.List.Sums.{get_or-le-sum_by}
+use Rattle.workload.specs.declared.run.Kind.{Kind}
+use Rattle.workload.specs.Runs.{all_cycles, cycles_of, run_at}
+use Rattle.workload.specs.RunsKept.{AreRuns}
 use Rattle.alarm_points.specs.FourWatches.{windows_at}
 use Rattle.alarm_points.specs.PointsKept.{ArePointsFor}
 use Rattle.alarm_points.specs.Watch.{Watches}
 use Rattle.alarm_points.specs.declared.Points.{Points}
 use Rattle.golden_difference.specs.Beside.{IsOver, trace_differs}
-use Rattle.classifier.specs.Load.{in_lane}
-use Rattle.classifier.specs.Seen.{AreAllFollowed, HaveAllSeen, HaveAllSeenRun, known_at, left_at}
+use Rattle.classifier.specs.Load.{Load, in_lane, lane_faults}
+use Rattle.classifier.specs.OutOfReach.{decided_at}
+use Rattle.classifier.specs.Seen.{AllBegin, AreAllFollowed, Begins, HaveAllSeen, HaveAllSeenRun, known_at, left_at}
 use Rattle.classifier.specs.declared.decided.Decided.{Decided}
 use Rattle.classifier.proofs.Stillness.{over_still}
 
@@ -36,3 +40,21 @@ seen_to_end c points run words faults decided n windows left in_force fit few co
       ∙ sym (ap (λ (fs : List Fault). trace_differs c fs (take n vectors ++ drop n vectors) u net) ((followed word in_words).follow k lane none))
       ∙ over word k (omega (arith, from, late)) in_words lane (drop n vectors) u net (omega (arith, length-take-le n vectors within, from)) (omega (arith, late, few)) inside);
 }
+
+-- lanes begin a run with what they were loaded with, where they aren't decided
+pub begun : (kind own : Kind) (words : ℕ) (load : Load) (decided : List Decided) (started faults : List (List (Option Fault))) → own ≡ kind → started ≡ load.faults
+    → ((word k : ℕ) → word < words → k < 64 → Begins own (decided_at decided word) k (in_lane started word k) (in_lane faults word k))
+    → AllBegin kind words load decided faults
+begun kind own words load decided started faults same from begins word k lt lane =
+    subst (λ (kd : Kind). Begins kd (decided_at decided word) k (lane_faults load word k) (in_lane faults word k)) same
+    (subst (λ (fs : List (List (Option Fault))). Begins own (decided_at decided word) k (in_lane fs word k) (in_lane faults word k)) from (begins word k lt lane))
+
+-- a run has few cycles
+pub few_cycles : (runs : List Run) (run : ℕ) → AreRuns runs → run < length runs → cycles_of (run_at runs run) ≤ 65536
+few_cycles runs run are lt =
+    let least : cycles_of (run_at runs run) ≤ all_cycles runs = get_or-le-sum_by cycles_of runs run (run_at [] 0) lt in
+    omega (arith, least, are.few)
+
+-- the steps of some cycles more
+pub cost_more : (start before now from t tables : ℕ) → before ≤ start + from * tables → now + from * tables ≤ before + t * tables → now ≤ start + t * tables
+cost_more start before now from t tables b n = omega arith

@@ -26,10 +26,10 @@ followed_alike c points ftti run faults known n old new same is = record {
 
 -- the same in each word
 pub same_followed : (c : Circuit) (points : Points) (run : Run) (words : ℕ) (faults : List (List (Option Fault))) (decided : List Decided) (n : ℕ) (windows : List Watches) (old new : ℕ → ℕ → List Fault)
-    → ((word k : ℕ) → new word k ≡ old word k)
+    → ((word k : ℕ) → word < words → k < 64 → new word k ≡ old word k)
     → AreAllFollowed c points run words faults decided n windows old → AreAllFollowed c points run words faults decided n windows new
 same_followed c points run words faults decided n windows old new same are word lt =
-    followed_alike c points (windows_at windows word).ftti run (in_lane faults word) (known_at decided word) n (old word) (new word) (λ k lane. same word k) (are word lt)
+    followed_alike c points (windows_at windows word).ftti run (in_lane faults word) (known_at decided word) n (old word) (new word) (λ k lane. same word k lt lane) (are word lt)
 
 -- one cycle more, behind which those lanes are dropped in which nothing more decides
 pub followed_more : (c : Circuit) (points : Points) (ftti : ℕ) (run : Run) (faults : ℕ → List Fault) (known t : ℕ) (old new : ℕ → List Fault) (ws : Watches) (left out : ℕ)

@@ -1,5 +1,5 @@
 -- Lanes that are picked, and the words that they come from.
-use Rattle.std.proofs.Common.{◌≡◌, ◌<◌, ◌&&◌, ℕ, Bool, true, false, not, List, [], get_or, refl, sym}
+use Rattle.std.proofs.Common.{◌≡◌, ◌<◌, ◌&&◌, ℕ, zero, suc, Bool, true, false, not, List, [], ◌∷◌, ◌++◌, get_or, refl, ap, sym, ◌∙◌, arith}
 use Rattle.std.specs.Prelude.{Option, None, Some}
 use Rattle.std.specs.List.{list_any}
 use Rattle.std.proofs.lemmas.List.Folds.{list_any_none}
@@ -13,9 +13,12 @@ use Rattle.fm_base.specs.Lists.{same_bit}
 use Rattle.fm_base.specs.Planes.{bit}
 use Rattle.differential_kernel.specs.Picked.{bit_at_place}
 use Rattle.golden_difference.specs.Beside.{IsOver}
+use Rattle.golden_difference.specs.Lanes.{IsMadeFor}
 use Rattle.golden_difference.proofs.Exclusive.{either_same}
 use Rattle.lane_words.specs.Loads.{loaded_faults}
-use Rattle.classifier.specs.Narrowed.{faults_at}
+use Rattle.classifier.specs.Load.{in_lane}
+use Rattle.classifier.specs.Narrowed.{AreNarrowFor, faults_at}
+use Rattle.classifier.specs.declared.narrow.Narrow.{Narrow}
 use Rattle.classifier.proofs.Stillness.{same_bits}
 
 -- a bit that tells something of the faults at its place tells it of the lane; without faults it isn't so
@@ -40,6 +43,10 @@ pub faults_from : (in_force : List (List (Option Fault))) (faults : List Fault) 
 faults_from in_force faults None none each = sym (none refl)
 faults_from in_force faults (Some own) none each = each own refl
 
+-- the lanes of the one word are those of its places
+pub in_first : (in_force : List (List (Option Fault))) (k : ℕ) → in_lane in_force 0 k ≡ loaded_faults in_force k
+in_first in_force k = ap (loaded_faults in_force) (omega arith)
+
 -- ---- without faults nothing shows
 
 pub bare_same : (c : Circuit) (run : Run) (t : ℕ) (nets : List NetId) → list_any (λ net. not (same_bit (with_faults c [] run t net) (golden c run t net))) nets ≡ false
@@ -60,4 +67,14 @@ pub bare_loud : (c : Circuit) (run : Run) (t : ℕ) (nets : List NetId) → list
 bare_loud c run t nets = list_any_none (λ net. not (golden c run t net) && golden c run t net) nets (λ j e less. nor_both (golden c run t (get_or nets j e)))
 
 pub bare_over : (c : Circuit) (vectors : List (List Bool)) (most : ℕ) → IsOver c [] vectors most
-bare_over c vectors most more t net from late inside = either_same _
+bare_over c vectors most more t net from late inside = either_same (trace c [] (vectors ++ more) t net)
+
+-- ---- the words that may go on
+
+pub one_narrow : (c : Circuit) (order : List NetId) (s : Narrow) → IsMadeFor c order s.lanes → AreNarrowFor c order (s ∷ [])
+one_narrow c order s made zero none lt = made
+one_narrow c order s made (suc i) none lt = absurd (omega (arith, lt))
+
+-- for the same circuit and order
+pub narrow_for : (c d : Circuit) (old new : List NetId) (narrow : List Narrow) → c ≡ d → old ≡ new → AreNarrowFor c old narrow → AreNarrowFor d new narrow
+narrow_for c d old new narrow same nets are i none lt = record { circuit = (are i none lt).circuit ∙ same; order = (are i none lt).order ∙ nets }

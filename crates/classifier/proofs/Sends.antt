@@ -1,4 +1,5 @@
 -- A simulator may go to another thread.
+use denote.Builtin.{u64}
 use denote.Param.Send.{IsSend, sendable}
 use Rattle.std.proofs.Crossing.{crosses}
 use Rattle.circuit.proofs.parts.Fault.TheSendSync as fault
@@ -8,13 +9,22 @@ use Rattle.lane_words.proofs.force.Force.TheSendSync as force
 use Rattle.lane_words.proofs.quad.Quad.TheSendSync as quad
 use Rattle.lane_words.specs.contracts.quad.Quad.{the_row as quad_row}
 use Rattle.lane_words.specs.contracts.quad.QuadWord.TheImpl.{ghosts}
+use Rattle.lane_words.specs.contracts.word.U64Word.TheImpl.{ghosts as word_ghosts}
 use Rattle.differential_kernel.specs.contracts.lanes.DifferentialLanes.{the_row}
+use Rattle.differential_kernel.proofs.picks.Picks.TheSendSync as picks
 use Rattle.place_set.proofs.set.PlaceSet.TheSendSync as places
 use Rattle.alarm_points.proofs.windows4.Windows4.TheSendSync as windows
+use Rattle.classifier.specs.contracts.narrow.Narrow.{the_row as narrow_row}
 use Rattle.classifier.specs.contracts.simulator.Simulator.{the_row as simulator_row}
 
 lanes_send : IsSend (the_row quad_row ghosts)
 lanes_send = search (sendable, crosses, quad.the_send, fault.the_send, gate.the_send, masks.the_send, force.the_send, places.the_send) depth 30 fits 8000
 
+word_send : IsSend (the_row u64 word_ghosts)
+word_send = search (sendable, crosses, fault.the_send, gate.the_send, masks.the_send, force.the_send, places.the_send) depth 30 fits 8000
+
+narrow_send : IsSend narrow_row
+narrow_send = search (sendable, crosses, word_send, picks.the_send) depth 20
+
 pub simulator_send : IsSend simulator_row
-simulator_send = search (sendable, crosses, windows.the_send, lanes_send) depth 20
+simulator_send = search (sendable, crosses, windows.the_send, lanes_send, narrow_send) depth 20

@@ -95,6 +95,7 @@ impl Followed for Narrow {
     }
 
     fn is_over(&self) -> bool {
+        let _few = self.picks.count();
         self.lanes.is_over()
     }
 }

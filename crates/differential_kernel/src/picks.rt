@@ -115,6 +115,7 @@ impl Picks {
     pub fn count(&self) -> u32
         ensures count { result ≡ self.now.count }
         ensures few { result ≤ 64 }
+        ensures sound { ArePicks self.now }
     {
         self.count
     }

@@ -52,7 +52,7 @@ returns g c =
           (subst (λ (l : Load). AreAllFollowed l.circuit shown run words faults decided t windows (g.F.Followed.faults c.advance.new.self)) (sym keeps)
           (subst (λ (m : Circuit). AreAllFollowed m shown run words faults decided t windows (g.F.Followed.faults c.advance.new.self)) (sym made)
           (subst (λ (ps : Points). AreAllFollowed net ps run words faults decided t windows (g.F.Followed.faults c.advance.new.self)) (sym same)
-          (same_followed net points run words faults decided t windows (g.F.Followed.faults c.args.lanes.now) (g.F.Followed.faults c.advance.new.self) c.advance.ensures.faults followed))))
+          (same_followed net points run words faults decided t windows (g.F.Followed.faults c.args.lanes.now) (g.F.Followed.faults c.advance.new.self) (λ word k lt lane. c.advance.ensures.faults word k) followed))))
           (subst (λ (l : Load). HaveAllSeen l.circuit shown run faults decided t windows left) (sym keeps)
           (subst (λ (m : Circuit). HaveAllSeen m shown run faults decided t windows left) (sym made)
           (subst (λ (ps : Points). HaveAllSeen net ps run faults decided t windows left) (sym same) seen))) in (

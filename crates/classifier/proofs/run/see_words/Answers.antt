@@ -42,7 +42,7 @@ loop-word-preserved g c =
     let none : Watches = windows_at [] 0 in
     let inside : i < length ws = omega (arith, c.loop-word-test.true, c.loop-word.auto.windows, c.requires.windows) in
     let also : i < length ns = omega (arith, c.loop-word-test.true, c.loop-word.auto.left, c.requires.left) in
-    let word_of : i < g.F.Followed.words = omega (arith, c.loop-word-test.true, c.words-word-end.ensures.count) in
+    let word_of : i < g.F.Followed.words = omega (arith, c.loop-word-test.true, c.words-word-end.ensures) in
     let old : get_or ws i c.index-windows-at.result ≡ windows_at ws i = get_or_default ws i c.index-windows-at.result none inside in
     let made : AreMadeFor points new.windows =
     c.see_word.ensures.keeps.intervals ∙ subst (λ (w : Watches). AreMadeFor points w) (sym old) (inv.made i inside)
@@ -94,10 +94,10 @@ returns-clause-seen g c = λ run faults t kind lt at row followed seen.
     let all = c.loop-word.invariant.seen run faults t kind lt at row followed seen in (
       all.0,
       λ word within.
-          let before : word < c.loop-word.word = omega (arith, within, c.loop-word-test.false, c.words-word-end.ensures.count) in
+          let before : word < c.loop-word.word = omega (arith, within, c.loop-word-test.false, c.words-word-end.ensures) in
           (all.1 word before).1,
       λ word within.
-          let before : word < c.loop-word.word = omega (arith, within, c.loop-word-test.false, c.words-word-end.ensures.count, c.loop-word.auto.windows, c.requires.windows) in
+          let before : word < c.loop-word.word = omega (arith, within, c.loop-word-test.false, c.words-word-end.ensures, c.loop-word.auto.windows, c.requires.windows) in
           (all.1 word before).0,
     )
 

@@ -1,31 +1,20 @@
-use Rattle.std.proofs.Common.{◌≡◌, ◌+◌, ◌*◌, ◌<◌, ◌≤◌, ◌++◌, ℕ, Bool, false, List, [], length, take, drop, ap, refl, sym, ◌∙◌, subst, arith}
-use Rattle.std.specs.Prelude.{Option}
-use Rattle.std.proofs.Math.Nat.{add-mul}
-use Rattle.std.proofs.lemmas.List.{length-take-le, take-append-drop}
-use Rattle.std.proofs.lemmas.List.Sums.{get_or-le-sum_by}
-use Rattle.circuit.specs.Circuit.{Circuit}
-use Rattle.golden_difference.specs.Beside.{trace_differs}
-use Rattle.circuit.specs.declared.parts.Fault.{Fault}
-use Rattle.workload.specs.Runs.{all_cycles, cycles_of, run_at}
+use Rattle.std.proofs.Common.{◌≡◌, List, [], length, take, ap, refl, sym, ◌∙◌, subst, arith}
+use Rattle.std.specs.Prelude.{slice_index_or}
+use Rattle.workload.specs.Runs.{run_at}
 use Rattle.alarm_points.specs.declared.Points.{Points}
-use Rattle.alarm_points.specs.FourWatches.{windows_at}
-use Rattle.classifier.specs.Load.{Load, in_lane, lane_faults, load_of}
-use Rattle.workload.specs.declared.run.Kind.{Kind}
-use Rattle.classifier.specs.OutOfReach.{decided_at}
-use Rattle.classifier.specs.Seen.{Begins, HaveAllSeen, HaveSeen, known_at, left_at}
-use Rattle.classifier.proofs.Stillness.{over_still}
+use Rattle.classifier.specs.Load.{Load, in_lane, load_of}
+use Rattle.classifier.specs.Narrowed.{AreNarrowFor, narrow_faults}
+use Rattle.classifier.specs.Seen.{HaveAllSeen}
+use Rattle.classifier.specs.declared.narrow.Narrow.{Narrow}
+use Rattle.classifier.proofs.Finishing.{begun, cost_more, few_cycles, seen_to_end}
+use Rattle.classifier.proofs.Following.{same_followed}
 use Rattle.classifier.proofs.Kept.{load_kept}
+use Rattle.classifier.proofs.Narrowing.{narrow_for}
 use Rattle.classifier.proofs.run.watch_run.Goals as goal
+use Rattle.classifier.proofs.run.watch_run.Goals.{else-t-cycles-via-then-t-cycles+else-goes_narrow, else-t-cycles-via-else-t-cycles}
 
--- the steps of one cycle more
-cost_more : (start before now t tables : ℕ) → before ≤ start + t * tables → now ≤ before + tables → now ≤ start + (t + 1) * tables
-cost_more start before now t tables b n =
-    let split : (t + 1) * tables ≡ t * tables + 1 * tables = add-mul t 1 tables in
-    let one : 1 * tables ≡ tables = omega arith in
-    omega (arith, split, one)
-
-pub clock-init : goal.clock-init
-clock-init g c =
+pub stretches-init : goal.stretches-init
+stretches-init g c =
     let net = c.args.bench.now.circuit in
     let run = run_at c.args.bench.now.runs c.args.run in
     let faults = c.drop_decided.new.lanes.in_force in
@@ -33,71 +22,109 @@ clock-init g c =
     subst (λ (ps : Points). HaveAllSeen net ps run faults c.args.decided.now 0 c.start_windows.new.windows c.start_windows.new.left) c.points.ensures.points
     (c.start_windows.ensures.seen net run faults c.args.decided.now) in
     record {
+      within = omega arith;
       load = refl;
       cycles = c.drop_decided.ensures.cycles ∙ c.start.ensures.cycle;
       after = c.drop_decided.ensures.after [] c.start.ensures.start;
+      narrow = c.requires.narrow;
       made = λ word lt. (none word lt).made;
       seen = none;
       followed = λ word lt. record { follow = λ k lane stays. refl };
       ftti = λ word. refl;
-      within = omega arith;
       cost = omega arith;
     }
 
-pub clock-preserved : goal.clock-preserved
-clock-preserved g c =
-    let inv = c.clock.invariant in
-    let ran = c.run_cycle.ensures in
-    let all = ran.seen _ inv.followed inv.seen in
+pub stretches-preserved : goal.stretches-preserved
+stretches-preserved g c =
+    let inv = c.stretches.invariant in
+    let bench = c.args.bench.now in
+    let ran = c.follow-t.ensures in
+    let all = ran.seen c.drop_decided.new.lanes.in_force inv.followed inv.seen in
+    let loads : load_of c.follow-t.new.lanes ≡ load_of c.args.lanes.now =
+    ran.load ∙ inv.load ∙ c.drop_decided.ensures.load ∙ load_kept c.args.lanes.now c.start.new.self c.start.ensures.keeps in
     record {
+      within = omega (arith, ran.within.1, c.stretch_end-bound.ensures.within, c.cycles-cycles.ensures.count);
       load = ran.load ∙ inv.load;
       cycles = ran.cycles;
-      after = all.0;
+      after = ran.after;
+      narrow =
+          elim c.else-t-cycles.branch [
+            | else-t-cycles-via-then-t-cycles+else-goes_narrow w ↦
+                subst (λ (ns : List Narrow). AreNarrowFor bench.circuit bench.order ns) (sym w.narrow-is)
+                (narrow_for c.follow-t.new.lanes.circuit bench.circuit c.follow-t.new.lanes.order bench.order w.goes_narrow.new.narrow
+                (ap (λ (l : Load). l.circuit) loads ∙ c.requires.made.circuit) (ap (λ (l : Load). l.order) loads ∙ c.requires.made.order) w.goes_narrow.ensures.made)
+            | else-t-cycles-via-else-t-cycles w ↦ subst (λ (ns : List Narrow). AreNarrowFor bench.circuit bench.order ns) (sym w.narrow-is) inv.narrow
+          ];
       made = ran.windows_made;
-      seen = all.2;
-      followed = all.1;
+      seen = all.1;
+      followed = all.0;
       ftti = λ word. ran.ftti word ∙ inv.ftti word;
-      within = omega (arith, c.goes_on.ensures.more c.clock-test.true, c.cycles.ensures.count);
-      cost = cost_more c.args.steps.now c.clock.steps c.run_cycle.new.steps c.clock.t (length c.args.bench.now.circuit.tables) inv.cost ran.cost;
+      cost = cost_more c.args.steps.now c.stretches.steps c.follow-t.new.steps c.stretches.t c.follow-t.result (length bench.circuit.tables) inv.cost ran.cost;
     }
+
+pub returns-then-t-bound-clause-seen : goal.returns-then-t-bound-clause-seen
+returns-then-t-bound-clause-seen g c =
+    let inv = c.stretches.invariant in
+    let bench = c.args.bench.now in
+    let run = run_at bench.runs c.args.run in
+    let decided = c.args.decided.now in
+    let faults = c.drop_decided.new.lanes.in_force in
+    let ran = c.follow-t.ensures in
+    let all = ran.seen faults inv.followed inv.seen in
+    let words = g.W.Word.words in (
+      faults,
+      begun run.kind c.kind.result words (load_of c.args.lanes.now) decided c.start.new.self.in_force faults c.kind.ensures (c.start.ensures.in_force ∙ c.start.ensures.keeps.loads)
+          c.drop_decided.ensures.begin,
+      seen_to_end bench.circuit bench.points run words faults decided c.follow-t.result c.follow-t.new.windows c.follow-t.new.left (in_lane c.follow-t.new.lanes.in_force)
+          c.points.ensures.fit (few_cycles bench.runs c.args.run c.cycles-cycles.ensures.sound c.requires.run)
+          (omega (arith, c.follow-t.auto.windows, c.stretches.auto.windows, c.start_windows.auto.windows, c.requires.windows))
+          (omega (arith, ran.within.1, c.stretch_end-bound.ensures.within, c.cycles-cycles.ensures.count)) all.0 all.1
+          (λ word k late. ran.over word k c.if-t-bound.true),
+    )
+
+pub follow-end-requires-clause-after : goal.follow-end-requires-clause-after
+follow-end-requires-clause-after g c =
+    c.goes_narrow.ensures.beside c.index-narrow-0.result (take c.follow-t.result (run_at c.args.bench.now.runs c.args.run).vectors) c.if-goes_narrow.true c.follow-t.ensures.after
+
+pub returns-then-goes_narrow-clause-seen : goal.returns-then-goes_narrow-clause-seen
+returns-then-goes_narrow-clause-seen g c =
+    let inv = c.stretches.invariant in
+    let bench = c.args.bench.now in
+    let run = run_at bench.runs c.args.run in
+    let decided = c.args.decided.now in
+    let faults = c.drop_decided.new.lanes.in_force in
+    let all = c.follow-t.ensures.seen faults inv.followed inv.seen in
+    let four : g.W.Word.words ≡ 4 = c.goes_narrow.ensures.four c.if-goes_narrow.true in
+    let none = c.index-narrow-0.result in
+    let one : Narrow = slice_index_or c.goes_narrow.new.narrow 0 none in
+    let followed =
+    same_followed bench.circuit bench.points run 4 faults decided c.follow-t.result c.follow-t.new.windows (in_lane c.follow-t.new.lanes.in_force) (narrow_faults one)
+    (λ word k lt lane. c.goes_narrow.ensures.faults none word k c.if-goes_narrow.true lt lane) (λ word lt. all.0 word (omega (arith, lt, four))) in
+    let ran = c.follow-end.ensures in
+    let ended = ran.seen faults followed all.1 in (
+      faults,
+      begun run.kind c.kind.result g.W.Word.words (load_of c.args.lanes.now) decided c.start.new.self.in_force faults c.kind.ensures
+          (c.start.ensures.in_force ∙ c.start.ensures.keeps.loads) c.drop_decided.ensures.begin,
+      seen_to_end bench.circuit bench.points run 4 faults decided c.follow-end.result c.follow-end.new.windows c.follow-end.new.left (narrow_faults c.follow-end.new.lanes)
+          c.points.ensures.fit (few_cycles bench.runs c.args.run c.cycles-cycles.ensures.sound c.requires.run)
+          (omega (arith, c.follow-end.auto.windows, c.follow-t.auto.windows, c.stretches.auto.windows, c.start_windows.auto.windows, c.requires.windows, four))
+          (omega (arith, ran.within.1, c.cycles-cycles.ensures.count)) ended.0 ended.1
+          (λ word k late. ran.over word k (omega (arith, late, c.cycles-cycles.ensures.count))),
+    )
 
 pub returns-clause-seen : goal.returns-clause-seen
 returns-clause-seen g c =
-    let inv = c.clock.invariant in
-    let net = c.args.bench.now.circuit in
-    let points = c.args.bench.now.points in
-    let run = run_at c.args.bench.now.runs c.args.run in
-    let t = c.clock.t in
-    let load = load_of c.args.lanes.now in
+    let inv = c.stretches.invariant in
+    let bench = c.args.bench.now in
+    let run = run_at bench.runs c.args.run in
+    let decided = c.args.decided.now in
     let faults = c.drop_decided.new.lanes.in_force in
-    let least : cycles_of run ≤ all_cycles c.args.bench.now.runs = get_or-le-sum_by cycles_of c.args.bench.now.runs c.args.run (run_at [] 0) c.requires.run in
-    let few : cycles_of run ≤ 65536 = omega (arith, least, c.cycles.ensures.sound.few) in
-    let same : c.clock.lanes.circuit ≡ net =
-    ap (λ (l : Load). l.circuit) (inv.load ∙ c.drop_decided.ensures.load ∙ (load_kept c.args.lanes.now c.start.new.self c.start.ensures.keeps)) ∙ c.requires.made.circuit in (
+    let words = g.W.Word.words in (
       faults,
-      λ word k lt lane.
-          subst (λ (kind : Kind). Begins kind (decided_at c.args.decided.now word) k (lane_faults load word k) (in_lane faults word k)) c.kind.ensures
-          (subst (λ fs. Begins c.kind.result (decided_at c.args.decided.now word) k fs (in_lane faults word k))
-          (ap (λ (fs : List (List (Option Fault))). in_lane fs word k) c.start.ensures.in_force ∙ ap (λ (l : Load). lane_faults l word k) (load_kept c.args.lanes.now c.start.new.self c.start.ensures.keeps))
-          (c.drop_decided.ensures.begin word k lt lane)),
-      λ word lt.
-          let own : HaveSeen net points run (in_lane faults word) (known_at c.args.decided.now word) t (windows_at c.clock.windows word) (left_at c.clock.left word) = inv.seen word lt in
-          let in_words : word < g.W.Word.words = omega (arith, lt, c.clock.auto.windows, c.start_windows.auto.windows, c.requires.windows) in
-          record {
-            n = t;
-            within = inv.within;
-            seen = own;
-            still = λ k u lane none from late.
-                over_still net points run (in_lane faults word k) u c.points.ensures.fit
-                (λ n within.
-                let vectors = run.vectors in
-                let follows : in_lane c.clock.lanes.in_force word k ≡ in_lane faults word k = (inv.followed word in_words).follow k lane none in
-                let over : trace_differs c.clock.lanes.circuit (in_lane c.clock.lanes.in_force word k) (take t vectors ++ drop t vectors) u n ≡ false =
-                c.goes_on.ensures.over (take t vectors) word k c.clock-test.false (omega (arith, from, late, c.cycles.ensures.count)) inv.after in_words lane (drop t vectors) u n
-                (omega (arith, length-take-le t vectors inv.within, from)) (omega (arith, late, few)) (subst (λ (m : Circuit). n < length m.drivers) (sym same) within) in
-                sym (ap (λ (vs : List (List Bool)). trace_differs net (in_lane faults word k) vs u n) (take-append-drop t vectors))
-                ∙ sym (ap (λ (m : Circuit). trace_differs m (in_lane faults word k) (take t vectors ++ drop t vectors) u n) same)
-                ∙ sym (ap (λ (fs : List Fault). trace_differs c.clock.lanes.circuit fs (take t vectors ++ drop t vectors) u n) follows)
-                ∙ over);
-          },
+      begun run.kind c.kind.result words (load_of c.args.lanes.now) decided c.start.new.self.in_force faults c.kind.ensures (c.start.ensures.in_force ∙ c.start.ensures.keeps.loads)
+          c.drop_decided.ensures.begin,
+      seen_to_end bench.circuit bench.points run words faults decided c.stretches.t c.stretches.windows c.stretches.left (in_lane c.stretches.lanes.in_force) c.points.ensures.fit
+          (few_cycles bench.runs c.args.run c.cycles-cycles.ensures.sound c.requires.run)
+          (omega (arith, c.stretches.auto.windows, c.start_windows.auto.windows, c.requires.windows)) inv.within inv.followed inv.seen
+          (λ word k late. absurd (omega (arith, late, c.stretches-test.false, c.cycles-cycles.ensures.count))),
     )

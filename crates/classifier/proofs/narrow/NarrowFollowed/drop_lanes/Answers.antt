@@ -1,8 +1,8 @@
-use Rattle.std.proofs.Common.{◌≡◌, ◌+◌, ◌*◌, ◌≤◌, ◌<◌, List, [], inl, inr, refl, arith}
+use Rattle.std.proofs.Common.{◌≡◌, ◌+◌, ◌*◌, List, [], inr, refl, sym, ◌∙◌, arith}
 use Rattle.circuit.specs.declared.parts.Fault.{Fault}
 use Rattle.differential_kernel.specs.Picked.{place_in}
 use Rattle.classifier.proofs.Kept.{load_kept}
-use Rattle.classifier.proofs.Narrowing.{holds_at, same_at}
+use Rattle.classifier.proofs.Narrowing.{holds_at, in_first, same_at}
 use Rattle.classifier.proofs.narrow.NarrowFollowed.drop_lanes.Goals as goal
 
 pub returns-clause-load : goal.returns-clause-load
@@ -14,7 +14,8 @@ returns-clause-dropped c = λ k lane is.
     let lane_of = c.args.word * 64 + k in
     holds_at c.drop_lanes.new.self.in_force (λ (faults : List Fault). faults ≡ []) (place_in s.picks lane_of) refl
     (λ own there.
-    c.drop_lanes.ensures.dropped own (omega (arith, (c.places_of-out.ensures.sound.picked_there lane_of own there).0, c.places_of-out.ensures.sound.few))
+    sym (in_first c.drop_lanes.new.self.in_force own)
+    ∙ c.drop_lanes.ensures.dropped own (omega (arith, (c.places_of-out.ensures.sound.picked_there lane_of own there).0, c.places_of-out.ensures.sound.few))
     (c.places_of-out.ensures.set k own lane is there))
 
 pub returns-clause-others : goal.returns-clause-others
@@ -23,5 +24,7 @@ returns-clause-others c = λ other k within lane apart.
     let lane_of = other * 64 + k in
     same_at s.lanes.in_force c.drop_lanes.new.self.in_force (place_in s.picks lane_of)
     (λ own there.
-    c.drop_lanes.ensures.others 0 own (omega arith) (omega (arith, (c.places_of-out.ensures.sound.picked_there lane_of own there).0, c.places_of-out.ensures.sound.few))
-    (inr (c.places_of-out.ensures.others other k own lane apart there)))
+    sym (in_first c.drop_lanes.new.self.in_force own)
+    ∙ c.drop_lanes.ensures.others 0 own (omega arith) (omega (arith, (c.places_of-out.ensures.sound.picked_there lane_of own there).0, c.places_of-out.ensures.sound.few))
+    (inr (c.places_of-out.ensures.others other k own lane apart there))
+    ∙ in_first s.lanes.in_force own)
