@@ -1,5 +1,5 @@
 -- A run that was followed to its end.
-use Rattle.std.proofs.Common.{◌≡◌, ◌<◌, ◌≤◌, ◌+◌, ◌*◌, ℕ, false, List, [], length, take, drop, ap, sym, ◌∙◌, subst, arith, ◌++◌}
+use Rattle.std.proofs.Common.{◌≡◌, ◌<◌, ◌≤◌, ◌+◌, ◌*◌, ℕ, List, [], length, take, drop, ap, sym, ◌∙◌, subst, arith, ◌++◌}
 use Rattle.std.specs.Prelude.{Option}
 use Rattle.std.proofs.lemmas.List.{length-take-le, take-append-drop}
 use Rattle.circuit.specs.declared.parts.Fault.{Fault}
@@ -9,14 +9,13 @@ use Rattle.std.proofs.lemmas.List.Sums.{get_or-le-sum_by}
 use Rattle.workload.specs.declared.run.Kind.{Kind}
 use Rattle.workload.specs.Runs.{all_cycles, cycles_of, run_at}
 use Rattle.workload.specs.RunsKept.{AreRuns}
-use Rattle.alarm_points.specs.FourWatches.{windows_at}
 use Rattle.alarm_points.specs.PointsKept.{ArePointsFor}
 use Rattle.alarm_points.specs.Watch.{Watches}
 use Rattle.alarm_points.specs.declared.Points.{Points}
 use Rattle.golden_difference.specs.Beside.{IsOver, trace_differs}
 use Rattle.classifier.specs.Load.{Load, in_lane, lane_faults}
 use Rattle.classifier.specs.OutOfReach.{decided_at}
-use Rattle.classifier.specs.Seen.{AllBegin, AreAllFollowed, Begins, HaveAllSeen, HaveAllSeenRun, known_at, left_at}
+use Rattle.classifier.specs.Seen.{AllBegin, AreAllFollowed, Begins, HaveAllSeen, HaveAllSeenRun}
 use Rattle.classifier.specs.declared.decided.Decided.{Decided}
 use Rattle.classifier.proofs.Stillness.{over_still}
 

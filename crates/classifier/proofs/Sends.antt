@@ -14,7 +14,6 @@ use Rattle.differential_kernel.specs.contracts.lanes.DifferentialLanes.{the_row}
 use Rattle.differential_kernel.proofs.picks.Picks.TheSendSync as picks
 use Rattle.place_set.proofs.set.PlaceSet.TheSendSync as places
 use Rattle.alarm_points.proofs.windows4.Windows4.TheSendSync as windows
-use Rattle.classifier.specs.contracts.narrow.Narrow.{the_row as narrow_row}
 use Rattle.classifier.specs.contracts.simulator.Simulator.{the_row as simulator_row}
 
 lanes_send : IsSend (the_row quad_row ghosts)
@@ -23,8 +22,5 @@ lanes_send = search (sendable, crosses, quad.the_send, fault.the_send, gate.the_
 word_send : IsSend (the_row u64 word_ghosts)
 word_send = search (sendable, crosses, fault.the_send, gate.the_send, masks.the_send, force.the_send, places.the_send) depth 30 fits 8000
 
-narrow_send : IsSend narrow_row
-narrow_send = search (sendable, crosses, word_send, picks.the_send) depth 20
-
 pub simulator_send : IsSend simulator_row
-simulator_send = search (sendable, crosses, windows.the_send, lanes_send, narrow_send) depth 20
+simulator_send = search (sendable, crosses, windows.the_send, lanes_send, word_send, picks.the_send) depth 20
