@@ -19,8 +19,7 @@ use Rattle.command_reads.specs.declared.files.Reads.{Reads as ReadsOf}
 abbrev pub Reads : Type 0
 Reads = Which → FileRead
 
--- a file of this name was read: these are its bytes, where they are known, AND READS GAVE THEM, from place 0 to the end, whatever is known; or
--- it is longer, and reads gave more; or the read has failed, which was counted
+-- a file of this name was read: its bytes, where known, WHICH READS GAVE from place 0 to the end; it is longer; or the read failed, and was counted
 abbrev pub WasRead : (before after : ShelfState) → (name : Bytes) → FileRead → Type 0
 WasRead before after name (Whole bytes) =
     HasIfKnown (before.content name) bytes × (length bytes ≤ greatest) × Gives before after name (gave_whole bytes)
@@ -33,14 +32,11 @@ WasRead before after name Failed = CountRose (before.read_faults name) (after.re
 abbrev pub generated : ℕ → Which → Bytes
 generated stages = by_file (netlist_text stages) (workload_text stages) rates_text points_text [] [] []
 
--- bytes at hand, as a file of them is read
-abbrev pub given : Bytes → FileRead
-given bytes = if nat_le (length bytes) greatest then Whole bytes else TooLong
-
 -- each file of a command of this kind was read; or the generated texts stand for them
 abbrev pub WereRead : (before after : ShelfState) → (names : Which → Bytes) → Reads → Kind → Type 0
 WereRead before after names reads (Generated stages) =
-    ForEach (λ file. reads file ≡ given (generated stages file)) (which.Netlist ∷ which.Workload ∷ which.Rates ∷ which.Points ∷ [])
+    let held : Bytes → FileRead = λ bytes. if nat_le (length bytes) greatest then Whole bytes else TooLong in
+    ForEach (λ file. reads file ≡ held (generated stages file)) (which.Netlist ∷ which.Workload ∷ which.Rates ∷ which.Points ∷ [])
 WereRead before after names reads kind = ForEach (λ file. WasRead before after (names file) (reads file)) (files_of kind)
 
 -- the bytes that were read
@@ -49,6 +45,10 @@ bytes_of (Whole bytes) = bytes
 bytes_of _ = []
 
 -- ---- what the code has of it
+
+-- bytes at hand, as a file of them is read
+abbrev pub given : Bytes → FileRead
+given bytes = if nat_le (length bytes) greatest then Whole bytes else TooLong
 
 -- what was read of each file
 abbrev pub reads_by : ReadsOf → Reads

@@ -5,8 +5,7 @@ use mathlib.Core.List.{IsPrefix}
 use Rattle.fm_shelf.specs.Content.{Content, Unknown, Absent, Held, IsThere, HasIfKnown, bytes_of}
 use Rattle.fm_shelf.specs.Past.{Given, Change, Took, Tore}
 
--- of each file by its name: what is known of it; how often reads of it, and how often writes, have failed; and, known or not, what its reads gave
--- and how it was changed
+-- of each file by its name: what is known; how often reads and how often writes failed; and, known or not, what reads gave and how it was changed
 pub record ShelfState : Type 0 where
   pub content : List ℕ → Content
   pub read_faults : List ℕ → ℕ

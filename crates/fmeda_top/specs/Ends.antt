@@ -4,7 +4,7 @@ use Rattle.fm_base.specs.Names.{Bytes}
 use Rattle.fm_base.specs.Text.{line}
 use Rattle.fm_shelf.specs.Content.{Content, Held, HasIfKnown, IsIfKnown, bytes_of}
 use Rattle.fm_shelf.specs.Past.{Change, StopsOn, WritesOn}
-use Rattle.fm_shelf.specs.Shelf.{CountRose, IsUnchanged}
+use Rattle.fm_shelf.specs.Shelf.{CountRose, IsUnchanged, KeepsOthers}
 use Rattle.fm_shelf.specs.Sink.{Wrote, WroteOrFailed, WrotePrefix}
 use Rattle.fm_shelf.specs.Outside.{Outside}
 use Rattle.campaign_plan.specs.Analysis.{Analysis, batch_count}
@@ -25,7 +25,7 @@ use Rattle.readings.specs.Latencies.{latencies}
 use Rattle.wave_dump.specs.Asked.{waves_asked}
 use Rattle.wave_dump.specs.Dump.{dump_text}
 use Rattle.row_audit.specs.Audited.{each_nth}
-use Rattle.campaign_run.specs.Outside.{KeepsOthers, had_written}
+use Rattle.campaign_run.specs.Outside.{had_written}
 use Rattle.campaign_run.specs.Found.{checkpointed_or_true}
 use Rattle.campaign_run.specs.Reported.{BeginsWith, HasReported, ResumedAs}
 use Rattle.campaign_run.specs.Left.{IsPrefixOf, LeftPrefix, StoppedRows}
@@ -66,8 +66,7 @@ PrintsAs text ended before after =
 
 -- ---- commands that write a result file
 
--- RESUMING, whatever the file held that is accepted: the report of the kept planes, and of the true ones of all other batches.
--- stopped: EVERY PREFIX RESUMES: where a campaign was stopped at any byte, it is this campaign's report
+-- RESUMING what is accepted: the report of the kept planes, and of the true ones of other batches; stopped: EVERY PREFIX RESUMES as the campaign
 pub record Resumed (own : Bytes) (p : Analysis) (k : KeptRows) (bytes name : Bytes) (before after : Outside) : Type 0 where
   pub resumed : ResumedAs own (report p (checkpointed_or_true p k)) p (checkpointed_or_true p k) bytes name before after
   pub stopped : LeftPrefix own p (true_planes p) (Held bytes) → ResumedAs own (true_report p) p (true_planes p) bytes name before after
@@ -126,9 +125,8 @@ pub data WritesAs (own : Task) (made : Judged) (reads : Reads) (name : Bytes) (b
 -- nothing was refused: it has printed its text, or written its result file, or a write has failed
 abbrev pub IsDoneOrFailed : Command → Judged → Reads → Status → (before after : Outside) → Type 0
 IsDoneOrFailed command made reads ended before after =
-    let name : Bytes = command.files which.Result in
     MatchOption (text_of command.task made)
-    (KeepsOthers before.shelf after.shelf name × WritesAs command.task made reads name before after ended)
+    (KeepsOthers before.shelf after.shelf (command.files which.Result) × WritesAs command.task made reads (command.files which.Result) before after ended)
     (λ text. PrintsAs text ended before after)
 
 -- AFTER A REFUSAL: no file was changed, and its line was written, or a prefix of it where `out` failed
