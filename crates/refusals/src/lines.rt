@@ -19,6 +19,21 @@ use itoa::Buffer;
 use metric_sums::Sums;
 use result_file::RowFault;
 
+// A line of five phrases.
+pub(crate) fn refuse_five<'a, O: Sink>(
+    out: &mut O,
+    first: &'a [u8],
+    second: &'a [u8],
+    third: &'a [u8],
+    fourth: &'a [u8],
+    fifth: &'a [u8],
+)
+    ensures { IsSaid (O.seen out.old) (O.seen out.new)
+        (refused (first.now ∷ second.now ∷ third.now ∷ fourth.now ∷ fifth.now ∷ [])) }
+{
+    say(out, &[b"refused:", first, second, third, fourth, fifth])
+}
+
 fn hex16(v: u64) -> Line
     ensures { result ≡ hex 16 v }
 {
@@ -62,9 +77,17 @@ pub(crate) fn refuse_planes<'a, O: Sink>(
 }
 
 // A line on a row whose sums are others than those that were computed.
-fn refuse_sums<O: Sink>(out: &mut O, number: u32, kept: Sums, computed: Sums)
+pub(crate) fn refuse_sums<'a, O: Sink>(
+    out: &mut O,
+    first: &'a [u8],
+    number: u32,
+    second: &'a [u8],
+    kept: Sums,
+    third: &'a [u8],
+    computed: Sums,
+)
     ensures { IsSaid (O.seen out.old) (O.seen out.new)
-        (refused (codes "result row" ∷ decimal number ∷ codes "Sums kept" ∷ sums_words kept ++ codes "computed" ∷ sums_words computed)) }
+        (refused (first.now ∷ decimal number ∷ second.now ∷ sums_words kept ++ third.now ∷ sums_words computed)) }
 {
     let mut digits = Buffer::new();
     let kept_all = hex16(kept.permanent_all);
@@ -81,15 +104,15 @@ fn refuse_sums<O: Sink>(out: &mut O, number: u32, kept: Sums, computed: Sums)
         out,
         &[
             b"refused:",
-            b"result row",
+            first,
             digits.format(number).as_bytes(),
-            b"Sums kept",
+            second,
             kept_all.bytes(),
             kept_danger.bytes(),
             kept_latent.bytes(),
             kept_transient.bytes(),
             kept_transient_danger.bytes(),
-            b"computed",
+            third,
             all.bytes(),
             danger.bytes(),
             latent.bytes(),
@@ -99,10 +122,17 @@ fn refuse_sums<O: Sink>(out: &mut O, number: u32, kept: Sums, computed: Sums)
     )
 }
 
-// The line of a result file that lacks batches.
-pub(crate) fn refuse_incomplete<O: Sink>(out: &mut O, have: u32, all: u32)
+// A line of two counts.
+pub(crate) fn refuse_counts<'a, O: Sink>(
+    out: &mut O,
+    first: &'a [u8],
+    have: u32,
+    second: &'a [u8],
+    all: u32,
+    third: &'a [u8],
+)
     ensures { IsSaid (O.seen out.old) (O.seen out.new)
-        (refused (codes "result file has" ∷ decimal have ∷ codes "of" ∷ decimal all ∷ codes "batches" ∷ [])) }
+        (refused (first.now ∷ decimal have ∷ second.now ∷ decimal all ∷ third.now ∷ [])) }
 {
     let mut digits = Buffer::new();
     let mut all_digits = Buffer::new();
@@ -110,11 +140,11 @@ pub(crate) fn refuse_incomplete<O: Sink>(out: &mut O, have: u32, all: u32)
         out,
         &[
             b"refused:",
-            b"result file has",
+            first,
             digits.format(have).as_bytes(),
-            b"of",
+            second,
             all_digits.format(all).as_bytes(),
-            b"batches",
+            third,
         ],
     )
 }
@@ -129,7 +159,15 @@ pub(crate) fn refuse_bad_row<O: Sink>(out: &mut O, number: u32, why: RowFault)
         RowFault::Range => refuse_row(out, b"result row", number, b"Range"),
         RowFault::Repeated => refuse_row(out, b"result row", number, b"Repeated"),
         RowFault::UnusedLane => refuse_row(out, b"result row", number, b"UnusedLane"),
-        RowFault::Sums { kept, computed } => refuse_sums(out, number, kept, computed),
+        RowFault::Sums { kept, computed } => refuse_sums(
+            out,
+            b"result row",
+            number,
+            b"Sums kept",
+            kept,
+            b"computed",
+            computed,
+        ),
     }
 }
 
@@ -175,9 +213,15 @@ fn first_line(bytes: &[u8]) -> &[u8]
 }
 
 // The line of a result file under another header than the plan's own.
-pub(crate) fn refuse_foreign<O: Sink>(out: &mut O, found: &[u8], own: &[u8])
+pub(crate) fn refuse_foreign<'a, O: Sink>(
+    out: &mut O,
+    first: &'a [u8],
+    found: &'a [u8],
+    third: &'a [u8],
+    own: &'a [u8],
+)
     ensures { IsSaid (O.seen out.old) (O.seen out.new)
-        (refused (codes "foreign result file, found" ∷ (shown_start found.now ++ 44 ∷ []) ∷ codes "own" ∷ take 88 own.now ∷ [])) }
+        (refused (first.now ∷ (shown_start found.now ++ 44 ∷ []) ∷ third.now ∷ take 88 own.now ∷ [])) }
 {
     let mut shown = shown_head(first_line(found));
     shown.put(b",");
@@ -185,9 +229,9 @@ pub(crate) fn refuse_foreign<O: Sink>(out: &mut O, found: &[u8], own: &[u8])
         out,
         &[
             b"refused:",
-            b"foreign result file, found",
+            first,
             shown.bytes(),
-            b"own",
+            third,
             first_bytes(own, 88),
         ],
     )

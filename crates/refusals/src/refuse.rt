@@ -8,7 +8,7 @@ ghost use Rattle.fm_base.specs.Names.{Bytes};
 ghost use Rattle.commands.specs.Commands.{name_by};
 ghost use Rattle.refusals.specs.RefusalLines.{refusal_line};
 
-use crate::lines::{refuse_bad_row, refuse_foreign, refuse_incomplete, refuse_planes};
+use crate::lines::{refuse_bad_row, refuse_counts, refuse_five, refuse_foreign, refuse_planes};
 use crate::refusal::{
     points_kind, rates_kind, refuse_bench, refuse_netlist, refuse_row, say, workload_kind,
 };
@@ -50,20 +50,14 @@ fn refuse_plan<O: Sink>(out: &mut O, cause: &PlanRefusal)
             out,
             &[b"refused:", b"no rate for net", net.as_slice()],
         ),
-        PlanRefusal::IdleRate { part, permanent } => {
-            let kind = rate_word(*permanent);
-            say(
-                out,
-                &[
-                    b"refused:",
-                    b"part",
-                    part.as_slice(),
-                    b"has a",
-                    kind,
-                    b"rate and no such fault",
-                ],
-            )
-        }
+        PlanRefusal::IdleRate { part, permanent } => refuse_five(
+            out,
+            b"part",
+            part.as_slice(),
+            b"has a",
+            rate_word(*permanent),
+            b"rate and no such fault",
+        ),
         PlanRefusal::Memory => say(out, &[b"refused:", b"out of memory"]),
     }
 }
@@ -73,7 +67,13 @@ fn refuse_result<O: Sink>(out: &mut O, cause: &ResultRefusal)
     ensures { (file : Which → Bytes) (c : Circuit) → IsSaid (O.seen out.old) (O.seen out.new) (refusal_line file c (Status.Result cause.now)) }
 {
     match cause {
-        ResultRefusal::Foreign { found, own } => refuse_foreign(out, found.bytes(), own.bytes()),
+        ResultRefusal::Foreign { found, own } => refuse_foreign(
+            out,
+            b"foreign result file, found",
+            found.bytes(),
+            b"own",
+            own.bytes(),
+        ),
         ResultRefusal::BadRow { number, why } => refuse_bad_row(out, *number, *why),
     }
 }
@@ -96,7 +96,14 @@ fn refuse_pairs<O: Sink>(out: &mut O, cause: PairRefusal)
     ensures { (file : Which → Bytes) (c : Circuit) → IsSaid (O.seen out.old) (O.seen out.new) (refusal_line file c (Status.Pairs cause)) }
 {
     match cause {
-        PairRefusal::Incomplete { have, batches } => refuse_incomplete(out, have, batches),
+        PairRefusal::Incomplete { have, batches } => refuse_counts(
+            out,
+            b"result file has",
+            have,
+            b"of",
+            batches,
+            b"batches",
+        ),
         PairRefusal::TooMany => say(out, &[b"refused:", b"more than 1048576 pairs"]),
     }
 }

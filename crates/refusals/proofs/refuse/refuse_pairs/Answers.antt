@@ -9,7 +9,7 @@ use Rattle.refusals.proofs.refuse.refuse_pairs.Goals as goal
 
 pub returns-in-Incomplete : goal.returns-in-Incomplete
 unfolding refusal_line
-returns-in-Incomplete g c = λ file k. said_as _ _ file k (status.Pairs c.args.cause) _ (ap status.Pairs c.in-Incomplete.is) c.refuse_incomplete.ensures
+returns-in-Incomplete g c = λ file k. said_as _ _ file k (status.Pairs c.args.cause) _ (ap status.Pairs c.in-Incomplete.is) c.refuse_counts.ensures
 
 pub returns-in-TooMany : goal.returns-in-TooMany
 unfolding refusal_line

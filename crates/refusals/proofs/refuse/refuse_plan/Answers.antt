@@ -17,7 +17,7 @@ returns-in-MissingRate g c = λ file k. said_as _ _ file k (status.Plan c.args.c
 
 pub returns-in-IdleRate : goal.returns-in-IdleRate
 unfolding refusal_line
-returns-in-IdleRate g c = λ file k. said_as _ _ file k (status.Plan c.args.cause.now) _ (ap status.Plan c.in-IdleRate.is) (words_said _ _ _ _ (ap₂ (λ (n w : Bytes). codes "part" ∷ n ∷ codes "has a" ∷ w ∷ codes "rate and no such fault" ∷ []) c.as_slice-in-IdleRate.ensures c.rate_word-kind.ensures) c.say-in-IdleRate.ensures)
+returns-in-IdleRate g c = λ file k. said_as _ _ file k (status.Plan c.args.cause.now) _ (ap status.Plan c.in-IdleRate.is) (words_said _ _ _ _ (ap₂ (λ (n w : Bytes). codes "part" ∷ n ∷ codes "has a" ∷ w ∷ codes "rate and no such fault" ∷ []) c.as_slice-in-IdleRate.ensures c.rate_word.ensures) c.refuse_five.ensures)
 
 pub returns-in-Memory : goal.returns-in-Memory
 unfolding refusal_line
