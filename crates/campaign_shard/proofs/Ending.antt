@@ -10,7 +10,6 @@ use Rattle.fm_shelf.specs.Past.{WritesOn}
 use Rattle.fm_shelf.specs.Shelf.{ShelfState}
 use Rattle.fm_shelf.specs.Sink.{SinkState, with_more, Wrote}
 use Rattle.fm_shelf.specs.Outside.{Outside}
-use Rattle.fm_shelf.proofs.Appends.{keeps_none}
 use Rattle.fm_base.specs.Names.{Bytes}
 use Rattle.campaign_core.specs.Machines.{times}
 use Rattle.campaign_plan.specs.Analysis.{Analysis, batch_count}
@@ -164,10 +163,6 @@ ends ResultFault c before after sums board worked kept told = (
 ends OutFault c before after sums board worked kept told =
     let line : Bytes = shard_line c.part c.parts (length board.rows) in
     (line, tells c before.shelf board sums after.shelf worked kept told.0 before.out (had_written before after line).out refl, told.1)
-
--- without memory nothing was done
-pub none_ran : (c : PartCampaign) (before : Outside) → HasRunPart NoMemory c before before
-none_ran c before = record { ends = refl; others = keeps_none before.shelf c.name; given = refl; faults = omega arith; out_faults = omega arith }
 
 pub has_run : {F : Type 0} (end : End) (c : PartCampaign) (before after : Outside) (sums : Sums) (board : Board F)
     → HasPartWorked (part_origin c.name c.own c.p before.shelf) c.part c.parts before.shelf after.shelf board
