@@ -1,7 +1,0 @@
-use Rattle.std.proofs.Common.{◌≡◌}
-use Rattle.cycle_sim.specs.Sim.{IsSimulationFor}
-use Rattle.layer_rows.proofs.single.single_bits.Given as goal
-
--- the simulation stands behind so many cycles
-abbrev pub invariant-loop-t : goal.invariant-loop-t
-invariant-loop-t l = record { made : IsSimulationFor l.net l.order l.sim; cycle : l.sim.moment.cycle ≡ l.t }
