@@ -177,8 +177,13 @@ def of_from_verilog(made):
 def of_statement(_):
     """What tools/dev/statement counts, in place of a report's figures."""
     done = subprocess.run([sys.executable, str(ROOT / "tools" / "dev" / "statement")], stdout=subprocess.PIPE, text=True, check=True, timeout=60)
-    lines, definitions, files = [int(it) for it in done.stdout.splitlines()[-1].split() if it.isdigit()][:3]
+    of_the_program, beside = [[int(it) for it in line.split() if it.isdigit()] for line in done.stdout.splitlines()[-2:]]
+    lines, definitions, files = of_the_program[:3]
     yield f"{thousands(lines)} lines of {definitions} definitions in {files} files"
+    traits, _, *of_the_kit = beside
+    yield f"a shelf, a sink and a gate ({traits} lines)"
+    if of_the_kit:
+        yield f"({thousands(of_the_kit[0])} lines of {of_the_kit[1]} definitions)"
 
 
 PAGES = {"README.md": of_readme, "docs/reading-the-statement.md": of_statement, "docs/before-you-believe.md": of_believe, "docs/reading-the-report.md": of_reading, "docs/from-verilog.md": of_from_verilog, "examples/README.md": of_examples,
