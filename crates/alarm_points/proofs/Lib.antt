@@ -8,3 +8,6 @@ pub mod Whole
 pub mod Fits
 mod Mapped
 mod FileRows
+pub mod Raised
+pub mod Still
+pub mod Passed

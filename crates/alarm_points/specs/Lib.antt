@@ -7,3 +7,4 @@ pub mod Outputs
 pub mod FourWatches
 pub mod LentWindows
 pub mod Listed
+pub mod Dropped

@@ -13,9 +13,9 @@ use Rattle.alarm_points.specs.Interval.{goes_unalarmed, interval_of}
 use Rattle.alarm_points.specs.Watch.{IsAfterPairs, Pair, Watches, differs_in, is_settled, lane_goes_unalarmed, raised_in, window_at}
 use Rattle.alarm_points.proofs.Planes.{bit_of_none}
 use Rattle.alarm_points.proofs.Settled.{goes_unalarmed-same, some_below-same, some_below-suc, some_below-zero}
-use Rattle.fault_dropping.proofs.Raised.{goes_unalarmed-dropped}
-use Rattle.fault_dropping.proofs.Settled.{goes_unalarmed-settled}
-use Rattle.fault_dropping.proofs.Still.{goes_unalarmed-still}
+use Rattle.alarm_points.proofs.Raised.{goes_unalarmed-dropped}
+use Rattle.alarm_points.proofs.Passed.{goes_unalarmed-settled}
+use Rattle.alarm_points.proofs.Still.{goes_unalarmed-still}
 use Rattle.fm_base.specs.Lists.{some_below}
 use Rattle.fm_base.specs.Planes.{bit}
 use Rattle.fm_base.proofs.Below.{some_below-at, some_below-true}

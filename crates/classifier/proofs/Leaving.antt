@@ -11,7 +11,7 @@ use Rattle.alarm_points.specs.declared.Points.{Points}
 use Rattle.alarm_points.specs.Interval.{interval_of}
 use Rattle.alarm_points.specs.Watch.{AreMadeFor, Watches, differs_in, is_settled, raised_in, window_at}
 use Rattle.alarm_points.proofs.Settled.{is_settled-same, settled_none}
-use Rattle.fault_dropping.proofs.Settled.{settled_on}
+use Rattle.alarm_points.proofs.Passed.{settled_on}
 use Rattle.fm_base.specs.Lists.{some_below}
 use Rattle.fm_base.specs.Planes.{bit}
 use Rattle.fm_base.proofs.Below.{some_below-true}

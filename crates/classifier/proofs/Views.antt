@@ -13,8 +13,8 @@ use Rattle.alarm_points.proofs.Rings.{pair_before, pair_last}
 use Rattle.alarm_points.proofs.Planes.{bit_of_none}
 use Rattle.fm_base.specs.Planes.{bit}
 use Rattle.campaign_plan.specs.Danger.{differs, is_raised, is_silenced}
-use Rattle.fault_dropping.specs.Dropped.{IsStillFrom}
-use Rattle.fault_dropping.proofs.Still.{some_below-still}
+use Rattle.alarm_points.specs.Dropped.{IsStillFrom}
+use Rattle.alarm_points.proofs.Still.{some_below-still}
 use Rattle.classifier.specs.Seen.{HasSeen, HaveSeen, IsShown, IsStill, goal_at, has_left, is_noticed_by}
 use Rattle.classifier.proofs.Notice.{noticed_more, noticed_none}
 use Rattle.classifier.proofs.WindowCounts.{window_count}

@@ -3,6 +3,7 @@
 
 pub mod files;
 pub mod memory;
+pub mod paged;
 pub mod past;
 pub mod real;
 pub mod shelf;

@@ -17,8 +17,8 @@ use Rattle.result_merge.specs.Parts.{HasPart}
 use Rattle.fmeda_report.specs.Rows.{planes_in}
 use Rattle.fmeda_report.specs.Report.{report, true_report, summary}
 use Rattle.pair_campaign.specs.PairText.{pairs_text}
-use Rattle.fault_table.specs.FaultTable.{fault_table}
-use Rattle.part_table.specs.PartTable.{part_table}
+use Rattle.campaign_tables.specs.FaultTable.{fault_table}
+use Rattle.campaign_tables.specs.PartTable.{part_table}
 use Rattle.metric_bounds.specs.Progress.{progress}
 use Rattle.readings.specs.Breakdown.{breakdown}
 use Rattle.readings.specs.Latencies.{latencies}

@@ -5,8 +5,8 @@ ghost use Rattle.commands.specs.declared.command.Task.TheVariants as task;
 ghost use Rattle.command_reads.specs.FirstRefusal.{Begun as StandsBegun};
 ghost use Rattle.fmeda_top.specs.Doing.{TellsAs};
 
+use campaign_tables::write_fault_table;
 use command_reads::begun::Begun;
-use fault_table::write_fault_table;
 use fm_shelf::shelf::Sink;
 use metric_bounds::write_progress;
 use refusals::refused::Refused;

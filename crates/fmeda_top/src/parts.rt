@@ -3,9 +3,9 @@ ghost use Rattle.commands.specs.declared.command.Task.TheVariants as task;
 ghost use Rattle.command_reads.specs.FirstRefusal.{Rated as StandsRated};
 ghost use Rattle.fmeda_top.specs.Doing.{TellsAs};
 
+use campaign_tables::PartTable;
 use command_reads::rated::Rated;
 use fm_shelf::shelf::Sink;
-use part_table::PartTable;
 use refusals::refused::Refused;
 use refusals::status::{Status, after_text};
 use std::alloc::Global;

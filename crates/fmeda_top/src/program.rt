@@ -5,8 +5,8 @@ ghost use Rattle.fm_shelf.specs.Sink.{with_more};
 ghost use Rattle.fmeda_top.specs.Program.{ProgramEnds, SendsRest, failed_code as failed_code_of};
 
 use crate::top::fmeda;
+use fm_shelf::paged::Paged;
 use fm_shelf::shelf::{Shelf, Sink};
-use paged_sink::Paged;
 use refusals::status::Status;
 use std::alloc::Global;
 use std::sync::Wait;

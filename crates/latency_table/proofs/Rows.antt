@@ -16,9 +16,9 @@ use Rattle.first_cycles.specs.Shown.{danger_by, if_at_most, interval_by, notice_
 use Rattle.first_cycles.proofs.Dangers.{danger_shown}
 use Rattle.first_cycles.proofs.Notices.{notice_shown}
 use Rattle.fmeda_report.specs.Words.{class_word}
-use Rattle.fault_table.specs.Csv.{csv_field, csv_row}
-use Rattle.fault_table.specs.Words.{bit_word}
-use Rattle.fault_table.proofs.Quoting.{after_comma, joined, next_same}
+use Rattle.campaign_tables.specs.Csv.{csv_field, csv_row}
+use Rattle.campaign_tables.specs.Words.{bit_word}
+use Rattle.campaign_tables.proofs.Quoting.{after_comma, joined, next_same}
 use Rattle.readings.specs.Latencies.{Sighting, alarm_point, alarmed, is_excited, latency_row, least_interval, reached}
 use Rattle.readings.specs.Laws.{SightingsAreShown}
 use Rattle.latency_table.specs.declared.latency.Latency.{Latency}

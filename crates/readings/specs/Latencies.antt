@@ -21,7 +21,7 @@ use Rattle.campaign_plan.specs.Batches.{class_of_fault, true_planes}
 use Rattle.campaign_plan.specs.Danger.{is_dangerous, is_raised, with_faults}
 use Rattle.campaign_plan.specs.Weights.{weight}
 use Rattle.fmeda_report.specs.Words.{class_word}
-use Rattle.fault_table.specs.Csv.{csv_field}
+use Rattle.campaign_tables.specs.Csv.{csv_field}
 use Rattle.first_cycles.specs.FirstCycles.{first_below, is_raised_at}
 
 -- the number of a run, from 0, and a cycle of it

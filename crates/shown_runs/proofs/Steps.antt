@@ -11,7 +11,7 @@ use Rattle.workload.specs.Runs.{cycles_of}
 use Rattle.alarm_points.specs.declared.Points.{Points}
 use Rattle.alarm_points.specs.PointsKept.{ArePointsFor}
 use Rattle.campaign_plan.specs.Danger.{differs, golden, with_faults}
-use Rattle.fault_dropping.proofs.Still.{some_below-still}
+use Rattle.alarm_points.proofs.Still.{some_below-still}
 use Rattle.fm_base.specs.Lists.{same_bit}
 use Rattle.fm_base.specs.Planes.{bit}
 use Rattle.fm_base.proofs.Tests.{clash}

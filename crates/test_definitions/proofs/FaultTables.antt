@@ -2,8 +2,8 @@
 use Rattle.std.proofs.Common.{◌≡◌, [], ◌∷◌, refl, codes}
 use Rattle.test_definitions.specs.Opened.{opened}
 use Rattle.campaign_plan.specs.Analysis.{Analysis}
-use Rattle.fault_table.specs.Csv.{csv_field, csv_row}
-use Rattle.fault_table.specs.FaultTable.{fault_row, fault_table}
+use Rattle.campaign_tables.specs.Csv.{csv_field, csv_row}
+use Rattle.campaign_tables.specs.FaultTable.{fault_row, fault_table}
 use Rattle.test_definitions.specs.Circuits.{dup}
 use Rattle.test_definitions.specs.Files.{plan_of, dup_workload, dup_rates, dup_points}
 

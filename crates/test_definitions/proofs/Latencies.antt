@@ -4,7 +4,7 @@ use Rattle.std.proofs.Common.{◌≡◌, ◌∙◌, [], refl, codes}
 use Rattle.std.specs.Prelude.{Some}
 use Rattle.test_definitions.specs.Opened.{opened}
 use Rattle.campaign_plan.specs.Analysis.{Analysis, fault_numbered}
-use Rattle.fault_table.specs.Csv.{csv_field}
+use Rattle.campaign_tables.specs.Csv.{csv_field}
 use Rattle.readings.specs.Latencies.{latencies, latencies_with, latency_row, least_interval}
 use Rattle.readings.proofs.Intervals.{table_shown}
 use Rattle.test_definitions.specs.Circuits.{dup, dupl}

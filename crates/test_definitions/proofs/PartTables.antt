@@ -2,7 +2,7 @@
 use Rattle.std.proofs.Common.{◌≡◌, refl, codes}
 use Rattle.test_definitions.specs.Opened.{opened}
 use Rattle.rate_table.specs.RatesFile.{rates_of}
-use Rattle.part_table.specs.PartTable.{part_table, row_line}
+use Rattle.campaign_tables.specs.PartTable.{part_table, row_line}
 use Rattle.test_definitions.specs.Circuits.{dup, dupl}
 use Rattle.test_definitions.specs.Files.{dup_rates, no_rates, read_or}
 

@@ -3,9 +3,9 @@ use Rattle.std.specs.List.{flat_map}
 use Rattle.std.proofs.lemmas.Result.{err_from_is_err_and}
 use Rattle.fault_list.specs.Faults.{fault_at, fault_name}
 use Rattle.fmeda_report.proofs.Sending.{sends_as, sends_stop, sends_then}
-use Rattle.fault_table.specs.Csv.{csv_field}
+use Rattle.campaign_tables.specs.Csv.{csv_field}
 use Rattle.latency_table.specs.Fields.{fields_of}
-use Rattle.fault_table.proofs.Quoting.{after_comma}
+use Rattle.campaign_tables.proofs.Quoting.{after_comma}
 use Rattle.latency_table.proofs.Rows.{row_whole}
 use Rattle.latency_table.proofs.row.write_row.Goals as goal
 

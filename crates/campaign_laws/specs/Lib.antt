@@ -1,0 +1,12 @@
+pub mod Crew
+pub mod CrewLaws
+pub mod Turns
+pub mod Counts
+pub mod Named
+pub mod Prints
+pub mod Bounds
+pub mod Targets
+pub mod Danger
+pub mod Parts
+pub mod Headers
+pub mod Samples

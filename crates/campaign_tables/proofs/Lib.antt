@@ -1,0 +1,4 @@
+pub mod Quoting
+mod Keeping
+mod Counting
+mod Looking

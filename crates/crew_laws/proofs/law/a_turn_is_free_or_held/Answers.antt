@@ -1,5 +1,0 @@
-use Rattle.crew_laws.proofs.Held.{turn_is_free_or_held}
-use Rattle.crew_laws.proofs.law.a_turn_is_free_or_held.Goals as goal
-
-pub returns : goal.returns
-returns g c = turn_is_free_or_held g.V.Kept.list g.V.Kept.is_failed

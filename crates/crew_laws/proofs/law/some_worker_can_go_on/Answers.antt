@@ -1,5 +1,0 @@
-use Rattle.crew_laws.proofs.Turning.{some_can}
-use Rattle.crew_laws.proofs.law.some_worker_can_go_on.Goals as goal
-
-pub returns : goal.returns
-returns c = some_can

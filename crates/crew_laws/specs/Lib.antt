@@ -1,3 +1,0 @@
-pub mod Crew
-pub mod Laws
-pub mod Turns

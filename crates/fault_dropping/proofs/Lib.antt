@@ -1,3 +1,0 @@
-pub mod Raised
-pub mod Still
-pub mod Settled

@@ -1,2 +1,0 @@
-// When a fault can leave the simulation of a run: laws.
-#![tactic(auto)]

@@ -1,2 +1,0 @@
-pub mod Quoting
-mod Keeping

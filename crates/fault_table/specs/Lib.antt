@@ -1,4 +1,0 @@
-pub mod Csv
-pub mod Words
-pub mod FaultTable
-pub mod Steps

@@ -1,3 +1,0 @@
-pub mod PartTable
-pub mod Steps
-pub mod Counted

@@ -1,5 +1,0 @@
-use Rattle.report_laws.proofs.Treeing.{parts_report}
-use Rattle.report_laws.proofs.law.merged_parts_report.Goals as goal
-
-pub returns : goal.returns
-returns c = parts_report c.merges_are_lawful.ensures c.stopped_are_taken_up.ensures c.rows_report_truly.ensures

@@ -1,4 +1,0 @@
-//! Laws that readers of a report lean on. Nothing here computes.
-#![tactic(auto)]
-
-pub mod law;

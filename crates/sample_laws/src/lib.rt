@@ -1,4 +1,0 @@
-//! The law of the generated campaign. Nothing here computes.
-#![tactic(auto)]
-
-pub mod law;
