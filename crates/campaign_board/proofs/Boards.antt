@@ -8,7 +8,7 @@ use Rattle.metric_sums.specs.declared.Sums.{Sums}
 use Rattle.result_file.specs.declared.Row.{Row}
 use Rattle.result_file.specs.ResultText.{row_text}
 use Rattle.fm_shelf.specs.Content.{Content, Unknown, Absent, Held, IsIfKnown, HasIfKnown, bytes_of}
-use Rattle.fm_shelf.specs.Past.{Took, Cut, MayCut, cut_by, WritesOn, StopsOn, AtCut}
+use Rattle.fm_shelf.specs.Past.{Given, Took, Cut, MayCut, cut_by, WritesOn, StopsOn, AtCut}
 use Rattle.fm_shelf.specs.Shelf.{ShelfState, CountRose, KeepsOthers, OnlyWrites, MayHaveMore, Becomes, Appends, MayAppend, Takes, Tears}
 use Rattle.fm_shelf.proofs.Appends.{has_on, keeps_none, keeps_on, writes_on}
 use Rattle.fm_shelf.proofs.Written.{writes_begin, writes_more, stops_begin, stops_more}
@@ -52,8 +52,8 @@ added_row o rows sums now_sums before now batch h lt lacks writes has takes e =
       kept = λ _. omega (arith, h.kept refl, ap length pushed, length-append text (row_text row));
       unwritten = λ w _. absurd (false≢true (sym w));
       wrote = λ _ _.
-          subst (λ t. WritesOn o.whole t (o.shelf.changed o.name) (now.changed o.name)) (sym pushed)
-          (writes_more o.whole text (row_text row) (o.shelf.changed o.name) (before.changed o.name) (now.changed o.name) (h.kept refl) (h.wrote refl refl) takes);
+          subst (λ t. WritesOn o.whole t (o.shelf.given o.name) (o.shelf.changed o.name) (now.changed o.name)) (sym pushed)
+          (writes_more o.whole text (row_text row) (o.shelf.given o.name) (o.shelf.changed o.name) (before.changed o.name) (now.changed o.name) (h.kept refl) (h.wrote refl refl) takes);
       stopped = λ _ f. absurd (false≢true f);
       others = keeps_on o.shelf before now o.name h.others writes;
       given = writes.given ∙ h.given;
@@ -85,8 +85,8 @@ failed_row o rows sums before now batch h lt lacks writes more tears =
         batch = batch;
         within = lt;
         lacks = lacks;
-        stops = subst (λ t. StopsOn o.whole t (o.shelf.changed o.name) (now.changed o.name)) (sym (text_push o.header rows row))
-            (stops_more o.whole (file_text o.header rows) (row_text row) (o.shelf.changed o.name) (before.changed o.name) (now.changed o.name) (h.kept refl) (h.wrote refl refl) tears);
+        stops = subst (λ t. StopsOn o.whole t (o.shelf.given o.name) (o.shelf.changed o.name) (now.changed o.name)) (sym (text_push o.header rows row))
+            (stops_more o.whole (file_text o.header rows) (row_text row) (o.shelf.given o.name) (o.shelf.changed o.name) (before.changed o.name) (now.changed o.name) (h.kept refl) (h.wrote refl refl) tears);
       };
       others = keeps_on o.shelf before now o.name h.others writes;
       given = writes.given ∙ h.given;
@@ -131,7 +131,7 @@ begins_room o rows batches shelf name h =
 -- the header stands: the file has the header and the rows
 pub headed : (o : Start) (rows : List Row) (sums : Sums) (before now : ShelfState) → IsBoard o rows sums false false before
     → OnlyWrites before now o.name → HasIfKnown (now.content o.name) (file_text o.header rows) → o.whole ≤ length (file_text o.header rows)
-    → WritesOn o.whole (file_text o.header rows) (before.changed o.name) (now.changed o.name) → IsBoard o rows sums false true now
+    → WritesOn o.whole (file_text o.header rows) (o.shelf.given o.name) (before.changed o.name) (now.changed o.name) → IsBoard o rows sums false true now
 headed o rows sums before now h writes has fits wrote =
     let g = h.grows in
     let grown = writes.counts.grows o.name in
@@ -143,7 +143,7 @@ headed o rows sums before now h writes has fits wrote =
       torn = λ _ f. absurd (false≢true f);
       kept = λ _. fits;
       unwritten = λ w _. absurd (false≢true (sym w));
-      wrote = λ _ _. subst (λ start. WritesOn o.whole (file_text o.header rows) start (now.changed o.name)) (h.unwritten refl refl) wrote;
+      wrote = λ _ _. subst (λ start. WritesOn o.whole (file_text o.header rows) (o.shelf.given o.name) start (now.changed o.name)) (h.unwritten refl refl) wrote;
       stopped = λ _ f. absurd (false≢true f);
       others = keeps_on o.shelf before now o.name h.others writes;
       given = writes.given ∙ h.given;
@@ -218,47 +218,49 @@ torn_cut header whole before now h = elim h as (λ _. IsHeaderTorn header whole 
 
 -- the cut to the kept bytes failed
 pub stops_cut : (o : Start) (rows : List Row) (sums : Sums) (before now : ShelfState) → IsBoard o rows sums false false before
-    → now.changed o.name ≡ before.changed o.name ++ MayCut o.whole ∷ []
-    → StopsOn o.whole (file_text o.header rows) (o.shelf.changed o.name) (now.changed o.name)
-stops_cut o rows sums before now h is = AtCut (is ∙ ap (λ start. start ++ MayCut o.whole ∷ []) (h.unwritten refl refl))
+    → now.changed o.name ≡ before.changed o.name ++ MayCut (before.given o.name) o.whole ∷ []
+    → StopsOn o.whole (file_text o.header rows) (o.shelf.given o.name) (o.shelf.changed o.name) (now.changed o.name)
+stops_cut o rows sums before now h is =
+    AtCut (is ∙ ap (λ start. start ++ MayCut (before.given o.name) o.whole ∷ []) (h.unwritten refl refl)
+    ∙ ap (λ (given : List ℕ → List Given). o.shelf.changed o.name ++ MayCut (given o.name) o.whole ∷ []) h.given)
 
 -- the header was to be appended, and this failed
 pub stops_header : (o : Start) (rows : List Row) (sums : Sums) (before mid now : ShelfState) → IsBoard o rows sums false false before → rows ≡ [] → o.whole ≡ 0
-    → mid.changed o.name ≡ before.changed o.name ++ Cut o.whole ∷ [] → Tears mid now o.name o.header
-    → StopsOn o.whole (file_text o.header rows) (o.shelf.changed o.name) (now.changed o.name)
+    → mid.changed o.name ≡ before.changed o.name ++ Cut (o.shelf.given o.name) o.whole ∷ [] → Tears mid now o.name o.header
+    → StopsOn o.whole (file_text o.header rows) (o.shelf.given o.name) (o.shelf.changed o.name) (now.changed o.name)
 stops_header o rows sums before mid now h none empty cut tears =
     let text : file_text o.header rows ≡ o.header = ap (λ rs. file_text o.header rs) none ∙ append-nil o.header in
-    subst (λ t. StopsOn o.whole t (o.shelf.changed o.name) (now.changed o.name)) (sym text)
-    (subst (λ start. StopsOn o.whole o.header start (now.changed o.name)) (h.unwritten refl refl)
-    (stops_begin o.whole o.header (before.changed o.name) (mid.changed o.name) (now.changed o.name) empty cut tears))
+    subst (λ t. StopsOn o.whole t (o.shelf.given o.name) (o.shelf.changed o.name) (now.changed o.name)) (sym text)
+    (subst (λ start. StopsOn o.whole o.header (o.shelf.given o.name) start (now.changed o.name)) (h.unwritten refl refl)
+    (stops_begin o.whole o.header (o.shelf.given o.name) (before.changed o.name) (mid.changed o.name) (now.changed o.name) empty cut tears))
 
 -- the header was appended
 pub wrote_header : (o : Start) (rows : List Row) (before mid now : ShelfState) → rows ≡ [] → o.whole ≡ 0
-    → mid.changed o.name ≡ before.changed o.name ++ Cut o.whole ∷ [] → Takes mid now o.name o.header
-    → WritesOn o.whole (file_text o.header rows) (before.changed o.name) (now.changed o.name)
+    → mid.changed o.name ≡ before.changed o.name ++ Cut (o.shelf.given o.name) o.whole ∷ [] → Takes mid now o.name o.header
+    → WritesOn o.whole (file_text o.header rows) (o.shelf.given o.name) (before.changed o.name) (now.changed o.name)
 wrote_header o rows before mid now none empty cut takes =
     let text : file_text o.header rows ≡ o.header = ap (λ rs. file_text o.header rs) none ∙ append-nil o.header in
-    subst (λ t. WritesOn o.whole t (before.changed o.name) (now.changed o.name)) (sym text)
-    (writes_begin o.whole o.header (before.changed o.name) (mid.changed o.name) (now.changed o.name) empty cut takes)
+    subst (λ t. WritesOn o.whole t (o.shelf.given o.name) (before.changed o.name) (now.changed o.name)) (sym text)
+    (writes_begin o.whole o.header (o.shelf.given o.name) (before.changed o.name) (mid.changed o.name) (now.changed o.name) empty cut takes)
 
 -- all of the header and the rows was kept
 pub wrote_kept : (o : Start) (rows : List Row) (before now : ShelfState) → o.whole ≡ length (file_text o.header rows)
-    → now.changed o.name ≡ before.changed o.name ++ Cut o.whole ∷ [] → WritesOn o.whole (file_text o.header rows) (before.changed o.name) (now.changed o.name)
+    → now.changed o.name ≡ before.changed o.name ++ Cut (o.shelf.given o.name) o.whole ∷ [] → WritesOn o.whole (file_text o.header rows) (o.shelf.given o.name) (before.changed o.name) (now.changed o.name)
 wrote_kept o rows before now all cut =
-    cut ∙ ap (λ rest. before.changed o.name ++ Cut o.whole ∷ map Took rest)
+    cut ∙ ap (λ rest. before.changed o.name ++ Cut (o.shelf.given o.name) o.whole ∷ map Took rest)
     (sym (ap (λ n. drop n (file_text o.header rows)) all ∙ drop-length (file_text o.header rows)))
 
 -- ---- the header, as its code writes it
 
-pub cut_done : {E : Type 0} (len : ℕ) (r : Result (Unit {0}) E) → is_err r ≡ false → cut_by len r ≡ Cut len ∷ []
-cut_done len (Ok done) e = refl
-cut_done len (Err x) e = absurd (cc)
+pub cut_done : {E : Type 0} (given : List Given) (len : ℕ) (r : Result (Unit {0}) E) → is_err r ≡ false → cut_by given len r ≡ Cut given len ∷ []
+cut_done given len (Ok done) e = refl
+cut_done given len (Err x) e = absurd (cc)
 
 -- a new board, whose file was cut to the kept bytes
 module _ (o : Start) (rows : List Row) (sums : Sums) (failed written : Bool) (before mid : ShelfState) (name : List ℕ) (whole : ℕ)
     (board : IsBoard o rows sums failed written before) (fresh : (written ≡ false) × (failed ≡ false)) (named : name ≡ o.name)
     (kept : (whole ≡ o.whole) × AreKeptBytes o rows whole (before.content o.name)) (writes : OnlyWrites before mid name)
-    (becomes : Becomes before mid name (take whole)) (cut : mid.changed name ≡ before.changed name ++ Cut whole ∷ []) where
+    (becomes : Becomes before mid name (take whole)) (cut : mid.changed name ≡ before.changed name ++ Cut (before.given name) whole ∷ []) where
   new_board : IsBoard o rows sums false false before
   new_board = subst (λ f. IsBoard o rows sums f false before) fresh.1 (subst (λ w. IsBoard o rows sums failed w before) fresh.0 board)
 
@@ -268,10 +270,11 @@ module _ (o : Start) (rows : List Row) (sums : Sums) (failed written : Bool) (be
   own_becomes : HasIfKnown (mid.content o.name) (take whole (bytes_of (before.content o.name)))
   own_becomes = subst (λ n. HasIfKnown (mid.content n) (take whole (bytes_of (before.content n)))) named becomes
 
-  own_cut : mid.changed o.name ≡ before.changed o.name ++ Cut o.whole ∷ []
+  own_cut : mid.changed o.name ≡ before.changed o.name ++ Cut (o.shelf.given o.name) o.whole ∷ []
   own_cut =
-      subst (λ len. mid.changed o.name ≡ before.changed o.name ++ Cut len ∷ []) kept.0
-      (subst (λ n. mid.changed n ≡ before.changed n ++ Cut whole ∷ []) named cut)
+      subst (λ (given : List ℕ → List Given). mid.changed o.name ≡ before.changed o.name ++ Cut (given o.name) o.whole ∷ []) new_board.given
+      (subst (λ len. mid.changed o.name ≡ before.changed o.name ++ Cut (before.given o.name) len ∷ []) kept.0
+      (subst (λ n. mid.changed n ≡ before.changed n ++ Cut (before.given n) whole ∷ []) named cut))
 
   -- nothing was kept, and the header was appended
   pub headed_anew : (now : ShelfState) (again text : List ℕ) → again ≡ o.name → text ≡ o.header → whole ≡ 0 → OnlyWrites mid now again → Appends mid now again text → Takes mid now again text
@@ -299,7 +302,7 @@ module _ (o : Start) (rows : List Row) (sums : Sums) (failed written : Bool) (be
 
   -- the header couldn't be appended
   pub stops_anew : (now : ShelfState) (again text : List ℕ) → again ≡ o.name → text ≡ o.header → whole ≡ 0 → Tears mid now again text
-      → StopsOn o.whole (file_text o.header rows) (o.shelf.changed o.name) (now.changed o.name)
+      → StopsOn o.whole (file_text o.header rows) (o.shelf.given o.name) (o.shelf.changed o.name) (now.changed o.name)
   stops_anew now again text called own none tears =
       stops_header o rows sums before mid now new_board (no_rows o rows whole (before.content o.name) kept.1 none) (sym kept.0 ∙ none) own_cut
       (subst (Tears mid now o.name) own (subst (λ n. Tears mid now n text) called tears))

@@ -28,7 +28,7 @@ pub record StopsAtRow (o : Start) (rows : List Row) (now : List Change) : Type 0
   pub batch : ℕ
   pub within : batch < length o.entries
   pub lacks : Lacks (batches_of rows) batch
-  pub stops : StopsOn o.whole (file_text o.header (rows ++ next_row o.entries rows batch ∷ [])) (o.shelf.changed o.name) now
+  pub stops : StopsOn o.whole (file_text o.header (rows ++ next_row o.entries rows batch ∷ [])) (o.shelf.given o.name) (o.shelf.changed o.name) now
 
 -- kept: no more bytes are kept than the header and the rows have
 -- unwritten, wrote, stopped: what the calls told of the file, known or not: it is as it was; or it was cut to the kept bytes, and has taken the
@@ -41,7 +41,7 @@ pub record IsBoard (o : Start) (rows : List Row) (sums : Sums) (failed written :
   pub torn : written ≡ true → failed ≡ true → IsIfKnown (now.content o.name) (IsTorn o rows)
   pub kept : written ≡ true → o.whole ≤ length (file_text o.header rows)
   pub unwritten : written ≡ false → failed ≡ false → now.changed o.name ≡ o.shelf.changed o.name
-  pub wrote : written ≡ true → failed ≡ false → WritesOn o.whole (file_text o.header rows) (o.shelf.changed o.name) (now.changed o.name)
+  pub wrote : written ≡ true → failed ≡ false → WritesOn o.whole (file_text o.header rows) (o.shelf.given o.name) (o.shelf.changed o.name) (now.changed o.name)
   pub stopped : written ≡ true → failed ≡ true → StopsAtRow o rows (now.changed o.name)
   pub others : KeepsOthers o.shelf now o.name
   pub given : now.given ≡ o.shelf.given

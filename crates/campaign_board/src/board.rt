@@ -101,8 +101,8 @@ impl<F: Shelf + Drop, N: Origin> Board<F, N> {
         ensures failed { OnErr result ((self.new.failed ≡ true) × CountRose ((F.seen self.old.shelf).write_faults N.start.name) ((F.seen self.new.shelf).write_faults N.start.name)) }
         ensures torn { OnErr result (IsHeaderTorn N.start.header whole ((F.seen self.old.shelf).content N.start.name)
             ((F.seen self.new.shelf).content N.start.name)) }
-        ensures stops { OnErr result (StopsOn N.start.whole (file_text N.start.header self.old.rows) (N.start.shelf.changed N.start.name)
-            ((F.seen self.new.shelf).changed N.start.name)) }
+        ensures stops { OnErr result (StopsOn N.start.whole (file_text N.start.header self.old.rows) (N.start.shelf.given N.start.name)
+            (N.start.shelf.changed N.start.name) ((F.seen self.new.shelf).changed N.start.name)) }
     {
         if self.shelf.cut(self.name.as_str(), whole).is_err() {
             self.failed = true;

@@ -7,9 +7,11 @@ use Rattle.fm_shelf.specs.Past.{WritesOn}
 use Rattle.fm_shelf.specs.Shelf.{ShelfState}
 use Rattle.fm_shelf.specs.Sink.{Wrote, WrotePrefix}
 use Rattle.fm_shelf.specs.Outside.{Outside}
+use Rattle.fm_shelf.proofs.Written.{writes_unread}
 use Rattle.metric_sums.specs.declared.Sums.{Sums}
 use Rattle.campaign_plan.specs.Analysis.{batch_count}
 use Rattle.campaign_plan.specs.Kept.{IsPlan}
+use Rattle.result_file.specs.ResultText.{result_text}
 use Rattle.result_file.specs.KeptRows.{entry_of as planed}
 use Rattle.fmeda_report.specs.Rows.{HoldEachOnce, planes_in}
 use Rattle.campaign_board.specs.Boards.{Start, batches_of}
@@ -81,8 +83,10 @@ reports c before after sums board (worked, kept) fine wrote =
         entries = map planed board.rows;
         whole = (are_part c.p (campaign_planes c) o board.rows refl kept.rows_are, hold.each);
         result = subst (HasIfKnown (after.shelf.content c.name)) (text_result c.p (campaign_planes c) o board.rows refl kept.entries kept.rows_are) (kept.file finished.0 fine);
-        written = subst (λ text. WritesOn c.k.whole text (before.shelf.changed c.name) (after.shelf.changed c.name))
-            (text_result c.p (campaign_planes c) o board.rows refl kept.entries kept.rows_are) (kept.wrote finished.0 fine);
+        written = writes_unread c.k.whole (result_text c.own c.p (map planed board.rows)) before.shelf.given after.shelf.given c.name (before.shelf.changed c.name)
+            (after.shelf.changed c.name) kept.given
+            (subst (λ text. WritesOn c.k.whole text (before.shelf.given c.name) (before.shelf.changed c.name) (after.shelf.changed c.name))
+            (text_result c.p (campaign_planes c) o board.rows refl kept.entries kept.rows_are) (kept.wrote finished.0 fine));
       };
       first = begin_kept c.k.rows board.rows finished.1.starts;
     }
@@ -111,10 +115,12 @@ stops : {F : Type 0} (c : Campaign) (before now : ShelfState) (sums : Sums) (boa
 stops c before now sums board many start (worked, kept) bad =
     let o : Start = origin_of c before in
     elim worked as (λ _. HasStopped c before now) [
-      | inl finished ↦ stopped_row c.p (campaign_planes c) o board.rows (now.changed c.name) refl kept.entries kept.rows_are (kept.stopped finished.0 bad)
+      | inl finished ↦
+          stopped_row c.p (campaign_planes c) o c.k.rows board.rows now refl kept.entries kept.rows_are finished.1.starts kept.given
+          (kept.stopped finished.0 bad)
       | inr torn ↦
-          stopped_header c.p (campaign_planes c) o (now.changed c.name) refl kept.entries
-          (kept_rows_due c.p c.k o refl (starts_kept c.own c.p (before.content c.name) c.k many start)) torn.2
+          stopped_header c.p (campaign_planes c) o now refl kept.entries
+          (kept_rows_due c.p c.k o refl (starts_kept c.own c.p (before.content c.name) c.k many start)) kept.given torn.2
     ]
 
 -- by how it ended

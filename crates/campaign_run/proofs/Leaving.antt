@@ -7,11 +7,14 @@ use Rattle.std.proofs.lemmas.List.Concat.{flat_map-append}
 use Rattle.std.proofs.Math.Seq.{take-append_seam, take-append-add, take-length}
 use mathlib.Core.List.{IsPrefix}
 use Rattle.fm_shelf.specs.Content.{Content, Unknown, Absent, Held, IsIfKnown, bytes_of}
-use Rattle.fm_shelf.specs.Past.{Change, StopsOn}
+use Rattle.fm_shelf.specs.Past.{StopsOn}
+use Rattle.fm_shelf.specs.Shelf.{ShelfState}
+use Rattle.fm_shelf.proofs.Written.{stops_unread}
 use Rattle.campaign_plan.specs.declared.Outcome.{Outcome}
 use Rattle.campaign_plan.specs.Analysis.{Analysis}
+use Rattle.campaign_plan.specs.Batches.{Entry}
 use Rattle.result_file.specs.declared.Row.{Row}
-use Rattle.result_file.specs.ResultText.{row_text}
+use Rattle.result_file.specs.ResultText.{result_text, row_text}
 use Rattle.result_file.specs.KeptRows.{entry_of as planed}
 use Rattle.campaign_board.specs.Boards.{Start, AreEntries, next_row, file_text}
 use Rattle.campaign_board.specs.Kept.{AreRows, IsTorn, IsHeaderTorn, StopsAtRow}
@@ -19,7 +22,7 @@ use Rattle.campaign_board.proofs.Adding.{rows_push, text_push}
 use Rattle.campaign_run.specs.Reported.{BeginsWith}
 use Rattle.campaign_run.specs.Left.{LeftPrefix, BeginsAs, StoppedRows}
 use Rattle.campaign_run.specs.Origins.{entries_for}
-use Rattle.campaign_run.proofs.Reporting.{are_part, text_result}
+use Rattle.campaign_run.proofs.Reporting.{are_part, begin_kept, text_result}
 
 -- ---- prefixes
 
@@ -114,22 +117,30 @@ left_header p planes o rows whole before now e are h from torn = elim torn as (�
 -- ---- what was told of the file
 
 -- a row was torn, behind others
-pub stopped_row : (p : Analysis) (planes : ℕ → Outcome) (o : Start) (rows : List Row) (now : List Change) → o.entries ≡ entries_for p planes → AreEntries o.entries
-    → AreRows o rows → StopsAtRow o rows now → StoppedRows o.header p planes o.whole (o.shelf.changed o.name) now
-stopped_row p planes o rows now e are h torn =
+pub stopped_row : (p : Analysis) (planes : ℕ → Outcome) (o : Start) (k rows : List Row) (now : ShelfState) → o.entries ≡ entries_for p planes → AreEntries o.entries
+    → AreRows o rows → IsPrefix k rows → now.given ≡ o.shelf.given → StopsAtRow o rows (now.changed o.name)
+    → StoppedRows o.header p planes o.whole (map planed k) (now.given o.name) (o.shelf.changed o.name) (now.changed o.name)
+stopped_row p planes o k rows now e are h pre unread torn =
     let row : Row = next_row o.entries rows torn.batch in
     let more : AreRows o (rows ++ row ∷ []) = rows_push o rows torn.batch are h torn.within torn.lacks in
+    let entries : List Entry = map planed (rows ++ row ∷ []) in
     record {
-      entries = map planed (rows ++ row ∷ []);
+      entries = entries;
       part = are_part p planes o (rows ++ row ∷ []) e more;
-      stops = subst (λ text. StopsOn o.whole text (o.shelf.changed o.name) now) (text_result p planes o (rows ++ row ∷ []) e are more) torn.stops;
+      first = begin_kept k (rows ++ row ∷ []) (pre.0 ++ row ∷ [], sym (append_assoc k pre.0 (row ∷ [])) ∙ ap (λ front. front ++ row ∷ []) pre.1);
+      stops = stops_unread o.whole (result_text o.header p entries) o.shelf.given now.given o.name (o.shelf.changed o.name) (now.changed o.name) unread
+          (subst (λ text. StopsOn o.whole text (o.shelf.given o.name) (o.shelf.changed o.name) (now.changed o.name))
+          (text_result p planes o (rows ++ row ∷ []) e are more) torn.stops);
     }
 
 -- the header was torn, or the file couldn't be cut
-pub stopped_header : (p : Analysis) (planes : ℕ → Outcome) (o : Start) (now : List Change) → o.entries ≡ entries_for p planes → AreEntries o.entries
-    → AreRows o o.rows → StopsOn o.whole (file_text o.header o.rows) (o.shelf.changed o.name) now → StoppedRows o.header p planes o.whole (o.shelf.changed o.name) now
-stopped_header p planes o now e are h stops = record {
+pub stopped_header : (p : Analysis) (planes : ℕ → Outcome) (o : Start) (now : ShelfState) → o.entries ≡ entries_for p planes → AreEntries o.entries → AreRows o o.rows
+    → now.given ≡ o.shelf.given → StopsOn o.whole (file_text o.header o.rows) (o.shelf.given o.name) (o.shelf.changed o.name) (now.changed o.name)
+    → StoppedRows o.header p planes o.whole (map planed o.rows) (now.given o.name) (o.shelf.changed o.name) (now.changed o.name)
+stopped_header p planes o now e are h unread stops = record {
   entries = map planed o.rows;
   part = are_part p planes o o.rows e h;
-  stops = subst (λ text. StopsOn o.whole text (o.shelf.changed o.name) now) (text_result p planes o o.rows e are h) stops;
+  first = take-length (map planed o.rows);
+  stops = stops_unread o.whole (result_text o.header p (map planed o.rows)) o.shelf.given now.given o.name (o.shelf.changed o.name) (now.changed o.name) unread
+      (subst (λ text. StopsOn o.whole text (o.shelf.given o.name) (o.shelf.changed o.name) (now.changed o.name)) (text_result p planes o o.rows e are h) stops);
 }

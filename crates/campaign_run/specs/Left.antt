@@ -1,7 +1,7 @@
 -- What a campaign has left when it couldn't write its result file.
 use Rattle.std.specs.Prelude.{◌≡◌, ℕ, List, length, take}
 use Rattle.fm_shelf.specs.Content.{Content, IsIfKnown}
-use Rattle.fm_shelf.specs.Past.{Change, StopsOn}
+use Rattle.fm_shelf.specs.Past.{Given, Change, StopsOn}
 use Rattle.campaign_plan.specs.declared.Outcome.{Outcome}
 use Rattle.campaign_plan.specs.Analysis.{Analysis}
 use Rattle.campaign_plan.specs.Batches.{Entry}
@@ -23,8 +23,10 @@ pub record LeftPrefix (own : Bytes) (p : Analysis) (planes : ℕ → Outcome) (h
 abbrev pub BeginsAs : Content → (start : Bytes) → Type 0
 BeginsAs held start = IsIfKnown held (λ bytes. take (length start) bytes ≡ start)
 
--- ROWS THAT WERE WRITTEN STAY: known or not, the file was cut to so many bytes, and took a result file from there on up to a call that failed
-pub record StoppedRows (own : Bytes) (p : Analysis) (planes : ℕ → Outcome) (kept_bytes : ℕ) (before now : List Change) : Type 0 where
+-- ROWS THAT WERE WRITTEN STAY: known or not, the file was cut to the kept rows, and took a result file from there on up to a call that failed
+pub record StoppedRows (own : Bytes) (p : Analysis) (planes : ℕ → Outcome) (kept_bytes : ℕ) (kept_rows : List Entry) (given : List Given)
+    (before now : List Change) : Type 0 where
   pub entries : List Entry
   pub part : IsPart p planes entries
-  pub stops : StopsOn kept_bytes (result_text own p entries) before now
+  pub first : take (length kept_rows) entries ≡ kept_rows
+  pub stops : StopsOn kept_bytes (result_text own p entries) given before now

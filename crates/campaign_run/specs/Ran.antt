@@ -53,7 +53,8 @@ IsTruncatedResult c before after =
 
 -- what was told of the file, up to the call that failed
 abbrev pub HasStopped : Campaign → (before after : ShelfState) → Type 0
-HasStopped c before after = StoppedRows c.own c.p (campaign_planes c) c.k.whole (before.changed c.name) (after.changed c.name)
+HasStopped c before after =
+    StoppedRows c.own c.p (campaign_planes c) c.k.whole (kept_entries c.k) (after.given c.name) (before.changed c.name) (after.changed c.name)
 
 -- Done: it is reported. NoMemory: nothing has changed. ResultFault: the result file couldn't be written, and nothing went out.
 -- OutFault: the file is as after Done, and a prefix of the text went out.

@@ -19,7 +19,7 @@ pub record HasReported (own text : Bytes) (p : Analysis) (planes : ℕ → Outco
   pub entries : List Entry
   pub whole : IsWhole p planes entries
   pub result : HasIfKnown (after.shelf.content name) (result_text own p entries)
-  pub written : WritesOn kept_bytes (result_text own p entries) (before.shelf.changed name) (after.shelf.changed name)
+  pub written : WritesOn kept_bytes (result_text own p entries) (after.shelf.given name) (before.shelf.changed name) (after.shelf.changed name)
 
 -- a campaign that was resumed on a file of these bytes: it is reported, and its rows begin with those that were kept
 pub record ResumedAs (own text : Bytes) (p : Analysis) (planes : ℕ → Outcome) (bytes name : Bytes) (before after : Outside) : Type 0 where

@@ -20,7 +20,7 @@ pub record IsNewBoard {F : Type 0} (o : Start) (shelf : F) (board : BoardState F
 
 -- the header couldn't be written, or the cut before it failed
 abbrev pub HeaderStops : Start → (after : ShelfState) → Type 0
-HeaderStops o after = StopsOn o.whole (file_text o.header o.rows) (o.shelf.changed o.name) (after.changed o.name)
+HeaderStops o after = StopsOn o.whole (file_text o.header o.rows) (o.shelf.given o.name) (o.shelf.changed o.name) (after.changed o.name)
 
 -- the board of a campaign whose workers have ended; or its header couldn't be written, and it has failed
 abbrev pub HasWorked : {F : Type 0} → Start → (whole : ℕ) → (before after : ShelfState) → BoardState F → Type 0

@@ -10,12 +10,14 @@ use Rattle.fm_shelf.specs.Past.{WritesOn}
 use Rattle.fm_shelf.specs.Shelf.{ShelfState}
 use Rattle.fm_shelf.specs.Sink.{SinkState, with_more, Wrote}
 use Rattle.fm_shelf.specs.Outside.{Outside}
+use Rattle.fm_shelf.proofs.Written.{writes_unread}
 use Rattle.fm_base.specs.Names.{Bytes}
 use Rattle.campaign_core.specs.Machines.{times}
 use Rattle.campaign_plan.specs.Analysis.{Analysis, batch_count}
 use Rattle.campaign_plan.specs.Batches.{batches, true_planes}
 use Rattle.campaign_plan.specs.Kept.{IsPlan}
 use Rattle.result_file.specs.declared.Row.{Row}
+use Rattle.result_file.specs.ResultText.{result_text}
 use Rattle.result_file.specs.KeptRows.{entry_of as planed}
 use Rattle.campaign_board.specs.Boards.{Start, batches_of}
 use Rattle.campaign_board.specs.Kept.{BoardState as Board, AreRows, IsBoard, IsStart, IsHeaderTorn}
@@ -119,8 +121,9 @@ module _ (c : PartCampaign) (before : ShelfState) where
           entries = map planed board.rows;
           has = has_part board.rows kept.rows_are done.1;
           result = subst (HasIfKnown (now.content c.name)) (text_result c.p (true_planes c.p) start board.rows refl kept.entries kept.rows_are) (kept.file done.0 fine);
-          written = subst (λ text. WritesOn 0 text (before.changed c.name) (now.changed c.name))
-              (text_result c.p (true_planes c.p) start board.rows refl kept.entries kept.rows_are) (kept.wrote done.0 fine);
+          written = writes_unread 0 (result_text c.own c.p (map planed board.rows)) before.given now.given c.name (before.changed c.name) (now.changed c.name) kept.given
+              (subst (λ text. WritesOn 0 text (before.given c.name) (before.changed c.name) (now.changed c.name))
+              (text_result c.p (true_planes c.p) start board.rows refl kept.entries kept.rows_are) (kept.wrote done.0 fine));
           wrote = out ∙ ap (λ n. with_more old.written (shard_line c.part c.parts n)) (sym (length-map board.rows planed));
         }
 
@@ -129,10 +132,10 @@ module _ (c : PartCampaign) (before : ShelfState) where
 
     -- what was told of the file, up to the call that failed
     stops : HasPartWorked start c.part c.parts before now board → IsBoard start board.rows sums board.failed board.written now → board.failed ≡ true
-        → StoppedRows c.own c.p (true_planes c.p) 0 (before.changed c.name) (now.changed c.name)
-    stops worked kept bad = elim worked as (λ _. StoppedRows c.own c.p (true_planes c.p) 0 (before.changed c.name) (now.changed c.name)) [
-      | inl done ↦ stopped_row c.p (true_planes c.p) start board.rows (now.changed c.name) refl kept.entries kept.rows_are (kept.stopped done.0 bad)
-      | inr torn ↦ stopped_header c.p (true_planes c.p) start (now.changed c.name) refl kept.entries none torn.2
+        → StoppedRows c.own c.p (true_planes c.p) 0 [] (now.given c.name) (before.changed c.name) (now.changed c.name)
+    stops worked kept bad = elim worked as (λ _. StoppedRows c.own c.p (true_planes c.p) 0 [] (now.given c.name) (before.changed c.name) (now.changed c.name)) [
+      | inl done ↦ stopped_row c.p (true_planes c.p) start [] board.rows now refl kept.entries kept.rows_are (board.rows, refl) kept.given (kept.stopped done.0 bad)
+      | inr torn ↦ stopped_header c.p (true_planes c.p) start now refl kept.entries none kept.given torn.2
     ]
 
     leaves : HasPartWorked start c.part c.parts before now board → IsBoard start board.rows sums board.failed board.written now → board.failed ≡ true

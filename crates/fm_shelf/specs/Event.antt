@@ -34,20 +34,20 @@ pub given_back : (g : Given) → given_from (given_parts g) ≡ g
 given_back (Gave place byte) = refl
 given_back (Ended place) = refl
 
-abbrev change_parts : Change → ℕ × (ℕ × List ℕ)
-change_parts (Took byte) = (0, (byte, []))
-change_parts (Tore bytes) = (1, (0, bytes))
-change_parts (Cut len) = (2, (len, []))
-change_parts (MayCut len) = (3, (len, []))
+abbrev change_parts : Change → ℕ × (ℕ × (List ℕ × List Given))
+change_parts (Took byte) = (0, (byte, ([], [])))
+change_parts (Tore bytes) = (1, (0, (bytes, [])))
+change_parts (Cut given len) = (2, (len, ([], given)))
+change_parts (MayCut given len) = (3, (len, ([], given)))
 
-abbrev change_from : ℕ × (ℕ × List ℕ) → Change
-change_from p = if p.0 == 0 then Took p.1.0 else if p.0 == 1 then Tore p.1.1 else if p.0 == 2 then Cut p.1.0 else MayCut p.1.0
+abbrev change_from : ℕ × (ℕ × (List ℕ × List Given)) → Change
+change_from p = if p.0 == 0 then Took p.1.0 else if p.0 == 1 then Tore p.1.1.0 else if p.0 == 2 then Cut p.1.1.1 p.1.0 else MayCut p.1.1.1 p.1.0
 
 pub change_back : (c : Change) → change_from (change_parts c) ≡ c
 change_back (Took byte) = refl
 change_back (Tore bytes) = refl
-change_back (Cut len) = refl
-change_back (MayCut len) = refl
+change_back (Cut given len) = refl
+change_back (MayCut given len) = refl
 
 abbrev event_parts : Event → ℕ × (List ℕ × (List Given × List Change))
 event_parts (Read name given) = (0, (name, (given, [])))
@@ -64,7 +64,9 @@ abbrev given_code : Coded Given
 given_code = code_by (ℕ × (ℕ × ℕ)) (coded× coded_ℕ (coded× coded_ℕ coded_ℕ)) given_parts given_from given_back
 
 abbrev change_code : Coded Change
-change_code = code_by (ℕ × (ℕ × List ℕ)) (coded× coded_ℕ (coded× coded_ℕ (coded_list coded_ℕ))) change_parts change_from change_back
+change_code =
+    code_by (ℕ × (ℕ × (List ℕ × List Given))) (coded× coded_ℕ (coded× coded_ℕ (coded× (coded_list coded_ℕ) (coded_list given_code)))) change_parts
+    change_from change_back
 
 abbrev event_code : Coded Event
 event_code =

@@ -7,12 +7,12 @@ pub data Given : Type 0 where
   Gave : (place byte : ℕ) → Given
   Ended : (place : ℕ) → Given
 
--- an append took this byte; one of these bytes failed, and the file may have a prefix of them; a cut to so many bytes; one that failed, or not
+-- an append took this byte; one of these bytes failed, and the file may have a prefix of them; a cut to so many bytes, when reads of the file
+-- had given this; one that failed, or not
 pub data Change : Type 0 where
   Took : (byte : ℕ) → Change
   Tore : (bytes : List ℕ) → Change
-  Cut : (len : ℕ) → Change
-  MayCut : (len : ℕ) → Change
+  Cut MayCut : (given : List Given) (len : ℕ) → Change
 
 -- these bytes, from this place on
 abbrev pub gave_from : ℕ → List ℕ → List Given
@@ -40,19 +40,19 @@ abbrev pub taken_by : {E : Type 0} → (piece : List ℕ) → Result ℕ E → L
 taken_by piece (Ok n) = map Took (take n piece)
 taken_by piece (Err failed) = Tore piece ∷ []
 
--- a cut to so many bytes
-abbrev pub cut_by : {E : Type 0} → (len : ℕ) → Result (Unit {0}) E → List Change
-cut_by len (Ok done) = Cut len ∷ []
-cut_by len (Err failed) = MayCut len ∷ []
+-- a cut to so many bytes, behind reads that gave this
+abbrev pub cut_by : {E : Type 0} → List Given → (len : ℕ) → Result (Unit {0}) E → List Change
+cut_by given len (Ok done) = Cut given len ∷ []
+cut_by given len (Err failed) = MayCut given len ∷ []
 
 -- ---- how a file is written in many calls
 
--- it was cut to so many bytes of this text, and has taken the rest of it
-abbrev pub WritesOn : (whole : ℕ) → (text : List ℕ) → (before after : List Change) → Type 0
-WritesOn whole text before after = after ≡ before ++ Cut whole ∷ map Took (drop whole text)
+-- it was cut to so many bytes of this text, once ALL THAT READS OF IT HAVE GIVEN was read, and has taken the rest of the text
+abbrev pub WritesOn : (whole : ℕ) → (text : List ℕ) → (given : List Given) → (before after : List Change) → Type 0
+WritesOn whole text given before after = after ≡ before ++ Cut given whole ∷ map Took (drop whole text)
 
 -- the same, up to a call that failed: the cut, or an append of some bytes that come next. WHAT WAS TAKEN STAYS: no cut follows the first
-pub data StopsOn (whole : ℕ) (text : List ℕ) (before after : List Change) : Type 0 where
-  AtCut : after ≡ before ++ MayCut whole ∷ [] → StopsOn whole text before after
-  AtPiece : (front piece : List ℕ) → IsPrefix (front ++ piece) (drop whole text) → after ≡ before ++ Cut whole ∷ (map Took front ++ Tore piece ∷ [])
-      → StopsOn whole text before after
+pub data StopsOn (whole : ℕ) (text : List ℕ) (given : List Given) (before after : List Change) : Type 0 where
+  AtCut : after ≡ before ++ MayCut given whole ∷ [] → StopsOn whole text given before after
+  AtPiece : (front piece : List ℕ) → IsPrefix (front ++ piece) (drop whole text)
+      → after ≡ before ++ Cut given whole ∷ (map Took front ++ Tore piece ∷ []) → StopsOn whole text given before after

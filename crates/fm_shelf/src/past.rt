@@ -54,7 +54,7 @@ impl Past {
     /// These calls, and then this one.
     #[inline(always)]
     pub fn then(&self, _note: &Note<'_>) -> Past
-        ensures { result.events ≡ event_of _note.now ∷ self.now.events }
+        ensures { result.events ≡ event_of self.now.events _note.now ∷ self.now.events }
     {
         Past {}
     }

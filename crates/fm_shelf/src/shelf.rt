@@ -47,7 +47,7 @@ pub trait Shelf {
     fn cut(&mut self, name: &str, len: u64) -> Result<(), Failed>
         ensures ok { OnOk result (Becomes (seen self.old) (seen self.new) name.now (take len)) }
         ensures failed { OnErr result (MayBecome (seen self.old) (seen self.new) name.now (take len)) }
-        ensures changed { (seen self.new).changed name.now ≡ (seen self.old).changed name.now ++ cut_by len result }
+        ensures changed { (seen self.new).changed name.now ≡ (seen self.old).changed name.now ++ cut_by ((seen self.old).given name.now) len result }
         ensures rest { OnlyWrites (seen self.old) (seen self.new) name.now };
 }
 

@@ -151,9 +151,9 @@ module _ (planned : PlannedOf) (reads : Reads) (name : Bytes) (workers : ℕ) (b
   anew_left text after (inr left) = inr (subst (λ own. LeftPrefix own planned.plan (true_planes planned.plan) (after.shelf.content name)) sound.own left.0)
 
   anew_stopped : (text : Text) (after : Outside) → HasStopped (begun_anew planned name text) before.shelf after.shelf
-      → MayStop (Planned planned.plan) reads (before.shelf.changed name) (after.shelf.changed name)
+      → MayStop (Planned planned.plan) reads (after.shelf.given name) (before.shelf.changed name) (after.shelf.changed name)
   anew_stopped text after stopped =
-      subst (λ own. StoppedRows own planned.plan (true_planes planned.plan) 0 (before.shelf.changed name) (after.shelf.changed name)) sound.own stopped
+      subst (λ own. StoppedRows own planned.plan (true_planes planned.plan) 0 [] (after.shelf.given name) (before.shelf.changed name) (after.shelf.changed name)) sound.own stopped
 
   pub anew_ended : (how : End) (text : Text) (after : Outside) → HasRun how (begun_anew planned name text) before after
       → HasEnded how (task_of_text text workers) (Planned planned.plan) reads name before after
@@ -212,9 +212,9 @@ module _ (law : StoppedAreTakenUp) (begun : BegunOf) (reads : Reads) (name : Byt
   on_left after (inr left) = inr (subst (λ own. LeftPrefix own p planes (after.shelf.content name)) sound.own left.0, left.1)
 
   on_stopped : (after : Outside) → HasStopped (going_on begun name) before.shelf after.shelf
-      → MayStop (Begun p begun.kept) reads (before.shelf.changed name) (after.shelf.changed name)
+      → MayStop (Begun p begun.kept) reads (after.shelf.given name) (before.shelf.changed name) (after.shelf.changed name)
   on_stopped after stopped =
-      subst (λ own. StoppedRows own p planes begun.kept.whole (before.shelf.changed name) (after.shelf.changed name)) sound.own stopped
+      subst (λ own. StoppedRows own p planes begun.kept.whole (kept_entries begun.kept) (after.shelf.given name) (before.shelf.changed name) (after.shelf.changed name)) sound.own stopped
 
   pub on_ended : (how : End) (after : Outside) → HasRun how (going_on begun name) before after
       → HasEnded how (task.Resume workers) (Begun p begun.kept) reads name before after
@@ -263,17 +263,17 @@ module _ (it : MergedOf) (reads : Reads) (name : Bytes) (before : Outside) (soun
 
   pub merge_written : (after : Outside) → HasIfKnown (after.shelf.content name) (rows_file it.planned.own it.rows)
       → Wrote before.out after.out (merge_line (length it.rows) (batch_count it.planned.plan))
-      → WritesOn 0 (rows_file it.planned.own it.rows) (before.shelf.changed name) (after.shelf.changed name)
+      → WritesOn 0 (rows_file it.planned.own it.rows) (after.shelf.given name) (before.shelf.changed name) (after.shelf.changed name)
       → HasWritten task.Merge (Merged it.planned.plan it.rows) reads name before after
   merge_written after has wrote written = (
     subst (HasIfKnown (after.shelf.content name)) file_is has,
     wrote,
-    subst (λ text. WritesOn 0 text (before.shelf.changed name) (after.shelf.changed name)) file_is written,
+    subst (λ text. WritesOn 0 text (after.shelf.given name) (before.shelf.changed name) (after.shelf.changed name)) file_is written,
   )
 
-  pub merge_stopped : (after : Outside) → StopsOn 0 (rows_file it.planned.own it.rows) (before.shelf.changed name) (after.shelf.changed name)
-      → MayStop (Merged it.planned.plan it.rows) reads (before.shelf.changed name) (after.shelf.changed name)
-  merge_stopped after stopped = subst (λ text. StopsOn 0 text (before.shelf.changed name) (after.shelf.changed name)) file_is stopped
+  pub merge_stopped : (after : Outside) → StopsOn 0 (rows_file it.planned.own it.rows) (after.shelf.given name) (before.shelf.changed name) (after.shelf.changed name)
+      → MayStop (Merged it.planned.plan it.rows) reads (after.shelf.given name) (before.shelf.changed name) (after.shelf.changed name)
+  merge_stopped after stopped = subst (λ text. StopsOn 0 text (after.shelf.given name) (before.shelf.changed name) (after.shelf.changed name)) file_is stopped
 
   pub merge_left : (after : Outside)
       → (after.shelf.content name ≡ before.shelf.content name) ⊎ IsPrefixOf (after.shelf.content name) (rows_file it.planned.own it.rows)

@@ -9,20 +9,20 @@ use Rattle.fm_shelf.specs.Past.{AtCut, Cut, MayCut, StopsOn, WritesOn}
 use Rattle.fm_shelf.specs.Shelf.{Appends, CountRose, MayAppend, MayBecome, MayHaveMore, OnlyWrites, ShelfState, Takes, Tears}
 use Rattle.fm_shelf.proofs.Appends.{has_on, keeps_by, keeps_on}
 use Rattle.fm_shelf.proofs.Counts.{rose_from}
-use Rattle.fm_shelf.proofs.Written.{stops_begin, writes_begin}
+use Rattle.fm_shelf.proofs.Written.{stops_begin, stops_unread, writes_begin, writes_unread}
 use Rattle.campaign_run.specs.Left.{IsPrefixOf}
 use Rattle.fmeda_top.specs.Written.{IsWrittenAnew, RewritesAs}
 
 -- it has its text, unless it failed
 pub written : (name text : Bytes) (before after : ShelfState) (r : Result (Unit {0}) Failed) → RewritesAs name text before after r → is_err r ≡ false
-    → HasIfKnown (after.content name) text × WritesOn 0 text (before.changed name) (after.changed name)
+    → HasIfKnown (after.content name) text × WritesOn 0 text (after.given name) (before.changed name) (after.changed name)
 written name text before after (Ok v) writes e = writes
 written name text before after (Err x) writes e = absurd (cc)
 
 -- or as much of it as it has
 pub not_written : (name text : Bytes) (before after : ShelfState) (r : Result (Unit {0}) Failed) → RewritesAs name text before after r → is_err r ≡ true
     → ((after.content name ≡ before.content name) ⊎ IsPrefixOf (after.content name) text) × CountRose (before.write_faults name) (after.write_faults name)
-    × StopsOn 0 text (before.changed name) (after.changed name)
+    × StopsOn 0 text (after.given name) (before.changed name) (after.changed name)
 not_written name text before after (Ok v) writes e = absurd (cc)
 not_written name text before after (Err x) writes e = writes
 
@@ -42,10 +42,14 @@ nothing_of (Held bytes) text none = (0, none)
 
 module _ (name text : Bytes) (before mid : ShelfState) (first : OnlyWrites before mid name) where
   -- the cut failed
-  pub not_cut : MayBecome before mid name (take 0) → mid.changed name ≡ before.changed name ++ MayCut 0 ∷ [] → (failed : Failed)
+  pub not_cut : MayBecome before mid name (take 0) → mid.changed name ≡ before.changed name ++ MayCut (before.given name) 0 ∷ [] → (failed : Failed)
       → IsWrittenAnew name text before mid (Err failed)
   not_cut (rose, left) was failed = record {
-    writes = (by_left left, rose, AtCut was);
+    writes = (
+      by_left left,
+      rose,
+      stops_unread 0 text before.given mid.given name (before.changed name) (mid.changed name) first.given (AtCut was),
+    );
     others = keeps_by before mid name first;
     given = first.given;
     grows = first.counts.grows name;
@@ -57,13 +61,14 @@ module _ (name text : Bytes) (before mid : ShelfState) (first : OnlyWrites befor
       by_left (inr none) = inr (nothing_of (mid.content name) text none)
 
   -- the text was appended to the empty file, or as much of it
-  pub written_anew : (after : ShelfState) (r : Result (Unit {0}) Failed) → HasIfKnown (mid.content name) [] → mid.changed name ≡ before.changed name ++ Cut 0 ∷ []
+  pub written_anew : (after : ShelfState) (r : Result (Unit {0}) Failed) → HasIfKnown (mid.content name) [] → mid.changed name ≡ before.changed name ++ Cut (before.given name) 0 ∷ []
       → OnlyWrites mid after name → OnOk r (Appends mid after name text) → OnErr r (MayAppend mid after name text) → OnOk r (Takes mid after name text)
       → OnErr r (Tears mid after name text) → IsWrittenAnew name text before after r
   written_anew after (Ok done) none was rest has may takes tears = record {
     writes = (
       has_on (mid.content name) (after.content name) [] text rest.unknown none has,
-      writes_begin 0 text (before.changed name) (mid.changed name) (after.changed name) refl was takes,
+      writes_unread 0 text before.given after.given name (before.changed name) (after.changed name) (rest.given ∙ first.given)
+          (writes_begin 0 text (before.given name) (before.changed name) (mid.changed name) (after.changed name) refl was takes),
     );
     others = keeps_on before mid after name (keeps_by before mid name first) rest;
     given = rest.given ∙ first.given;
@@ -73,7 +78,8 @@ module _ (name text : Bytes) (before mid : ShelfState) (first : OnlyWrites befor
     writes = (
       inr (prefix_of (mid.content name) (after.content name) text none rest.unknown may.1),
       rose_from (before.write_faults name) (mid.write_faults name) (after.write_faults name) (first.counts.grows name) may.0,
-      stops_begin 0 text (before.changed name) (mid.changed name) (after.changed name) refl was tears,
+      stops_unread 0 text before.given after.given name (before.changed name) (after.changed name) (rest.given ∙ first.given)
+          (stops_begin 0 text (before.given name) (before.changed name) (mid.changed name) (after.changed name) refl was tears),
     );
     others = keeps_on before mid after name (keeps_by before mid name first) rest;
     given = rest.given ∙ first.given;

@@ -70,7 +70,7 @@ EndsWith end.ResultFault own made reads name before after =
     CountRose (before.shelf.write_faults name) (after.shelf.write_faults name)
     × ((after.shelf.content name ≡ before.shelf.content name) ⊎ MayLeave made reads (before.shelf.content name) (after.shelf.content name))
     × (after.out ≡ before.out)
-    × MayStop made reads (before.shelf.changed name) (after.shelf.changed name)
+    × MayStop made reads (after.shelf.given name) (before.shelf.changed name) (after.shelf.changed name)
 EndsWith end.OutFault own made reads name before after =
     (text : Bytes) × HasWritten own made reads name before (had_written before after text) × WrotePrefix before.out after.out text
 

@@ -3,7 +3,7 @@ use Rattle.std.specs.Prelude.{◌≡◌, ◌⊎◌, ℕ, List, [], ◌∷◌, �
 use Rattle.fm_base.specs.Names.{Bytes}
 use Rattle.fm_base.specs.Text.{line}
 use Rattle.fm_shelf.specs.Content.{Content, Held, HasIfKnown, IsIfKnown, bytes_of}
-use Rattle.fm_shelf.specs.Past.{Change, StopsOn, WritesOn}
+use Rattle.fm_shelf.specs.Past.{Given, Change, StopsOn, WritesOn}
 use Rattle.fm_shelf.specs.Shelf.{CountRose, IsUnchanged, KeepsOthers}
 use Rattle.fm_shelf.specs.Sink.{Wrote, WroteOrFailed, WrotePrefix}
 use Rattle.fm_shelf.specs.Outside.{Outside}
@@ -76,13 +76,13 @@ abbrev pub HasShard : (part parts : ℕ) → (own : Bytes) → Analysis → (nam
 HasShard part parts own p name before after =
     (entries : List Entry) × HasPart p (true_planes p) part parts entries
     × HasIfKnown (after.shelf.content name) (result_text own p entries) × Wrote before.out after.out (shard_line part parts (length entries))
-    × WritesOn 0 (result_text own p entries) (before.shelf.changed name) (after.shelf.changed name)
+    × WritesOn 0 (result_text own p entries) (after.shelf.given name) (before.shelf.changed name) (after.shelf.changed name)
 
 -- MERGING: the file holds the rows of both files, and was written so
 abbrev pub HasMerged : (own : Bytes) → Analysis → List Row → (name : Bytes) → (before after : Outside) → Type 0
 HasMerged own p both name before after =
     HasIfKnown (after.shelf.content name) (own ++ flat_map row_text both) × Wrote before.out after.out (merge_line (length both) (batch_count p))
-    × WritesOn 0 (own ++ flat_map row_text both) (before.shelf.changed name) (after.shelf.changed name)
+    × WritesOn 0 (own ++ flat_map row_text both) (after.shelf.given name) (before.shelf.changed name) (after.shelf.changed name)
 
 -- WHAT A TASK HAS WRITTEN to the result file of this name and to `out`
 abbrev pub HasWritten : Task → Judged → Reads → (name : Bytes) → (before after : Outside) → Type 0
@@ -102,11 +102,11 @@ MayLeave (Merged p both) reads before after = IsPrefixOf after (own_header reads
 MayLeave _ reads before after = ⊥
 
 -- ROWS THAT WERE WRITTEN STAY: known or not, up to the call that failed it was written so from the kept bytes on, and was not cut again
-abbrev pub MayStop : Judged → Reads → (before after : List Change) → Type 0
-MayStop (Planned p) reads = StoppedRows (own_header reads p) p (true_planes p) 0
-MayStop (Begun p k) reads = StoppedRows (own_header reads p) p (checkpointed_or_true p k) k.whole
+abbrev pub MayStop : Judged → Reads → List Given → (before after : List Change) → Type 0
+MayStop (Planned p) reads = StoppedRows (own_header reads p) p (true_planes p) 0 []
+MayStop (Begun p k) reads = StoppedRows (own_header reads p) p (checkpointed_or_true p k) k.whole (kept_entries k)
 MayStop (Merged p both) reads = StopsOn 0 (own_header reads p ++ flat_map row_text both)
-MayStop _ reads = λ before after. ⊥
+MayStop _ reads = λ given before after. ⊥
 
 -- a command that writes the result file of this name: files of other names are as before. All was written; or `out` failed, and all is as
 -- then but for a part of a text; or a write to the file failed: it is as before, or so, what was written stays, and the line of this fault went out
@@ -116,7 +116,7 @@ pub data WritesAs (own : Task) (made : Judged) (reads : Reads) (name : Bytes) (b
       → WritesAs own made reads name before after status.OutFault
   ResultFailed : CountRose (before.shelf.write_faults name) (after.shelf.write_faults name)
       → (after.shelf.content name ≡ before.shelf.content name) ⊎ MayLeave made reads (before.shelf.content name) (after.shelf.content name)
-      → MayStop made reads (before.shelf.changed name) (after.shelf.changed name)
+      → MayStop made reads (after.shelf.given name) (before.shelf.changed name) (after.shelf.changed name)
       → WroteOrFailed before.out after.out (line (codes "refused: cannot write" ∷ name ∷ []))
       → WritesAs own made reads name before after status.ResultFault
 

@@ -16,10 +16,10 @@ rows_file own rows = own ++ flat_map row_text rows
 
 -- it has this text, and was written so, known or not; or it is as before or has a prefix of the text, and the faults of writing it rose
 abbrev pub RewritesAs : (name text : Bytes) → (before after : ShelfState) → Result (Unit {0}) Failed → Type 0
-RewritesAs name text before after (Ok done) = HasIfKnown (after.content name) text × WritesOn 0 text (before.changed name) (after.changed name)
+RewritesAs name text before after (Ok done) = HasIfKnown (after.content name) text × WritesOn 0 text (after.given name) (before.changed name) (after.changed name)
 RewritesAs name text before after (Err failed) =
     ((after.content name ≡ before.content name) ⊎ IsPrefixOf (after.content name) text) × CountRose (before.write_faults name) (after.write_faults name)
-    × StopsOn 0 text (before.changed name) (after.changed name)
+    × StopsOn 0 text (after.given name) (before.changed name) (after.changed name)
 
 -- the same; files of other names stay, none is read, and the faults of writing it don't fall
 pub record IsWrittenAnew (name text : Bytes) (before after : ShelfState) (result : Result (Unit {0}) Failed) : Type 0 where

@@ -160,7 +160,8 @@ impl<F: Shelf + Drop> Shelf for StoppingShelf<F> {
         ensures failed { OnErr result (MayBecome (stopping_state (F.seen self.old.shelf) self.old.told self.old.past.events) (stopping_state (F.seen self.new.shelf) self.new.told self.new.past.events)
             name.now (take len)) }
         ensures changed { (stopping_state (F.seen self.new.shelf) self.new.told self.new.past.events).changed name.now
-            ≡ (stopping_state (F.seen self.old.shelf) self.old.told self.old.past.events).changed name.now ++ cut_by len result }
+            ≡ (stopping_state (F.seen self.old.shelf) self.old.told self.old.past.events).changed name.now
+            ++ cut_by ((stopping_state (F.seen self.old.shelf) self.old.told self.old.past.events).given name.now) len result }
         ensures rest { OnlyWrites (stopping_state (F.seen self.old.shelf) self.old.told self.old.past.events) (stopping_state (F.seen self.new.shelf) self.new.told self.new.past.events) name.now }
         ensures stop { self.new.stop ≡ behind_call self.old.stop }
         ensures fails { self.old.stop.calls ≡ 0 → IsErr result }

@@ -45,7 +45,7 @@ returns-in-Ok-write_merge g c =
     c.as_slice.ensures.value ∙ c.in-Ok.ensures ∙ ap (rows_file it.planned.own) c.as_slice-rows.ensures in
     let both = written name c.as_slice.result.now before.shelf after.shelf c.write_anew.result c.write_anew.ensures.writes fine in
     let has = subst (HasIfKnown (after.shelf.content name)) file both.0 in
-    let wrote_on = subst (λ text. WritesOn 0 text (before.shelf.changed name) (after.shelf.changed name)) file both.1 in
+    let wrote_on = subst (λ text. WritesOn 0 text (after.shelf.given name) (before.shelf.changed name) (after.shelf.changed name)) file both.1 in
     let wrote = rw (c.as_slice-rows.ensures, c.batches.ensures.count) at c.in-Ok-write_merge.ensures.ok in
     λ reads sound. record {
       ends = merge_written it reads name before sound after has wrote wrote_on;
@@ -65,7 +65,7 @@ returns g c =
     c.as_slice.ensures.value ∙ c.in-Ok.ensures ∙ ap (rows_file it.planned.own) c.as_slice-rows.ensures in
     let both = written name c.as_slice.result.now before.shelf after.shelf c.write_anew.result c.write_anew.ensures.writes fine in
     let has = subst (HasIfKnown (after.shelf.content name)) file both.0 in
-    let wrote_on = subst (λ text. WritesOn 0 text (before.shelf.changed name) (after.shelf.changed name)) file both.1 in
+    let wrote_on = subst (λ text. WritesOn 0 text (after.shelf.given name) (before.shelf.changed name) (after.shelf.changed name)) file both.1 in
     let line = merge_line (length it.rows) (batch_count it.planned.plan) in
     let torn = rw (c.as_slice-rows.ensures, c.batches.ensures.count) at c.in-Err.ensures.failed in
     λ reads sound. record {

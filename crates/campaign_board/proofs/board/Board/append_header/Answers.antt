@@ -31,7 +31,7 @@ returns-then-is_err-2-clause-stops g c =
     rw (← c.self.view_is)
     (stops_anew o c.self.inside.rows.items c.self.inside.sums c.self.inside.failed c.self.inside.written before mid name c.args.whole c.self.invariant.0 fresh
     (c.as_str.ensures.value ∙ c.self.invariant.1) kept c.cut.ensures.rest (on_ok c.cut.result fine c.cut.ensures.ok)
-    (subst (λ changes. mid.changed name ≡ before.changed name ++ changes) (cut_done c.args.whole c.cut.result fine) c.cut.ensures.changed)
+    (subst (λ changes. mid.changed name ≡ before.changed name ++ changes) (cut_done (before.given name) c.args.whole c.cut.result fine) c.cut.ensures.changed)
     (g.F.Shelf.seen c.append_all.new.shelf) c.as_str-then-whole-eq0.result.now c.bytes.result.now
     (c.as_str-then-whole-eq0.ensures.value ∙ c.self.invariant.1) (c.bytes.ensures ∙ c.requires.own) (grind (arith, common_steps))
     (on_err c.append_all.result failed c.append_all.ensures.tears))
@@ -47,7 +47,7 @@ invariant_of-self-2 g c =
     let fine = sym c.is_err.ensures.value ∙ c.if-is_err.false in
     let named = c.as_str.ensures.value ∙ c.self.invariant.1 in
     let becomes = on_ok c.cut.result fine c.cut.ensures.ok in
-    let cut = subst (λ changes. mid.changed name ≡ before.changed name ++ changes) (cut_done c.args.whole c.cut.result fine) c.cut.ensures.changed in
+    let cut = subst (λ changes. mid.changed name ≡ before.changed name ++ changes) (cut_done (before.given name) c.args.whole c.cut.result fine) c.cut.ensures.changed in
     elim c.if-whole-eq0.branch [
       | then-whole-eq0+else-is_err-2 w ↦
           (let done = sym w.is_err-then-whole-eq0.ensures.value ∙ w.if-is_err-2.false in
