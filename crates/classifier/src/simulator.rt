@@ -57,10 +57,11 @@ impl Simulator {
     pub fn new(alloc: Global, bench: &Testbench<'_>, ftti: u32) -> Result<Self, AllocError>
         ensures { IfOk result (λ simulator. simulator ≡ simulator_of bench.now ftti) }
     {
+        // What has least to give up comes first, and the lanes last.
         let points = bench.points();
-        let lanes = DifferentialLanes4::new(alloc, bench.net(), bench.order())?;
-        let narrow = Narrow::new(alloc, bench.net(), bench.order())?;
         let windows = Windows4::new(alloc, points, ftti)?;
+        let narrow = Narrow::new(alloc, bench.net(), bench.order())?;
+        let lanes = DifferentialLanes4::new(alloc, bench.net(), bench.order())?;
         Ok(Simulator {
             points: Snapshot::of(points),
             lanes,

@@ -86,11 +86,16 @@ impl LatencyWorker {
     ) -> Result<LatencyWorker, AllocError>
         ensures { IfOk result (IsEquippedFor bench.now rounds) }
     {
+        // What has least to give up comes first, and the lanes last.
+        let groups = groups_for(alloc, rounds)?;
+        let records = records_for(alloc, bench.points())?;
+        let reach = PointReach::new(alloc, bench)?;
+        let lanes = DifferentialLanes4::new(alloc, bench.net(), bench.order())?;
         Ok(LatencyWorker {
-            lanes: DifferentialLanes4::new(alloc, bench.net(), bench.order())?,
-            records: records_for(alloc, bench.points())?,
-            reach: PointReach::new(alloc, bench)?,
-            groups: groups_for(alloc, rounds)?,
+            lanes,
+            records,
+            reach,
+            groups,
         })
     }
 }

@@ -31,8 +31,9 @@ impl Worker {
     ) -> Result<Self, AllocError>
         ensures { IfOk result (λ worker. (p : Analysis) → IsEquippedFor p bench.now readings.now worker) }
     {
-        let simulator = ReadingSimulator::new(alloc, bench, readings)?;
+        // The simulator comes last, since it has much to give up.
         let sums = no_sums(alloc, readings.len())?;
+        let simulator = ReadingSimulator::new(alloc, bench, readings)?;
         Ok(Worker { simulator, sums })
     }
 }

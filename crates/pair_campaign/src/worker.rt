@@ -33,10 +33,10 @@ impl PairWorker {
     ) -> Result<PairWorker, AllocError>
         ensures { IfOk result (λ worker. IsEquippedFor plan.now bench.now planes worker) }
     {
-        Ok(PairWorker {
-            simulator: Simulator::new(alloc, bench, plan.settings().ftti)?,
-            planes: vec![in alloc; 0; planes as usize]?,
-        })
+        // The simulator comes last, since it has much to give up.
+        let planes = vec![in alloc; 0; planes as usize]?;
+        let simulator = Simulator::new(alloc, bench, plan.settings().ftti)?;
+        Ok(PairWorker { simulator, planes })
     }
 }
 

@@ -68,11 +68,12 @@ impl ReadingSimulator {
     ) -> Result<Self, AllocError>
         ensures { IfOk result (IsSimulatorFor bench.now readings.now) }
     {
-        let lanes = DifferentialLanes4::new(alloc, bench.net(), bench.order())?;
+        // What has least to give up comes first, and the lanes last.
+        let planes = word_planes(alloc, readings)?;
         let records = word_records(alloc, bench.points())?;
         let cycles = LaneCycles::new(alloc, bench.points())?;
-        let planes = word_planes(alloc, readings)?;
         let reach = PointReach::new(alloc, bench)?;
+        let lanes = DifferentialLanes4::new(alloc, bench.net(), bench.order())?;
         Ok(ReadingSimulator {
             lanes,
             records,

@@ -5,12 +5,12 @@ use Rattle.latency_table.proofs.worker.LatencyWorker.new.Goals as goal
 
 pub returns : goal.returns
 returns c =
-    let made = c.in_ok-new.ensures.made in
+    let made = c.in_ok-lanes.ensures.made in
     record {
       made = record { circuit = made.circuit ∙ c.net.ensures; order = made.order ∙ c.order.ensures.order };
-      records = c.in_ok-records_for.ensures.count;
-      fit = subst (λ (points : Points). AreRecordsFor points c.in_ok-records_for.field-0.items) c.points.ensures.points c.in_ok-records_for.ensures.fit;
-      reach = c.in_ok-new-2.ensures;
-      rounds_are = c.in_ok-groups_for.ensures.count;
-      room = c.in_ok-groups_for.ensures.room;
+      records = c.in_ok-records.ensures.count;
+      fit = subst (λ (points : Points). AreRecordsFor points c.in_ok-records.records.items) c.points.ensures.points c.in_ok-records.ensures.fit;
+      reach = c.in_ok-reach.ensures;
+      rounds_are = c.in_ok-groups.ensures.count;
+      room = c.in_ok-groups.ensures.room;
     }
