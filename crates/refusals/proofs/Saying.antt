@@ -5,7 +5,11 @@ use Rattle.fm_base.specs.Text.{spaced}
 use Rattle.circuit.specs.declared.parts.NetId.{NetId}
 use Rattle.std.specs.Prelude.{slice_index_or, codes}
 use Rattle.fm_shelf.specs.Sink.{SinkState}
-use Rattle.refusals.specs.Said.{IsSaid, spaced_net}
+use Rattle.bench_reader.specs.declared.BenchKind.{BenchKind}
+use Rattle.bench_reader.specs.declared.BenchKind.TheVariants as bench
+use Rattle.blif_text.specs.declared.NetlistKind.{NetlistKind}
+use Rattle.blif_text.specs.declared.NetlistKind.TheVariants as netlist
+use Rattle.refusals.specs.Said.{IsSaid, shown_bench_net, shown_net, spaced_net}
 use Rattle.refusals.specs.RefusalLines.{refused, row_why}
 use Rattle.result_file.specs.declared.RowFault.{RowFault}
 use Rattle.fm_base.specs.Names.{Bytes}
@@ -20,6 +24,15 @@ pub bare_said : (before after : SinkState) (file number kind word behind : Bytes
     → IsSaid before after (refused (file ∷ number ∷ word ∷ [])) → IsSaid before after (refused (file ∷ number ∷ kind ∷ []))
 bare_said before after file number kind word behind e n said =
     subst (λ text. IsSaid before after (refused (file ∷ number ∷ text ∷ []))) (sym (e ∙ ap (λ rest. word ++ rest) n ∙ append-nil word)) said
+
+-- only a net without a driver is shown
+pub netlist_bare : (kind : NetlistKind) → ((net : Bytes) → kind ≡ netlist.Undriven net → ⊥) → shown_net kind ≡ []
+netlist_bare (netlist.Undriven net) not = absurd (not net refl)
+netlist_bare _ not = refl
+
+pub bench_bare : (kind : BenchKind) → ((net : Bytes) → kind ≡ bench.Undriven net → ⊥) → shown_bench_net kind ≡ []
+bench_bare (bench.Undriven net) not = absurd (not net refl)
+bench_bare _ not = refl
 
 -- words with a space before each but the first
 spaced_cons : (word : Bytes) (words : List Bytes) → spaced (word ∷ words) ≡ word ++ flat_map (λ w. 32 ∷ w) words

@@ -8,42 +8,6 @@ use fm_shelf::shelf::{Failed, Sink};
 use fmeda_report::lines::write_line;
 use fmeda_report::words::number_word;
 
-// Writes that so many rows agree, of so many batches.
-fn write_whole<O: Sink>(rows: usize, batches: u32, out: &mut O) -> Result<(), Failed>
-    ensures { Sends (O.seen out.old) (O.seen out.new)
-        (line (codes "audit" ∷ decimal rows ∷ codes "of" ∷ decimal batches ∷ codes "rows agree" ∷ [])) result }
-{
-    write_line(
-        out,
-        &[
-            b"audit",
-            number_word(rows as u64).bytes(),
-            b"of",
-            number_word(u64::from(batches)).bytes(),
-            b"rows agree",
-        ],
-    )
-}
-
-// The same, and that each N-th row was looked at.
-fn write_some<O: Sink>(every: u32, rows: usize, batches: u32, out: &mut O) -> Result<(), Failed>
-    ensures { Sends (O.seen out.old) (O.seen out.new)
-        (line (codes "audit" ∷ decimal rows ∷ codes "of" ∷ decimal batches ∷ codes "rows agree" ∷ codes "every" ∷ decimal every ∷ [])) result }
-{
-    write_line(
-        out,
-        &[
-            b"audit",
-            number_word(rows as u64).bytes(),
-            b"of",
-            number_word(u64::from(batches)).bytes(),
-            b"rows agree",
-            b"every",
-            number_word(u64::from(every)).bytes(),
-        ],
-    )
-}
-
 /// Writes that so many rows agree, each N-th of a file's, of so many batches.
 pub fn write_audit<O: Sink>(
     every: u32,
@@ -53,9 +17,30 @@ pub fn write_audit<O: Sink>(
 ) -> Result<(), Failed>
     ensures { Sends (O.seen out.old) (O.seen out.new) (audit_line every rows batches) result }
 {
+    let rows = number_word(rows as u64);
+    let batches = number_word(u64::from(batches));
     if every == 1 {
-        write_whole(rows, batches, out)
-    } else {
-        write_some(every, rows, batches, out)
+        return write_line(
+            out,
+            &[
+                b"audit",
+                rows.bytes(),
+                b"of",
+                batches.bytes(),
+                b"rows agree",
+            ],
+        );
     }
+    write_line(
+        out,
+        &[
+            b"audit",
+            rows.bytes(),
+            b"of",
+            batches.bytes(),
+            b"rows agree",
+            b"every",
+            number_word(u64::from(every)).bytes(),
+        ],
+    )
 }

@@ -19,21 +19,6 @@ use itoa::Buffer;
 use metric_sums::Sums;
 use result_file::RowFault;
 
-// A line of five phrases.
-pub(crate) fn refuse_five<'a, O: Sink>(
-    out: &mut O,
-    first: &'a [u8],
-    second: &'a [u8],
-    third: &'a [u8],
-    fourth: &'a [u8],
-    fifth: &'a [u8],
-)
-    ensures { IsSaid (O.seen out.old) (O.seen out.new)
-        (refused (first.now ∷ second.now ∷ third.now ∷ fourth.now ∷ fifth.now ∷ [])) }
-{
-    say(out, &[b"refused:", first, second, third, fourth, fifth])
-}
-
 fn hex16(v: u64) -> Line
     ensures { result ≡ hex 16 v }
 {
@@ -122,17 +107,10 @@ pub(crate) fn refuse_sums<'a, O: Sink>(
     )
 }
 
-// A line of two counts.
-pub(crate) fn refuse_counts<'a, O: Sink>(
-    out: &mut O,
-    first: &'a [u8],
-    have: u32,
-    second: &'a [u8],
-    all: u32,
-    third: &'a [u8],
-)
+// The line of a result file that lacks batches.
+pub(crate) fn refuse_incomplete<O: Sink>(out: &mut O, have: u32, batches: u32)
     ensures { IsSaid (O.seen out.old) (O.seen out.new)
-        (refused (first.now ∷ decimal have ∷ second.now ∷ decimal all ∷ third.now ∷ [])) }
+        (refused (codes "result file has" ∷ decimal have ∷ codes "of" ∷ decimal batches ∷ codes "batches" ∷ [])) }
 {
     let mut digits = Buffer::new();
     let mut all_digits = Buffer::new();
@@ -140,11 +118,11 @@ pub(crate) fn refuse_counts<'a, O: Sink>(
         out,
         &[
             b"refused:",
-            first,
+            b"result file has",
             digits.format(have).as_bytes(),
-            second,
-            all_digits.format(all).as_bytes(),
-            third,
+            b"of",
+            all_digits.format(batches).as_bytes(),
+            b"batches",
         ],
     )
 }
@@ -213,15 +191,9 @@ fn first_line(bytes: &[u8]) -> &[u8]
 }
 
 // The line of a result file under another header than the plan's own.
-pub(crate) fn refuse_foreign<'a, O: Sink>(
-    out: &mut O,
-    first: &'a [u8],
-    found: &'a [u8],
-    third: &'a [u8],
-    own: &'a [u8],
-)
+pub(crate) fn refuse_foreign<O: Sink>(out: &mut O, found: &[u8], own: &[u8])
     ensures { IsSaid (O.seen out.old) (O.seen out.new)
-        (refused (first.now ∷ (shown_start found.now ++ 44 ∷ []) ∷ third.now ∷ take 88 own.now ∷ [])) }
+        (refused (codes "foreign result file, found" ∷ (shown_start found.now ++ 44 ∷ []) ∷ codes "own" ∷ take 88 own.now ∷ [])) }
 {
     let mut shown = shown_head(first_line(found));
     shown.put(b",");
@@ -229,9 +201,9 @@ pub(crate) fn refuse_foreign<'a, O: Sink>(
         out,
         &[
             b"refused:",
-            first,
+            b"foreign result file, found",
             shown.bytes(),
-            third,
+            b"own",
             first_bytes(own, 88),
         ],
     )

@@ -1,5 +1,5 @@
 // The lines of refusals.
-ghost use Rattle.std.specs.Prelude.{◌≡◌, ◌∷◌, ◌++◌, [], map, MatchOption, codes, decimal, if◌then◌else◌};
+ghost use Rattle.std.specs.Prelude.{◌≡◌, ◌∷◌, ◌++◌, [], map, codes, decimal, if◌then◌else◌};
 ghost use Rattle.fm_base.specs.Text.{line, hex};
 ghost use Rattle.refusals.specs.Said.{IsSaid, shown_bench_net as bench_net_behind, shown_net as net_behind};
 ghost use Rattle.refusals.specs.RefusalLines.{bench_kind, netlist_kind, workload_kind as word_of_workload, rates_kind as word_of_rates, points_kind as word_of_points, refused};
@@ -84,24 +84,16 @@ fn netlist_word(kind: &NetlistKind) -> &'static [u8]
     }
 }
 
-// The net that a kind of netlist fault shows.
-fn shown_net(kind: &NetlistKind) -> Option<&[u8]>
-    ensures { MatchOption result (net_behind kind.now ≡ []) (λ net. net_behind kind.now ≡ 32 ∷ net.now) }
-{
-    match kind {
-        NetlistKind::Undriven(name) => Some(name.as_slice()),
-        _ => None,
-    }
-}
-
 pub(crate) fn refuse_netlist<O: Sink>(out: &mut O, fault: &NetlistFault)
     ensures { IsSaid (O.seen out.old) (O.seen out.new)
         (refused (codes "netlist line" ∷ decimal fault.now.line ∷ netlist_kind fault.now.kind ∷ [])) }
 {
     let word = netlist_word(&fault.kind);
-    match shown_net(&fault.kind) {
-        Some(net) => refuse_named(out, b"netlist line", fault.line, word, net),
-        None => refuse_row(out, b"netlist line", fault.line, word),
+    match &fault.kind {
+        NetlistKind::Undriven(net) => {
+            refuse_named(out, b"netlist line", fault.line, word, net.as_slice())
+        }
+        _ => refuse_row(out, b"netlist line", fault.line, word),
     }
 }
 
@@ -120,24 +112,16 @@ fn bench_word(kind: &BenchKind) -> &'static [u8]
     }
 }
 
-// The net that such a kind shows.
-fn shown_bench_net(kind: &BenchKind) -> Option<&[u8]>
-    ensures { MatchOption result (bench_net_behind kind.now ≡ []) (λ net. bench_net_behind kind.now ≡ 32 ∷ net.now) }
-{
-    match kind {
-        BenchKind::Undriven(name) => Some(name.as_slice()),
-        _ => None,
-    }
-}
-
 pub(crate) fn refuse_bench<O: Sink>(out: &mut O, fault: &BenchFault)
     ensures { IsSaid (O.seen out.old) (O.seen out.new)
         (refused (codes "bench line" ∷ decimal fault.now.line ∷ bench_kind fault.now.kind ∷ [])) }
 {
     let word = bench_word(&fault.kind);
-    match shown_bench_net(&fault.kind) {
-        Some(net) => refuse_named(out, b"bench line", fault.line, word, net),
-        None => refuse_row(out, b"bench line", fault.line, word),
+    match &fault.kind {
+        BenchKind::Undriven(net) => {
+            refuse_named(out, b"bench line", fault.line, word, net.as_slice())
+        }
+        _ => refuse_row(out, b"bench line", fault.line, word),
     }
 }
 

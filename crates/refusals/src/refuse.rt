@@ -1,14 +1,14 @@
 // The line of a status.
-ghost use Rattle.std.specs.Prelude.{◌≡◌, codes, if◌then◌else◌};
+ghost use Rattle.std.specs.Prelude.{◌≡◌, ◌∷◌, [], codes, if◌then◌else◌};
 ghost use Rattle.circuit.specs.Circuit.{Circuit};
 ghost use Rattle.fm_shelf.specs.Content.{Content};
 ghost use Rattle.refusals.specs.Said.{IsSaid};
 ghost use Rattle.refusals.specs.Refusals.{status_of, HasItsNets, IsSaidOf};
 ghost use Rattle.fm_base.specs.Names.{Bytes};
 ghost use Rattle.commands.specs.Commands.{name_by};
-ghost use Rattle.refusals.specs.RefusalLines.{refusal_line};
+ghost use Rattle.refusals.specs.RefusalLines.{refused, refusal_line};
 
-use crate::lines::{refuse_bad_row, refuse_counts, refuse_five, refuse_foreign, refuse_planes};
+use crate::lines::{refuse_bad_row, refuse_foreign, refuse_incomplete, refuse_planes};
 use crate::refusal::{
     points_kind, rates_kind, refuse_bench, refuse_netlist, refuse_row, say, workload_kind,
 };
@@ -40,6 +40,24 @@ fn rate_word(permanent: bool) -> &'static [u8]
     }
 }
 
+// The line of a part that has a rate and no fault of its kind.
+fn refuse_idle<'a, O: Sink>(out: &mut O, part: &'a [u8], kind: &'a [u8])
+    ensures { IsSaid (O.seen out.old) (O.seen out.new)
+        (refused (codes "part" ∷ part.now ∷ codes "has a" ∷ kind.now ∷ codes "rate and no such fault" ∷ [])) }
+{
+    say(
+        out,
+        &[
+            b"refused:",
+            b"part",
+            part,
+            b"has a",
+            kind,
+            b"rate and no such fault",
+        ],
+    )
+}
+
 // The line of what makes no plan.
 fn refuse_plan<O: Sink>(out: &mut O, cause: &PlanRefusal)
     ensures { (file : Which → Bytes) (c : Circuit) → IsSaid (O.seen out.old) (O.seen out.new) (refusal_line file c (Status.Plan cause.now)) }
@@ -50,14 +68,9 @@ fn refuse_plan<O: Sink>(out: &mut O, cause: &PlanRefusal)
             out,
             &[b"refused:", b"no rate for net", net.as_slice()],
         ),
-        PlanRefusal::IdleRate { part, permanent } => refuse_five(
-            out,
-            b"part",
-            part.as_slice(),
-            b"has a",
-            rate_word(*permanent),
-            b"rate and no such fault",
-        ),
+        PlanRefusal::IdleRate { part, permanent } => {
+            refuse_idle(out, part.as_slice(), rate_word(*permanent))
+        }
         PlanRefusal::Memory => say(out, &[b"refused:", b"out of memory"]),
     }
 }
@@ -67,13 +80,7 @@ fn refuse_result<O: Sink>(out: &mut O, cause: &ResultRefusal)
     ensures { (file : Which → Bytes) (c : Circuit) → IsSaid (O.seen out.old) (O.seen out.new) (refusal_line file c (Status.Result cause.now)) }
 {
     match cause {
-        ResultRefusal::Foreign { found, own } => refuse_foreign(
-            out,
-            b"foreign result file, found",
-            found.bytes(),
-            b"own",
-            own.bytes(),
-        ),
+        ResultRefusal::Foreign { found, own } => refuse_foreign(out, found.bytes(), own.bytes()),
         ResultRefusal::BadRow { number, why } => refuse_bad_row(out, *number, *why),
     }
 }
@@ -96,14 +103,7 @@ fn refuse_pairs<O: Sink>(out: &mut O, cause: PairRefusal)
     ensures { (file : Which → Bytes) (c : Circuit) → IsSaid (O.seen out.old) (O.seen out.new) (refusal_line file c (Status.Pairs cause)) }
 {
     match cause {
-        PairRefusal::Incomplete { have, batches } => refuse_counts(
-            out,
-            b"result file has",
-            have,
-            b"of",
-            batches,
-            b"batches",
-        ),
+        PairRefusal::Incomplete { have, batches } => refuse_incomplete(out, have, batches),
         PairRefusal::TooMany => say(out, &[b"refused:", b"more than 1048576 pairs"]),
     }
 }

@@ -1,8 +1,7 @@
-use Rattle.std.proofs.Common.{ap, ap₂, [], ◌∷◌, ◌++◌}
-use Rattle.std.specs.Prelude.{codes, take}
+use Rattle.std.proofs.Common.{ap, ap₂, [], ◌∷◌}
+use Rattle.std.specs.Prelude.{codes}
 use Rattle.fm_base.specs.Names.{Bytes}
 use Rattle.refusals.specs.RefusalLines.{refusal_line}
-use Rattle.refusals.specs.Steps.{shown_start}
 use Rattle.refusals.specs.declared.status.Status.TheVariants as status
 use Rattle.refusals.proofs.Statuses.{said_as, words_said}
 use Rattle.refusals.proofs.refuse.refuse_plan.Goals as goal
@@ -17,7 +16,7 @@ returns-in-MissingRate g c = λ file k. said_as _ _ file k (status.Plan c.args.c
 
 pub returns-in-IdleRate : goal.returns-in-IdleRate
 unfolding refusal_line
-returns-in-IdleRate g c = λ file k. said_as _ _ file k (status.Plan c.args.cause.now) _ (ap status.Plan c.in-IdleRate.is) (words_said _ _ _ _ (ap₂ (λ (n w : Bytes). codes "part" ∷ n ∷ codes "has a" ∷ w ∷ codes "rate and no such fault" ∷ []) c.as_slice-in-IdleRate.ensures c.rate_word.ensures) c.refuse_five.ensures)
+returns-in-IdleRate g c = λ file k. said_as _ _ file k (status.Plan c.args.cause.now) _ (ap status.Plan c.in-IdleRate.is) (words_said _ _ _ _ (ap₂ (λ (n w : Bytes). codes "part" ∷ n ∷ codes "has a" ∷ w ∷ codes "rate and no such fault" ∷ []) c.as_slice-in-IdleRate.ensures c.rate_word.ensures) c.refuse_idle.ensures)
 
 pub returns-in-Memory : goal.returns-in-Memory
 unfolding refusal_line
