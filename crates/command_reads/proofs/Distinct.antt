@@ -1,6 +1,6 @@
 -- The rows that are kept of a file are of distinct batches of the plan.
 use Rattle.std.proofs.Common.{◌≡◌, ◌∙◌, ap, sym, refl, subst, ℕ, ◌<◌, Bool, true, false, not, List, [], ◌∷◌, ◌++◌, map, take, arith, append_assoc, append-nil}
-use Rattle.std.specs.Prelude.{◌==◌, Option, Some, None, Result, Ok, Err, IfOk, nat_le}
+use Rattle.std.specs.Prelude.{◌==◌, Option, Some, None, Result, Ok, Err, nat_le}
 use Rattle.std.specs.List.{list_any}
 use Rattle.std.specs.Str.{bytes_eq}
 use Rattle.std.proofs.lemmas.Bool.Decides.{nat_tests}
@@ -17,11 +17,6 @@ use Rattle.result_file.specs.KeptRows.{kept, kept_entries, kept_unless, whole_pi
 use Rattle.result_file.proofs.Checks.{once_more}
 use Rattle.result_file.proofs.Keeping.{kept_torn, kept_foreign, kept_own}
 use Rattle.fm_base.proofs.Options.{none_both, none_mapped}
-use Rattle.refusals.specs.declared.status.Status.{Status}
-use Rattle.refusals.specs.NetlistFile.{or_refuse}
-use Rattle.refusals.proofs.Refusals.{ok_same}
-use Rattle.command_reads.specs.Answers.{AnswersAs}
-use Rattle.refusals.specs.declared.status.Status.TheVariants as status
 
 abbrev AreOnce : Analysis → List Row → Type 0
 AreOnce p rows = AreDistinct p (map entry_of rows)
@@ -76,14 +71,3 @@ kept_distinct own p bytes k h = torn (is_torn_header own bytes) refl
         let none : record { rows = []; whole = 0 } ≡ k = (let same : Ok (record { rows = []; whole = 0 }) ≡ Ok k = sym (kept_torn own p bytes e) ∙ h in cc) in
         subst (λ (j : KeptRows). AreOnce p j.rows) none (none_once p)
     torn false e = mine (bytes_eq (take 89 bytes) own) e refl
-
--- what was answered was given by the reader
-told_given : {A E : Type 0} (told : E → Status) (expected : Result A E) (x : A) → or_refuse told expected ≡ Ok x → expected ≡ Ok x
-told_given told (Ok y) x e = ap (λ z. Ok z) (ok_same (Ok y) y x refl e)
-told_given told (Err fault) x e = let bad : Err (told fault) ≡ Ok x = e in cc bad
-
--- what was answered of a file
-pub rows_distinct : (own : Bytes) (p : Analysis) (bytes : Bytes) (result : Result KeptRows Status) → AnswersAs (or_refuse status.Result (kept own p bytes)) result
-    → IfOk result (λ k. AreDistinct p (kept_entries k))
-rows_distinct own p bytes (Ok k) answer = kept_distinct own p bytes k (told_given status.Result (kept own p bytes) k answer)
-rows_distinct own p bytes (Err ended) answer = tt

@@ -25,19 +25,6 @@ pub struct Begun {
     pub kept: KeptRows,
 }
 
-// The rows that are kept of a file's bytes.
-fn rows_from(alloc: Global, bytes: &[u8], plan: &Plan, own: &Line) -> Result<KeptRows, Status>
-    requires own { length own.now ≡ header_len }
-    requires few { length bytes.now ≤ 2 ^ 26 }
-    ensures { AnswersAs (or_refuse Status.Result (kept_in own.now plan.now bytes.now)) result }
-{
-    match read_result(alloc, bytes, plan, own) {
-        Ok(kept) => Ok(kept),
-        Err(Refusal::Fault(fault)) => Err(Status::Result(fault)),
-        Err(Refusal::Memory) => Err(Status::Memory),
-    }
-}
-
 /// The rows that are kept of a result file of a plan that was read, or why it isn't one of this plan.
 pub(crate) fn rows_of(
     alloc: Global,
@@ -50,8 +37,11 @@ pub(crate) fn rows_of(
     ensures answers { AnswersAs (rows_in which (reads_by reads.now) planned.now.plan) result }
     ensures distinct { IfOk result (λ kept. AreDistinct planned.now.plan (kept_entries kept)) }
 {
-    let bytes = reads.whole(which)?;
-    rows_from(alloc, bytes, &planned.plan, &planned.own)
+    match read_result(alloc, reads.whole(which)?, &planned.plan, &planned.own) {
+        Ok(kept) => Ok(kept),
+        Err(Refusal::Fault(fault)) => Err(Status::Result(fault)),
+        Err(Refusal::Memory) => Err(Status::Memory),
+    }
 }
 
 /// The plan of the four files that were read, and what is kept of its result file.

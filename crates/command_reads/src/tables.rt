@@ -1,5 +1,5 @@
 // The workload, the rates and the points of a command.
-ghost use Rattle.std.specs.Prelude.{◌≡◌, ◌≤◌, ◌^◌, IfOk, length};
+ghost use Rattle.std.specs.Prelude.{◌≡◌, IfOk};
 ghost use Rattle.alarm_points.specs.PointsFile.{points_of as points_in};
 ghost use Rattle.alarm_points.specs.PointsKept.{ArePointsFor};
 ghost use Rattle.rate_table.specs.RatesFile.{rates_of as rates_in};
@@ -7,7 +7,6 @@ ghost use Rattle.workload.specs.RunsKept.{AreRunsFor};
 ghost use Rattle.workload.specs.WorkloadFile.{workload_of as workload_in};
 ghost use Rattle.commands.specs.declared.command.Which.TheVariants.{Points as PointsFile, Rates as RatesFile, Workload as WorkloadFile};
 ghost use Rattle.refusals.specs.declared.status.Status.TheVariants.{Points as PointsStatus, Rates as RatesStatus, Workload as WorkloadStatus};
-ghost use Rattle.refusals.specs.NetlistFile.{or_refuse};
 ghost use Rattle.command_reads.specs.Answers.{AnswersAs, TablesAs};
 ghost use Rattle.command_reads.specs.Files.{AreShort, reads_by};
 ghost use Rattle.command_reads.specs.FirstRefusal.{read_as};
@@ -32,50 +31,17 @@ pub(crate) struct Tables {
     pub(crate) points: Points,
 }
 
-// The runs of a file's bytes.
-fn runs_from(alloc: Global, bytes: &[u8], net: &Netlist) -> Result<Workload, Status>
-    ensures answers { AnswersAs (or_refuse WorkloadStatus (workload_in net.now bytes.now)) result }
-    ensures fit { IfOk result (AreRunsFor net.now) }
-{
-    match read_workload(alloc, bytes, net) {
-        Ok(work) => Ok(work),
-        Err(Refusal::Fault(fault)) => Err(Status::Workload(fault)),
-        Err(Refusal::Memory) => Err(Status::Memory),
-    }
-}
-
-// The rates of a file's bytes.
-fn rates_from(alloc: Global, bytes: &[u8]) -> Result<Rates, Status>
-    requires { length bytes.now ≤ 2 ^ 26 }
-    ensures { AnswersAs (or_refuse RatesStatus (rates_in bytes.now)) result }
-{
-    match read_rates(alloc, bytes) {
-        Ok(rates) => Ok(rates),
-        Err(Refusal::Fault(fault)) => Err(Status::Rates(fault)),
-        Err(Refusal::Memory) => Err(Status::Memory),
-    }
-}
-
-// The points of a file's bytes.
-fn points_from(alloc: Global, bytes: &[u8], net: &Netlist) -> Result<Points, Status>
-    ensures answers { AnswersAs (or_refuse PointsStatus (points_in net.now bytes.now)) result }
-    ensures fit { IfOk result (ArePointsFor net.now) }
-{
-    match read_points(alloc, bytes, net) {
-        Ok(points) => Ok(points),
-        Err(Refusal::Fault(fault)) => Err(Status::Points(fault)),
-        Err(Refusal::Memory) => Err(Status::Memory),
-    }
-}
-
 /// The workload that was read.
 pub(crate) fn workload_of(alloc: Global, reads: &Reads, net: &Netlist) -> Result<Workload, Status>
     requires { AreShort (reads_by reads.now) }
     ensures answers { AnswersAs (read_as WorkloadFile WorkloadStatus (workload_in net.now) (reads_by reads.now)) result }
     ensures fit { IfOk result (AreRunsFor net.now) }
 {
-    let bytes = reads.whole(Which::Workload)?;
-    runs_from(alloc, bytes, net)
+    match read_workload(alloc, reads.whole(Which::Workload)?, net) {
+        Ok(work) => Ok(work),
+        Err(Refusal::Fault(fault)) => Err(Status::Workload(fault)),
+        Err(Refusal::Memory) => Err(Status::Memory),
+    }
 }
 
 /// The rates that were read.
@@ -83,8 +49,11 @@ pub(crate) fn rates_of(alloc: Global, reads: &Reads) -> Result<Rates, Status>
     requires { AreShort (reads_by reads.now) }
     ensures { AnswersAs (read_as RatesFile RatesStatus rates_in (reads_by reads.now)) result }
 {
-    let bytes = reads.whole(Which::Rates)?;
-    rates_from(alloc, bytes)
+    match read_rates(alloc, reads.whole(Which::Rates)?) {
+        Ok(rates) => Ok(rates),
+        Err(Refusal::Fault(fault)) => Err(Status::Rates(fault)),
+        Err(Refusal::Memory) => Err(Status::Memory),
+    }
 }
 
 // The points that were read.
@@ -93,8 +62,11 @@ fn points_of(alloc: Global, reads: &Reads, net: &Netlist) -> Result<Points, Stat
     ensures answers { AnswersAs (read_as PointsFile PointsStatus (points_in net.now) (reads_by reads.now)) result }
     ensures fit { IfOk result (ArePointsFor net.now) }
 {
-    let bytes = reads.whole(Which::Points)?;
-    points_from(alloc, bytes, net)
+    match read_points(alloc, reads.whole(Which::Points)?, net) {
+        Ok(points) => Ok(points),
+        Err(Refusal::Fault(fault)) => Err(Status::Points(fault)),
+        Err(Refusal::Memory) => Err(Status::Memory),
+    }
 }
 
 /// The three files behind a netlist, in their order.

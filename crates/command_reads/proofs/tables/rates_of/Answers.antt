@@ -3,5 +3,5 @@ use Rattle.command_reads.specs.Files.{reads_by}
 use Rattle.command_reads.proofs.Wholes.{short_whole}
 use Rattle.command_reads.proofs.tables.rates_of.Goals as goal
 
-pub rates_from-requires : goal.rates_from-requires
-rates_from-requires c = short_whole Rates (reads_by c.args.reads.now) c.in_ok-bytes.bytes.now c.requires c.in_ok-bytes.ensures
+pub read_rates-requires : goal.read_rates-requires
+read_rates-requires c = short_whole Rates (reads_by c.args.reads.now) c.in_ok-whole.field-0.now c.requires c.in_ok-whole.ensures

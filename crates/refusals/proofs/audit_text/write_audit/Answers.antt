@@ -1,7 +1,6 @@
-use Rattle.std.proofs.Common.{◌≡◌, ◌∷◌, [], List, false, ap, sym, ◌∙◌, arith}
+use Rattle.std.proofs.Common.{◌≡◌, ◌∷◌, [], false, ap, ◌∙◌, arith}
 use Rattle.std.proofs.lemmas.Bool.Decides.{nat_tests}
-use Rattle.std.specs.Prelude.{◌==◌, codes, decimal, if◌then◌else◌}
-use Rattle.fm_base.specs.Names.{Bytes}
+use Rattle.std.specs.Prelude.{◌==◌, codes, decimal}
 use Rattle.fm_base.specs.Text.{line}
 use Rattle.fmeda_report.proofs.Sending.{sends_as}
 use Rattle.refusals.proofs.audit_text.write_audit.Goals as goal
@@ -12,6 +11,4 @@ returns g c =
     let batches = c.bytes-3.ensures ∙ c.number_word-batches.ensures ∙ ap decimal c.from.ensures in
     let every = c.bytes-4.ensures ∙ c.number_word.ensures ∙ ap decimal c.from-2.ensures in
     let some : (c.args.every == 1) ≡ false = grind (arith, c.if-every-eq1.false, nat_tests) in
-    let said : List Bytes → Bytes = λ nth. line (codes "audit" ∷ decimal c.args.rows ∷ codes "of" ∷ decimal c.args.batches ∷ codes "rows agree" ∷ nth) in
-    sends_as ((λ j. line (codes "audit" ∷ rows j ∷ codes "of" ∷ batches j ∷ codes "rows agree" ∷ codes "every" ∷ every j ∷ []))
-    ∙ ap (λ all. said (if all then [] else codes "every" ∷ decimal c.args.every ∷ [])) (sym some)) c.write_line-2.ensures
+    rw some (sends_as (λ j. line (codes "audit" ∷ rows j ∷ codes "of" ∷ batches j ∷ codes "rows agree" ∷ codes "every" ∷ every j ∷ [])) c.write_line-2.ensures)
