@@ -30,6 +30,7 @@ pub fn same_words<W: Word>(alloc: Global, count: usize) -> Result<Vec<W>, AllocE
 }
 
 /// A net's golden value, the same in each lane.
+#[inline(always)]
 pub fn golden_word<W: Word>(row: &[u64], net: u32) -> W
     ensures { (k : ℕ) → k < W.lanes → W.lane_bit result k ≡ value_in row.now net }
 {
@@ -45,6 +46,7 @@ pub fn value_word<W: Word>(row: &[u64], words: &[W], net: u32) -> W
 }
 
 /// What a net differs in, where its own value is forced.
+#[inline(always)]
 pub fn forced_difference<W: Word>(row: &[u64], forces: &[Force<W>], net: u32, own: W) -> W
     requires { net < length forces.now }
     ensures { (k : ℕ) (d : ForceValue W) → k < W.lanes
@@ -54,6 +56,7 @@ pub fn forced_difference<W: Word>(row: &[u64], forces: &[Force<W>], net: u32, ow
 }
 
 /// The same, where the forces on nets that aren't named leave each net as it is; of these no force is read.
+#[inline(always)]
 pub fn named_difference<W: Word>(row: &[u64], forces: &Forces<W>, net: u32, own: W) -> W
     requires net { net < length forces.now.by_net.items }
     requires idle { AreIdleOff W.lanes W.lane_bit forces.now.named forces.now.by_net.items }
@@ -87,6 +90,7 @@ fn mark_all(places: &[u32], marks: &mut PlaceSet)
 }
 
 /// Sets what a net differs in, and notes it where it differs in some lane.
+#[inline(always)]
 pub fn store<W: Word>(net: NetId, word: W, fanout: &Fanout, nets: &mut NetDifferences<W>)
     requires net { net.0 < length fanout.now.circuit.drivers }
     requires nets { AreNetsOf fanout.now nets.old }

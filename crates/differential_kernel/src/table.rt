@@ -124,8 +124,19 @@ fn narrow_difference<W: Word>(
     }
 }
 
-// The same where it has more inputs.
+// What a table of more inputs gives. It stays out of the loops over those of fewer.
 #[inline(never)]
+fn wide_word<W: Word>(netlist: &Netlist, net: NetId, row: &[u64], words: &[W]) -> W
+    requires net { IsNet netlist.now net }
+    requires table { (k : ℕ) × (driver_at netlist.now net.0 ≡ FromTable k) }
+    ensures { (k : ℕ) (state inputs : List Bool) → k < W.lanes
+        → W.lane_bit result k ≡ driven state inputs (table_gives netlist.now (read_in W.lane_bit k row.now words.now)) (driver_at netlist.now net.0) }
+{
+    net_word(netlist, net, &Values { row, words })
+}
+
+// What its net differs in. Were this called, the result of every table would go through memory.
+#[inline(always)]
 fn wide_difference<W: Word>(
     netlist: &Netlist,
     net: NetId,
@@ -143,7 +154,7 @@ fn wide_difference<W: Word>(
         (driven state inputs (table_gives netlist.now (read_in W.lane_bit k row.now words.now)) (driver_at netlist.now net.0)))
         (value_in row.now net.0) }
 {
-    let own = net_word(netlist, net, &Values { row, words });
+    let own = wide_word(netlist, net, row, words);
     named_difference(row, forces, net.0, own)
 }
 
