@@ -123,9 +123,9 @@ fn run_all<W: Word, L: Ledger>(
 }
 
 // How many cycles to come are run by all tables, after one in which so many were evaluated. To find a table that reads what
-// differs, and to take away what it left, takes some three times as long as to evaluate it in its turn.
+// differs takes some five times as long as to evaluate it in its turn, and forced nets are looked at beside.
 fn sweeps_after(evaluated: usize, tables: usize) -> u32 {
-    if evaluated > tables / 3 { SWEEPS } else { 0 }
+    if evaluated > tables / 6 { SWEEPS } else { 0 }
 }
 
 /// Runs one cycle with the forces of this cycle, on what the latches differ in after flips: by all tables where `sweeps` says so,
