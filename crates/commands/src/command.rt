@@ -1,6 +1,6 @@
 // What a command asks.
 ghost use Rattle.std.specs.Prelude.{◌≡◌};
-ghost use Rattle.commands.specs.Commands.{files_of as files_of_kind, inputs_of, kind_of, name_by};
+ghost use Rattle.commands.specs.Commands.{files_of as files_of_kind, inputs_of, kind_of, name_by, no_names};
 
 use campaign_plan::Settings;
 use fm_base::{Name, Seq};
@@ -18,7 +18,7 @@ pub enum Which {
 }
 
 /// The names of the files that a command has, as its words give them; those that it doesn't have are empty.
-#[derive(Clone, Copy, Default)]
+#[derive(Clone, Copy)]
 pub struct FileNames<'a> {
     pub netlist: &'a str,
     pub workload: &'a str,
@@ -30,6 +30,21 @@ pub struct FileNames<'a> {
 }
 
 impl<'a> FileNames<'a> {
+    /// The names of words that are no command.
+    pub fn none() -> FileNames<'static>
+        ensures { name_by result ≡ no_names }
+    {
+        FileNames {
+            netlist: "",
+            workload: "",
+            rates: "",
+            points: "",
+            result: "",
+            first: "",
+            second: "",
+        }
+    }
+
     /// The name of one of the files.
     pub fn of(&self, which: Which) -> &'a str
         ensures { result.now ≡ name_by self.now which }

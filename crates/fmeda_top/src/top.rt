@@ -26,7 +26,7 @@ pub fn refuse_words<O: Sink>(out: &mut O, status: Status) -> Status
     ensures status { result ≡ status }
     ensures said { (netlist : Content) → IsSaidOf netlist (O.seen out.old) (O.seen out.new) no_names status }
 {
-    say_refused(out, &FileNames::default(), Refused::By(status))
+    say_refused(out, &FileNames::none(), Refused::By(status))
 }
 
 /// Does what the words ask for; the first of them is the program's name. What is promised of the content of a file is of one whose
