@@ -25,7 +25,7 @@ use Rattle.differential_kernel.specs.Differences.{read_in}
 use Rattle.lane_words.specs.Forces.{force_value, AreForces}
 use Rattle.differential_kernel.specs.Places.{AreTablePlaces}
 use Rattle.differential_kernel.specs.Walk.{IsPair}
-use Rattle.differential_kernel.proofs.Forcing.{forced_in}
+use Rattle.differential_kernel.specs.Forced.{forced_in}
 use Rattle.differential_kernel.proofs.Walking.{some_force}
 
 -- each reader is the place of a table or of a latch

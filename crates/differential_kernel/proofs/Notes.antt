@@ -1,13 +1,13 @@
 -- Words that are stored, lane by lane, and what is noted of them.
 use Rattle.std.proofs.Common.{◌≡◌, ◌≢◌, inl, inr, ℕ, zero, suc, ◌+◌, ◌<◌, ◌≤◌, ◌==◌, Bool, true, false, cond, List, [], ◌∷◌, ◌++◌, length, set, refl, ap, sym, subst, ◌∙◌, arith}
 use Rattle.std.proofs.lemmas.Bool.{cases_eq, cases_lt, eq-eqb, false_from_ne_true, ne_eqb, true≢false}
-use Rattle.std.proofs.lemmas.List.{map-set, get_or-set_same, get_or-set_other}
+use Rattle.std.proofs.lemmas.List.{map-set, get_or-set_same, get_or-set_other, get_or_past}
 use Rattle.circuit.specs.Value.{bit_at}
 use Rattle.fanout.specs.Readers.{IsReadAt, Ordered}
 use Rattle.lane_words.specs.Gates.{plane}
 use Rattle.lane_words.proofs.Planes.{length_plane}
 use Rattle.place_set.specs.Places.{Places, has}
-use Rattle.differential_kernel.specs.Differences.{AreSameOff, Grows, IsNoted, IsSame}
+use Rattle.differential_kernel.specs.Differences.{AreMarked, AreSameOff, DifferOnlyIn, Grows, IsSame}
 
 -- ---- one word stored
 
@@ -85,6 +85,17 @@ module _ {W : Type 0} (lanes : ℕ) (bit : W → ℕ → Bool) where
         | inr other ↦ at_set_other bit k words n p v other ∙ same p (sym (taken_other old new n p is other) ∙ none) k lt
       ]
 
+  -- a set with each place of the words
+  pub only_in_full : (set : Places) (words : List W) → set.bound ≡ length words → ((p : ℕ) → p < set.bound → has set p ≡ true) → DifferOnlyIn lanes bit set words
+  only_in_full set words bound full = record {
+    bound = bound;
+    same = λ n none k lt.
+        elim (cases_lt n (length words)) [
+          | inl less ↦ absurd (true≢false (sym (full n (omega (arith, less, bound))) ∙ none))
+          | inr past ↦ get_or_past (plane bit k words) n false (omega (arith, past, length_plane bit k words))
+        ];
+  }
+
   -- where one word is stored, the places that don't read its net are as they were
   pub same_other : (words : List W) (n m : ℕ) (v : W) → m ≢ n → IsSame lanes bit words m → IsSame lanes bit (set words n v) m
   same_other words n m v other same k lt = at_set_other bit k words n m v other ∙ same k lt
@@ -93,35 +104,17 @@ module _ {W : Type 0} (lanes : ℕ) (bit : W → ℕ → Bool) where
   same_here words n v within none_in k lt = at_set_same bit k words n v within ∙ none_in k lt
 
   -- a word of a net that doesn't differ
-  pub noted_same : (o : Ordered) (from : ℕ) (words : List W) (touched marks : Places) (n : ℕ) (v : W) → n < length words
-      → ((k : ℕ) → k < lanes → bit v k ≡ false) → IsNoted lanes bit o from words touched marks → IsNoted lanes bit o from (set words n v) touched marks
-  noted_same o from words touched marks n v within none_in noted = record {
-    nets = λ m none. still m (noted.nets m none);
-    places = λ place m le reads none. still m (noted.places place m le reads none);
-  }
-    where
-      still : (m : ℕ) → IsSame lanes bit words m → IsSame lanes bit (set words n v) m
-      still m same =
-          elim (cases_eq m n) [
-            | inl here ↦ subst (IsSame lanes bit (set words n v)) (sym here) (same_here words n v within none_in)
-            | inr other ↦ same_other words n m v other same
-          ]
+  pub same_still : (words : List W) (n m : ℕ) (v : W) → n < length words → ((k : ℕ) → k < lanes → bit v k ≡ false) → IsSame lanes bit words m → IsSame lanes bit (set words n v) m
+  same_still words n m v within none_in same =
+      elim (cases_eq m n) [
+        | inl here ↦ subst (IsSame lanes bit (set words n v)) (sym here) (same_here words n v within none_in)
+        | inr other ↦ same_other words n m v other same
+      ]
 
   -- a word of a net that differs, whose readers are marked
-  pub noted_put : (o : Ordered) (from : ℕ) (words : List W) (touched put marks more : Places) (n : ℕ) (v : W)
-      → ((p : ℕ) → has put p ≡ cond (p == n) true (has touched p)) → Grows marks more → ((p : ℕ) → IsReadAt o n p → has more p ≡ true)
-      → IsNoted lanes bit o from words touched marks → IsNoted lanes bit o from (set words n v) put more
-  noted_put o from words touched put marks more n v is grows read noted = record {
-    nets = λ m none. let before = not_put touched put n m is none in same_other words n m v before.0 (noted.nets m before.1);
-    places = λ place m le reads none.
-        let other : m ≢ n = λ here. true≢false (sym (read place (subst (λ i. IsReadAt o i place) here reads)) ∙ none) in
-        same_other words n m v other (noted.places place m le reads (grows_none marks more place grows none));
-  }
-
-  -- more places are marked
-  pub noted_more : (o : Ordered) (from : ℕ) (words : List W) (touched marks more : Places) → Grows marks more
-      → IsNoted lanes bit o from words touched marks → IsNoted lanes bit o from words touched more
-  noted_more o from words touched marks more grows noted = record {
-    nets = noted.nets;
-    places = λ place m le reads none. noted.places place m le reads (grows_none marks more place grows none);
-  }
+  pub marked_put : (o : Ordered) (from : ℕ) (words : List W) (marks more : Places) (n : ℕ) (v : W)
+      → Grows marks more → ((p : ℕ) → IsReadAt o n p → has more p ≡ true)
+      → AreMarked lanes bit o from words marks → AreMarked lanes bit o from (set words n v) more
+  marked_put o from words marks more n v grows read marked place m le reads none =
+      let other : m ≢ n = λ here. true≢false (sym (read place (subst (λ i. IsReadAt o i place) here reads)) ∙ none) in
+      same_other words n m v other (marked place m le reads (grows_none marks more place grows none))

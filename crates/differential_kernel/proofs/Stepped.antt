@@ -1,11 +1,13 @@
 -- One cycle more in one lane.
 use Rattle.std.proofs.Common.{◌≡◌, ℕ, ◌+◌, ◌<◌, Bool, List, [], ◌∷◌, ◌++◌, length, refl, ap, ap₂, sym, ◌∙◌}
 use Rattle.circuit.specs.declared.parts.Fault.{Fault}
+use Rattle.circuit.specs.declared.parts.NetId.{NetId}
 use Rattle.circuit.specs.After.{Moment}
 use Rattle.circuit.specs.Circuit.{Circuit}
 use Rattle.circuit.specs.Sound.{IsNetlist}
 use Rattle.circuit.specs.Trace.{cycle_at, flipped, trace}
 use Rattle.circuit.specs.Value.{Cycle, bit_at, net_value}
+use Rattle.fanout.specs.Readers.{Ordered}
 use Rattle.golden_difference.specs.Beside.{AreBeside, IsBeside, IsGoldenRow, trace_differs}
 use Rattle.golden_difference.proofs.Exclusive.{either_back}
 use Rattle.golden_difference.proofs.NextCycle.{beside_more, flipped_differs}
@@ -15,6 +17,13 @@ use Rattle.lane_words.specs.Gates.{latch_at}
 use Rattle.lane_words.specs.Loads.{loaded_faults}
 use Rattle.differential_kernel.specs.Differences.{read_in}
 use Rattle.differential_kernel.specs.Walk.{IsPair}
+
+abbrev pub ordered : Circuit → List NetId → Ordered
+ordered c order = record { circuit = c; order = order }
+
+-- the same circuit in the same order
+pub same_ordered : (c m : Circuit) (order nets : List NetId) → c ≡ m → order ≡ nets → ordered c order ≡ ordered m nets
+same_ordered c m order nets circuit same = ap₂ ordered circuit same
 
 -- where each net holds what it differs in, in every pair of cycles that begins as the lane stands
 pub stepped : (c : Circuit) (faults : List Fault) (vectors : List (List Bool)) (inputs : List Bool) (row : List ℕ) (old new : Moment)

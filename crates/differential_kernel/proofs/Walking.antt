@@ -19,7 +19,7 @@ use Rattle.lane_words.specs.Bits.{either}
 use Rattle.lane_words.specs.Gates.{latch_at, plane}
 use Rattle.place_set.specs.Places.{Places, has, value_in}
 use Rattle.lane_words.specs.declared.force.Force.{Force}
-use Rattle.differential_kernel.specs.Differences.{IsNoted, read_in}
+use Rattle.differential_kernel.specs.Differences.{AreMarked, IsSame, read_in}
 use Rattle.lane_words.specs.Forces.{force_value, AreForces}
 use Rattle.differential_kernel.specs.Walk.{IsAhead, IsGivenAt, IsPair}
 
@@ -52,6 +52,12 @@ latch_read o l lt =
         ∙ ap (λ i. get_or (map (λ (latch : Latch). latch.from ∷ []) o.circuit.latches) i []) back
         ∙ get_or-map (λ (latch : Latch). latch.from ∷ []) o.circuit.latches l (record { from = record { 0 = 0 }; to = record { 0 = 0 }; start = false }) [] lt
 
+-- a latch whose place isn't marked takes a net that doesn't differ
+pub quiet_latch : {W : Type 0} (lanes : ℕ) (bit : W → ℕ → Bool) (o : Ordered) (words : List W) (marks : Places) (l : ℕ)
+    → AreMarked lanes bit o (length o.order) words marks → l < length o.circuit.latches → has marks (length o.order + l) ≡ false
+    → IsSame lanes bit words (latch_at o.circuit.latches l).from.0
+quiet_latch lanes bit o words marks l marked lt none = marked (length o.order + l) (latch_at o.circuit.latches l).from.0 (omega arith) (latch_read o l lt) none
+
 -- a force, where there is one
 pub some_force : {W : Type 0} (forces : List (Force W)) (n : ℕ) → n < length forces → Force W
 some_force [] n lt = absurd (omega arith)
@@ -64,10 +70,10 @@ module _ {W : Type 0} (lanes : ℕ) (bit : W → ℕ → Bool) (k : ℕ) (lt_k :
   ordered_of = record { circuit = c; order = order }
 
   -- A PLACE THAT ISN'T MARKED
-  quiet : (words : List W) (touched marks : Places) (from j : ℕ) → from ≤ j → j < length order → IsNoted lanes bit ordered_of from words touched marks
+  quiet : (words : List W) (marks : Places) (from j : ℕ) → from ≤ j → j < length order → AreMarked lanes bit ordered_of from words marks
       → IsAhead lanes bit order row forces from words marks → has marks j ≡ false
       → Walked x (read_in bit k row words) (take j order) j → Walked x (read_in bit k row words) (take (j + 1) order) (j + 1)
-  quiet words touched marks from j le lt noted ahead none walked =
+  quiet words marks from j le lt marked ahead none walked =
       let back : c ≡ x.circuit = sym pair.circuit in
       let inside : (net_at order j).0 < length forces = omega (arith, ordered.nets j (record { 0 = 0 }) lt, size) in
       let d : Force W = some_force forces (net_at order j).0 inside in
@@ -75,7 +81,7 @@ module _ {W : Type 0} (lanes : ℕ) (bit : W → ℕ → Bool) (k : ℕ) (lt_k :
       (λ m within other. refl)
       (quiet_place x golden (value_in row) (bit_at (plane bit k words)) order j (subst IsNetlist back sound) (subst (λ (m : Circuit). IsOrder m order) back ordered) lt
       (pair.golden_circuit ∙ back) pair.none (λ m within. pair.values m (subst (λ (e : Circuit). m < length e.drivers) pair.circuit within))
-      (λ i m driver there. noted.places j m.0 le
+      (λ i m driver there. marked j m.0 le
       (table_read ordered_of j i m lt (ap (λ (e : Circuit). driver_at e (net_at order j).0) back ∙ driver) (subst (λ (e : Circuit). Contains (table_at e.tables i).ins m) pair.circuit there))
       none k lt_k)
       (ahead.same j le lt k lt_k)
@@ -84,17 +90,17 @@ module _ {W : Type 0} (lanes : ℕ) (bit : W → ℕ → Bool) (k : ℕ) (lt_k :
       walked
 
   -- places that aren't marked, one after the other
-  pub quiet_run : (words : List W) (touched marks : Places) (from n : ℕ) → from + n ≤ length order → IsNoted lanes bit ordered_of from words touched marks
+  pub quiet_run : (words : List W) (marks : Places) (from n : ℕ) → from + n ≤ length order → AreMarked lanes bit ordered_of from words marks
       → IsAhead lanes bit order row forces from words marks → ((q : ℕ) → from ≤ q → q < from + n → has marks q ≡ false)
       → Walked x (read_in bit k row words) (take from order) from → Walked x (read_in bit k row words) (take (from + n) order) (from + n)
-  quiet_run words touched marks from zero le noted ahead none walked =
+  quiet_run words marks from zero le marked ahead none walked =
       let same : from ≡ from + 0 = omega arith in
       subst (λ j. Walked x (read_in bit k row words) (take j order) j) same walked
-  quiet_run words touched marks from (suc n) le noted ahead none walked =
+  quiet_run words marks from (suc n) le marked ahead none walked =
       let same : (from + n) + 1 ≡ from + suc n = omega arith in
       subst (λ j. Walked x (read_in bit k row words) (take j order) j) same
-      (quiet words touched marks from (from + n) (omega arith) (omega arith) noted ahead (none (from + n) (omega arith) (omega arith))
-      (quiet_run words touched marks from n (omega arith) noted ahead (λ q low less. none q low (omega arith)) walked))
+      (quiet words marks from (from + n) (omega arith) (omega arith) marked ahead (none (from + n) (omega arith) (omega arith))
+      (quiet_run words marks from n (omega arith) marked ahead (λ q low less. none q low (omega arith)) walked))
 
   -- the golden value of a place's net is what its table gives over golden values
   pub given : (j : ℕ) → j < length order → IsGivenAt c row (net_at order j).0

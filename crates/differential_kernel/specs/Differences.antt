@@ -1,11 +1,10 @@
 -- What nets and latches differ in, lane by lane, and where it is noted.
-use Rattle.std.specs.Prelude.{◌≡◌, ℕ, ◌<◌, ◌≤◌, Bool, true, false, List}
+use Rattle.std.specs.Prelude.{◌≡◌, ℕ, ◌<◌, ◌≤◌, Bool, true, false, List, length}
 use Rattle.circuit.specs.Value.{bit_at}
 use Rattle.lane_words.specs.Bits.{either}
 use Rattle.lane_words.specs.Gates.{plane}
 use Rattle.fanout.specs.Readers.{IsReadAt, Ordered}
 use Rattle.place_set.specs.Places.{Places, has, value_in}
-use Rattle.differential_kernel.specs.declared.nets.NetDifferences.{NetDifferences}
 
 -- nothing differs at this place, in any lane
 abbrev pub IsSame : {W : Type 0} → ℕ → (W → ℕ → Bool) → List W → ℕ → Type 0
@@ -15,14 +14,14 @@ IsSame lanes bit words n = (k : ℕ) → k < lanes → bit_at (plane bit k words
 abbrev pub AreSameOff : {W : Type 0} → ℕ → (W → ℕ → Bool) → Places → List W → Type 0
 AreSameOff lanes bit set words = (n : ℕ) → has set n ≡ false → IsSame lanes bit words n
 
--- nets that differ are in the one set, and the places from here on that read them are in the other
-pub record IsNoted {W : Type 0} (lanes : ℕ) (bit : W → ℕ → Bool) (o : Ordered) (from : ℕ) (words : List W) (touched marks : Places) : Type 0 where
-  pub nets : AreSameOff lanes bit touched words
-  pub places : (place n : ℕ) → from ≤ place → IsReadAt o n place → has marks place ≡ false → IsSame lanes bit words n
+-- a set of the places of these words has all that differ
+pub record DifferOnlyIn {W : Type 0} (lanes : ℕ) (bit : W → ℕ → Bool) (set : Places) (words : List W) : Type 0 where
+  pub bound : set.bound ≡ length words
+  pub same : AreSameOff lanes bit set words
 
--- so it is noted of the nets of a kernel
-abbrev pub AreNoted : {W : Type 0} → ℕ → (W → ℕ → Bool) → Ordered → ℕ → NetDifferences W → Type 0
-AreNoted lanes bit o from nets = IsNoted lanes bit o from nets.words.items nets.touched nets.marks
+-- the places from here on that read a net that differs are marked
+abbrev pub AreMarked : {W : Type 0} → ℕ → (W → ℕ → Bool) → Ordered → ℕ → List W → Places → Type 0
+AreMarked lanes bit o from words marks = (place n : ℕ) → from ≤ place → IsReadAt o n place → has marks place ≡ false → IsSame lanes bit words n
 
 -- what is in the set stays in it
 abbrev pub Grows : Places → Places → Type 0

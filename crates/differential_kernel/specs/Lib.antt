@@ -3,5 +3,8 @@ pub mod Differences
 pub mod Walk
 pub mod Places
 pub mod Parts
+pub mod Forced
+pub mod Noted
+pub mod Cycle
 pub mod Picked
 pub mod Kernel

@@ -8,6 +8,7 @@ use Rattle.differential_kernel.specs.declared.force.Forces.{Forces}
 use Rattle.differential_kernel.specs.declared.latches.LatchDifferences.{LatchDifferences}
 use Rattle.differential_kernel.specs.declared.nets.NetDifferences.{NetDifferences}
 use Rattle.differential_kernel.specs.declared.program.Program.{Program}
+use Rattle.differential_kernel.specs.Differences.{DifferOnlyIn}
 use Rattle.differential_kernel.specs.Forces.{AreIdleOff}
 use Rattle.differential_kernel.specs.Places.{AreTablePlaces}
 
@@ -17,19 +18,19 @@ pub record IsProgramOf {W : Type 0} (lanes : ℕ) (bit : W → ℕ → Bool) (c 
   pub gates : IsProgram c order program.gates.items
   pub ops : AreOps lanes bit program.ops.items
 
--- each net has its force, and those that aren't named are left as they are
-pub record AreForcesOf {W : Type 0} (lanes : ℕ) (bit : W → ℕ → Bool) (c : Circuit) (forces : Forces W) : Type 0 where
-  pub named : forces.named.bound ≡ length c.drivers
-  pub each : length forces.by_net.items ≡ length c.drivers
+-- each of so many nets has its force, and those that aren't named are left as they are
+pub record AreForcesOf {W : Type 0} (lanes : ℕ) (bit : W → ℕ → Bool) (nets : ℕ) (forces : Forces W) : Type 0 where
+  pub named : forces.named.bound ≡ nets
+  pub each : length forces.by_net.items ≡ nets
   pub idle : AreIdleOff lanes bit forces.named forces.by_net.items
 
--- each latch has its word
-pub record AreLatchesOf {W : Type 0} (c : Circuit) (latches : LatchDifferences W) : Type 0 where
+-- each latch has its word, and those that differ are live
+pub record AreLatchesOf {W : Type 0} (lanes : ℕ) (bit : W → ℕ → Bool) (c : Circuit) (latches : LatchDifferences W) : Type 0 where
   pub raw : length latches.raw.items ≡ length c.latches
-  pub live : latches.live.bound ≡ length c.latches
+  pub live : DifferOnlyIn lanes bit latches.live latches.raw.items
 
--- each net has its word, and each place of a table or a latch may be marked
-pub record AreNetsOf {W : Type 0} (o : Ordered) (nets : NetDifferences W) : Type 0 where
+-- each net has its word, those that differ are touched, and each place of a table or a latch may be marked
+pub record AreNetsOf {W : Type 0} (lanes : ℕ) (bit : W → ℕ → Bool) (o : Ordered) (nets : NetDifferences W) : Type 0 where
   pub words : length nets.words.items ≡ length o.circuit.drivers
-  pub touched : nets.touched.bound ≡ length o.circuit.drivers
+  pub touched : DifferOnlyIn lanes bit nets.touched nets.words.items
   pub marks : nets.marks.bound ≡ length o.order + length o.circuit.latches

@@ -1,14 +1,7 @@
 // One cycle in all lanes, beside the golden run.
-ghost use Rattle.std.specs.Prelude.{◌≡◌, ◌<◌, ◌≤◌, ◌+◌, ℕ, length};
-ghost use Rattle.circuit.specs.Order.{IsOrder};
-ghost use Rattle.circuit.specs.Sound.{IsNetlist};
-ghost use Rattle.circuit.specs.Value.{Cycle, bit_at, net_value};
-ghost use Rattle.lane_words.specs.Bits.{either};
-ghost use Rattle.lane_words.specs.Gates.{latch_at, plane};
-ghost use Rattle.differential_kernel.specs.Differences.{AreSameOff};
-ghost use Rattle.differential_kernel.specs.Parts.{AreForcesOf, AreLatchesOf, AreNetsOf, IsProgramOf};
-ghost use Rattle.lane_words.specs.Forces.{AreForces};
-ghost use Rattle.differential_kernel.specs.Walk.{IsPair};
+ghost use Rattle.std.specs.Prelude.{◌≡◌, ◌≤◌, ◌+◌, length};
+ghost use Rattle.differential_kernel.specs.Cycle.{FitTogether, NetsDiffer, RunsCycle};
+ghost use Rattle.differential_kernel.specs.Parts.{AreLatchesOf, AreNetsOf};
 
 use crate::force::Forces;
 use crate::golden_cycle::GoldenCycle;
@@ -35,24 +28,10 @@ fn run<W: Word, L: Ledger>(
     nets: &mut NetDifferences<W>,
     steps: &mut Steps<L>,
 ) -> usize
-    requires order { IsOrder cycle.now.netlist.now cycle.now.order.now }
-    requires fanout { cycle.now.fanout.now ≡ record { circuit = cycle.now.netlist.now; order = cycle.now.order.now } }
-    requires program { IsProgramOf W.lanes W.lane_bit cycle.now.netlist.now cycle.now.order.now program.now }
-    requires forces { AreForcesOf W.lanes W.lane_bit cycle.now.netlist.now forces.now }
-    requires latches { AreLatchesOf cycle.now.netlist.now latches.old }
-    requires nets { AreNetsOf cycle.now.fanout.now nets.old }
-    requires held { AreSameOff W.lanes W.lane_bit latches.old.live latches.old.raw.items }
-    requires same { AreSameOff W.lanes W.lane_bit nets.old.touched nets.old.words.items }
-    ensures values { (k : ℕ) (x golden : Cycle) → k < W.lanes → IsPair cycle.now.netlist.now cycle.now.row.now x golden → AreForces W.lane_bit k forces.now.by_net.items x
-        → ((l : ℕ) → l < length cycle.now.netlist.now.latches → bit_at (plane W.lane_bit k latches.old.raw.items) l ≡ either (bit_at x.state l) (bit_at golden.state l))
-        → (n : ℕ) → n < length cycle.now.netlist.now.drivers → bit_at (plane W.lane_bit k nets.new.words.items) n ≡ either (net_value x n) (net_value golden n) }
-    ensures raw { (k l : ℕ) → k < W.lanes → l < length cycle.now.netlist.now.latches
-        → bit_at (plane W.lane_bit k latches.new.raw.items) l ≡ bit_at (plane W.lane_bit k nets.new.words.items) (latch_at cycle.now.netlist.now.latches l).from.0 }
-    ensures latches { AreLatchesOf cycle.now.netlist.now latches.new }
-    ensures nets { AreNetsOf cycle.now.fanout.now nets.new }
-    ensures held { AreSameOff W.lanes W.lane_bit latches.new.live latches.new.raw.items }
-    ensures same { AreSameOff W.lanes W.lane_bit nets.new.touched nets.new.words.items }
-    ensures sound { IsNetlist cycle.now.netlist.now }
+    requires fit { FitTogether W.lanes W.lane_bit cycle.now program.now forces.now }
+    requires latches { AreLatchesOf W.lanes W.lane_bit cycle.now.netlist.now latches.old }
+    requires nets { AreNetsOf W.lanes W.lane_bit cycle.now.fanout.now nets.old }
+    ensures run { RunsCycle W.lanes W.lane_bit cycle.now forces.now latches.old latches.new nets.new }
     ensures cost { steps.new ≤ steps.old + length cycle.now.order.now }
 {
     clear(&mut nets.touched, &mut nets.words);
@@ -72,15 +51,10 @@ fn sweep_all<W: Word, L: Ledger>(
     words: &mut [W],
     steps: &mut Steps<L>,
 )
-    requires order { IsOrder cycle.now.netlist.now cycle.now.order.now }
-    requires program { IsProgramOf W.lanes W.lane_bit cycle.now.netlist.now cycle.now.order.now program.now }
-    requires forces { AreForcesOf W.lanes W.lane_bit cycle.now.netlist.now forces.now }
+    requires fit { FitTogether W.lanes W.lane_bit cycle.now program.now forces.now }
     requires raw { length raw.now ≡ length cycle.now.netlist.now.latches }
     requires nets { length words.old ≡ length cycle.now.netlist.now.drivers }
-    ensures values { (k : ℕ) (x golden : Cycle) → k < W.lanes → IsPair cycle.now.netlist.now cycle.now.row.now x golden → AreForces W.lane_bit k forces.now.by_net.items x
-        → ((l : ℕ) → l < length cycle.now.netlist.now.latches → bit_at (plane W.lane_bit k raw.now) l ≡ either (bit_at x.state l) (bit_at golden.state l))
-        → (n : ℕ) → n < length cycle.now.netlist.now.drivers → bit_at (plane W.lane_bit k words.new) n ≡ either (net_value x n) (net_value golden n) }
-    ensures sound { IsNetlist cycle.now.netlist.now }
+    ensures values { NetsDiffer W.lanes W.lane_bit cycle.now forces.now.by_net.items raw.now words.new }
     ensures cost { steps.new ≡ steps.old + length cycle.now.order.now }
 {
     blank_inputs(cycle.netlist, words);
@@ -98,22 +72,10 @@ fn run_all<W: Word, L: Ledger>(
     nets: &mut NetDifferences<W>,
     steps: &mut Steps<L>,
 )
-    requires order { IsOrder cycle.now.netlist.now cycle.now.order.now }
-    requires fanout { cycle.now.fanout.now ≡ record { circuit = cycle.now.netlist.now; order = cycle.now.order.now } }
-    requires program { IsProgramOf W.lanes W.lane_bit cycle.now.netlist.now cycle.now.order.now program.now }
-    requires forces { AreForcesOf W.lanes W.lane_bit cycle.now.netlist.now forces.now }
-    requires latches { AreLatchesOf cycle.now.netlist.now latches.old }
-    requires nets { AreNetsOf cycle.now.fanout.now nets.old }
-    ensures values { (k : ℕ) (x golden : Cycle) → k < W.lanes → IsPair cycle.now.netlist.now cycle.now.row.now x golden → AreForces W.lane_bit k forces.now.by_net.items x
-        → ((l : ℕ) → l < length cycle.now.netlist.now.latches → bit_at (plane W.lane_bit k latches.old.raw.items) l ≡ either (bit_at x.state l) (bit_at golden.state l))
-        → (n : ℕ) → n < length cycle.now.netlist.now.drivers → bit_at (plane W.lane_bit k nets.new.words.items) n ≡ either (net_value x n) (net_value golden n) }
-    ensures raw { (k l : ℕ) → k < W.lanes → l < length cycle.now.netlist.now.latches
-        → bit_at (plane W.lane_bit k latches.new.raw.items) l ≡ bit_at (plane W.lane_bit k nets.new.words.items) (latch_at cycle.now.netlist.now.latches l).from.0 }
-    ensures latches { AreLatchesOf cycle.now.netlist.now latches.new }
-    ensures nets { AreNetsOf cycle.now.fanout.now nets.new }
-    ensures held { AreSameOff W.lanes W.lane_bit latches.new.live latches.new.raw.items }
-    ensures same { AreSameOff W.lanes W.lane_bit nets.new.touched nets.new.words.items }
-    ensures sound { IsNetlist cycle.now.netlist.now }
+    requires fit { FitTogether W.lanes W.lane_bit cycle.now program.now forces.now }
+    requires latches { AreLatchesOf W.lanes W.lane_bit cycle.now.netlist.now latches.old }
+    requires nets { AreNetsOf W.lanes W.lane_bit cycle.now.fanout.now nets.old }
+    ensures run { RunsCycle W.lanes W.lane_bit cycle.now forces.now latches.old latches.new nets.new }
     ensures cost { steps.new ≤ steps.old + length cycle.now.order.now }
 {
     sweep_all(cycle, program, forces, &latches.raw, &mut nets.words, steps);
@@ -139,24 +101,10 @@ pub fn advance<W: Word, L: Ledger>(
     sweeps: &mut u32,
     steps: &mut Steps<L>,
 )
-    requires order { IsOrder cycle.now.netlist.now cycle.now.order.now }
-    requires fanout { cycle.now.fanout.now ≡ record { circuit = cycle.now.netlist.now; order = cycle.now.order.now } }
-    requires program { IsProgramOf W.lanes W.lane_bit cycle.now.netlist.now cycle.now.order.now program.now }
-    requires forces { AreForcesOf W.lanes W.lane_bit cycle.now.netlist.now forces.now }
-    requires latches { AreLatchesOf cycle.now.netlist.now latches.old }
-    requires nets { AreNetsOf cycle.now.fanout.now nets.old }
-    requires held { AreSameOff W.lanes W.lane_bit latches.old.live latches.old.raw.items }
-    requires same { AreSameOff W.lanes W.lane_bit nets.old.touched nets.old.words.items }
-    ensures values { (k : ℕ) (x golden : Cycle) → k < W.lanes → IsPair cycle.now.netlist.now cycle.now.row.now x golden → AreForces W.lane_bit k forces.now.by_net.items x
-        → ((l : ℕ) → l < length cycle.now.netlist.now.latches → bit_at (plane W.lane_bit k latches.old.raw.items) l ≡ either (bit_at x.state l) (bit_at golden.state l))
-        → (n : ℕ) → n < length cycle.now.netlist.now.drivers → bit_at (plane W.lane_bit k nets.new.words.items) n ≡ either (net_value x n) (net_value golden n) }
-    ensures raw { (k l : ℕ) → k < W.lanes → l < length cycle.now.netlist.now.latches
-        → bit_at (plane W.lane_bit k latches.new.raw.items) l ≡ bit_at (plane W.lane_bit k nets.new.words.items) (latch_at cycle.now.netlist.now.latches l).from.0 }
-    ensures latches { AreLatchesOf cycle.now.netlist.now latches.new }
-    ensures nets { AreNetsOf cycle.now.fanout.now nets.new }
-    ensures held { AreSameOff W.lanes W.lane_bit latches.new.live latches.new.raw.items }
-    ensures same { AreSameOff W.lanes W.lane_bit nets.new.touched nets.new.words.items }
-    ensures sound { IsNetlist cycle.now.netlist.now }
+    requires fit { FitTogether W.lanes W.lane_bit cycle.now program.now forces.now }
+    requires latches { AreLatchesOf W.lanes W.lane_bit cycle.now.netlist.now latches.old }
+    requires nets { AreNetsOf W.lanes W.lane_bit cycle.now.fanout.now nets.old }
+    ensures run { RunsCycle W.lanes W.lane_bit cycle.now forces.now latches.old latches.new nets.new }
     ensures cost { steps.new ≤ steps.old + length cycle.now.order.now }
 {
     if *sweeps > 0 {

@@ -3,9 +3,10 @@ ghost use Rattle.std.specs.Prelude.{◌≡◌, ◌<◌, ℕ, true, false, All, C
 ghost use Rattle.lane_words.specs.Bits.{either};
 ghost use Rattle.place_set.specs.Places.{has, value_in};
 ghost use Rattle.lane_words.specs.declared.force.Force.{Force as ForceValue};
-ghost use Rattle.differential_kernel.specs.Differences.{AreNoted, Grows, IsSame, read_in};
+ghost use Rattle.differential_kernel.specs.Differences.{Grows, IsSame, read_in};
 ghost use Rattle.differential_kernel.specs.Forces.{AreIdleOff};
 ghost use Rattle.lane_words.specs.Forces.{force_value};
+ghost use Rattle.differential_kernel.specs.Noted.{StayNoted};
 ghost use Rattle.differential_kernel.specs.Parts.{AreNetsOf};
 
 use crate::force::Forces;
@@ -93,11 +94,9 @@ fn mark_all(places: &[u32], marks: &mut PlaceSet)
 #[inline(always)]
 pub fn store<W: Word>(net: NetId, word: W, fanout: &Fanout, nets: &mut NetDifferences<W>)
     requires net { net.0 < length fanout.now.circuit.drivers }
-    requires nets { AreNetsOf fanout.now nets.old }
-    ensures nets { AreNetsOf fanout.now nets.new }
+    requires nets { AreNetsOf W.lanes W.lane_bit fanout.now nets.old }
+    ensures noted { StayNoted W.lanes W.lane_bit fanout.now nets.old nets.new }
     ensures word { nets.new.words.items ≡ slice_set nets.old.words.items net.0 word }
-    ensures noted { (from : ℕ) → AreNoted W.lanes W.lane_bit fanout.now from nets.old → AreNoted W.lanes W.lane_bit fanout.now from nets.new }
-    ensures kept { Grows nets.old.marks nets.new.marks }
 {
     nets.words[net.0 as usize] = word;
     if !word.is_none() {

@@ -3,7 +3,7 @@ ghost use Rattle.std.specs.Prelude.{◌≡◌, ◌<◌, ◌&&◌, ℕ, true, fal
 ghost use Rattle.circuit.specs.Value.{bit_at};
 ghost use Rattle.lane_words.specs.Gates.{plane};
 ghost use Rattle.lane_words.specs.Loads.{loaded_faults, somes};
-ghost use Rattle.differential_kernel.specs.Differences.{AreSameOff};
+ghost use Rattle.differential_kernel.specs.Differences.{DifferOnlyIn};
 
 use circuit::parts::Fault;
 use lane_words::Word;
@@ -31,8 +31,7 @@ pub fn unload<W: Word>(out: W, loads: &mut [[Option<Fault>; 2]])
 
 /// Takes what differs away from the lanes whose bit is set, where it is in the set.
 pub fn keep_lanes<W: Word>(out: W, set: &PlaceSet, words: &mut [W])
-    requires bound { set.now.bound ≡ length words.old }
-    requires same { AreSameOff W.lanes W.lane_bit set.now words.old }
+    requires { DifferOnlyIn W.lanes W.lane_bit set.now words.old }
     ensures { (k n : ℕ) → k < W.lanes → bit_at (plane W.lane_bit k words.new) n ≡ (not (W.lane_bit out k) && bit_at (plane W.lane_bit k words.old) n) }
 {
     let keep = out.xor(W::all(true));

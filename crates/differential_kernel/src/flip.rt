@@ -5,7 +5,7 @@ ghost use Rattle.circuit.specs.Value.{bit_at};
 ghost use Rattle.circuit.specs.Trace.{flipped};
 ghost use Rattle.lane_words.specs.Gates.{plane};
 ghost use Rattle.lane_words.specs.Loads.{loaded_faults, somes};
-ghost use Rattle.differential_kernel.specs.Differences.{AreSameOff};
+ghost use Rattle.differential_kernel.specs.Differences.{AreSameOff, DifferOnlyIn};
 ghost use Rattle.differential_kernel.specs.Forces.{has_acts};
 
 use crate::latches::LatchDifferences;
@@ -58,13 +58,11 @@ pub fn flip<W: Word>(
 )
     requires lanes { length loads.now ≡ W.lanes }
     requires acting { acting ≡ has_acts loads.now cycle }
-    requires bound { latches.old.live.bound ≡ length latches.old.raw.items }
-    requires held { AreSameOff W.lanes W.lane_bit latches.old.live latches.old.raw.items }
+    requires live { DifferOnlyIn W.lanes W.lane_bit latches.old.live latches.old.raw.items }
     ensures flipped { (k : ℕ) → k < W.lanes
         → plane W.lane_bit k latches.new.raw.items ≡ flipped (loaded_faults loads.now k) cycle (plane W.lane_bit k latches.old.raw.items) }
     ensures raw { length latches.new.raw.items ≡ length latches.old.raw.items }
-    ensures live { latches.new.live.bound ≡ latches.old.live.bound }
-    ensures held { AreSameOff W.lanes W.lane_bit latches.new.live latches.new.raw.items }
+    ensures live { DifferOnlyIn W.lanes W.lane_bit latches.new.live latches.new.raw.items }
 {
     if acting {
         flip_all(loads, cycle, latches);

@@ -1,6 +1,6 @@
 // What the latches differ in.
 ghost use Rattle.std.specs.Prelude.{◌≡◌, ◌<◌, ◌^◌, IfOk, length};
-ghost use Rattle.differential_kernel.specs.Differences.{AreSameOff};
+ghost use Rattle.differential_kernel.specs.Differences.{DifferOnlyIn};
 
 use crate::difference::same_words;
 use lane_words::Word;
@@ -19,8 +19,7 @@ impl<W: Word> LatchDifferences<W> {
     pub fn new(alloc: Global, latches: usize) -> Result<Self, AllocError>
         requires { latches < 2 ^ 32 }
         ensures raw { IfOk result (λ s. length s.raw.items ≡ latches) }
-        ensures live { IfOk result (λ s. s.live.bound ≡ latches) }
-        ensures held { IfOk result (λ s. AreSameOff W.lanes W.lane_bit s.live s.raw.items) }
+        ensures live { IfOk result (λ s. DifferOnlyIn W.lanes W.lane_bit s.live s.raw.items) }
     {
         let raw = same_words(alloc, latches)?;
         let live = PlaceSet::new(alloc, latches as u32)?;

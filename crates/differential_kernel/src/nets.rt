@@ -1,6 +1,6 @@
 // What the nets differ in.
 ghost use Rattle.std.specs.Prelude.{◌≡◌, ◌<◌, ◌^◌, IfOk, length};
-ghost use Rattle.differential_kernel.specs.Differences.{AreSameOff};
+ghost use Rattle.differential_kernel.specs.Differences.{DifferOnlyIn};
 
 use crate::difference::same_words;
 use lane_words::Word;
@@ -22,9 +22,8 @@ impl<W: Word> NetDifferences<W> {
         requires nets { nets < 2 ^ 32 }
         requires places { places < 2 ^ 32 }
         ensures words { IfOk result (λ s. length s.words.items ≡ nets) }
-        ensures touched { IfOk result (λ s. s.touched.bound ≡ nets) }
+        ensures touched { IfOk result (λ s. DifferOnlyIn W.lanes W.lane_bit s.touched s.words.items) }
         ensures marks { IfOk result (λ s. s.marks.bound ≡ places) }
-        ensures same { IfOk result (λ s. AreSameOff W.lanes W.lane_bit s.touched s.words.items) }
     {
         let words = same_words(alloc, nets)?;
         let touched = PlaceSet::new(alloc, nets as u32)?;

@@ -6,7 +6,9 @@ ghost use Rattle.lane_words.specs.Loads.{some_names, names, somes};
 ghost use Rattle.place_set.specs.Places.{has};
 ghost use Rattle.differential_kernel.specs.Differences.{Grows, IsEmptySet};
 ghost use Rattle.differential_kernel.specs.Forces.{AreActs, AreIdleOff, AreNamed, acts, has_acts, has_stuck};
-ghost use Rattle.lane_words.specs.Forces.{AreAllIdle, AreArmed, AreIdle, AreSteady};
+ghost use Rattle.differential_kernel.specs.Noted.{AreFaultsNoted};
+ghost use Rattle.differential_kernel.specs.Parts.{AreForcesOf};
+ghost use Rattle.lane_words.specs.Forces.{AreAllIdle, AreArmed};
 
 use crate::force::Forces;
 use circuit::parts::Fault;
@@ -156,31 +158,28 @@ pub fn has_some_stuck(loads: &[[Option<Fault>; 2]], noted: bool, before: bool) -
     }
 }
 
-// Names the nets of the faults and the cycles in which they act, and leaves all nets as they are, unless that was done.
+// Names the nets of the faults and the cycles in which they act, and leaves all nets as they are, unless that was done. Answers
+// whether the forces are of no use in a cycle without a pulse.
 fn renew<W: Word>(
     loads: &[[Option<Fault>; 2]],
     noted: bool,
+    stale: bool,
     cycles: &mut PlaceSet,
     forces: &mut Forces<W>,
-)
-    requires bound { forces.old.named.bound ≡ length forces.old.by_net.items }
-    requires off { AreIdleOff W.lanes W.lane_bit forces.old.named forces.old.by_net.items }
-    requires named { noted ≡ true → AreNamed loads.now (length forces.old.by_net.items) forces.old.named }
-    requires idle { noted ≡ true → AreIdle W.lanes W.lane_bit loads.now forces.old.by_net.items }
-    requires few { cycles.old.bound ≤ 65536 }
-    requires acts { noted ≡ true → AreActs loads.now cycles.old }
-    ensures bound { forces.new.named.bound ≡ forces.old.named.bound }
-    ensures each { length forces.new.by_net.items ≡ length forces.old.by_net.items }
-    ensures cycles { cycles.new.bound ≡ cycles.old.bound }
-    ensures named { AreNamed loads.now (length forces.old.by_net.items) forces.new.named }
-    ensures idle { AreIdle W.lanes W.lane_bit loads.now forces.new.by_net.items }
-    ensures acts { AreActs loads.now cycles.new }
-    ensures same { noted ≡ true → forces.new.by_net.items ≡ forces.old.by_net.items }
+) -> bool
+    requires cycles { cycles.old.bound ≡ 65536 }
+    requires forces { AreForcesOf W.lanes W.lane_bit (length forces.old.by_net.items) forces.old }
+    requires noted { noted ≡ true → AreFaultsNoted W.lanes W.lane_bit loads.now stale cycles.old forces.old }
+    ensures forces { AreForcesOf W.lanes W.lane_bit (length forces.old.by_net.items) forces.new }
+    ensures noted { AreFaultsNoted W.lanes W.lane_bit loads.now result cycles.new forces.new }
 {
-    if !noted {
+    if noted {
+        stale
+    } else {
         forget_all(forces);
         note_all(loads, &mut forces.named);
         note_cycles(loads, cycles);
+        true
     }
 }
 
@@ -195,29 +194,19 @@ pub fn prepare<W: Word>(
     forces: &mut Forces<W>,
 ) -> bool
     requires lanes { length loads.now ≡ W.lanes }
-    requires cycle { cycle < cycles.old.bound }
-    requires few { cycles.old.bound ≤ 65536 }
-    requires bound { forces.old.named.bound ≡ length forces.old.by_net.items }
-    requires off { AreIdleOff W.lanes W.lane_bit forces.old.named forces.old.by_net.items }
-    requires named { noted ≡ true → AreNamed loads.now (length forces.old.by_net.items) forces.old.named }
-    requires idle { noted ≡ true → AreIdle W.lanes W.lane_bit loads.now forces.old.by_net.items }
-    requires steady { noted ≡ true → stale ≡ false → AreSteady W.lanes W.lane_bit loads.now forces.old.by_net.items }
-    requires acts { noted ≡ true → AreActs loads.now cycles.old }
-    ensures bound { forces.new.named.bound ≡ forces.old.named.bound }
-    ensures each { length forces.new.by_net.items ≡ length forces.old.by_net.items }
-    ensures cycles { cycles.new.bound ≡ cycles.old.bound }
-    ensures acts { AreActs loads.now cycles.new }
-    ensures named { AreNamed loads.now (length forces.old.by_net.items) forces.new.named }
-    ensures idle { AreIdle W.lanes W.lane_bit loads.now forces.new.by_net.items }
-    ensures off { AreIdleOff W.lanes W.lane_bit forces.new.named forces.new.by_net.items }
+    requires cycle { cycle < 65536 }
+    requires cycles { cycles.old.bound ≡ 65536 }
+    requires forces { AreForcesOf W.lanes W.lane_bit (length forces.old.by_net.items) forces.old }
+    requires noted { noted ≡ true → AreFaultsNoted W.lanes W.lane_bit loads.now stale cycles.old forces.old }
+    ensures forces { AreForcesOf W.lanes W.lane_bit (length forces.old.by_net.items) forces.new }
+    ensures noted { AreFaultsNoted W.lanes W.lane_bit loads.now result cycles.new forces.new }
     ensures armed { AreArmed W.lanes W.lane_bit loads.now cycle forces.new.by_net.items }
-    ensures steady { result ≡ false → AreSteady W.lanes W.lane_bit loads.now forces.new.by_net.items }
 {
-    renew(loads, noted, cycles, forces);
+    let stale = renew(loads, noted, stale, cycles, forces);
     arm_for(
         loads,
         cycles.has(cycle as usize),
-        stale || !noted,
+        stale,
         cycle,
         &mut forces.by_net,
     )

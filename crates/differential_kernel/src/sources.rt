@@ -1,15 +1,13 @@
 // What the nets differ in that no table drives, and the tables whose nets are forced.
-ghost use Rattle.std.specs.Prelude.{◌≡◌, ◌≢◌, ◌<◌, ◌^◌, ℕ, None, Some, false, length, slice_index_or};
-ghost use Rattle.circuit.specs.Sound.{IsNetlist};
-ghost use Rattle.circuit.specs.Value.{bit_at, driver_at};
-ghost use Rattle.golden_difference.specs.Beside.{latched};
-ghost use Rattle.lane_words.specs.Bits.{either};
+ghost use Rattle.std.specs.Prelude.{◌≡◌, ◌≢◌, ◌<◌, ℕ, None, Some, length, slice_index_or};
+ghost use Rattle.circuit.specs.Value.{bit_at};
 ghost use Rattle.lane_words.specs.Gates.{plane};
-ghost use Rattle.place_set.specs.Places.{has, value_in};
-ghost use Rattle.lane_words.specs.declared.force.Force.{Force as ForceValue};
-ghost use Rattle.differential_kernel.specs.Differences.{AreNoted, AreSameOff, Grows, IsEmptySet, IsSame, read_in};
-ghost use Rattle.lane_words.specs.Forces.{force_value};
+ghost use Rattle.differential_kernel.specs.Cycle.{IsGoldenCycle, ShowLatches};
+ghost use Rattle.differential_kernel.specs.Differences.{DifferOnlyIn, IsEmptySet, IsSame};
+ghost use Rattle.differential_kernel.specs.Forced.{IsForcedAt};
+ghost use Rattle.differential_kernel.specs.Noted.{AreNoted, StayNoted};
 ghost use Rattle.differential_kernel.specs.Parts.{AreForcesOf, AreLatchesOf, AreNetsOf};
+ghost use Rattle.differential_kernel.specs.Places.{AreTablePlaces};
 
 use crate::difference::{forced_difference, store, value_word};
 use crate::force::Forces;
@@ -22,8 +20,7 @@ use place_set::PlaceSet;
 
 /// Takes away all that differs, where it is in the set.
 pub fn clear<W: Word>(set: &mut PlaceSet, words: &mut [W])
-    requires bound { set.old.bound ≡ length words.old }
-    requires same { AreSameOff W.lanes W.lane_bit set.old words.old }
+    requires { DifferOnlyIn W.lanes W.lane_bit set.old words.old }
     ensures bound { set.new.bound ≡ set.old.bound }
     ensures none { IsEmptySet set.new }
     ensures same { (n : ℕ) → IsSame W.lanes W.lane_bit words.new n }
@@ -42,20 +39,14 @@ pub fn take_live<W: Word>(
     latches: &mut LatchDifferences<W>,
     nets: &mut NetDifferences<W>,
 )
-    requires fanout { cycle.now.fanout.now.circuit ≡ cycle.now.netlist.now }
-    requires latches { AreLatchesOf cycle.now.netlist.now latches.old }
-    requires nets { AreNetsOf cycle.now.fanout.now nets.old }
-    requires held { AreSameOff W.lanes W.lane_bit latches.old.live latches.old.raw.items }
-    requires same { (n : ℕ) → IsSame W.lanes W.lane_bit nets.old.words.items n }
-    requires noted { AreNoted W.lanes W.lane_bit cycle.now.fanout.now 0 nets.old }
-    ensures latches { AreLatchesOf cycle.now.netlist.now latches.new }
-    ensures nets { AreNetsOf cycle.now.fanout.now nets.new }
+    requires golden { IsGoldenCycle cycle.now }
+    requires latches { AreLatchesOf W.lanes W.lane_bit cycle.now.netlist.now latches.old }
+    requires nets { AreNetsOf W.lanes W.lane_bit cycle.now.fanout.now nets.old }
+    requires same { IsEmptySet nets.old.touched }
+    ensures latches { AreLatchesOf W.lanes W.lane_bit cycle.now.netlist.now latches.new }
     ensures none { IsEmptySet latches.new.live }
-    ensures held { (l : ℕ) → IsSame W.lanes W.lane_bit latches.new.raw.items l }
-    ensures values { (k n : ℕ) → k < W.lanes → n < length cycle.now.netlist.now.drivers
-        → bit_at (plane W.lane_bit k nets.new.words.items) n ≡ latched (bit_at (plane W.lane_bit k latches.old.raw.items)) (driver_at cycle.now.netlist.now n) }
     ensures noted { AreNoted W.lanes W.lane_bit cycle.now.fanout.now 0 nets.new }
-    ensures sound { IsNetlist cycle.now.netlist.now }
+    ensures shown { ShowLatches W.lanes W.lane_bit cycle.now.netlist.now latches.old.raw.items nets.new.words.items }
 {
     let ends = cycle.netlist.latches();
     let mut from = 0;
@@ -78,20 +69,12 @@ fn force_net<W: Word>(
     nets: &mut NetDifferences<W>,
 )
     requires net { net < length cycle.now.fanout.now.circuit.drivers }
-    requires forces { AreForcesOf W.lanes W.lane_bit cycle.now.fanout.now.circuit forces.now }
-    requires nets { AreNetsOf cycle.now.fanout.now nets.old }
+    requires forces { AreForcesOf W.lanes W.lane_bit (length cycle.now.fanout.now.circuit.drivers) forces.now }
+    requires nets { AreNetsOf W.lanes W.lane_bit cycle.now.fanout.now nets.old }
     requires place { (p : ℕ) → place ≡ Some p → p < nets.old.marks.bound }
-    ensures nets { AreNetsOf cycle.now.fanout.now nets.new }
-    ensures kept { Grows nets.old.marks nets.new.marks }
-    ensures noted { AreNoted W.lanes W.lane_bit cycle.now.fanout.now 0 nets.old → AreNoted W.lanes W.lane_bit cycle.now.fanout.now 0 nets.new }
+    ensures noted { StayNoted W.lanes W.lane_bit cycle.now.fanout.now nets.old nets.new }
+    ensures forced { IsForcedAt W.lanes W.lane_bit cycle.now.row.now forces.now.by_net.items place net nets.old.words.items nets.new.words.items nets.new.marks }
     ensures others { (k n : ℕ) → k < W.lanes → n ≢ net → bit_at (plane W.lane_bit k nets.new.words.items) n ≡ bit_at (plane W.lane_bit k nets.old.words.items) n }
-    ensures source { (k : ℕ) (d : ForceValue W) → place ≡ None → k < W.lanes
-        → bit_at (plane W.lane_bit k nets.new.words.items) net
-        ≡ either (force_value W.lane_bit k (slice_index_or forces.now.by_net.items net d) (read_in W.lane_bit k cycle.now.row.now nets.old.words.items net)) (value_in cycle.now.row.now net) }
-    ensures table { (k p : ℕ) → place ≡ Some p → k < W.lanes
-        → bit_at (plane W.lane_bit k nets.new.words.items) net ≡ bit_at (plane W.lane_bit k nets.old.words.items) net }
-    ensures marked { (k p : ℕ) (d : ForceValue W) → place ≡ Some p → has nets.new.marks p ≡ false → k < W.lanes
-        → either (force_value W.lane_bit k (slice_index_or forces.now.by_net.items net d) (read_in W.lane_bit k cycle.now.row.now nets.old.words.items net)) (value_in cycle.now.row.now net) ≡ false }
 {
     let own = value_word(cycle.row, &nets.words, net);
     let word = forced_difference(cycle.row, &forces.by_net, net, own);
@@ -112,22 +95,13 @@ pub fn force_all<W: Word>(
     forces: &Forces<W>,
     nets: &mut NetDifferences<W>,
 )
-    requires few { length cycle.now.fanout.now.circuit.drivers < 2 ^ 32 }
-    requires each_place { length places.now ≡ length cycle.now.fanout.now.circuit.drivers }
-    requires forces { AreForcesOf W.lanes W.lane_bit cycle.now.fanout.now.circuit forces.now }
-    requires nets { AreNetsOf cycle.now.fanout.now nets.old }
-    requires tables { (n p : ℕ) → slice_index_or places.now n None ≡ Some p → p < nets.old.marks.bound }
+    requires golden { IsGoldenCycle cycle.now }
+    requires places { AreTablePlaces cycle.now.netlist.now cycle.now.order.now places.now }
+    requires forces { AreForcesOf W.lanes W.lane_bit (length cycle.now.netlist.now.drivers) forces.now }
     requires noted { AreNoted W.lanes W.lane_bit cycle.now.fanout.now 0 nets.old }
-    ensures nets { AreNetsOf cycle.now.fanout.now nets.new }
     ensures noted { AreNoted W.lanes W.lane_bit cycle.now.fanout.now 0 nets.new }
-    ensures source { (k n : ℕ) (d : ForceValue W) → k < W.lanes → n < length cycle.now.fanout.now.circuit.drivers → slice_index_or places.now n None ≡ None
-        → bit_at (plane W.lane_bit k nets.new.words.items) n
-        ≡ either (force_value W.lane_bit k (slice_index_or forces.now.by_net.items n d) (read_in W.lane_bit k cycle.now.row.now nets.old.words.items n)) (value_in cycle.now.row.now n) }
-    ensures table { (k n p : ℕ) → k < W.lanes → slice_index_or places.now n None ≡ Some p
-        → bit_at (plane W.lane_bit k nets.new.words.items) n ≡ bit_at (plane W.lane_bit k nets.old.words.items) n }
-    ensures marked { (k n p : ℕ) (d : ForceValue W) → k < W.lanes → n < length cycle.now.fanout.now.circuit.drivers → slice_index_or places.now n None ≡ Some p
-        → has nets.new.marks p ≡ false → IsSame W.lanes W.lane_bit nets.old.words.items n
-        → either (force_value W.lane_bit k (slice_index_or forces.now.by_net.items n d) (read_in W.lane_bit k cycle.now.row.now nets.old.words.items n)) (value_in cycle.now.row.now n) ≡ false }
+    ensures forced { (n : ℕ) → n < length cycle.now.netlist.now.drivers
+        → IsForcedAt W.lanes W.lane_bit cycle.now.row.now forces.now.by_net.items (slice_index_or places.now n None) n nets.old.words.items nets.new.words.items nets.new.marks }
 {
     let mut from = 0;
     'nets: while let Some(n) = forces.named.next_from(from) {

@@ -1,20 +1,17 @@
 // A cycle in which every table is evaluated. Where much differs, that is quicker than to find out what does.
-ghost use Rattle.std.specs.Prelude.{◌≡◌, ◌≢◌, ◌<◌, ◌^◌, ◌+◌, ℕ, Bool, List, [], false, None, length, slice_index_or};
+ghost use Rattle.std.specs.Prelude.{◌≡◌, ◌≢◌, ◌<◌, ◌^◌, ◌+◌, ℕ, [], false, None, length, slice_index_or};
 ghost use Rattle.circuit.specs.declared.parts.Driver.TheVariants.{Input, Table as FromTable};
-ghost use Rattle.circuit.specs.Order.{IsOrder};
-ghost use Rattle.circuit.specs.Sound.{IsNetlist};
-ghost use Rattle.circuit.specs.Value.{Cycle, bit_at, driven, driver_at, net_value, table_gives};
+ghost use Rattle.circuit.specs.Value.{Cycle, bit_at, driver_at, net_value};
 ghost use Rattle.golden_difference.proofs.Walked.{Walked};
 ghost use Rattle.golden_difference.specs.Beside.{latched};
-ghost use Rattle.lane_words.specs.Bits.{either};
-ghost use Rattle.lane_words.specs.Gates.{AreOps, IsGate, latch_at, plane};
-ghost use Rattle.place_set.specs.Places.{value_in};
+ghost use Rattle.lane_words.specs.Gates.{AreOps, IsGate, plane};
 ghost use Rattle.lane_words.specs.declared.force.Force.{Force as ForceValue};
+ghost use Rattle.differential_kernel.specs.Cycle.{FitTogether, LatchesTake};
 ghost use Rattle.differential_kernel.specs.Differences.{read_in};
-ghost use Rattle.differential_kernel.specs.Forces.{AreIdleOff};
-ghost use Rattle.lane_words.specs.Forces.{force_value, AreForces};
-ghost use Rattle.differential_kernel.specs.Parts.{AreForcesOf, IsProgramOf};
-ghost use Rattle.differential_kernel.specs.Walk.{IsGivenAt, IsPair};
+ghost use Rattle.differential_kernel.specs.Forced.{IsSettled, forced_in};
+ghost use Rattle.lane_words.specs.Forces.{AreForces};
+ghost use Rattle.differential_kernel.specs.Parts.{AreForcesOf};
+ghost use Rattle.differential_kernel.specs.Walk.{IsPair};
 
 use crate::difference::{forced_difference, set_word, value_word};
 use crate::force::Forces;
@@ -44,9 +41,8 @@ pub fn show_latches<W: Word>(netlist: &Netlist, raw: &[W], words: &mut [W])
     requires nets { length words.old ≡ length netlist.now.drivers }
     requires inputs { (k n i : ℕ) → k < W.lanes → n < length netlist.now.drivers → driver_at netlist.now n ≡ Input i → bit_at (plane W.lane_bit k words.old) n ≡ false }
     requires raw { length raw.now ≡ length netlist.now.latches }
-    ensures values { (k n : ℕ) → k < W.lanes → n < length netlist.now.drivers → ((i : ℕ) → driver_at netlist.now n ≡ FromTable i → ⊥)
+    ensures { (k n : ℕ) → k < W.lanes → n < length netlist.now.drivers → ((i : ℕ) → driver_at netlist.now n ≡ FromTable i → ⊥)
         → bit_at (plane W.lane_bit k words.new) n ≡ latched (bit_at (plane W.lane_bit k raw.now)) (driver_at netlist.now n) }
-    ensures sound { IsNetlist netlist.now }
 {
     for (l, latch) in netlist.latches().iter().enumerate() {
         set_word(latch.to, word_at(raw, l), words);
@@ -64,7 +60,7 @@ fn force_source<W: Word>(
     requires net { net.0 < length words.old }
     requires forces { length forces.now ≡ length words.old }
     ensures source { (k : ℕ) (d : ForceValue W) → place ≡ None → k < W.lanes
-        → bit_at (plane W.lane_bit k words.new) net.0 ≡ either (force_value W.lane_bit k (slice_index_or forces.now net.0 d) (read_in W.lane_bit k row.now words.old net.0)) (value_in row.now net.0) }
+        → bit_at (plane W.lane_bit k words.new) net.0 ≡ forced_in W.lane_bit k row.now forces.now d words.old net.0 }
     ensures others { (k n : ℕ) → n ≢ net.0 → bit_at (plane W.lane_bit k words.new) n ≡ bit_at (plane W.lane_bit k words.old) n }
 {
     if let None = place {
@@ -80,14 +76,11 @@ pub fn force_sources<W: Word>(
     forces: &Forces<W>,
     words: &mut [W],
 )
-    requires named { forces.now.named.bound ≡ length words.old }
     requires few { length words.old < 2 ^ 32 }
     requires each_place { length places.now ≡ length words.old }
-    requires forces { length forces.now.by_net.items ≡ length words.old }
-    requires idle { AreIdleOff W.lanes W.lane_bit forces.now.named forces.now.by_net.items }
+    requires forces { AreForcesOf W.lanes W.lane_bit (length words.old) forces.now }
     ensures { (k n : ℕ) (d : ForceValue W) → k < W.lanes → n < length words.old → slice_index_or places.now n None ≡ None
-        → bit_at (plane W.lane_bit k words.new) n
-        ≡ either (force_value W.lane_bit k (slice_index_or forces.now.by_net.items n d) (read_in W.lane_bit k row.now words.old n)) (value_in row.now n) }
+        → bit_at (plane W.lane_bit k words.new) n ≡ forced_in W.lane_bit k row.now forces.now.by_net.items d words.old n }
 {
     let mut from = 0;
     'nets: while let Some(n) = forces.named.next_from(from) {
@@ -108,15 +101,9 @@ fn settle<W: Word>(
 )
     requires gate { IsGate netlist.now gate.now }
     requires ops { AreOps W.lanes W.lane_bit ops.now }
-    requires forces { length forces.now.by_net.items ≡ length netlist.now.drivers }
-    requires idle { AreIdleOff W.lanes W.lane_bit forces.now.named forces.now.by_net.items }
+    requires forces { AreForcesOf W.lanes W.lane_bit (length netlist.now.drivers) forces.now }
     requires nets { length words.old ≡ length netlist.now.drivers }
-    ensures value { (k : ℕ) (d : ForceValue W) (state inputs : List Bool) → k < W.lanes → IsGivenAt netlist.now row.now gate.now.to
-        → bit_at (plane W.lane_bit k words.new) gate.now.to
-        ≡ either (force_value W.lane_bit k (slice_index_or forces.now.by_net.items gate.now.to d)
-        (driven state inputs (table_gives netlist.now (read_in W.lane_bit k row.now words.old)) (driver_at netlist.now gate.now.to)))
-        (value_in row.now gate.now.to) }
-    ensures others { (k n : ℕ) → n ≢ gate.now.to → bit_at (plane W.lane_bit k words.new) n ≡ bit_at (plane W.lane_bit k words.old) n }
+    ensures { IsSettled W.lanes W.lane_bit netlist.now row.now forces.now.by_net.items gate.now.to words.old words.new }
 {
     words[gate.to as usize] = table_difference(netlist, gate, ops, row, forces, words);
 }
@@ -129,10 +116,7 @@ pub fn sweep<W: Word, L: Ledger>(
     words: &mut [W],
     steps: &mut Steps<L>,
 )
-    requires sound { IsNetlist cycle.now.netlist.now }
-    requires order { IsOrder cycle.now.netlist.now cycle.now.order.now }
-    requires program { IsProgramOf W.lanes W.lane_bit cycle.now.netlist.now cycle.now.order.now program.now }
-    requires forces { AreForcesOf W.lanes W.lane_bit cycle.now.netlist.now forces.now }
+    requires fit { FitTogether W.lanes W.lane_bit cycle.now program.now forces.now }
     requires nets { length words.old ≡ length cycle.now.netlist.now.drivers }
     ensures values { (k : ℕ) (x golden : Cycle) → k < W.lanes → IsPair cycle.now.netlist.now cycle.now.row.now x golden → AreForces W.lane_bit k forces.now.by_net.items x
         → Walked x (read_in W.lane_bit k cycle.now.row.now words.old) [] 0
@@ -150,8 +134,7 @@ pub fn sweep<W: Word, L: Ledger>(
 /// Each latch takes what the net differs in that it reads.
 pub fn take_all<W: Word>(netlist: &Netlist, words: &[W], raw: &mut [W])
     requires { length raw.old ≡ length netlist.now.latches }
-    ensures { (k l : ℕ) → k < W.lanes → l < length netlist.now.latches
-        → bit_at (plane W.lane_bit k raw.new) l ≡ bit_at (plane W.lane_bit k words.now) (latch_at netlist.now.latches l).from.0 }
+    ensures { LatchesTake W.lanes W.lane_bit netlist.now words.now raw.new }
 {
     for (l, latch) in netlist.latches().iter().enumerate() {
         raw[l] = word_at(words, latch.from.0 as usize);

@@ -9,7 +9,8 @@ ghost use Rattle.lane_words.specs.Forces.{force_value};
 ghost use Rattle.lane_words.specs.Gates.{AreOps, IsGate, IsInside, gate_value, plane};
 ghost use Rattle.lane_words.specs.declared.force.Force.{Force as ForceValue};
 ghost use Rattle.differential_kernel.specs.Differences.{read_in};
-ghost use Rattle.differential_kernel.specs.Forces.{AreIdleOff};
+ghost use Rattle.differential_kernel.specs.Forced.{evaluated_in};
+ghost use Rattle.differential_kernel.specs.Parts.{AreForcesOf};
 ghost use Rattle.differential_kernel.specs.Walk.{IsGivenAt};
 
 use crate::difference::{forced_difference, golden_word, named_difference, value_word};
@@ -108,8 +109,7 @@ fn narrow_difference<W: Word>(
     requires ops { AreOps W.lanes W.lane_bit ops.now }
     requires narrow { gate.now.op < 16 }
     requires inside { IsInside (length words.now) gate.now }
-    requires forces { length forces.now.by_net.items ≡ length words.now }
-    requires idle { AreIdleOff W.lanes W.lane_bit forces.now.named forces.now.by_net.items }
+    requires forces { AreForcesOf W.lanes W.lane_bit (length words.now) forces.now }
     ensures { (k : ℕ) (d : ForceValue W) → k < W.lanes → gate_value gate.now (value_in row.now) ≡ value_in row.now gate.now.to
         → W.lane_bit result k
         ≡ either (force_value W.lane_bit k (slice_index_or forces.now.by_net.items gate.now.to d) (gate_value gate.now (read_in W.lane_bit k row.now words.now)))
@@ -146,13 +146,9 @@ fn wide_difference<W: Word>(
 ) -> W
     requires net { IsNet netlist.now net }
     requires table { (k : ℕ) × (driver_at netlist.now net.0 ≡ FromTable k) }
-    requires forces { length forces.now.by_net.items ≡ length netlist.now.drivers }
-    requires idle { AreIdleOff W.lanes W.lane_bit forces.now.named forces.now.by_net.items }
+    requires forces { AreForcesOf W.lanes W.lane_bit (length netlist.now.drivers) forces.now }
     ensures { (k : ℕ) (d : ForceValue W) (state inputs : List Bool) → k < W.lanes
-        → W.lane_bit result k
-        ≡ either (force_value W.lane_bit k (slice_index_or forces.now.by_net.items net.0 d)
-        (driven state inputs (table_gives netlist.now (read_in W.lane_bit k row.now words.now)) (driver_at netlist.now net.0)))
-        (value_in row.now net.0) }
+        → W.lane_bit result k ≡ evaluated_in W.lane_bit k netlist.now row.now forces.now.by_net.items d state inputs words.now net.0 }
 {
     let own = wide_word(netlist, net, row, words);
     named_difference(row, forces, net.0, own)
@@ -170,14 +166,10 @@ pub fn table_difference<W: Word>(
 ) -> W
     requires ops { AreOps W.lanes W.lane_bit ops.now }
     requires gate { IsGate netlist.now gate.now }
-    requires forces { length forces.now.by_net.items ≡ length netlist.now.drivers }
-    requires idle { AreIdleOff W.lanes W.lane_bit forces.now.named forces.now.by_net.items }
+    requires forces { AreForcesOf W.lanes W.lane_bit (length netlist.now.drivers) forces.now }
     requires nets { length words.now ≡ length netlist.now.drivers }
     ensures { (k : ℕ) (d : ForceValue W) (state inputs : List Bool) → k < W.lanes → IsGivenAt netlist.now row.now gate.now.to
-        → W.lane_bit result k
-        ≡ either (force_value W.lane_bit k (slice_index_or forces.now.by_net.items gate.now.to d)
-        (driven state inputs (table_gives netlist.now (read_in W.lane_bit k row.now words.now)) (driver_at netlist.now gate.now.to)))
-        (value_in row.now gate.now.to) }
+        → W.lane_bit result k ≡ evaluated_in W.lane_bit k netlist.now row.now forces.now.by_net.items d state inputs words.now gate.now.to }
 {
     if gate.op < 16 {
         narrow_difference(gate, ops, row, forces, words)

@@ -3,7 +3,7 @@ ghost use Rattle.std.specs.Prelude.{◌≡◌, ◌<◌, ◌≤◌, ◌^◌, [], 
 ghost use Rattle.circuit.specs.Value.{bit_at};
 ghost use Rattle.lane_words.specs.Gates.{plane};
 ghost use Rattle.lane_words.specs.Loads.{loaded_faults};
-ghost use Rattle.differential_kernel.specs.Differences.{AreSameOff};
+ghost use Rattle.differential_kernel.specs.Differences.{AreSameOff, DifferOnlyIn};
 ghost use Rattle.differential_kernel.specs.Picked.{AreBelow, lane_at, picked};
 
 use crate::picks::Picks;
@@ -36,13 +36,11 @@ pub fn take_words<V: Word, W: Word>(
     requires few { picks.now.count ≤ W.lanes }
     requires below { AreBelow V.lanes picks.now }
     requires bounds { other_set.now.bound ≡ set.old.bound }
-    requires bound { set.old.bound ≡ length words.old }
     requires others { AreSameOff V.lanes V.lane_bit other_set.now others.now }
-    requires same { AreSameOff W.lanes W.lane_bit set.old words.old }
-    ensures bound { set.new.bound ≡ set.old.bound }
+    requires own { DifferOnlyIn W.lanes W.lane_bit set.old words.old }
     ensures words { (place n : ℕ) → place < W.lanes
         → bit_at (plane W.lane_bit place words.new) n ≡ picked picks.now (λ lane. bit_at (plane V.lane_bit lane others.now) n) place }
-    ensures same { AreSameOff W.lanes W.lane_bit set.new words.new }
+    ensures own { DifferOnlyIn W.lanes W.lane_bit set.new words.new }
 {
     clear(set, words);
     let mut from = 0;

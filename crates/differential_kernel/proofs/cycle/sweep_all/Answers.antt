@@ -1,12 +1,18 @@
-use Rattle.std.proofs.Common.{ap₂, subst, sym, ◌∙◌, arith}
+use Rattle.std.proofs.Common.{◌≡◌, length, ap₂, subst, sym, ◌∙◌, arith}
 use Rattle.circuit.specs.Value.{bit_at}
 use Rattle.golden_difference.proofs.Exclusive.{either_again}
 use Rattle.lane_words.specs.Bits.{either}
 use Rattle.lane_words.specs.Gates.{plane}
 use Rattle.place_set.specs.Places.{value_in}
+use Rattle.differential_kernel.specs.Parts.{AreForcesOf}
 use Rattle.differential_kernel.specs.Places.{AreTablePlaces}
 use Rattle.differential_kernel.proofs.Begun.{begun}
 use Rattle.differential_kernel.proofs.cycle.sweep_all.Goals as goal
+
+pub force_sources-requires-clause-forces : goal.force_sources-requires-clause-forces
+force_sources-requires-clause-forces g c =
+    let size : length c.args.cycle.now.netlist.now.drivers ≡ length c.show_latches.new.words = omega (arith, c.show_latches.auto.words, c.blank_inputs.auto.words, c.requires.nets) in
+    subst (λ n. AreForcesOf g.W.Word.lanes g.W.Word.lane_bit n c.args.forces.now) size c.requires.fit.forces
 
 pub returns-clause-values : goal.returns-clause-values
 returns-clause-values g c = λ k x golden lt pair are holds n net.
@@ -15,13 +21,13 @@ returns-clause-values g c = λ k x golden lt pair are holds n net.
     let circuit = c.args.cycle.now.netlist.now in
     let order = c.args.cycle.now.order.now in
     let row = c.args.cycle.now.row.now in
-    let places : AreTablePlaces circuit order c.deref.result.now = subst (AreTablePlaces circuit order) (sym c.deref.ensures.value) c.requires.program.places in
+    let places : AreTablePlaces circuit order c.deref.result.now = subst (AreTablePlaces circuit order) (sym c.deref.ensures.value) c.requires.fit.program.places in
     sym (either_again (value_in row n) (bit_at (plane bit k c.sweep.new.words) n))
     ∙ ap₂ either
     (c.sweep.ensures.values k x golden lt pair are
-    (begun lanes bit k lt circuit order c.show_latches.ensures.sound c.requires.order c.deref.result.now places row c.args.forces.now.by_net.items c.requires.forces.each x golden pair are
+    (begun lanes bit k lt circuit order c.requires.fit.golden.sound c.requires.fit.golden.ordered c.deref.result.now places row c.args.forces.now.by_net.items c.requires.fit.forces.each x golden pair are
     (bit_at (plane bit k c.args.raw.now)) c.show_latches.new.words c.force_sources.new.words holds
-    (λ m within free. c.show_latches.ensures.values k m lt within free)
+    (λ m within free. c.show_latches.ensures k m lt within free)
     (λ m d within none. c.force_sources.ensures k m d lt (omega (arith, within, c.show_latches.auto.words, c.blank_inputs.auto.words, c.requires.nets)) none))
     n net)
     (pair.values n net)

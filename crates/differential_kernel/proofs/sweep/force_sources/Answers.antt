@@ -4,7 +4,8 @@ use Rattle.std.proofs.lemmas.Bool.{cases_eq, cases_lt}
 use Rattle.circuit.specs.Value.{bit_at}
 use Rattle.lane_words.specs.Gates.{plane}
 use Rattle.lane_words.specs.declared.force.Force.{Force}
-use Rattle.differential_kernel.proofs.Forcing.{forced_idle, forced_in, forced_same}
+use Rattle.differential_kernel.specs.Forced.{forced_in}
+use Rattle.differential_kernel.proofs.Forcing.{forced_idle, forced_same}
 use Rattle.differential_kernel.proofs.sweep.force_sources.Goals as goal
 
 pub nets-init : goal.nets-init
@@ -26,7 +27,7 @@ nets-preserved g c =
     let here : (k : ℕ) → k < lanes → bit_at (plane bit k c.nets.words) q ≡ bit_at (plane bit k first) q = λ k lt. c.nets.invariant.ahead k q lt found.0 in
     let idle : (k n : ℕ) (d : Force g.row.W.Denot) → k < lanes → n < length c.nets.words → c.nets.from ≤ n → n < q → forced_in bit k row forces d first n ≡ bit_at (plane bit k first) n =
     λ k n d lt within le less. forced_idle lanes bit k row forces d first n lt
-    (c.requires.idle n (omega (arith, within, c.nets.auto.words, c.requires.forces)) (found.3 n le less)) in
+    (c.requires.forces.idle n (omega (arith, within, c.nets.auto.words, c.requires.forces.each)) (found.3 n le less)) in
     record {
       ahead = λ k n lt le. c.force_source.ensures.others k n (omega (arith, le)) ∙ c.nets.invariant.ahead k n lt (omega (arith, le, found.0));
       source = λ k n d lt within below none. elim (cases_eq n q) [
@@ -50,5 +51,5 @@ returns g c = λ k n d lt within none.
           c.nets.invariant.ahead k n lt most
           ∙ sym
           (forced_idle g.W.Word.lanes g.W.Word.lane_bit k c.args.row.now c.args.forces.now.by_net.items d c.args.words.now n lt
-          (c.requires.idle n (omega (arith, within, c.requires.forces)) (c.in_default.ensures n most)))
+          (c.requires.forces.idle n (omega (arith, within, c.requires.forces.each)) (c.in_default.ensures n most)))
     ]

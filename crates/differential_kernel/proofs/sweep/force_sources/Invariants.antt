@@ -3,7 +3,7 @@ use Rattle.std.specs.Prelude.{None}
 use Rattle.circuit.specs.Value.{bit_at}
 use Rattle.lane_words.specs.Gates.{plane}
 use Rattle.lane_words.specs.declared.force.Force.{Force}
-use Rattle.differential_kernel.proofs.Forcing.{forced_in}
+use Rattle.differential_kernel.specs.Forced.{forced_in}
 use Rattle.differential_kernel.proofs.sweep.force_sources.Given as goal
 
 abbrev pub decreases-nets : goal.decreases-nets

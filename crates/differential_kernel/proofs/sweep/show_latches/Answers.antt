@@ -44,8 +44,8 @@ loop-l-preserved g c =
           ap (λ ws. bit_at (plane bit k ws) n) stored ∙ at_set_other bit k words to n c.word_at.result other ∙ c.loop-l.invariant.inputs k n i lt of_net is;
     }
 
-pub returns-clause-values : goal.returns-clause-values
-returns-clause-values g c = λ k n lt within free.
+pub returns : goal.returns
+returns g c = λ k n lt within free.
     let count : length c.latches-latch-items.result.now ≡ length c.args.netlist.now.latches = ap (λ (ls : List Latch). length ls) c.latches-latch-items.ensures.value in
     shown_latches c.args.netlist.now c.latches-latch-items.ensures.sound (bit_at (plane g.W.Word.lane_bit k c.loop-l.words)) (bit_at (plane g.W.Word.lane_bit k c.args.raw.now))
     (λ i less. c.loop-l.invariant.latches k i lt (omega (arith, less, count, c.loop-l-test.false)))

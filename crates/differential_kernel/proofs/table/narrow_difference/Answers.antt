@@ -26,4 +26,4 @@ returns-else-has g c = λ k d lt given.
     let gives = gate_value gate (read_in g.W.Word.lane_bit k row c.args.words.now) in
     c.gate_difference-apart.ensures k lt
     ∙ ap (either gives) given
-    ∙ ap (λ own. either own (value_in row gate.to)) (sym (c.requires.idle gate.to (omega (arith, c.requires.inside.to, c.requires.forces)) (sym c.has.ensures ∙ c.if-has.false) k d gives lt))
+    ∙ ap (λ own. either own (value_in row gate.to)) (sym (c.requires.forces.idle gate.to (omega (arith, c.requires.inside.to, c.requires.forces.each)) (sym c.has.ensures ∙ c.if-has.false) k d gives lt))

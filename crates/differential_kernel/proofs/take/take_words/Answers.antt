@@ -16,7 +16,7 @@ places-preserved g c =
     let words = c.places.words in
     let inv = c.places.invariant in
     let found = c.in-Some.ensures in
-    let within : now < length words = omega (arith, found.1, c.requires.bounds, c.requires.bound, c.places.auto.words, c.clear.auto.words) in
+    let within : now < length words = omega (arith, found.1, c.requires.bounds, c.requires.own.bound, c.places.auto.words, c.clear.auto.words) in
     record {
       bound = c.put.ensures.bound ∙ inv.bound;
       done = λ place n lt less. elim (cases_eq n now) [
@@ -35,6 +35,12 @@ places-preserved g c =
       rest = λ place n lt le. at_set_other bit place words now n c.gather.result (omega (arith, le)) ∙ inv.rest place n lt (omega (arith, le, found.0));
       same = same_put g.W.Word.lanes bit c.places.set c.put.new.self words now c.gather.result c.put.ensures.has inv.same;
     }
+
+pub returns-clause-own : goal.returns-clause-own
+returns-clause-own g c = record {
+  bound = omega (arith, c.places.invariant.bound, c.clear.ensures.bound, c.requires.own.bound, c.places.auto.words, c.clear.auto.words);
+  same = c.places.invariant.same;
+}
 
 pub returns-clause-words : goal.returns-clause-words
 returns-clause-words g c = λ place n lt.

@@ -1,10 +1,10 @@
 use Rattle.std.proofs.Common.{◌<◌, ◌≤◌, ◌+◌, ◌-◌, ℕ, [], length, take}
 use Rattle.circuit.specs.Value.{Cycle}
 use Rattle.golden_difference.proofs.Walked.{Walked}
-use Rattle.differential_kernel.specs.Differences.{AreNoted, read_in}
+use Rattle.differential_kernel.specs.Differences.{read_in}
+use Rattle.differential_kernel.specs.Noted.{AreNoted}
 use Rattle.lane_words.specs.Forces.{AreForces}
 use Rattle.differential_kernel.specs.Walk.{IsAhead, IsPair}
-use Rattle.differential_kernel.specs.Parts.{AreNetsOf}
 use Rattle.differential_kernel.proofs.walk.walk.Given as goal
 
 abbrev pub decreases-places : goal.decreases-places
@@ -14,7 +14,6 @@ decreases-places g l = length l.cycle.order.now - l.from
 abbrev pub invariant-places : goal.invariant-places
 invariant-places g l = record {
   within : l.from ≤ length l.cycle.order.now;
-  nets : AreNetsOf l.cycle.fanout.now l.nets;
   noted : AreNoted g.W.Word.lanes g.W.Word.lane_bit l.cycle.fanout.now l.from l.nets;
   ahead : IsAhead g.W.Word.lanes g.W.Word.lane_bit l.cycle.order.now l.cycle.row.now l.forces.by_net.items l.from l.nets.words.items l.nets.marks;
   values : (k : ℕ) (x golden : Cycle) → k < g.W.Word.lanes → IsPair l.cycle.netlist.now l.cycle.row.now x golden → AreForces g.W.Word.lane_bit k l.forces.by_net.items x

@@ -1,25 +1,79 @@
-use Rattle.std.proofs.Common.{◌≡◌, ◌<◌, ◌+◌, ◌++◌, ◌∷◌, [], Bool, List, Option, length, refl, ap, ap₂, sym, ◌∙◌, subst}
+use Rattle.std.proofs.Common.{◌≡◌, ◌<◌, ◌+◌, ◌++◌, ◌∷◌, [], Bool, List, Option, length, refl, ap, ap₂, sym, ◌∙◌, subst, arith}
 use Rattle.circuit.specs.declared.parts.Fault.{Fault}
 use Rattle.circuit.specs.declared.parts.NetId.{NetId}
 use Rattle.circuit.specs.After.{Moment}
 use Rattle.circuit.specs.Circuit.{Circuit}
 use Rattle.circuit.specs.Effects.{affected}
+use Rattle.circuit.specs.Order.{IsOrder}
+use Rattle.circuit.specs.Sound.{IsNetlist}
 use Rattle.circuit.specs.Trace.{flipped}
 use Rattle.circuit.specs.Value.{bit_at}
 use Rattle.fanout.specs.Readers.{Ordered}
 use Rattle.golden_difference.specs.Beside.{AreBeside, IsGoldenRow}
+use Rattle.golden_difference.specs.Lanes.{Lanes, bank_of}
 use Rattle.lane_words.specs.Bank.{lane_of}
 use Rattle.lane_words.specs.Gates.{latch_at, plane}
 use Rattle.lane_words.specs.Loads.{loaded_faults}
 use Rattle.lane_words.proofs.Planes.{length_plane}
-use Rattle.differential_kernel.specs.Forces.{AreActs, AreNamed, has_stuck}
-use Rattle.lane_words.specs.Forces.{AreIdle, AreSteady}
-use Rattle.golden_difference.specs.Lanes.{Lanes, bank_of}
+use Rattle.differential_kernel.specs.Forces.{has_acts, has_stuck}
 use Rattle.differential_kernel.specs.Kernel.{lanes_of}
-use Rattle.differential_kernel.specs.Parts.{AreLatchesOf, AreNetsOf}
+use Rattle.differential_kernel.specs.Noted.{AreFaultsNoted}
+use Rattle.differential_kernel.specs.Parts.{AreForcesOf, AreLatchesOf, AreNetsOf, IsProgramOf}
 use Rattle.differential_kernel.specs.Walk.{IsPair}
-use Rattle.differential_kernel.proofs.Stepped.{stepped}
+use Rattle.differential_kernel.proofs.Stepped.{same_ordered, stepped}
 use Rattle.differential_kernel.proofs.lanes.DifferentialLanes.cycle.Goals as goal
+
+pub prepare-self-inside-requires-clause-forces : goal.prepare-self-inside-requires-clause-forces
+prepare-self-inside-requires-clause-forces g c =
+    subst (λ n. AreForcesOf g.W.Word.lanes g.W.Word.lane_bit n c.self.inside.forces) (sym c.self.invariant.forces.each) c.self.invariant.forces
+
+pub prepare-self-inside-requires-clause-noted : goal.prepare-self-inside-requires-clause-noted
+prepare-self-inside-requires-clause-noted g c = λ noted.
+    let s = c.self.inside in
+    subst (λ (ls : List (List (Option Fault))). AreFaultsNoted g.W.Word.lanes g.W.Word.lane_bit ls s.stale s.acts s.forces) (sym c.deref-2.ensures.value) (c.self.invariant.noted noted)
+
+pub flip-requires-clause-acting : goal.flip-requires-clause-acting
+flip-requires-clause-acting g c =
+    let t = c.self.inside.cycle in
+    let few : t < 65536 = omega (arith, c.requires.few, ap (λ (lanes : Lanes g.row.W.Denot). lanes.cycle) c.self.view_is) in
+    c.has-acting.ensures ∙ c.prepare-self-inside.ensures.noted.acts t (omega (arith, few, c.prepare-self-inside.ensures.noted.bound))
+    ∙ ap (λ (ls : List (List (Option Fault))). has_acts ls t) (c.deref-2.ensures.value ∙ sym c.deref-3.ensures.value)
+
+pub advance-requires-clause-fit : goal.advance-requires-clause-fit
+advance-requires-clause-fit g c =
+    let s = c.self.inside in
+    let kept = c.self.invariant in
+    let lanes = g.W.Word.lanes in
+    let bit = g.W.Word.lane_bit in
+    let prepared = c.prepare-self-inside in
+    let circuit : s.circuit.value ≡ c.args.netlist.now = ap (λ (lanes : Lanes g.row.W.Denot). lanes.circuit) c.self.view_is ∙ c.requires.made.circuit in
+    let order : s.order.value ≡ c.nets.result.now = ap (λ (lanes : Lanes g.row.W.Denot). lanes.order) c.self.view_is ∙ c.requires.made.order ∙ sym c.nets.ensures in
+    record {
+      golden = record {
+        sound = subst IsNetlist circuit kept.sound;
+        ordered = subst (λ (m : Circuit). IsOrder m c.nets.result.now) circuit (subst (IsOrder s.circuit.value) order kept.ordered);
+        fanout = c.requires.fanout ∙ same_ordered c.args.netlist.now c.args.netlist.now c.args.order.now c.nets.result.now refl (sym c.nets.ensures);
+      };
+      program = subst (λ (m : Circuit). IsProgramOf lanes bit m c.nets.result.now s.program) circuit (subst (λ (o : List NetId). IsProgramOf lanes bit s.circuit.value o s.program) order kept.program);
+      forces = subst (λ n. AreForcesOf lanes bit n prepared.new.forces) (kept.forces.each ∙ ap (λ (m : Circuit). length m.drivers) circuit) prepared.ensures.forces;
+    }
+
+pub advance-requires-clause-latches : goal.advance-requires-clause-latches
+advance-requires-clause-latches g c =
+    let circuit : c.self.inside.circuit.value ≡ c.args.netlist.now = ap (λ (lanes : Lanes g.row.W.Denot). lanes.circuit) c.self.view_is ∙ c.requires.made.circuit in
+    record {
+      raw = c.flip.ensures.raw ∙ c.self.invariant.latches.raw ∙ ap (λ (m : Circuit). length m.latches) circuit;
+      live = c.flip.ensures.live;
+    }
+
+pub advance-requires-clause-nets : goal.advance-requires-clause-nets
+advance-requires-clause-nets g c =
+    let s = c.self.inside in
+    let circuit : s.circuit.value ≡ c.args.netlist.now = ap (λ (lanes : Lanes g.row.W.Denot). lanes.circuit) c.self.view_is ∙ c.requires.made.circuit in
+    let order : s.order.value ≡ c.args.order.now = ap (λ (lanes : Lanes g.row.W.Denot). lanes.order) c.self.view_is ∙ c.requires.made.order in
+    let own : Ordered = record { circuit = s.circuit.value; order = s.order.value } in
+    let same : own ≡ c.args.fanout.now = same_ordered s.circuit.value c.args.netlist.now s.order.value c.args.order.now circuit order ∙ sym c.requires.fanout in
+    subst (λ (o : Ordered). AreNetsOf g.W.Word.lanes g.W.Word.lane_bit o s.nets) same c.self.invariant.nets
 
 pub invariant_of-self : goal.invariant_of-self
 invariant_of-self g c =
@@ -27,8 +81,11 @@ invariant_of-self g c =
     let kept = c.self.invariant in
     let lanes = g.W.Word.lanes in
     let bit = g.W.Word.lane_bit in
+    let prepared = c.prepare-self-inside in
     let circuit : s.circuit.value ≡ c.args.netlist.now = ap (λ (lanes : Lanes g.row.W.Denot). lanes.circuit) c.self.view_is ∙ c.requires.made.circuit in
     let order : s.order.value ≡ c.args.order.now = ap (λ (lanes : Lanes g.row.W.Denot). lanes.order) c.self.view_is ∙ c.requires.made.order in
+    let own : Ordered = record { circuit = s.circuit.value; order = s.order.value } in
+    let same : own ≡ c.args.fanout.now = same_ordered s.circuit.value c.args.netlist.now s.order.value c.args.order.now circuit order ∙ sym c.requires.fanout in
     record {
       sound = kept.sound;
       ordered = kept.ordered;
@@ -36,27 +93,12 @@ invariant_of-self g c =
       given = kept.given;
       whole = kept.whole;
       loads = kept.loads;
-      acts_bound = c.prepare-self-inside.ensures.cycles ∙ kept.acts_bound;
-      acts = λ noted. subst (λ (ls : List (List (Option Fault))). AreActs ls c.prepare-self-inside.new.cycles) c.deref-2.ensures.value c.prepare-self-inside.ensures.acts;
+      acts_bound = prepared.ensures.noted.bound;
       stuck = λ noted. c.has_some_stuck-self-inside.ensures ∙ ap has_stuck c.deref.ensures.value;
-      forces = record {
-        named = c.prepare-self-inside.ensures.bound ∙ kept.forces.named;
-        each = c.prepare-self-inside.ensures.each ∙ kept.forces.each;
-        idle = c.prepare-self-inside.ensures.off;
-      };
-      named = λ noted.
-          subst (λ (ls : List (List (Option Fault))). AreNamed ls (length s.circuit.value.drivers) c.prepare-self-inside.new.forces.named) c.deref-2.ensures.value
-          (subst (λ n. AreNamed c.deref-2.result.now n c.prepare-self-inside.new.forces.named) kept.forces.each c.prepare-self-inside.ensures.named);
-      idle = λ noted.
-          subst (λ (ls : List (List (Option Fault))). AreIdle lanes bit ls c.prepare-self-inside.new.forces.by_net.items) c.deref-2.ensures.value c.prepare-self-inside.ensures.idle;
-      steady = λ noted fresh.
-          subst (λ (ls : List (List (Option Fault))). AreSteady lanes bit ls c.prepare-self-inside.new.forces.by_net.items) c.deref-2.ensures.value (c.prepare-self-inside.ensures.steady fresh);
-      latches = subst (λ (m : Circuit). AreLatchesOf m c.advance.new.latches) (sym circuit) c.advance.ensures.latches;
-      nets = subst (λ (m : Circuit). AreNetsOf (record { circuit = m; order = s.order.value }) c.advance.new.nets) (sym circuit)
-          (subst (λ (o : List NetId). AreNetsOf (record { circuit = c.args.netlist.now; order = o }) c.advance.new.nets) (sym order)
-          (subst (λ (o : Ordered). AreNetsOf o c.advance.new.nets) c.requires.fanout c.advance.ensures.nets));
-      held = c.advance.ensures.held;
-      same = c.advance.ensures.same;
+      noted = λ noted. subst (λ (ls : List (List (Option Fault))). AreFaultsNoted lanes bit ls prepared.result prepared.new.cycles prepared.new.forces) c.deref-2.ensures.value prepared.ensures.noted;
+      forces = subst (λ n. AreForcesOf lanes bit n prepared.new.forces) kept.forces.each prepared.ensures.forces;
+      latches = subst (λ (m : Circuit). AreLatchesOf lanes bit m c.advance.new.latches) (sym circuit) c.advance.ensures.run.latches;
+      nets = subst (λ (o : Ordered). AreNetsOf lanes bit o c.advance.new.nets) (sym same) c.advance.ensures.run.nets;
     }
 
 pub returns-clause-step : goal.returns-clause-step
@@ -74,7 +116,7 @@ returns-clause-step g c = λ vectors inputs stood golden k lt.
     (length_plane bit k s.latches.raw.items ∙ c.self.invariant.latches.raw)
     (subst (λ (m : Circuit). IsGoldenRow m (vectors ++ inputs ∷ []) (length vectors) row) (sym made) golden)
     (λ x other pair faults_are number_is holds m net.
-    c.advance.ensures.values k x other lt (subst (λ (e : Circuit). IsPair e row x other) made pair)
+    c.advance.ensures.run.values k x other lt (subst (λ (e : Circuit). IsPair e row x other) made pair)
     (λ n d own within.
     c.prepare-self-inside.ensures.armed k n d own lt within
     ∙ ap₂ (λ fs t. affected fs t n own) (ap (λ (ls : List (List (Option Fault))). loaded_faults ls k) c.deref-2.ensures.value ∙ sym faults_are) (sym number_is))
@@ -85,6 +127,6 @@ returns-clause-step g c = λ vectors inputs stood golden k lt.
     ∙ holds l (subst (λ (e : Circuit). l < length e.latches) (sym made) within))
     m (subst (λ (e : Circuit). m < length e.drivers) made net))
     (λ l within.
-    c.advance.ensures.raw k l lt (subst (λ (e : Circuit). l < length e.latches) made within)
+    c.advance.ensures.run.raw k l lt (subst (λ (e : Circuit). l < length e.latches) made within)
     ∙ ap (λ (e : Circuit). bit_at (plane bit k c.advance.new.nets.words.items) (latch_at e.latches l).from.0) (sym made))
     refl

@@ -22,4 +22,4 @@ returns-then-not-self g c = λ k t is from lt.
     let begun : s.cycle ≤ t = subst (λ (lanes : Lanes g.row.W.Denot). lanes.cycle ≤ t) (sym c.self.view_is) from in
     subst (λ (lanes : Lanes g.row.W.Denot). DoNothing (loaded_faults lanes.in_force k) t) c.self.view_is
     (nothing_now s.in_force.items k t (sym (kept.stuck noted) ∙ loose)
-    (sym (kept.acts noted t (omega (arith, kept.acts_bound, lt))) ∙ c.is_empty_from.ensures is t begun))
+    (sym ((kept.noted noted).acts t (omega (arith, kept.acts_bound, lt))) ∙ c.is_empty_from.ensures is t begun))

@@ -35,22 +35,17 @@ invariant_of-result g c =
       whole = λ whole. absurd (false≢true whole);
       loads = omega (arith, c.in_ok-in_force.ensures.count, c.count-2.ensures);
       acts_bound = c.in_ok-acts.ensures.bound;
-      acts = λ noted. absurd (false≢true noted);
       stuck = λ noted. absurd (false≢true noted);
+      noted = λ noted. absurd (false≢true noted);
       forces = record {
         named = c.in_ok-forces.ensures.named ∙ nets;
         each = c.in_ok-forces.ensures.each ∙ nets;
         idle = λ n lt none. c.in_ok-forces.ensures.idle n lt;
       };
-      named = λ noted. absurd (false≢true noted);
-      idle = λ noted. absurd (false≢true noted);
-      steady = λ noted. absurd (false≢true noted);
-      latches = record { raw = c.in_ok-latches.ensures.raw ∙ latches; live = c.in_ok-latches.ensures.live ∙ latches };
+      latches = record { raw = c.in_ok-latches.ensures.raw ∙ latches; live = c.in_ok-latches.ensures.live };
       nets = record {
         words = c.in_ok-nets.ensures.words ∙ nets;
-        touched = c.in_ok-nets.ensures.touched ∙ nets;
+        touched = c.in_ok-nets.ensures.touched;
         marks = omega (arith, c.in_ok-nets.ensures.marks, tables, latches);
       };
-      held = c.in_ok-latches.ensures.held;
-      same = c.in_ok-nets.ensures.same;
     }

@@ -1,4 +1,4 @@
-use Rattle.std.proofs.Common.{◌≡◌, List, length, refl, ap, ◌∙◌, arith}
+use Rattle.std.proofs.Common.{◌≡◌, List, length, refl, ap, sym, subst, ◌∙◌, arith}
 use Rattle.std.proofs.lemmas.Grind.{common_steps}
 use Rattle.std.specs.Vec.{with_items}
 use Rattle.circuit.specs.After.{Moment}
@@ -6,7 +6,12 @@ use Rattle.circuit.specs.Value.{bit_at}
 use Rattle.golden_difference.proofs.NextCycle.{beside_none}
 use Rattle.lane_words.specs.Gates.{plane}
 use Rattle.lane_words.specs.Loads.{loaded_faults}
+use Rattle.differential_kernel.specs.Differences.{DifferOnlyIn}
 use Rattle.differential_kernel.proofs.lanes.DifferentialLanes.start.Goals as goal
+
+pub clear-requires : goal.clear-requires
+clear-requires g c =
+    subst (λ (ws : List g.row.W.Denot). DifferOnlyIn g.W.Word.lanes g.W.Word.lane_bit c.self.inside.latches.live ws) (sym c.deref_mut.ensures.value) c.self.invariant.latches.live
 
 pub invariant_of-self : goal.invariant_of-self
 invariant_of-self g c =
@@ -23,16 +28,17 @@ invariant_of-self g c =
       whole = kept.whole;
       loads = kept.loads;
       acts_bound = kept.acts_bound;
-      acts = kept.acts;
       stuck = kept.stuck;
+      noted = kept.noted;
       forces = kept.forces;
-      named = kept.named;
-      idle = kept.idle;
-      steady = kept.steady;
-      latches = record { raw = count ∙ kept.latches.raw; live = c.clear.ensures.bound ∙ kept.latches.live };
+      latches = record {
+        raw = count ∙ kept.latches.raw;
+        live = record {
+          bound = c.clear.ensures.bound ∙ kept.latches.live.bound ∙ sym count;
+          same = λ n none k lt. ap (λ ws. bit_at (plane g.W.Word.lane_bit k ws) n) raw ∙ c.clear.ensures.same n k lt;
+        };
+      };
       nets = kept.nets;
-      held = λ n none k lt. ap (λ ws. bit_at (plane g.W.Word.lane_bit k ws) n) raw ∙ c.clear.ensures.same n k lt;
-      same = kept.same;
     }
 
 pub returns-clause-start : goal.returns-clause-start

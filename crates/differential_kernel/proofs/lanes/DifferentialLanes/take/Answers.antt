@@ -12,7 +12,7 @@ use Rattle.lane_words.specs.Bank.{lane_of}
 use Rattle.lane_words.specs.Gates.{plane}
 use Rattle.lane_words.specs.Loads.{loaded_faults}
 use Rattle.golden_difference.specs.Lanes.{Lanes, bank_of}
-use Rattle.differential_kernel.specs.Differences.{AreSameOff}
+use Rattle.differential_kernel.specs.Differences.{AreSameOff, DifferOnlyIn}
 use Rattle.differential_kernel.specs.Kernel.{lanes_of}
 use Rattle.differential_kernel.specs.Picked.{lane_at}
 use Rattle.differential_kernel.proofs.Dropping.{beside_dropped, beside_kept}
@@ -41,16 +41,18 @@ invariant_of-self g c =
           ap (λ (ls : List (List (Option Fault))). length ls) loads ∙ c.take_faults.auto.faults ∙ ap (λ (ls : List (List (Option Fault))). length ls) c.deref_mut.ensures.value
           ∙ kept.loads;
       acts_bound = kept.acts_bound;
-      acts = λ noted. absurd (false≢true noted);
       stuck = λ noted. absurd (false≢true noted);
+      noted = λ noted. absurd (false≢true noted);
       forces = kept.forces;
-      named = λ noted. absurd (false≢true noted);
-      idle = λ noted. absurd (false≢true noted);
-      steady = λ noted. absurd (false≢true noted);
-      latches = record { raw = latches ∙ kept.latches.raw; live = c.take_words.ensures.bound ∙ kept.latches.live };
-      nets = record { words = nets ∙ kept.nets.words; touched = c.take_words-2.ensures.bound ∙ kept.nets.touched; marks = kept.nets.marks };
-      held = λ n none k lt. ap (λ ws. bit_at (plane bit k ws) n) raw ∙ c.take_words.ensures.same n none k lt;
-      same = λ n none k lt. ap (λ ws. bit_at (plane bit k ws) n) words ∙ c.take_words-2.ensures.same n none k lt;
+      latches = record {
+        raw = latches ∙ kept.latches.raw;
+        live = subst (λ (ws : List g.row.W.Denot). DifferOnlyIn g.W.Word.lanes bit c.take_words.new.set ws) (sym raw) c.take_words.ensures.own;
+      };
+      nets = record {
+        words = nets ∙ kept.nets.words;
+        touched = subst (λ (ws : List g.row.W.Denot). DifferOnlyIn g.W.Word.lanes bit c.take_words-2.new.set ws) (sym words) c.take_words-2.ensures.own;
+        marks = kept.nets.marks;
+      };
     }
 
 pub take_faults-requires-clause-few : goal.take_faults-requires-clause-few
@@ -60,19 +62,19 @@ take_faults-requires-clause-few g c =
 
 pub take_words-requires-clause-others : goal.take_words-requires-clause-others
 take_words-requires-clause-others g c =
-    subst (λ (ws : List g.row.V.Denot). AreSameOff g.V.Word.lanes g.V.Word.lane_bit c.other.inside.latches.live ws) (sym c.deref-2.ensures.value) c.other.invariant.held
+    subst (λ (ws : List g.row.V.Denot). AreSameOff g.V.Word.lanes g.V.Word.lane_bit c.other.inside.latches.live ws) (sym c.deref-2.ensures.value) c.other.invariant.latches.live.same
 
-pub take_words-requires-clause-same : goal.take_words-requires-clause-same
-take_words-requires-clause-same g c =
-    subst (λ (ws : List g.row.W.Denot). AreSameOff g.W.Word.lanes g.W.Word.lane_bit c.self.inside.latches.live ws) (sym c.deref_mut-2.ensures.value) c.self.invariant.held
+pub take_words-requires-clause-own : goal.take_words-requires-clause-own
+take_words-requires-clause-own g c =
+    subst (λ (ws : List g.row.W.Denot). DifferOnlyIn g.W.Word.lanes g.W.Word.lane_bit c.self.inside.latches.live ws) (sym c.deref_mut-2.ensures.value) c.self.invariant.latches.live
 
 pub take_words-requires-2-clause-others : goal.take_words-requires-2-clause-others
 take_words-requires-2-clause-others g c =
-    subst (λ (ws : List g.row.V.Denot). AreSameOff g.V.Word.lanes g.V.Word.lane_bit c.other.inside.nets.touched ws) (sym c.deref-3.ensures.value) c.other.invariant.same
+    subst (λ (ws : List g.row.V.Denot). AreSameOff g.V.Word.lanes g.V.Word.lane_bit c.other.inside.nets.touched ws) (sym c.deref-3.ensures.value) c.other.invariant.nets.touched.same
 
-pub take_words-requires-2-clause-same : goal.take_words-requires-2-clause-same
-take_words-requires-2-clause-same g c =
-    subst (λ (ws : List g.row.W.Denot). AreSameOff g.W.Word.lanes g.W.Word.lane_bit c.self.inside.nets.touched ws) (sym c.deref_mut-3.ensures.value) c.self.invariant.same
+pub take_words-requires-2-clause-own : goal.take_words-requires-2-clause-own
+take_words-requires-2-clause-own g c =
+    subst (λ (ws : List g.row.W.Denot). DifferOnlyIn g.W.Word.lanes g.W.Word.lane_bit c.self.inside.nets.touched ws) (sym c.deref_mut-3.ensures.value) c.self.invariant.nets.touched
 
 pub returns-clause-taken : goal.returns-clause-taken
 returns-clause-taken g c = λ place lt.

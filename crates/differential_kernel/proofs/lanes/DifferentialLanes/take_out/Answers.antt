@@ -12,8 +12,17 @@ use Rattle.lane_words.specs.Gates.{plane}
 use Rattle.lane_words.specs.Loads.{loaded_faults}
 use Rattle.golden_difference.specs.Lanes.{Lanes, bank_of}
 use Rattle.differential_kernel.specs.Kernel.{lanes_of}
+use Rattle.differential_kernel.specs.Differences.{DifferOnlyIn}
 use Rattle.differential_kernel.proofs.Dropping.{all_kept, beside_dropped, beside_kept, none_kept, none_out}
 use Rattle.differential_kernel.proofs.lanes.DifferentialLanes.take_out.Goals as goal
+
+pub keep_lanes-requires : goal.keep_lanes-requires
+keep_lanes-requires g c =
+    subst (λ (ws : List g.row.W.Denot). DifferOnlyIn g.W.Word.lanes g.W.Word.lane_bit c.self.inside.latches.live ws) (sym c.deref_mut-2.ensures.value) c.self.invariant.latches.live
+
+pub keep_lanes-requires-2 : goal.keep_lanes-requires-2
+keep_lanes-requires-2 g c =
+    subst (λ (ws : List g.row.W.Denot). DifferOnlyIn g.W.Word.lanes g.W.Word.lane_bit c.self.inside.nets.touched ws) (sym c.deref_mut-3.ensures.value) c.self.invariant.nets.touched
 
 pub invariant_of-self : goal.invariant_of-self
 invariant_of-self g c =
@@ -38,20 +47,28 @@ invariant_of-self g c =
           ap (λ (ls : List (List (Option Fault))). length ls) loads ∙ c.unload.auto.loads ∙ ap (λ (ls : List (List (Option Fault))). length ls) c.deref_mut.ensures.value
           ∙ kept.loads;
       acts_bound = kept.acts_bound;
-      acts = λ noted. absurd (false≢true noted);
       stuck = λ noted. absurd (false≢true noted);
+      noted = λ noted. absurd (false≢true noted);
       forces = kept.forces;
-      named = λ noted. absurd (false≢true noted);
-      idle = λ noted. absurd (false≢true noted);
-      steady = λ noted. absurd (false≢true noted);
-      latches = record { raw = latches ∙ kept.latches.raw; live = kept.latches.live };
-      nets = record { words = nets ∙ kept.nets.words; touched = kept.nets.touched; marks = kept.nets.marks };
-      held = λ n none k lt.
-          ap (λ ws. bit_at (plane bit k ws) n) raw ∙ c.keep_lanes.ensures k n lt
-          ∙ ap (λ b. not (bit out k) && b) (ap (λ ws. bit_at (plane bit k ws) n) c.deref_mut-2.ensures.value ∙ kept.held n none k lt) ∙ none_kept (bit out k);
-      same = λ n none k lt.
-          ap (λ ws. bit_at (plane bit k ws) n) words ∙ c.keep_lanes-2.ensures k n lt
-          ∙ ap (λ b. not (bit out k) && b) (ap (λ ws. bit_at (plane bit k ws) n) c.deref_mut-3.ensures.value ∙ kept.same n none k lt) ∙ none_kept (bit out k);
+      latches = record {
+        raw = latches ∙ kept.latches.raw;
+        live = record {
+          bound = kept.latches.live.bound ∙ sym latches;
+          same = λ n none k lt.
+              ap (λ ws. bit_at (plane bit k ws) n) raw ∙ c.keep_lanes.ensures k n lt
+              ∙ ap (λ b. not (bit out k) && b) (ap (λ ws. bit_at (plane bit k ws) n) c.deref_mut-2.ensures.value ∙ kept.latches.live.same n none k lt) ∙ none_kept (bit out k);
+        };
+      };
+      nets = record {
+        words = nets ∙ kept.nets.words;
+        touched = record {
+          bound = kept.nets.touched.bound ∙ sym nets;
+          same = λ n none k lt.
+              ap (λ ws. bit_at (plane bit k ws) n) words ∙ c.keep_lanes-2.ensures k n lt
+              ∙ ap (λ b. not (bit out k) && b) (ap (λ ws. bit_at (plane bit k ws) n) c.deref_mut-3.ensures.value ∙ kept.nets.touched.same n none k lt) ∙ none_kept (bit out k);
+        };
+        marks = kept.nets.marks;
+      };
     }
 
 pub returns-clause-dropped : goal.returns-clause-dropped

@@ -1,0 +1,29 @@
+use Rattle.std.proofs.Common.{◌≡◌, List, length, ap, ◌∙◌, arith}
+use Rattle.std.specs.Prelude.{Option}
+use Rattle.std.proofs.lemmas.Bool.{false≢true}
+use Rattle.std.proofs.lemmas.Grind.{common_steps}
+use Rattle.std.specs.Vec.{with_items}
+use Rattle.circuit.specs.declared.parts.Fault.{Fault}
+use Rattle.differential_kernel.proofs.lanes.DifferentialLanes.load.Goals as goal
+
+pub invariant_of-self : goal.invariant_of-self
+invariant_of-self g c =
+    let s = c.self.inside in
+    let kept = c.self.invariant in
+    let loads : (with_items s.loads c.place.new.loads).items ≡ c.place.new.loads = grind (arith, common_steps) in
+    record {
+      sound = kept.sound;
+      ordered = kept.ordered;
+      program = kept.program;
+      given =
+          ap (λ (ls : List (List (Option Fault))). length ls) loads ∙ c.place.auto.loads ∙ ap (λ (ls : List (List (Option Fault))). length ls) c.deref_mut.ensures.value
+          ∙ kept.given;
+      whole = λ whole. absurd (false≢true whole);
+      loads = kept.loads;
+      acts_bound = kept.acts_bound;
+      stuck = kept.stuck;
+      noted = kept.noted;
+      forces = kept.forces;
+      latches = kept.latches;
+      nets = kept.nets;
+    }
