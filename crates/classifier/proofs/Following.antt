@@ -6,14 +6,10 @@ use Rattle.circuit.specs.declared.parts.Fault.{Fault}
 use Rattle.circuit.specs.Circuit.{Circuit}
 use Rattle.workload.specs.declared.run.Run.{Run}
 use Rattle.alarm_points.specs.declared.Points.{Points}
-use Rattle.std.specs.Prelude.{Option}
-use Rattle.alarm_points.specs.FourWatches.{windows_at}
 use Rattle.alarm_points.specs.Watch.{Watches, window_at}
 use Rattle.fm_base.specs.Lists.{some_below}
 use Rattle.fm_base.specs.Planes.{bit}
-use Rattle.classifier.specs.Load.{in_lane}
-use Rattle.classifier.specs.Seen.{AreAllFollowed, AreFollowed, HaveSeen, has_left, is_dropped, known_at}
-use Rattle.classifier.specs.declared.decided.Decided.{Decided}
+use Rattle.classifier.specs.Seen.{AreFollowed, HaveSeen, has_left, is_dropped}
 use Rattle.classifier.proofs.Leaving.{left_stays, not_dropped}
 
 -- where the same faults are in force
@@ -23,13 +19,6 @@ pub followed_alike : (c : Circuit) (points : Points) (ftti : ℕ) (run : Run) (f
 followed_alike c points ftti run faults known n old new same is = record {
   follow = λ k lane stays. same k lane ∙ is.follow k lane stays;
 }
-
--- the same in each word
-pub same_followed : (c : Circuit) (points : Points) (run : Run) (words : ℕ) (faults : List (List (Option Fault))) (decided : List Decided) (n : ℕ) (windows : List Watches) (old new : ℕ → ℕ → List Fault)
-    → ((word k : ℕ) → word < words → k < 64 → new word k ≡ old word k)
-    → AreAllFollowed c points run words faults decided n windows old → AreAllFollowed c points run words faults decided n windows new
-same_followed c points run words faults decided n windows old new same are word lt =
-    followed_alike c points (windows_at windows word).ftti run (in_lane faults word) (known_at decided word) n (old word) (new word) (λ k lane. same word k lt lane) (are word lt)
 
 -- one cycle more, behind which those lanes are dropped in which nothing more decides
 pub followed_more : (c : Circuit) (points : Points) (ftti : ℕ) (run : Run) (faults : ℕ → List Fault) (known t : ℕ) (old new : ℕ → List Fault) (ws : Watches) (left out : ℕ)

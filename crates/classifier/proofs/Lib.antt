@@ -15,5 +15,6 @@ pub mod Beyond
 pub mod Leaving
 pub mod BareLanes
 pub mod Following
+pub mod Stretches
 pub mod Finishing
 pub mod Narrowing

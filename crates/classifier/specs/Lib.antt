@@ -2,6 +2,9 @@ pub mod Testbench
 pub mod Load
 pub mod OutOfReach
 pub mod Seen
+pub mod Noise
+pub mod InRun
+pub mod Stretch
 pub mod Planes
 pub mod Batch
 pub mod Simulator

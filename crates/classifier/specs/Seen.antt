@@ -11,7 +11,7 @@ use Rattle.alarm_points.specs.declared.Goal.{Goal}
 use Rattle.alarm_points.specs.declared.Points.{Points}
 use Rattle.alarm_points.specs.FourWatches.{windows_at}
 use Rattle.alarm_points.specs.Interval.{interval_of}
-use Rattle.alarm_points.specs.Watch.{AreMadeFor, IsAfterPairs, Pair, Watch, Watches, differs_in, is_settled, raised_in, window_at}
+use Rattle.alarm_points.specs.Watch.{AreMadeFor, IsAfterPairs, KeepsIntervals, Pair, Watch, Watches, differs_in, is_settled, raised_in, window_at}
 use Rattle.fm_base.specs.Lists.{some_below}
 use Rattle.fm_base.specs.Planes.{bit}
 use Rattle.campaign_plan.specs.Danger.{differs, is_raised, is_silenced}
@@ -49,11 +49,16 @@ pub record HasSeen (c : Circuit) (points : Points) (ftti : ℕ) (run : Run) (fau
   pub after : IsAfterPairs pairs w
   pub shown : (k t : ℕ) → k < 64 → t < n → has_left c points ftti (bit known k) (faults k) run t ≡ false → IsShown c points run (faults k) goal pairs k t
 
+-- so has each goal's window
+abbrev pub HaveGoalsSeen : Circuit → Points → ℕ → Run → (ℕ → List Fault) → ℕ → ℕ → Watches → Type 0
+HaveGoalsSeen c points ftti run faults known n windows =
+    (g : ℕ) → g < length points.goals → HasSeen c points ftti run faults known (goal_at points.goals g) n (window_at windows g)
+
 -- each goal's window has seen the first n cycles of the run. `left` are lanes that have left it in them: of those whose notice wasn't known
 -- before the run, the noticed ones
 pub record HaveSeen (c : Circuit) (points : Points) (run : Run) (faults : ℕ → List Fault) (known n : ℕ) (windows : Watches) (left : ℕ) : Type 0 where
   pub made : AreMadeFor points windows
-  pub seen : (g : ℕ) → g < length points.goals → HasSeen c points windows.ftti run faults known (goal_at points.goals g) n (window_at windows g)
+  pub seen : HaveGoalsSeen c points windows.ftti run faults known n windows
   pub noticed_is : (k : ℕ) → k < 64 → bit known k ≡ false → bit left k ≡ is_noticed_by c points (faults k) run n
   pub stays : (k : ℕ) → k < 64 → has_left c points windows.ftti (bit known k) (faults k) run n ≡ false → bit left k ≡ false
 
@@ -73,6 +78,11 @@ pub record HaveSeenRun (c : Circuit) (points : Points) (run : Run) (faults : ℕ
 -- after n cycles the faults of each lane that hasn't left are in force in it
 pub record AreFollowed (c : Circuit) (points : Points) (ftti : ℕ) (run : Run) (faults : ℕ → List Fault) (known n : ℕ) (in_force : ℕ → List Fault) : Type 0 where
   pub follow : (k : ℕ) → k < 64 → has_left c points ftti (bit known k) (faults k) run n ≡ false → in_force k ≡ faults k
+
+-- a word has seen the first n cycles of the run, and the faults of each lane that hasn't left are in force
+pub record IsWatched (c : Circuit) (points : Points) (run : Run) (faults : ℕ → List Fault) (known n : ℕ) (in_force : ℕ → List Fault) (windows : Watches) (left : ℕ) : Type 0 where
+  pub seen : HaveSeen c points run faults known n windows left
+  pub followed : AreFollowed c points windows.ftti run faults known n in_force
 
 -- the lanes that have left, in a word
 abbrev pub left_at : List ℕ → ℕ → ℕ
@@ -106,14 +116,15 @@ abbrev pub AllBegin : Kind → ℕ → Load → List Decided → List (List (Opt
 AllBegin kind words load decided faults =
     (word k : ℕ) → word < words → k < 64 → Begins kind (decided_at decided word) k (lane_faults load word k) (in_lane faults word k)
 
--- in each word the faults of each lane that hasn't left are in force
-abbrev pub AreAllFollowed : Circuit → Points → Run → ℕ → List (List (Option Fault)) → List Decided → ℕ → List Watches → (ℕ → ℕ → List Fault) → Type 0
-AreAllFollowed c points run words faults decided n windows in_force =
-    (word : ℕ) → word < words → AreFollowed c points (windows_at windows word).ftti run (in_lane faults word) (known_at decided word) n (in_force word)
+-- a run of lanes that were so loaded has been seen in each word
+pub record HasBeenRun (c : Circuit) (points : Points) (run : Run) (words : ℕ) (load : Load) (decided : List Decided) (windows : List Watches) (left : List ℕ) : Type 0 where
+  pub faults : List (List (Option Fault))
+  pub begin : AllBegin run.kind words load decided faults
+  pub seen : HaveAllSeenRun c points run faults decided windows left
 
--- the windows of each word keep the interval of the settings
-abbrev pub KeepSettings : List Watches → List Watches → Type 0
-KeepSettings old new = (word : ℕ) → (windows_at new word).ftti ≡ (windows_at old word).ftti
+-- the windows of each word keep their intervals
+abbrev pub AllKeepIntervals : List Watches → List Watches → Type 0
+AllKeepIntervals old new = (word : ℕ) → KeepsIntervals (windows_at old word) (windows_at new word)
 
 -- ---- a step
 

@@ -1,11 +1,9 @@
 // The last lanes of four words, simulated in one.
-ghost use Rattle.std.specs.Prelude.{◌≡◌, ◌<◌, ℕ, Bool, IfOk, List, true};
+ghost use Rattle.std.specs.Prelude.{◌≡◌, IfOk, true};
 ghost use Rattle.circuit.specs.Order.{IsOrder};
-ghost use Rattle.fm_base.specs.Planes.{bit};
-ghost use Rattle.golden_difference.specs.Beside.{AreBeside};
-ghost use Rattle.golden_difference.specs.Lanes.{IsMadeFor, bank_of};
-ghost use Rattle.classifier.specs.Load.{in_lane, load_of};
-ghost use Rattle.classifier.specs.Narrowed.{narrow_faults};
+ghost use Rattle.golden_difference.specs.Lanes.{IsMadeFor};
+ghost use Rattle.classifier.specs.InRun.{in_run};
+ghost use Rattle.classifier.specs.Narrowed.{GoOnIn, narrow_in_run};
 
 use crate::followed::Followed;
 use crate::noise::Noise;
@@ -44,10 +42,7 @@ impl Narrow {
         requires four { W.words ≡ 4 }
         requires made { IsMadeFor others.now.circuit others.now.order self.old.lanes }
         ensures made { IsMadeFor self.old.lanes.circuit self.old.lanes.order self.new.lanes }
-        ensures cycle { result ≡ true → self.new.lanes.cycle ≡ others.now.cycle }
-        ensures faults { (word k : ℕ) → result ≡ true → word < 4 → k < 64 → narrow_faults self.new word k ≡ in_lane others.now.in_force word k }
-        ensures beside { (vectors : List (List Bool)) → result ≡ true → AreBeside W.lanes W.lane_bit vectors (bank_of others.now)
-            → AreBeside 64 bit vectors (bank_of self.new.lanes) }
+        ensures goes_on { result ≡ true → GoOnIn (in_run W.lanes W.lane_bit others.now) (narrow_in_run self.new) }
     {
         let Some(picks) = others.few() else {
             return false;
@@ -61,13 +56,7 @@ impl Narrow {
 impl Followed for Narrow {
     ghost words = { 4 };
 
-    ghost load = { λ s. load_of s.lanes };
-
-    ghost faults = { narrow_faults };
-
-    ghost cycle = { λ s. s.lanes.cycle };
-
-    ghost IsAfter = { λ vectors s. AreBeside 64 bit vectors (bank_of s.lanes) };
+    ghost in_run = { narrow_in_run };
 
     fn words() -> u32 {
         4

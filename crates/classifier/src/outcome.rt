@@ -1,5 +1,5 @@
 // What the faults in the lanes are found to be, over all runs.
-ghost use Rattle.std.specs.Prelude.{◌≡◌, ◌<◌, ◌≤◌, ◌+◌, ◌*◌, ◌++◌, ◌∷◌, [], ◌||◌, false, true, ℕ, List, Option, length};
+ghost use Rattle.std.specs.Prelude.{◌≡◌, ◌<◌, ◌≤◌, ◌+◌, ◌*◌, ◌++◌, ◌∷◌, [], ◌||◌, false, true, ℕ, List, length};
 ghost use Rattle.circuit.specs.declared.parts.Fault.{Fault};
 ghost use Rattle.circuit.specs.Circuit.{Circuit};
 ghost use Rattle.workload.specs.declared.run.Run.{Run};
@@ -13,10 +13,11 @@ ghost use Rattle.classifier.specs.Load.{Load, lane_faults, load_of};
 ghost use Rattle.classifier.specs.Narrowed.{AreNarrowFor};
 ghost use Rattle.classifier.specs.OutOfReach.{AreAllDecidedBy, AreAllOutOfReach, AreOutOfReach};
 ghost use Rattle.classifier.specs.declared.reached.OutOfReach.{OutOfReach as OutOfReachValue};
-ghost use Rattle.classifier.specs.Planes.{HasPlanes, outcome_at, planes_of};
-ghost use Rattle.alarm_points.specs.FourWatches.{AreAllMadeFor, AreFourMadeFor, windows_at};
+ghost use Rattle.classifier.specs.Planes.{AreAllPlanes, HaveAllPlanes, outcome_at, planes_of};
+ghost use Rattle.alarm_points.specs.FourWatches.{AreFourMadeFor};
 ghost use Rattle.alarm_points.specs.Watch.{AreMadeFor};
-ghost use Rattle.classifier.specs.Seen.{AllBegin, HaveAllSeenRun, HaveSeenRun, KeepSettings};
+ghost use Rattle.classifier.specs.Seen.{AllKeepIntervals, HasBeenRun, HaveSeenRun};
+ghost use Rattle.classifier.specs.Stretch.{AreMadeForBench};
 
 use crate::decided::{Decided, OPEN, decide};
 use crate::narrow::Narrow;
@@ -82,17 +83,12 @@ fn add_run(
     left: &[u64],
     outcomes: &mut [Outcome],
 )
-    requires windows { length windows.now ≡ length outcomes.old }
-    requires decided { length decided.now ≡ length outcomes.old }
-    requires left { length left.now ≡ length outcomes.old }
-    ensures { (c : Circuit) (points : PointsValue) (runs : List Run) (run : Run) (load : Load) (reach : List OutOfReachValue)
-        (faults : List (List (Option Fault))) (word : ℕ) → run.kind ≡ kind
-        → AreAllOutOfReach c points (length outcomes.old) load reach
-        → AreAllDecidedBy outcomes.old reach decided.now
-        → AllBegin kind (length outcomes.old) load decided.now faults
-        → HaveAllSeenRun c points run faults decided.now windows.now left.now → word < length outcomes.old
-        → HasPlanes c points (windows_at windows.now word).ftti runs (lane_faults load word) (outcome_at outcomes.old word)
-        → HasPlanes c points (windows_at windows.now word).ftti (runs ++ run ∷ []) (lane_faults load word) (outcome_at outcomes.new word) }
+    requires counts { (length windows.now ≡ length outcomes.old) × (length decided.now ≡ length outcomes.old) × (length left.now ≡ length outcomes.old) }
+    ensures { (c : Circuit) (points : PointsValue) (runs : List Run) (run : Run) (load : Load) (reach : List OutOfReachValue) → run.kind ≡ kind
+        → AreAllOutOfReach c points (length outcomes.old) load reach → AreAllDecidedBy outcomes.old reach decided.now
+        → HasBeenRun c points run (length outcomes.old) load decided.now windows.now left.now
+        → HaveAllPlanes c points runs (length outcomes.old) load windows.now outcomes.old
+        → HaveAllPlanes c points (runs ++ run ∷ []) (length outcomes.old) load windows.now outcomes.new }
 {
     for word in 0..outcomes.len() {
         let own = run_outcome(kind, &windows[word], decided[word].notice, left[word]);
@@ -100,7 +96,16 @@ fn add_run(
     }
 }
 
-// Simulates all runs in all lanes, and adds what each shows in each word; `outcomes` are all 0 before.
+// No word has shown anything.
+fn forget(outcomes: &mut [Outcome])
+    ensures { (word : ℕ) → word < length outcomes.old → outcome_at outcomes.new word ≡ record { danger = 0; noticed = 0 } }
+{
+    for word in 0..outcomes.len() {
+        outcomes[word] = NOTHING;
+    }
+}
+
+// Simulates all runs in all lanes, and adds what each shows in each word, from nothing on.
 fn judge_runs<W: Word, L: Ledger>(
     bench: &Testbench<'_>,
     reach: &[OutOfReach],
@@ -112,37 +117,20 @@ fn judge_runs<W: Word, L: Ledger>(
     outcomes: &mut [Outcome],
     steps: &mut Steps<L>,
 )
-    requires reach_count { length reach.now ≡ W.words }
+    requires made { AreMadeForBench bench.now W.words lanes.old narrow.old windows.old }
+    requires counts { (length reach.now ≡ W.words) × (length left.old ≡ W.words) × (length decided.old ≡ W.words) × (length outcomes.old ≡ W.words) }
     requires reach { AreAllOutOfReach bench.now.circuit bench.now.points W.words (load_of lanes.old) reach.now }
-    requires decided { length decided.old ≡ W.words }
-    requires made { IsMadeFor bench.now.circuit bench.now.order lanes.old }
-    requires narrow { AreNarrowFor bench.now.circuit bench.now.order narrow.old }
-    requires windows { length windows.old ≡ W.words }
-    requires windows_made { AreAllMadeFor bench.now.points windows.old }
-    requires left { length left.old ≡ W.words }
-    requires outcomes { length outcomes.old ≡ W.words }
-    requires nothing { (word : ℕ) → word < W.words → outcome_at outcomes.old word ≡ record { danger = 0; noticed = 0 } }
     ensures load { load_of lanes.new ≡ load_of lanes.old }
-    ensures narrow { AreNarrowFor bench.now.circuit bench.now.order narrow.new }
-    ensures windows_made { AreAllMadeFor bench.now.points windows.new }
-    ensures ftti { KeepSettings windows.old windows.new }
-    ensures planes { (word : ℕ) → word < W.words
-        → HasPlanes bench.now.circuit bench.now.points (windows_at windows.old word).ftti bench.now.runs (lane_faults (load_of lanes.old) word) (outcome_at outcomes.new word) }
+    ensures made { AreMadeForBench bench.now W.words lanes.new narrow.new windows.new }
+    ensures intervals { AllKeepIntervals windows.old windows.new }
+    ensures planes { HaveAllPlanes bench.now.circuit bench.now.points bench.now.runs W.words (load_of lanes.old) windows.old outcomes.new }
     ensures cost { steps.new ≤ steps.old + all_cycles bench.now.runs * length bench.now.circuit.tables }
 {
+    forget(outcomes);
     for run in 0..bench.runs() {
         decide(outcomes, reach, decided);
         watch_run(bench, run, decided, lanes, narrow, windows, left, steps);
         add_run(bench.kind(run), windows, decided, left, outcomes);
-    }
-}
-
-// No word has shown anything.
-fn forget(outcomes: &mut [Outcome])
-    ensures { (word : ℕ) → word < length outcomes.old → outcome_at outcomes.new word ≡ record { danger = 0; noticed = 0 } }
-{
-    for word in 0..outcomes.len() {
-        outcomes[word] = NOTHING;
     }
 }
 
@@ -159,25 +147,18 @@ pub fn loaded_outcomes<W: Word, L: Ledger>(
     outcomes: &mut [Outcome],
     steps: &mut Steps<L>,
 )
-    requires lanes { IsMadeFor bench.now.circuit bench.now.order lanes.old }
-    requires narrow { AreNarrowFor bench.now.circuit bench.now.order narrow.old }
-    requires reach_count { length reach.now ≡ W.words }
+    requires made { AreMadeForBench bench.now W.words lanes.old narrow.old windows.old }
+    requires counts { (length reach.now ≡ W.words) × (length outcomes.old ≡ W.words) }
     requires reach { AreAllOutOfReach bench.now.circuit bench.now.points W.words (load_of lanes.old) reach.now }
-    requires count { length windows.old ≡ W.words }
-    requires windows { AreAllMadeFor bench.now.points windows.old }
-    requires outcomes { length outcomes.old ≡ W.words }
-    ensures outcomes { (word : ℕ) → word < W.words
-        → outcome_at outcomes.new word ≡ planes_of bench.now.circuit bench.now.points (windows_at windows.old word).ftti bench.now.runs (lane_faults (load_of lanes.old) word) }
-    ensures loads { load_of lanes.new ≡ load_of lanes.old }
-    ensures narrow { AreNarrowFor bench.now.circuit bench.now.order narrow.new }
-    ensures windows { AreAllMadeFor bench.now.points windows.new }
-    ensures ftti { KeepSettings windows.old windows.new }
+    ensures outcomes { AreAllPlanes bench.now.circuit bench.now.points bench.now.runs W.words (load_of lanes.old) windows.old outcomes.new }
+    ensures load { load_of lanes.new ≡ load_of lanes.old }
+    ensures made { AreMadeForBench bench.now W.words lanes.new narrow.new windows.new }
+    ensures intervals { AllKeepIntervals windows.old windows.new }
     ensures cost { steps.new ≤ steps.old + all_cycles bench.now.runs * length bench.now.circuit.tables }
 {
     let mut left = [0; MOST_WORDS];
     let mut decided = [OPEN; MOST_WORDS];
     let words = W::words() as usize;
-    forget(outcomes);
     judge_runs(
         bench,
         reach,

@@ -10,6 +10,7 @@ ghost use Rattle.fm_base.specs.Planes.{bit};
 ghost use Rattle.golden_difference.specs.Beside.{IsGoldenRow, AreBeside};
 ghost use Rattle.lane_words.specs.Bits.{either};
 ghost use Rattle.classifier.specs.Load.{in_lane};
+ghost use Rattle.classifier.specs.Noise.{IsNoiseOf};
 ghost use Rattle.golden_difference.specs.Lanes.{bank_of};
 
 use crate::noise::{Noise, SILENT};
@@ -91,14 +92,9 @@ pub fn noise_in<W: Word>(
 ) -> Noise
     requires word { word < W.words }
     requires nets { All (IsNet lanes.now.circuit) nets.now }
-    ensures raised { (run : Run) (t k : ℕ) → t < cycles_of run → AreBeside W.lanes W.lane_bit (take (t + 1) run.vectors) (bank_of lanes.now)
-        → IsGoldenRow lanes.now.circuit run.vectors t row.now → k < 64
-        → bit result.raised k ≡ list_any (λ net. with_faults lanes.now.circuit (in_lane lanes.now.in_force word k) run t net
-        && not (golden_value lanes.now.circuit run t net)) nets.now }
-    ensures silenced { (run : Run) (t k : ℕ) → t < cycles_of run → AreBeside W.lanes W.lane_bit (take (t + 1) run.vectors) (bank_of lanes.now)
-        → IsGoldenRow lanes.now.circuit run.vectors t row.now → k < 64
-        → bit result.silenced k ≡ list_any (λ net. not (with_faults lanes.now.circuit (in_lane lanes.now.in_force word k) run t net)
-        && golden_value lanes.now.circuit run t net) nets.now }
+    ensures { (run : Run) (t : ℕ) → t < cycles_of run → AreBeside W.lanes W.lane_bit (take (t + 1) run.vectors) (bank_of lanes.now)
+        → IsGoldenRow lanes.now.circuit run.vectors t row.now
+        → IsNoiseOf lanes.now.circuit (in_lane lanes.now.in_force word) run t nets.now result }
 {
     let mut found = SILENT;
     for net in nets {

@@ -4,18 +4,18 @@ ghost use Rattle.circuit.specs.declared.parts.Fault.{Fault};
 ghost use Rattle.circuit.specs.Circuit.{Circuit};
 ghost use Rattle.workload.specs.declared.run.Run.{Run};
 ghost use Rattle.workload.specs.Runs.{cycles_of, run_at};
+ghost use Rattle.alarm_points.specs.FourWatches.{AreAllMadeFor};
 ghost use Rattle.alarm_points.specs.PointsKept.{ArePointsFor};
 ghost use Rattle.alarm_points.specs.Watch.{KeepsIntervals};
 ghost use Rattle.fm_base.specs.Planes.{bit};
-ghost use Rattle.golden_difference.specs.Beside.{AreBeside, IsGoldenRow, IsOver};
-ghost use Rattle.classifier.specs.Load.{in_lane, load_of};
-ghost use Rattle.classifier.specs.Narrowed.{AreNarrowFor, narrow_faults};
+ghost use Rattle.classifier.specs.InRun.{AreAllOver, IsLastCycle, KeepOthers, KeepPlace, in_run};
+ghost use Rattle.classifier.specs.Load.{load_of};
+ghost use Rattle.classifier.specs.Narrowed.{AreNarrowFor, GoOnIn, narrow_in_run};
 ghost use Rattle.classifier.specs.declared.narrow.Narrow.{Narrow as NarrowValue};
 ghost use Rattle.classifier.specs.OutOfReach.{decided_at};
 ghost use Rattle.classifier.specs.declared.decided.Decided.{Decided as DecidedValue};
-ghost use Rattle.alarm_points.specs.FourWatches.{AreAllMadeFor};
-ghost use Rattle.classifier.specs.Seen.{AllBegin, AreAllFollowed, AreFollowed, Begins, HaveAllSeen, HaveAllSeenRun, HaveSeen, KeepSettings, is_decided, is_dropped};
-ghost use Rattle.golden_difference.specs.Lanes.{IsMadeFor, bank_of};
+ghost use Rattle.classifier.specs.Seen.{AllKeepIntervals, Begins, HasBeenRun, HaveAllSeen, IsWatched, is_decided, is_dropped};
+ghost use Rattle.classifier.specs.Stretch.{AreAllWatched, AreForWords, AreMadeForBench, IsStretch, IsUnderWay, under_way};
 
 use crate::decided::Decided;
 use crate::followed::Followed;
@@ -39,7 +39,7 @@ fn start_windows(points: &Points, windows: &mut [Windows], left: &mut [u64])
     requires left { length left.old ≡ length windows.old }
     requires made { AreAllMadeFor points.now windows.old }
     ensures seen { (c : Circuit) (run : Run) (faults : List (List (Option Fault))) (decided : List DecidedValue) → HaveAllSeen c points.now run faults decided 0 windows.new left.new }
-    ensures ftti { KeepSettings windows.old windows.new }
+    ensures intervals { AllKeepIntervals windows.old windows.new }
 {
     for word in 0..windows.len() {
         windows[word].start();
@@ -50,13 +50,11 @@ fn start_windows(points: &Points, windows: &mut [Windows], left: &mut [u64])
 // Drops some lanes of a word, where there are more than before.
 fn drop_more<F: Followed>(lanes: &mut F, word: u32, before: u64, out: u64)
     requires { word < F.words }
-    ensures load { F.load lanes.new ≡ F.load lanes.old }
-    ensures cycles { F.cycle lanes.new ≡ F.cycle lanes.old }
-    ensures after { (vectors : List (List Bool)) → F.IsAfter vectors lanes.old → F.IsAfter vectors lanes.new }
+    ensures place { KeepPlace (F.in_run lanes.old) (F.in_run lanes.new) }
     ensures others { (other k : ℕ) → other < F.words → k < 64 → (other ≢ word) ⊎ (bit out k ≡ false)
-        → F.faults lanes.new other k ≡ F.faults lanes.old other k }
-    ensures dropped { (other k : ℕ) → other < F.words → k < 64 → (F.faults lanes.new other k ≡ F.faults lanes.old other k)
-        ⊎ ((other ≡ word) × (bit out k ≡ true) × (F.faults lanes.new other k ≡ [])) }
+        → (F.in_run lanes.new).faults other k ≡ (F.in_run lanes.old).faults other k }
+    ensures dropped { (other k : ℕ) → other < F.words → k < 64 → ((F.in_run lanes.new).faults other k ≡ (F.in_run lanes.old).faults other k)
+        ⊎ ((other ≡ word) × (bit out k ≡ true) × ((F.in_run lanes.new).faults other k ≡ [])) }
 {
     if out != before {
         lanes.drop_lanes(word, out);
@@ -84,19 +82,13 @@ fn see_word<F: Followed>(
     left: &mut u64,
 )
     requires word { word < F.words }
-    requires points { ArePointsFor (F.load lanes.old).circuit points.now }
+    requires points { ArePointsFor (F.in_run lanes.old).load.circuit points.now }
     requires windows { length windows.old.windows ≡ length points.now.goals }
-    ensures load { F.load lanes.new ≡ F.load lanes.old }
-    ensures cycles { F.cycle lanes.new ≡ F.cycle lanes.old }
-    ensures after { (vectors : List (List Bool)) → F.IsAfter vectors lanes.old → F.IsAfter vectors lanes.new }
-    ensures keeps { KeepsIntervals windows.old windows.new }
-    ensures seen { (run : Run) (faults : ℕ → List Fault) (t : ℕ) → run.kind ≡ kind → t < cycles_of run → F.IsAfter (take (t + 1) run.vectors) lanes.old
-        → IsGoldenRow (F.load lanes.old).circuit run.vectors t row.now
-        → AreFollowed (F.load lanes.old).circuit points.now windows.old.ftti run faults decided.notice t (F.faults lanes.old word)
-        → HaveSeen (F.load lanes.old).circuit points.now run faults decided.notice t windows.old left.old
-        → HaveSeen (F.load lanes.old).circuit points.now run faults decided.notice (t + 1) windows.new left.new
-        × AreFollowed (F.load lanes.old).circuit points.now windows.new.ftti run faults decided.notice (t + 1) (F.faults lanes.new word) }
-    ensures others { (other k : ℕ) → other < F.words → k < 64 → other ≢ word → F.faults lanes.new other k ≡ F.faults lanes.old other k }
+    ensures others { KeepOthers F.words word (F.in_run lanes.old) (F.in_run lanes.new) }
+    ensures intervals { KeepsIntervals windows.old windows.new }
+    ensures seen { (run : Run) (faults : ℕ → List Fault) (t : ℕ) → IsLastCycle kind run t row.now (F.in_run lanes.old)
+        → IsWatched (F.in_run lanes.old).load.circuit points.now run faults decided.notice t ((F.in_run lanes.old).faults word) windows.old left.old
+        → IsWatched (F.in_run lanes.old).load.circuit points.now run faults decided.notice (t + 1) ((F.in_run lanes.new).faults word) windows.new left.new }
 {
     let before = *left;
     see_cycle(lanes, word, points, kind, row, windows, left);
@@ -116,23 +108,13 @@ fn see_words<F: Followed>(
     windows: &mut [Windows],
     left: &mut [u64],
 )
-    requires points { ArePointsFor (F.load lanes.old).circuit points.now }
-    requires decided { length decided.now ≡ F.words }
-    requires windows { length windows.old ≡ F.words }
-    requires left { length left.old ≡ F.words }
-    requires made { AreAllMadeFor points.now windows.old }
-    ensures load { F.load lanes.new ≡ F.load lanes.old }
-    ensures cycles { F.cycle lanes.new ≡ F.cycle lanes.old }
-    ensures after { (vectors : List (List Bool)) → F.IsAfter vectors lanes.old → F.IsAfter vectors lanes.new }
-    ensures made { AreAllMadeFor points.now windows.new }
-    ensures seen { (run : Run) (faults : List (List (Option Fault))) (t : ℕ) → run.kind ≡ kind → t < cycles_of run → F.IsAfter (take (t + 1) run.vectors) lanes.old
-        → IsGoldenRow (F.load lanes.old).circuit run.vectors t row.now
-        → AreAllFollowed (F.load lanes.old).circuit points.now run F.words faults decided.now t windows.old (F.faults lanes.old)
-        → HaveAllSeen (F.load lanes.old).circuit points.now run faults decided.now t windows.old left.old
-        → F.IsAfter (take (t + 1) run.vectors) lanes.new
-        × AreAllFollowed (F.load lanes.old).circuit points.now run F.words faults decided.now (t + 1) windows.new (F.faults lanes.new)
-        × HaveAllSeen (F.load lanes.old).circuit points.now run faults decided.now (t + 1) windows.new left.new }
-    ensures ftti { KeepSettings windows.old windows.new }
+    requires points { ArePointsFor (F.in_run lanes.old).load.circuit points.now }
+    requires words { AreForWords F.words points.now decided.now windows.old left.old }
+    ensures place { KeepPlace (F.in_run lanes.old) (F.in_run lanes.new) }
+    ensures intervals { AllKeepIntervals windows.old windows.new }
+    ensures seen { (run : Run) (faults : List (List (Option Fault))) (t : ℕ) → IsLastCycle kind run t row.now (F.in_run lanes.old)
+        → AreAllWatched points.now run F.words faults decided.now t (under_way (F.in_run lanes.old) windows.old left.old)
+        → AreAllWatched points.now run F.words faults decided.now (t + 1) (under_way (F.in_run lanes.new) windows.new left.new) }
 {
     for word in 0..F::words() {
         let at = word as usize;
@@ -160,28 +142,10 @@ fn run_cycle<F: Followed, L: Ledger>(
     left: &mut [u64],
     steps: &mut Steps<L>,
 )
-    requires run { run < length bench.now.runs }
-    requires cycle { t < cycles_of (run_at bench.now.runs run) }
-    requires decided { length decided.now ≡ F.words }
-    requires few { t < 65536 }
-    requires circuit { (F.load lanes.old).circuit ≡ bench.now.circuit }
-    requires order { (F.load lanes.old).order ≡ bench.now.order }
-    requires cycles { F.cycle lanes.old ≡ t }
-    requires after { F.IsAfter (take t (run_at bench.now.runs run).vectors) lanes.old }
-    requires windows { length windows.old ≡ F.words }
-    requires left { length left.old ≡ F.words }
-    requires windows_made { AreAllMadeFor bench.now.points windows.old }
-    ensures load { F.load lanes.new ≡ F.load lanes.old }
-    ensures cycles { F.cycle lanes.new ≡ t + 1 }
-    ensures after { F.IsAfter (take (t + 1) (run_at bench.now.runs run).vectors) lanes.new }
-    ensures windows_made { AreAllMadeFor bench.now.points windows.new }
-    ensures seen { (faults : List (List (Option Fault)))
-        → AreAllFollowed bench.now.circuit bench.now.points (run_at bench.now.runs run) F.words faults decided.now t windows.old (F.faults lanes.old)
-        → HaveAllSeen bench.now.circuit bench.now.points (run_at bench.now.runs run) faults decided.now t windows.old left.old
-        → F.IsAfter (take (t + 1) (run_at bench.now.runs run).vectors) lanes.new
-        × AreAllFollowed bench.now.circuit bench.now.points (run_at bench.now.runs run) F.words faults decided.now (t + 1) windows.new (F.faults lanes.new)
-        × HaveAllSeen bench.now.circuit bench.now.points (run_at bench.now.runs run) faults decided.now (t + 1) windows.new left.new }
-    ensures ftti { KeepSettings windows.old windows.new }
+    requires from { IsUnderWay bench.now run F.words decided.now t (under_way (F.in_run lanes.old) windows.old left.old) }
+    requires more { t < cycles_of (run_at bench.now.runs run) }
+    ensures stretch { IsStretch bench.now run F.words decided.now t (t + 1) (under_way (F.in_run lanes.old) windows.old left.old)
+        (under_way (F.in_run lanes.new) windows.new left.new) }
     ensures cost { steps.new ≤ steps.old + length bench.now.circuit.tables }
 {
     let row = bench.row(run, t);
@@ -210,11 +174,9 @@ fn left_out(kind: Kind, decided: Decided) -> u64
 // Drops the lanes that are decided before a run of this kind.
 fn drop_decided<F: Followed>(kind: Kind, decided: &[Decided], lanes: &mut F)
     requires { length decided.now ≡ F.words }
-    ensures load { F.load lanes.new ≡ F.load lanes.old }
-    ensures cycles { F.cycle lanes.new ≡ F.cycle lanes.old }
-    ensures after { (vectors : List (List Bool)) → F.IsAfter vectors lanes.old → F.IsAfter vectors lanes.new }
+    ensures place { KeepPlace (F.in_run lanes.old) (F.in_run lanes.new) }
     ensures begin { (word k : ℕ) → word < F.words → k < 64
-        → Begins kind (decided_at decided.now word) k (F.faults lanes.old word k) (F.faults lanes.new word k) }
+        → Begins kind (decided_at decided.now word) k ((F.in_run lanes.old).faults word k) ((F.in_run lanes.new).faults word k) }
 {
     for word in 0..F::words() {
         let out = left_out(kind, decided[word as usize]);
@@ -225,8 +187,8 @@ fn drop_decided<F: Followed>(kind: Kind, decided: &[Decided], lanes: &mut F)
 // Whether a run goes on in cycle t, up to a bound: it isn't over.
 fn goes_on<F: Followed>(lanes: &F, t: u32, bound: u32) -> bool
     ensures more { result ≡ true → t < bound }
-    ensures over { (vectors : List (List Bool)) (word k : ℕ) → result ≡ false → t < bound → F.IsAfter vectors lanes.now → word < F.words → k < 64
-        → IsOver (F.load lanes.now).circuit (F.faults lanes.now word k) vectors 65536 }
+    ensures over { (vectors : List (List Bool)) → result ≡ false → t < bound → (F.in_run lanes.now).IsAfter vectors
+        → AreAllOver F.words (F.in_run lanes.now) vectors }
 {
     if t < bound { !lanes.is_over() } else { false }
 }
@@ -244,31 +206,12 @@ fn follow<F: Followed, L: Ledger>(
     left: &mut [u64],
     steps: &mut Steps<L>,
 ) -> u32
-    requires run { run < length bench.now.runs }
-    requires from { from ≤ bound }
-    requires bound { bound ≤ cycles_of (run_at bench.now.runs run) }
-    requires few { bound ≤ 65536 }
-    requires decided { length decided.now ≡ F.words }
-    requires circuit { (F.load lanes.old).circuit ≡ bench.now.circuit }
-    requires order { (F.load lanes.old).order ≡ bench.now.order }
-    requires cycles { F.cycle lanes.old ≡ from }
-    requires after { F.IsAfter (take from (run_at bench.now.runs run).vectors) lanes.old }
-    requires windows { length windows.old ≡ F.words }
-    requires left { length left.old ≡ F.words }
-    requires windows_made { AreAllMadeFor bench.now.points windows.old }
-    ensures load { F.load lanes.new ≡ F.load lanes.old }
-    ensures cycles { F.cycle lanes.new ≡ result }
+    requires from { IsUnderWay bench.now run F.words decided.now from (under_way (F.in_run lanes.old) windows.old left.old) }
+    requires bound { (from ≤ bound) × (bound ≤ cycles_of (run_at bench.now.runs run)) }
+    ensures stretch { IsStretch bench.now run F.words decided.now from result (under_way (F.in_run lanes.old) windows.old left.old)
+        (under_way (F.in_run lanes.new) windows.new left.new) }
     ensures within { (from ≤ result) × (result ≤ bound) }
-    ensures after { F.IsAfter (take result (run_at bench.now.runs run).vectors) lanes.new }
-    ensures windows_made { AreAllMadeFor bench.now.points windows.new }
-    ensures seen { (faults : List (List (Option Fault)))
-        → AreAllFollowed bench.now.circuit bench.now.points (run_at bench.now.runs run) F.words faults decided.now from windows.old (F.faults lanes.old)
-        → HaveAllSeen bench.now.circuit bench.now.points (run_at bench.now.runs run) faults decided.now from windows.old left.old
-        → AreAllFollowed bench.now.circuit bench.now.points (run_at bench.now.runs run) F.words faults decided.now result windows.new (F.faults lanes.new)
-        × HaveAllSeen bench.now.circuit bench.now.points (run_at bench.now.runs run) faults decided.now result windows.new left.new }
-    ensures over { (word k : ℕ) → result < bound → word < F.words → k < 64
-        → IsOver bench.now.circuit (F.faults lanes.new word k) (take result (run_at bench.now.runs run).vectors) 65536 }
-    ensures ftti { KeepSettings windows.old windows.new }
+    ensures over { result < bound → AreAllOver F.words (F.in_run lanes.new) (take result (run_at bench.now.runs run).vectors) }
     ensures cost { steps.new + from * length bench.now.circuit.tables ≤ steps.old + result * length bench.now.circuit.tables }
 {
     let mut t = from;
@@ -298,11 +241,8 @@ fn goes_narrow<W: Word>(narrow: &mut [Narrow], lanes: &DifferentialLanes<W>) -> 
     ensures made { AreNarrowFor lanes.now.circuit lanes.now.order narrow.new }
     ensures some { result ≡ true → 0 < length narrow.new }
     ensures four { result ≡ true → W.words ≡ 4 }
-    ensures cycle { (d : NarrowValue) → result ≡ true → (slice_index_or narrow.new 0 d).lanes.cycle ≡ lanes.now.cycle }
-    ensures faults { (d : NarrowValue) (word k : ℕ) → result ≡ true → word < 4 → k < 64
-        → narrow_faults (slice_index_or narrow.new 0 d) word k ≡ in_lane lanes.now.in_force word k }
-    ensures beside { (d : NarrowValue) (vectors : List (List Bool)) → result ≡ true → AreBeside W.lanes W.lane_bit vectors (bank_of lanes.now)
-        → AreBeside 64 bit vectors (bank_of (slice_index_or narrow.new 0 d).lanes) }
+    ensures goes_on { (none : NarrowValue) → result ≡ true
+        → GoOnIn (in_run W.lanes W.lane_bit lanes.now) (narrow_in_run (slice_index_or narrow.new 0 none)) }
 {
     if narrow.len() > 0 && W::words() == 4 {
         narrow[0].take(lanes)
@@ -328,18 +268,12 @@ pub fn watch_run<W: Word, L: Ledger>(
     steps: &mut Steps<L>,
 )
     requires run { run < length bench.now.runs }
-    requires decided { length decided.now ≡ W.words }
-    requires made { IsMadeFor bench.now.circuit bench.now.order lanes.old }
-    requires narrow { AreNarrowFor bench.now.circuit bench.now.order narrow.old }
-    requires windows { length windows.old ≡ W.words }
-    requires left { length left.old ≡ W.words }
-    requires windows_made { AreAllMadeFor bench.now.points windows.old }
+    requires made { AreMadeForBench bench.now W.words lanes.old narrow.old windows.old }
+    requires counts { (length decided.now ≡ W.words) × (length left.old ≡ W.words) }
     ensures load { load_of lanes.new ≡ load_of lanes.old }
     ensures narrow { AreNarrowFor bench.now.circuit bench.now.order narrow.new }
-    ensures seen { (faults : List (List (Option Fault)))
-        × AllBegin (run_at bench.now.runs run).kind W.words (load_of lanes.old) decided.now faults
-        × HaveAllSeenRun bench.now.circuit bench.now.points (run_at bench.now.runs run) faults decided.now windows.new left.new }
-    ensures ftti { KeepSettings windows.old windows.new }
+    ensures seen { HasBeenRun bench.now.circuit bench.now.points (run_at bench.now.runs run) W.words (load_of lanes.old) decided.now windows.new left.new }
+    ensures intervals { AllKeepIntervals windows.old windows.new }
     ensures cost { steps.new ≤ steps.old + cycles_of (run_at bench.now.runs run) * length bench.now.circuit.tables }
 {
     lanes.start();

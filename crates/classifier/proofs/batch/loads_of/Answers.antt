@@ -1,4 +1,4 @@
-use Rattle.std.proofs.Common.{List, [], ◌∷◌, ap, ◌∙◌, arith, length-set}
+use Rattle.std.proofs.Common.{[], ◌∷◌, ap, ◌∙◌, arith, length-set}
 use Rattle.std.specs.Prelude.{Option, None}
 use Rattle.circuit.specs.declared.parts.Fault.{Fault}
 use Rattle.lane_words.specs.Loads.{somes}

@@ -1,13 +1,11 @@
 use Rattle.std.proofs.Common.{◌≡◌, ◌<◌, ◌≤◌, ◌++◌, ◌∷◌, [], ℕ, List, length}
-use Rattle.std.specs.Prelude.{Option}
-use Rattle.circuit.specs.declared.parts.Fault.{Fault}
 use Rattle.circuit.specs.Circuit.{Circuit}
 use Rattle.workload.specs.declared.run.Run.{Run}
 use Rattle.alarm_points.specs.declared.Points.{Points}
-use Rattle.classifier.specs.Load.{Load, lane_faults}
-use Rattle.classifier.specs.Planes.{HasPlanes, outcome_at}
 use Rattle.alarm_points.specs.FourWatches.{windows_at}
-use Rattle.classifier.specs.Seen.{AllBegin, HaveAllSeenRun}
+use Rattle.classifier.specs.Load.{Load, lane_faults}
+use Rattle.classifier.specs.Planes.{HasPlanes, HaveAllPlanes, outcome_at}
+use Rattle.classifier.specs.Seen.{HasBeenRun}
 use Rattle.classifier.specs.OutOfReach.{AreAllDecidedBy, AreAllOutOfReach}
 use Rattle.classifier.specs.declared.reached.OutOfReach.{OutOfReach}
 use Rattle.classifier.proofs.outcome.add_run.Given as goal
@@ -15,12 +13,12 @@ use Rattle.classifier.proofs.outcome.add_run.Given as goal
 -- the run is added in the words so far, and the others are as they were
 abbrev pub invariant-loop-word : goal.invariant-loop-word
 invariant-loop-word l = record {
-  done : (c : Circuit) (points : Points) (runs : List Run) (run : Run) (load : Load) (reach : List OutOfReach) (faults : List (List (Option Fault))) (word : ℕ) → run.kind ≡ l.kind
+  done : (c : Circuit) (points : Points) (runs : List Run) (run : Run) (load : Load) (reach : List OutOfReach) → run.kind ≡ l.kind
       → AreAllOutOfReach c points (length l.initial.outcomes) load reach
       → AreAllDecidedBy l.initial.outcomes reach l.decided
-      → AllBegin l.kind (length l.initial.outcomes) load l.decided faults
-      → HaveAllSeenRun c points run faults l.decided l.windows l.left → word < l.word
-      → HasPlanes c points (windows_at l.windows word).ftti runs (lane_faults load word) (outcome_at l.initial.outcomes word)
+      → HasBeenRun c points run (length l.initial.outcomes) load l.decided l.windows l.left
+      → HaveAllPlanes c points runs (length l.initial.outcomes) load l.windows l.initial.outcomes
+      → (word : ℕ) → word < l.word
       → HasPlanes c points (windows_at l.windows word).ftti (runs ++ run ∷ []) (lane_faults load word) (outcome_at l.outcomes word);
   left : (word : ℕ) → l.word ≤ word → outcome_at l.outcomes word ≡ outcome_at l.initial.outcomes word;
 }

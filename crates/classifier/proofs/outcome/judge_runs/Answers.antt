@@ -10,8 +10,9 @@ use Rattle.classifier.specs.Load.{Load, lane_faults, load_of}
 use Rattle.classifier.specs.Planes.{HasPlanes, outcome_at}
 use Rattle.alarm_points.specs.FourWatches.{windows_at}
 use Rattle.classifier.specs.OutOfReach.{AreAllOutOfReach}
-use Rattle.classifier.specs.Seen.{AllBegin}
+use Rattle.classifier.specs.Seen.{HasBeenRun}
 use Rattle.classifier.proofs.RunByRun.{planes_none}
+use Rattle.classifier.proofs.Stretches.{intervals_more}
 use Rattle.classifier.proofs.outcome.judge_runs.Goals as goal
 
 -- the cycles up to one run more
@@ -33,14 +34,29 @@ loop-run-init g c =
     let none : c.args.steps.now ≤ c.args.steps.now + 0 * length net.tables = omega arith in
     record {
       load = refl;
-      narrow = c.requires.narrow;
-      made = c.requires.windows_made;
-      ftti = λ word. refl;
+      narrow = c.requires.made.narrow_made;
+      made = c.requires.made.windows_made;
+      intervals = λ word. record { ftti = refl; intervals = refl };
       planes = λ word lt.
           let ftti = (windows_at c.args.windows.now word).ftti in
           let faults = lane_faults (load_of c.args.lanes.now) word in
-          subst (λ (o : Outcome). HasPlanes net points ftti [] faults o) (sym (c.requires.nothing word lt)) (planes_none net points ftti faults);
+          let within : word < length c.args.outcomes.now = omega (arith, lt, c.requires.counts.3) in
+          subst (λ (o : Outcome). HasPlanes net points ftti [] faults o) (sym (c.forget.ensures word within)) (planes_none net points ftti faults);
       cost = none;
+    }
+
+pub watch_run-requires-clause-made : goal.watch_run-requires-clause-made
+watch_run-requires-clause-made g c =
+    let inv = c.loop-run.invariant in
+    let made = c.requires.made in
+    record {
+      lanes_made = record {
+        circuit = ap (λ (l : Load). l.circuit) inv.load ∙ made.lanes_made.circuit;
+        order = ap (λ (l : Load). l.order) inv.load ∙ made.lanes_made.order;
+      };
+      narrow_made = inv.narrow;
+      count = omega (arith, c.loop-run.auto.windows, made.count);
+      windows_made = inv.made;
     }
 
 pub loop-run-preserved : goal.loop-run-preserved
@@ -54,30 +70,48 @@ loop-run-preserved g c =
     let watched = c.watch_run.ensures in
     let before = load_of c.loop-run.lanes in
     let load = load_of c.args.lanes.now in
+    let old = c.args.windows.now in
+    let windows = c.watch_run.new.windows in
+    let held = c.loop-run.outcomes in
     let outcomes = c.add_run.new.outcomes in
+    let reach = c.args.reach.now in
+    let decided = c.decide.new.decided in
+    let left = c.watch_run.new.left in
     let within : n < length runs = omega (arith, c.runs-run-end.ensures) in
     let none : Run = record { kind = Mission; vectors = [] } in
+    let words : g.W.Word.words ≡ length held = omega (arith, c.requires.counts.3, c.loop-run.auto.outcomes, c.forget.auto.outcomes) in
+    let intervals = intervals_more old c.loop-run.windows windows inv.intervals watched.intervals in
+    let added =
+    c.add_run.ensures net points (take n runs) run before reach (sym c.kind.ensures)
+    (subst (λ m. AreAllOutOfReach net points m before reach) words (subst (λ (l : Load). AreAllOutOfReach net points g.W.Word.words l reach) (sym inv.load) c.requires.reach))
+    c.decide.ensures
+    (subst (λ m. HasBeenRun net points run m before decided windows left) words watched.seen)
+    (λ word less.
+    subst (λ (l : Load). HasPlanes net points (windows_at windows word).ftti (take n runs) (lane_faults l word) (outcome_at held word)) (sym inv.load)
+    (subst (λ f. HasPlanes net points f (take n runs) (lane_faults load word) (outcome_at held word)) (sym (intervals word).ftti) (inv.planes word (omega (arith, less, words))))) in
     record {
       load = watched.load ∙ inv.load;
       narrow = watched.narrow;
-      made = λ word lt. (watched.seen.2 word lt).seen.made;
-      ftti = λ word. watched.ftti word ∙ inv.ftti word;
+      made = λ word lt. (watched.seen.seen word lt).seen.made;
+      intervals = intervals;
       planes = λ word lt.
-          let ftti = (windows_at c.args.windows.now word).ftti in
-          let same : (windows_at c.watch_run.new.windows word).ftti ≡ ftti = watched.ftti word ∙ inv.ftti word in
-          let words : g.W.Word.words ≡ length c.loop-run.outcomes = omega (arith, c.requires.outcomes, c.loop-run.auto.outcomes) in
-          let inside : word < length c.loop-run.outcomes = omega (arith, c.requires.outcomes, c.loop-run.auto.outcomes) in
-          subst (λ f. HasPlanes net points f (take (n + 1) runs) (lane_faults load word) (outcome_at outcomes word)) same
-          (subst (λ (rs : List Run). HasPlanes net points (windows_at c.watch_run.new.windows word).ftti rs (lane_faults load word) (outcome_at outcomes word)) (sym (take_more runs n none within))
-          (subst (λ (l : Load). HasPlanes net points (windows_at c.watch_run.new.windows word).ftti (take n runs ++ run ∷ []) (lane_faults l word) (outcome_at outcomes word)) inv.load
-          (c.add_run.ensures net points (take n runs) run before c.args.reach.now watched.seen.0 word (sym c.kind.ensures)
-          (subst (λ m. AreAllOutOfReach net points m before c.args.reach.now) words
-          (subst (λ (l : Load). AreAllOutOfReach net points g.W.Word.words l c.args.reach.now) (sym inv.load) c.requires.reach))
-          c.decide.ensures
-          (subst (λ kd. AllBegin kd (length c.loop-run.outcomes) before c.decide.new.decided watched.seen.0) (sym c.kind.ensures)
-          (subst (λ m. AllBegin run.kind m before c.decide.new.decided watched.seen.0) words watched.seen.1))
-          watched.seen.2 inside
-          (subst (λ (l : Load). HasPlanes net points (windows_at c.watch_run.new.windows word).ftti (take n runs) (lane_faults l word) (outcome_at c.loop-run.outcomes word)) (sym inv.load)
-          (subst (λ f. HasPlanes net points f (take n runs) (lane_faults load word) (outcome_at c.loop-run.outcomes word)) (sym same) (inv.planes word lt))))));
+          subst (λ f. HasPlanes net points f (take (n + 1) runs) (lane_faults load word) (outcome_at outcomes word)) (intervals word).ftti
+          (subst (λ (rs : List Run). HasPlanes net points (windows_at windows word).ftti rs (lane_faults load word) (outcome_at outcomes word)) (sym (take_more runs n none within))
+          (subst (λ (l : Load). HasPlanes net points (windows_at windows word).ftti (take n runs ++ run ∷ []) (lane_faults l word) (outcome_at outcomes word)) inv.load
+          (added word (omega (arith, lt, words)))));
       cost = cost_more _ _ _ _ _ (length net.tables) _ inv.cost (more_cycles runs n within) watched.cost;
+    }
+
+pub returns-clause-made : goal.returns-clause-made
+returns-clause-made g c =
+    let inv = c.loop-run.invariant in
+    let made = c.requires.made in
+    record {
+      lanes_made = record {
+        circuit = ap (λ (l : Load). l.circuit) inv.load ∙ made.lanes_made.circuit;
+        order = ap (λ (l : Load). l.order) inv.load ∙ made.lanes_made.order;
+      };
+      narrow_made = inv.narrow;
+      count = omega (arith, c.loop-run.auto.windows, made.count);
+      windows_made = inv.made;
     }

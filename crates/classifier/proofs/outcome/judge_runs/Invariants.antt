@@ -1,10 +1,10 @@
-use Rattle.std.proofs.Common.{◌≡◌, ◌+◌, ◌*◌, ◌<◌, ◌≤◌, ℕ, length, take}
+use Rattle.std.proofs.Common.{◌≡◌, ◌+◌, ◌*◌, ◌≤◌, length, take}
 use Rattle.workload.specs.Runs.{all_cycles}
-use Rattle.classifier.specs.Load.{lane_faults, load_of}
+use Rattle.alarm_points.specs.FourWatches.{AreAllMadeFor}
+use Rattle.classifier.specs.Load.{load_of}
 use Rattle.classifier.specs.Narrowed.{AreNarrowFor}
-use Rattle.classifier.specs.Planes.{HasPlanes, outcome_at}
-use Rattle.alarm_points.specs.FourWatches.{AreAllMadeFor, windows_at}
-use Rattle.classifier.specs.Seen.{KeepSettings}
+use Rattle.classifier.specs.Planes.{HaveAllPlanes}
+use Rattle.classifier.specs.Seen.{AllKeepIntervals}
 use Rattle.classifier.proofs.outcome.judge_runs.Given as goal
 
 -- the runs so far are judged
@@ -13,9 +13,7 @@ invariant-loop-run g l = record {
   load : load_of l.lanes ≡ load_of l.initial.lanes;
   narrow : AreNarrowFor l.bench.circuit l.bench.order l.narrow;
   made : AreAllMadeFor l.bench.points l.windows;
-  ftti : KeepSettings l.initial.windows l.windows;
-  planes : (word : ℕ) → word < g.W.Word.words
-      → HasPlanes l.bench.circuit l.bench.points (windows_at l.initial.windows word).ftti (take l.run l.bench.runs) (lane_faults (load_of l.initial.lanes) word)
-      (outcome_at l.outcomes word);
+  intervals : AllKeepIntervals l.initial.windows l.windows;
+  planes : HaveAllPlanes l.bench.circuit l.bench.points (take l.run l.bench.runs) g.W.Word.words (load_of l.initial.lanes) l.initial.windows l.outcomes;
   cost : l.steps ≤ l.initial.steps + all_cycles (take l.run l.bench.runs) * length l.bench.circuit.tables;
 }

@@ -1,14 +1,8 @@
-use Rattle.std.proofs.Common.{◌<◌, length, arith}
 use Rattle.alarm_points.specs.FourWatches.{windows_at}
 use Rattle.classifier.specs.Load.{lane_faults, load_of}
 use Rattle.classifier.specs.Planes.{outcome_at}
 use Rattle.classifier.proofs.PlaneBits.{planes_are}
 use Rattle.classifier.proofs.outcome.loaded_outcomes.Goals as goal
-
-pub judge_runs-requires-clause-nothing : goal.judge_runs-requires-clause-nothing
-judge_runs-requires-clause-nothing g c = λ word lt.
-    let within : word < length c.args.outcomes.now = omega (arith, lt, c.requires.outcomes) in
-    c.forget.ensures word within
 
 pub returns-clause-outcomes : goal.returns-clause-outcomes
 returns-clause-outcomes g c = λ word lt.

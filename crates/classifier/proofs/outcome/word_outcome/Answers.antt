@@ -1,11 +1,12 @@
-use Rattle.std.proofs.Common.{◌≡◌, ℕ, ◌+◌, ◌*◌, ◌<◌, List, [], ◌∷◌, ap, ap₂, ◌∙◌, subst, arith}
+use Rattle.std.proofs.Common.{◌≡◌, ℕ, ◌+◌, ◌*◌, ◌<◌, List, [], ◌∷◌, length, ap, ap₂, sym, ◌∙◌, subst, arith}
 use Rattle.circuit.specs.declared.parts.Fault.{Fault}
-use Rattle.alarm_points.specs.FourWatches.{windows_at}
+use Rattle.alarm_points.specs.FourWatches.{AreAllMadeFor, windows_at}
 use Rattle.alarm_points.specs.Watch.{Watches}
 use Rattle.lane_words.specs.Loads.{loaded_faults}
 use Rattle.classifier.specs.Load.{lane_faults, load_of}
 use Rattle.classifier.specs.OutOfReach.{AreOutOfReach, reach_at}
 use Rattle.classifier.specs.Planes.{planes_of}
+use Rattle.classifier.proofs.Stretches.{one_word}
 use Rattle.classifier.proofs.outcome.word_outcome.Goals as goal
 
 pub loaded_outcomes-requires-clause-reach : goal.loaded_outcomes-requires-clause-reach
@@ -26,5 +27,12 @@ returns-clause-outcome g c =
     c.loaded_outcomes.ensures.outcomes 0 first
     ∙ ap₂ (λ (ftti : ℕ) (faults : ℕ → List Fault). planes_of net points ftti runs faults) same own
 
-pub loaded_outcomes-requires-clause-narrow : goal.loaded_outcomes-requires-clause-narrow
-loaded_outcomes-requires-clause-narrow g c = λ i none lt. absurd (omega (arith, lt))
+pub loaded_outcomes-requires-clause-made : goal.loaded_outcomes-requires-clause-made
+loaded_outcomes-requires-clause-made g c =
+    let value = c.from_mut.ensures.value in
+    record {
+      lanes_made = c.requires.lanes;
+      narrow_made = λ i none lt. absurd (omega (arith, lt));
+      count = ap (λ (ws : List Watches). length ws) value;
+      windows_made = subst (λ (ws : List Watches). AreAllMadeFor c.args.bench.now.points ws) (sym value) (one_word c.args.bench.now.points c.args.windows.now c.requires.windows);
+    }

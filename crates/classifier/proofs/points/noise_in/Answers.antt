@@ -32,18 +32,17 @@ loop-net-preserved g c =
           ∙ sym (list_any_more (λ (n : NetId). not (with_faults circuit faults run t n) && golden circuit run t n) nets i none within);
     }
 
-pub returns-clause-raised : goal.returns-clause-raised
-returns-clause-raised g c = λ run t k lt after row lane.
+pub returns : goal.returns
+returns g c = λ run t lt after row.
     let circuit = c.args.lanes.now.circuit in
-    let faults = in_lane c.args.lanes.now.in_force c.args.word k in
+    let faults = in_lane c.args.lanes.now.in_force c.args.word in
     let done : length c.args.nets.now ≤ c.loop-net.net-index = c.loop-net-test.false in
-    c.loop-net.invariant.raised run t k lt after row lane
-    ∙ ap (λ (nets : List NetId). list_any (λ (n : NetId). with_faults circuit faults run t n && not (golden circuit run t n)) nets) (take_all c.loop-net.net-index c.args.nets.now done)
-
-pub returns-clause-silenced : goal.returns-clause-silenced
-returns-clause-silenced g c = λ run t k lt after row lane.
-    let circuit = c.args.lanes.now.circuit in
-    let faults = in_lane c.args.lanes.now.in_force c.args.word k in
-    let done : length c.args.nets.now ≤ c.loop-net.net-index = c.loop-net-test.false in
-    c.loop-net.invariant.silenced run t k lt after row lane
-    ∙ ap (λ (nets : List NetId). list_any (λ (n : NetId). not (with_faults circuit faults run t n) && golden circuit run t n) nets) (take_all c.loop-net.net-index c.args.nets.now done)
+    let all = take_all c.loop-net.net-index c.args.nets.now done in
+    record {
+      raised = λ k lane.
+          c.loop-net.invariant.raised run t k lt after row lane
+          ∙ ap (λ (nets : List NetId). list_any (λ (n : NetId). with_faults circuit (faults k) run t n && not (golden circuit run t n)) nets) all;
+      silenced = λ k lane.
+          c.loop-net.invariant.silenced run t k lt after row lane
+          ∙ ap (λ (nets : List NetId). list_any (λ (n : NetId). not (with_faults circuit (faults k) run t n) && golden circuit run t n) nets) all;
+    }

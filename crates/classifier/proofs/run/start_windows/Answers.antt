@@ -1,7 +1,7 @@
-use Rattle.std.proofs.Common.{◌≡◌, ◌<◌, ℕ, [], length, map, get_or, ap, sym, ◌∙◌, subst, arith, length-set}
+use Rattle.std.proofs.Common.{◌≡◌, ◌<◌, ℕ, [], length, map, get_or, refl, ap, sym, ◌∙◌, subst, arith, length-set}
 use Rattle.std.proofs.lemmas.List.{get_or_default}
 use Rattle.alarm_points.specs.Interval.{interval_of}
-use Rattle.alarm_points.specs.Watch.{AreMadeFor, Watches}
+use Rattle.alarm_points.specs.Watch.{AreMadeFor, KeepsIntervals, Watches, intervals}
 use Rattle.classifier.specs.Load.{in_lane}
 use Rattle.alarm_points.specs.FourWatches.{windows_at}
 use Rattle.classifier.specs.Seen.{HaveSeen, known_at}
@@ -32,7 +32,18 @@ loop-word-preserved c =
           each_set (λ j w n. HaveSeen circuit points run (in_lane faults j) (known_at decided j) 0 w n) ws ns i new none silent silent inside also
           (unseen circuit points run (in_lane faults i) (known_at decided i) new made c.start.ensures.start) word
           (λ apart. let before : word < i = omega (arith, apart, lt) in inv.seen circuit run faults decided word before);
-      ftti = λ word.
-          each_set_one (λ j w. w.ftti ≡ (windows_at c.args.windows.now j).ftti) ws i new none inside
-          (c.start.ensures.keeps.ftti ∙ ap (λ (w : Watches). w.ftti) old ∙ inv.ftti i) word (λ apart. inv.ftti word);
+      intervals = λ word.
+          each_set_one (λ j w. KeepsIntervals (windows_at c.args.windows.now j) w) ws i new none inside
+          (record {
+            ftti = c.start.ensures.keeps.ftti ∙ ap (λ (w : Watches). w.ftti) old ∙ (inv.intervals i).ftti;
+            intervals = c.start.ensures.keeps.intervals ∙ ap (λ (w : Watches). intervals w) old ∙ (inv.intervals i).intervals;
+          })
+          word (λ apart. inv.intervals word);
     }
+
+pub loop-word-init : goal.loop-word-init
+loop-word-init c = record {
+  made = c.requires.made;
+  seen = λ circuit run faults decided word lt. absurd (omega (arith, lt));
+  intervals = λ word. record { ftti = refl; intervals = refl };
+}

@@ -5,8 +5,12 @@ use Rattle.classifier.proofs.Kept.{load_kept}
 use Rattle.classifier.proofs.Narrowing.{holds_at, in_first, same_at}
 use Rattle.classifier.proofs.narrow.NarrowFollowed.drop_lanes.Goals as goal
 
-pub returns-clause-load : goal.returns-clause-load
-returns-clause-load c = load_kept c.args.self.now.lanes c.drop_lanes.new.self c.drop_lanes.ensures.keeps
+pub returns-clause-place : goal.returns-clause-place
+returns-clause-place c = record {
+  load = load_kept c.args.self.now.lanes c.drop_lanes.new.self c.drop_lanes.ensures.keeps;
+  cycle = c.drop_lanes.ensures.cycle;
+  after = c.drop_lanes.ensures.beside;
+}
 
 pub returns-clause-dropped : goal.returns-clause-dropped
 returns-clause-dropped c = λ k lane is.
