@@ -17,13 +17,13 @@ use Rattle.differential_kernel.specs.declared.program.Program.{Program}
 use Rattle.differential_kernel.specs.Parts.{AreForcesOf, AreLatchesOf, AreNetsOf, IsProgramOf}
 use Rattle.differential_kernel.specs.Walk.{IsPair}
 
--- the order is one of the netlist's tables, and the readers are those in this order
+-- the order is one of the tables of a sound netlist, and the readers are those in this order
 pub record IsGoldenCycle (cycle : GoldenCycle) : Type 0 where
   pub sound : IsNetlist cycle.netlist.now
   pub ordered : IsOrder cycle.netlist.now cycle.order.now
   pub fanout : cycle.fanout.now ≡ record { circuit = cycle.netlist.now; order = cycle.order.now }
 
--- and so are the program and the forces
+-- the program is of this netlist and this order, and each net has its force
 pub record FitTogether {W : Type 0} (lanes : ℕ) (bit : W → ℕ → Bool) (cycle : GoldenCycle) (tables : Program W) (acting : Forces W) : Type 0 where
   pub golden : IsGoldenCycle cycle
   pub program : IsProgramOf lanes bit cycle.netlist.now cycle.order.now tables

@@ -14,7 +14,7 @@ IsSame lanes bit words n = (k : ℕ) → k < lanes → bit_at (plane bit k words
 abbrev pub AreSameOff : {W : Type 0} → ℕ → (W → ℕ → Bool) → Places → List W → Type 0
 AreSameOff lanes bit set words = (n : ℕ) → has set n ≡ false → IsSame lanes bit words n
 
--- a set of the places of these words has all that differ
+-- words that differ at places of a set alone, which can have each of their places
 pub record DifferOnlyIn {W : Type 0} (lanes : ℕ) (bit : W → ℕ → Bool) (set : Places) (words : List W) : Type 0 where
   pub bound : set.bound ≡ length words
   pub same : AreSameOff lanes bit set words

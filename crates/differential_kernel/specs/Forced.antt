@@ -1,4 +1,4 @@
--- What a net differs in once it is forced.
+-- What a net differs in once it is forced, or evaluated and forced.
 use Rattle.std.specs.Prelude.{◌≡◌, ◌≢◌, ℕ, ◌<◌, Bool, false, List, Option, None, Some, slice_index_or}
 use Rattle.circuit.specs.Circuit.{Circuit}
 use Rattle.circuit.specs.Value.{bit_at, driven, driver_at, table_gives}
@@ -10,11 +10,11 @@ use Rattle.place_set.specs.Places.{Places, has, value_in}
 use Rattle.differential_kernel.specs.Differences.{IsSame, read_in}
 use Rattle.differential_kernel.specs.Walk.{IsGivenAt}
 
--- by the force on it, where its value in a lane is read
+-- in a lane, by the force on it alone
 abbrev pub forced_in : {W : Type 0} → (W → ℕ → Bool) → ℕ → List ℕ → List (Force W) → Force W → List W → ℕ → Bool
 forced_in bit k row forces d words n = either (force_value bit k (slice_index_or forces n d) (read_in bit k row words n)) (value_in row n)
 
--- by its table and the force on it
+-- in a lane, by its table and the force on it
 abbrev pub evaluated_in : {W : Type 0} → (W → ℕ → Bool) → ℕ → Circuit → List ℕ → List (Force W) → Force W → List Bool → List Bool → List W → ℕ → Bool
 evaluated_in bit k c row forces d state inputs words n =
     either (force_value bit k (slice_index_or forces n d) (driven state inputs (table_gives c (read_in bit k row words)) (driver_at c n))) (value_in row n)

@@ -15,7 +15,7 @@ pub record AreNoted {W : Type 0} (lanes : ℕ) (bit : W → ℕ → Bool) (o : O
   pub nets : AreNetsOf lanes bit o own
   pub marked : AreMarked lanes bit o from own.words.items own.marks
 
--- what is marked stays so, and where that was all that reads nets that differ, it is again
+-- no mark is taken away, and where each place from one on that reads a net that differs was marked, each is again
 pub record StayNoted {W : Type 0} (lanes : ℕ) (bit : W → ℕ → Bool) (o : Ordered) (old new : NetDifferences W) : Type 0 where
   pub nets : AreNetsOf lanes bit o new
   pub kept : Grows old.marks new.marks

@@ -42,7 +42,7 @@ pub fn take_live<W: Word>(
     requires golden { IsGoldenCycle cycle.now }
     requires latches { AreLatchesOf W.lanes W.lane_bit cycle.now.netlist.now latches.old }
     requires nets { AreNetsOf W.lanes W.lane_bit cycle.now.fanout.now nets.old }
-    requires same { IsEmptySet nets.old.touched }
+    requires none { IsEmptySet nets.old.touched }
     ensures latches { AreLatchesOf W.lanes W.lane_bit cycle.now.netlist.now latches.new }
     ensures none { IsEmptySet latches.new.live }
     ensures noted { AreNoted W.lanes W.lane_bit cycle.now.fanout.now 0 nets.new }

@@ -14,10 +14,10 @@ use Rattle.differential_kernel.proofs.sources.take_live.Goals as goal
 pub latches-init : goal.latches-init
 latches-init g c = record {
   latches = c.requires.latches;
-  noted = record { nets = c.requires.nets; marked = λ place n le reads none. c.requires.nets.touched.same n (c.requires.same n) };
+  noted = record { nets = c.requires.nets; marked = λ place n le reads none. c.requires.nets.touched.same n (c.requires.none n) };
   none = λ n lt. absurd (omega arith);
   rest = λ k n lt le. refl;
-  values = λ k n lt within. c.requires.nets.touched.same n (c.requires.same n) k lt ∙ sym (latched_none (bit_at (plane g.W.Word.lane_bit k c.args.latches.now.raw.items)) (driver_at c.args.cycle.now.netlist.now n));
+  values = λ k n lt within. c.requires.nets.touched.same n (c.requires.none n) k lt ∙ sym (latched_none (bit_at (plane g.W.Word.lane_bit k c.args.latches.now.raw.items)) (driver_at c.args.cycle.now.netlist.now n));
 }
 
 pub store-requires-clause-net : goal.store-requires-clause-net
