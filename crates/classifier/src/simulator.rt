@@ -60,8 +60,7 @@ impl Simulator {
         // What has least to give up comes first, and the lanes last.
         let points = bench.points();
         let windows = Windows4::new(alloc, points, ftti)?;
-        let narrow = Narrow::new(alloc, bench.net(), bench.order())?;
-        let lanes = DifferentialLanes4::new(alloc, bench.net(), bench.order())?;
+        let (narrow, lanes) = lanes_for(alloc, bench)?;
         Ok(Simulator {
             points: Snapshot::of(points),
             lanes,
@@ -160,6 +159,19 @@ impl Simulator {
             steps,
         )
     }
+}
+
+// The one word in which the last lanes of a run go on, and the four words of lanes.
+fn lanes_for(
+    alloc: Global,
+    bench: &Testbench<'_>,
+) -> Result<(Narrow, DifferentialLanes4), AllocError>
+    ensures narrow { IfOk result (λ made. IsMadeFor bench.now.circuit bench.now.order made.0.lanes) }
+    ensures lanes { IfOk result (λ made. IsMadeFor bench.now.circuit bench.now.order made.1) }
+{
+    let narrow = Narrow::new(alloc, bench.net(), bench.order())?;
+    let lanes = DifferentialLanes4::new(alloc, bench.net(), bench.order())?;
+    Ok((narrow, lanes))
 }
 
 // Loads each word with its lists, and tells in which lanes points are out of reach.
