@@ -28,7 +28,9 @@ fn simulated_planes<L: Ledger>(
     ensures { IfOk result (λ list. list ≡ all_planes plan.now) }
 {
     let mut simulator = Simulator::new(alloc, bench, plan.settings().ftti)?;
-    collapsed_outcomes(alloc, plan, bench, collapse, &mut simulator, steps)
+    let planes = collapsed_outcomes(alloc, plan, bench, collapse, &mut simulator, steps);
+    drop(simulator);
+    planes
 }
 
 // The same, with a counter of steps that nobody reads.

@@ -8,6 +8,7 @@ ghost use Rattle.fm_base.specs.declared.refusal.Refusal.TheVariants.{Fault as Fa
 ghost use Rattle.fm_shelf.specs.Sink.{Sends, Wrote, WrotePrefix};
 ghost use Rattle.fm_shelf.specs.declared.shelf.Failed.{Failed as FailedValue};
 ghost use Rattle.campaign_plan.specs.Analysis.{fault_count};
+ghost use Rattle.classifier.specs.Testbench.{IsTestbenchFor};
 ghost use Rattle.readings.specs.Latencies.{latencies, latency_row, least_interval};
 ghost use Rattle.latency_table.specs.Golden.{HasSeenGolden};
 ghost use Rattle.latency_table.specs.Work.{HaveWorked};
@@ -33,7 +34,25 @@ pub struct Simulated {
     crew: Vec<LatencyWorker>,
 }
 
-// Simulates all faults of a plan.
+// Simulates all faults of a plan on its testbench.
+fn simulate_on<R: Threads + Sync>(
+    rt: &R,
+    alloc: Global,
+    plan: &Plan,
+    bench: &Testbench<'_>,
+    workers: u32,
+) -> Result<Simulated, AllocError>
+    requires bench { IsTestbenchFor plan.now bench.now }
+    requires workers { (0 < workers) × (workers ≤ 32) }
+    ensures golden { IfOk result (λ s. HasSeenGolden plan.now.circuit plan.now.runs s.golden) }
+    ensures crew { IfOk result (λ s. HaveWorked plan.now s.crew.items) }
+{
+    let golden = GoldenValues::new(alloc, bench)?;
+    let crew = simulated(rt, alloc, plan, bench, workers)?;
+    Ok(Simulated { golden, crew })
+}
+
+// The same, on a testbench that is made and given up here.
 fn simulate<R: Threads + Sync>(
     rt: &R,
     alloc: Global,
@@ -47,9 +66,9 @@ fn simulate<R: Threads + Sync>(
     ensures crew { IfOk result (λ s. HaveWorked plan.now s.crew.items) }
 {
     let bench = Testbench::of_plan(alloc, plan, order)?;
-    let golden = GoldenValues::new(alloc, &bench)?;
-    let crew = simulated(rt, alloc, plan, &bench, workers)?;
-    Ok(Simulated { golden, crew })
+    let simulated = simulate_on(rt, alloc, plan, &bench, workers);
+    drop(bench);
+    simulated
 }
 
 // Writes the names of the columns.
