@@ -17,7 +17,8 @@ use circuit::parts::Fault;
 use fault_list::net_of;
 use fm_shelf::shelf::{Failed, Sink};
 use fm_shelf::whole::write_all;
-use fmeda_report::words::{class_word, number_word, role_word};
+use fmeda_report::words::{class_word, role_word};
+use fm_shelf::lines::number_word;
 use metric_sums::Class;
 use rate_table::Part;
 

@@ -4,7 +4,7 @@ use Rattle.std.specs.List.{flat_map}
 use Rattle.fm_base.specs.Lists.{below}
 use Rattle.fm_shelf.specs.declared.shelf.Failed.{Failed}
 use Rattle.fm_shelf.specs.Sink.{SinkState, Sends}
-use Rattle.fmeda_report.proofs.Sending.{sends_as, sends_no_number, sends_number, sends_number_torn}
+use Rattle.fm_shelf.proofs.Sending.{sends_as, sends_no_number, sends_number, sends_number_torn}
 use Rattle.classifier.specs.Simulated.{Simulated, planes_simulated}
 use Rattle.circuit.specs.declared.parts.Fault.{Fault}
 use Rattle.circuit.specs.Circuit.{Circuit}

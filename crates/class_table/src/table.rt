@@ -18,7 +18,7 @@ use classifier::BatchSimulator;
 use fault_list::FaultList;
 use fm_shelf::shelf::{Failed, Sink};
 use fm_shelf::whole::write_pieces;
-use fmeda_report::lines::write_line;
+use fm_shelf::lines::write_line;
 use fmeda_report::words::class_word;
 use itoa::Buffer;
 use metric_sums::{Class, Role, class_of};

@@ -1,5 +1,3 @@
-pub mod Spacing
-pub mod Sending
 pub mod RowPlanes
 pub mod Summing
 pub mod Tallying

@@ -12,8 +12,9 @@ ghost use Rattle.fm_shelf.specs.Sink.{Sends};
 ghost use Rattle.fmeda_report.specs.Tallies.{planes_in_order};
 
 use crate::planes::class_of_fault;
-use crate::words::{class_word, number_word};
+use crate::words::class_word;
 use campaign_plan::{Outcome, Plan};
+use fm_shelf::lines::number_word;
 use fm_shelf::shelf::{Failed, Sink};
 use fm_shelf::whole::write_pieces;
 use metric_sums::Class;

@@ -3,7 +3,6 @@
 
 mod faults;
 mod law;
-pub mod lines;
 mod metrics;
 mod parts;
 mod planes;

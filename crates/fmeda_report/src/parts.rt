@@ -8,10 +8,10 @@ ghost use Rattle.fmeda_report.specs.Words.{role_word as word_of_role, covering_w
 ghost use Rattle.fm_shelf.specs.Sink.{Sends};
 ghost use Rattle.fmeda_report.specs.Tallies.{tally_at, tally_of, AreAmountsSmall, AreTallied};
 
-use crate::lines::write_line;
 use crate::tally::Tally;
-use crate::words::{covering_word, fraction_word, number_word, role_word};
+use crate::words::{covering_word, fraction_word, role_word};
 use campaign_plan::Plan;
+use fm_shelf::lines::{number_word, write_line};
 use fm_shelf::shelf::{Failed, Sink};
 use rate_table::Part;
 

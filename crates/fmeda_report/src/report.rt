@@ -8,15 +8,14 @@ ghost use Rattle.fm_shelf.specs.Sink.{Sends};
 ghost use Rattle.fmeda_report.specs.Tallies.{planes_in_order, tally_at, AreAmountsSmall, AreTallied};
 
 use crate::faults::write_faults;
-use crate::lines::write_line;
 use crate::metrics::write_metrics;
 use crate::parts::write_parts;
 use crate::planes::{all_sums, place_planes};
 use crate::sizes::write_sizes;
 use crate::space::{ReportSpace, Tallies};
 use crate::tally::{Tally, tally_faults};
-use crate::words::number_word;
 use campaign_plan::{Outcome, Plan};
+use fm_shelf::lines::{number_word, write_line};
 use fm_shelf::shelf::{Failed, Sink};
 use result_file::Row;
 

@@ -4,9 +4,9 @@ ghost use Rattle.workload.specs.Runs.{all_cycles};
 ghost use Rattle.fmeda_report.specs.Report.{sizes_line};
 ghost use Rattle.fm_shelf.specs.Sink.{Sends};
 
-use crate::lines::write_line;
-use crate::words::{asil_word, number_word};
+use crate::words::asil_word;
 use campaign_plan::Plan;
+use fm_shelf::lines::{number_word, write_line};
 use fm_shelf::shelf::{Failed, Sink};
 use workload::run::Workload;
 

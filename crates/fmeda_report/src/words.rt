@@ -59,15 +59,6 @@ pub(crate) fn target_word(met: Option<bool>) -> &'static [u8]
     }
 }
 
-/// A number in decimal digits, without leading zeros.
-pub fn number_word(n: u64) -> Line
-    ensures { result ≡ decimal n }
-{
-    let mut word = Line::new();
-    word.put_dec(n);
-    word
-}
-
 // Two numbers with a slash between them.
 fn ratio_word(fraction: Fraction) -> Line
     ensures { result ≡ decimal fraction.num ++ codes "/" ++ decimal fraction.den }

@@ -17,7 +17,8 @@ use circuit::parts::NetId;
 use fm_base::Line;
 use fm_shelf::shelf::{Failed, Sink};
 use fm_shelf::whole::write_all;
-use fmeda_report::words::{class_word, number_word};
+use fmeda_report::words::class_word;
+use fm_shelf::lines::number_word;
 use metric_sums::Class;
 
 // The greatest interval that is told, in cycles.

@@ -11,9 +11,8 @@ use alarm_points::{Goal, Points};
 use campaign_plan::Plan;
 use circuit::netlist::Netlist;
 use fm_shelf::shelf::{Failed, Sink};
-use fmeda_report::lines::write_line;
+use fm_shelf::lines::{number_word, write_line};
 use fmeda_report::sizes::cycles;
-use fmeda_report::words::number_word;
 use workload::run::Workload;
 
 fn write_netlist<O: Sink>(net: &Netlist, out: &mut O) -> Result<(), Failed>

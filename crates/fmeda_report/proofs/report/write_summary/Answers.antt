@@ -5,7 +5,7 @@ use Rattle.fmeda_report.specs.Rooms.{Room}
 use Rattle.fmeda_report.specs.Rows.{planes_in}
 use Rattle.fmeda_report.specs.Tallies.{planes_in_order}
 use Rattle.fmeda_report.proofs.RowPlanes.{rows_within}
-use Rattle.fmeda_report.proofs.Sending.{sends_as}
+use Rattle.fm_shelf.proofs.Sending.{sends_as}
 use Rattle.fmeda_report.proofs.report.write_summary.Goals as goal
 
 pub place_planes-requires : goal.place_planes-requires

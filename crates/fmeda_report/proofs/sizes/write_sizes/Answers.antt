@@ -6,7 +6,7 @@ use Rattle.fm_base.specs.Text.{line}
 use Rattle.campaign_plan.specs.declared.Settings.{Settings}
 use Rattle.fmeda_report.specs.Report.{sizes_line}
 use Rattle.fmeda_report.specs.Words.{asil_word}
-use Rattle.fmeda_report.proofs.Sending.{sends_as}
+use Rattle.fm_shelf.proofs.Sending.{sends_as}
 use Rattle.fmeda_report.proofs.sizes.write_sizes.Goals as goal
 
 pub returns : goal.returns

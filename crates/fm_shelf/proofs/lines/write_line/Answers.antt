@@ -1,8 +1,8 @@
 use Rattle.std.proofs.Common.{sym, ◌++◌, ◌∷◌, []}
 use Rattle.std.proofs.lemmas.Result.{err_from_is_err_and}
-use Rattle.fmeda_report.proofs.Sending.{sends_as, sends_stop, sends_then}
-use Rattle.fmeda_report.proofs.Spacing.{line_parts}
-use Rattle.fmeda_report.proofs.lines.write_line.Goals as goal
+use Rattle.fm_shelf.proofs.Sending.{sends_as, sends_stop, sends_then}
+use Rattle.fm_shelf.proofs.Spacing.{line_parts}
+use Rattle.fm_shelf.proofs.lines.write_line.Goals as goal
 
 pub returns-in_err-write_words : goal.returns-in_err-write_words
 returns-in_err-write_words g c =

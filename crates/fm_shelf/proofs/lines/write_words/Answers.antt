@@ -1,7 +1,7 @@
 use Rattle.std.proofs.lemmas.Result.{err_from_is_err_and}
-use Rattle.fmeda_report.specs.Spaces.{with_space}
-use Rattle.fmeda_report.proofs.Sending.{sends_none, sends_more, sends_torn}
-use Rattle.fmeda_report.proofs.lines.write_words.Goals as goal
+use Rattle.fm_shelf.specs.Spaces.{with_space}
+use Rattle.fm_shelf.proofs.Sending.{sends_none, sends_more, sends_torn}
+use Rattle.fm_shelf.proofs.lines.write_words.Goals as goal
 
 pub loop-word-init : goal.loop-word-init
 loop-word-init g c = sends_none _

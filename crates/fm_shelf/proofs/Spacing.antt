@@ -2,7 +2,7 @@
 use Rattle.std.proofs.Common.{◌≡◌, ◌∙◌, ap, sym, refl, ℕ, List, [], ◌∷◌, ◌++◌, map, Bor, append_assoc}
 use Rattle.std.specs.List.{flat_map}
 use Rattle.fm_base.specs.Text.{line, spaced}
-use Rattle.fmeda_report.specs.Spaces.{with_space}
+use Rattle.fm_shelf.specs.Spaces.{with_space}
 
 -- the texts of words
 abbrev pub texts : List (Bor (List ℕ)) → List (List ℕ)

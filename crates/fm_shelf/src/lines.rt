@@ -1,12 +1,22 @@
 // Lines of words, as they go out.
-ghost use Rattle.std.specs.Prelude.{map};
+ghost use Rattle.std.specs.Prelude.{◌≡◌, decimal, map};
 ghost use Rattle.std.specs.List.{flat_map};
 ghost use Rattle.fm_base.specs.Text.{line};
-ghost use Rattle.fmeda_report.specs.Spaces.{with_space};
+ghost use Rattle.fm_shelf.specs.Spaces.{with_space};
 ghost use Rattle.fm_shelf.specs.Sink.{Sends};
 
-use fm_shelf::shelf::{Failed, Sink};
-use fm_shelf::whole::{write_all, write_pieces};
+use crate::shelf::{Failed, Sink};
+use crate::whole::{write_all, write_pieces};
+use fm_base::Line;
+
+/// A number in decimal digits, without leading zeros.
+pub fn number_word(n: u64) -> Line
+    ensures { result ≡ decimal n }
+{
+    let mut word = Line::new();
+    word.put_dec(n);
+    word
+}
 
 // Writes words with a space behind each.
 fn write_words<O: Sink>(out: &mut O, words: &[&[u8]]) -> Result<(), Failed>

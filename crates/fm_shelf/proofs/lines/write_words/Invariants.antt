@@ -1,8 +1,8 @@
 use Rattle.std.proofs.Common.{take, Ok}
 use Rattle.std.specs.List.{flat_map}
 use Rattle.fm_shelf.specs.Sink.{Sends}
-use Rattle.fmeda_report.specs.Spaces.{with_space}
-use Rattle.fmeda_report.proofs.lines.write_words.Given as goal
+use Rattle.fm_shelf.specs.Spaces.{with_space}
+use Rattle.fm_shelf.proofs.lines.write_words.Given as goal
 
 abbrev pub invariant-loop-word : goal.invariant-loop-word
 invariant-loop-word g l =
