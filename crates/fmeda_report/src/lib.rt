@@ -7,7 +7,7 @@ mod metrics;
 mod parts;
 mod planes;
 mod report;
-pub mod sizes;
+mod sizes;
 mod space;
 mod tally;
 pub mod words;
