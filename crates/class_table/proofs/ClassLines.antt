@@ -13,7 +13,7 @@ use Rattle.fault_list.specs.Faults.{fault_at, fault_name}
 use Rattle.metric_sums.specs.Classes.{class_of}
 use Rattle.metric_sums.specs.declared.Role.TheVariants.{Mission}
 use Rattle.campaign_plan.specs.declared.Outcome.{Outcome}
-use Rattle.fmeda_report.specs.Words.{class_word}
+use Rattle.metric_sums.specs.Words.{class_word}
 use Rattle.fm_base.specs.Names.{Bytes}
 use Rattle.fm_base.specs.Planes.{bit}
 use Rattle.class_table.specs.ClassLines.{class_line, class_lines}

@@ -10,7 +10,7 @@ mod report;
 mod sizes;
 mod space;
 mod tally;
-pub mod words;
+mod words;
 
 pub use law::rows_report_truly;
 pub use metrics::write_metrics;

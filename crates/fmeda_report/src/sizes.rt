@@ -2,10 +2,10 @@
 ghost use Rattle.fmeda_report.specs.Report.{sizes_line};
 ghost use Rattle.fm_shelf.specs.Sink.{Sends};
 
-use crate::words::asil_word;
 use campaign_plan::Plan;
 use fm_shelf::lines::{number_word, write_line};
 use fm_shelf::shelf::{Failed, Sink};
+use metric_sums::words::asil_word;
 
 // Writes the sizes of the netlist, the fault list and the workload, and the settings.
 pub(crate) fn write_sizes<O: Sink>(plan: &Plan, out: &mut O) -> Result<(), Failed>

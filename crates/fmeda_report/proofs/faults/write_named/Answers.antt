@@ -6,7 +6,7 @@ use Rattle.fm_base.specs.Text.{line}
 use Rattle.fm_base.specs.Names.{Bytes}
 use Rattle.campaign_plan.specs.Analysis.{fault_numbered}
 use Rattle.campaign_plan.specs.Weights.{weight}
-use Rattle.fmeda_report.specs.Words.{class_word}
+use Rattle.metric_sums.specs.Words.{class_word}
 use Rattle.fm_shelf.proofs.Sending.{sends_as, sends_stop, sends_then}
 use Rattle.fmeda_report.proofs.faults.write_named.Goals as goal
 

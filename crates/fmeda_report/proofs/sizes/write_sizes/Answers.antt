@@ -5,7 +5,7 @@ use Rattle.workload.specs.Runs.{all_cycles}
 use Rattle.fm_base.specs.Text.{line}
 use Rattle.campaign_plan.specs.declared.Settings.{Settings}
 use Rattle.fmeda_report.specs.Report.{sizes_line}
-use Rattle.fmeda_report.specs.Words.{asil_word}
+use Rattle.metric_sums.specs.Words.{asil_word}
 use Rattle.fm_shelf.proofs.Sending.{sends_as}
 use Rattle.fmeda_report.proofs.sizes.write_sizes.Goals as goal
 
