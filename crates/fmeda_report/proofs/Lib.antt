@@ -1,4 +1,4 @@
-pub mod RowPlanes
+pub mod Placing
 pub mod Summing
 pub mod Tallying
 pub mod Naming

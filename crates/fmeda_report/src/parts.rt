@@ -2,7 +2,8 @@
 ghost use Rattle.std.specs.Prelude.{◌≡◌, ◌<◌, ℕ, flat_map, length};
 ghost use Rattle.fm_base.specs.Lists.{below};
 ghost use Rattle.campaign_plan.specs.Analysis.{part_count};
-ghost use Rattle.fmeda_report.specs.Report.{Planes, part_line};
+ghost use Rattle.fmeda_report.specs.Report.{part_line};
+ghost use Rattle.result_file.specs.RowPlanes.{Planes};
 ghost use Rattle.fmeda_report.specs.Steps.{faults_of_part};
 ghost use Rattle.fmeda_report.specs.Words.{covering_word as word_of_covering};
 ghost use Rattle.metric_sums.specs.Words.{role_word as word_of_role};

@@ -3,7 +3,7 @@ ghost use Rattle.std.specs.Prelude.{◌≡◌, ◌<◌, ℕ, length};
 ghost use Rattle.campaign_plan.specs.Analysis.{batch_count, part_count};
 ghost use Rattle.fmeda_report.specs.Report.{report, summary};
 ghost use Rattle.fmeda_report.specs.Rooms.{room_for};
-ghost use Rattle.fmeda_report.specs.Rows.{HoldEachOnce, planes_in};
+ghost use Rattle.result_file.specs.RowPlanes.{HoldEachOnce, planes_in};
 ghost use Rattle.fm_shelf.specs.Sink.{Sends};
 ghost use Rattle.fmeda_report.specs.Tallies.{planes_in_order, tally_at, AreAmountsSmall, AreTallied};
 

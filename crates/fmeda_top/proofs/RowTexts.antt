@@ -15,8 +15,7 @@ use Rattle.campaign_plan.specs.Batches.{AreDistinct, AreTrue, batches, true_plan
 use Rattle.result_file.specs.declared.KeptRows.{KeptRows}
 use Rattle.result_file.specs.declared.Row.{Row}
 use Rattle.result_file.specs.KeptRows.{entry_of, kept_entries}
-use Rattle.fmeda_report.specs.Report.{Planes}
-use Rattle.fmeda_report.specs.Rows.{HoldEachOnce, planes_in}
+use Rattle.result_file.specs.RowPlanes.{Planes, HoldEachOnce, planes_in}
 use Rattle.pair_list.specs.declared.pairs.PairRefusal.{PairRefusal}
 use Rattle.pair_list.specs.Chosen.{AreFaults, Chosen, chosen, has_row, pair_refusal}
 use Rattle.pair_list.proofs.Placing.{under}

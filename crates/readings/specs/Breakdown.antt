@@ -8,7 +8,8 @@ use Rattle.fm_base.specs.Names.{Bytes}
 use Rattle.fm_base.specs.Text.{line}
 use Rattle.campaign_plan.specs.Analysis.{Analysis}
 use Rattle.campaign_plan.specs.Batches.{true_planes}
-use Rattle.fmeda_report.specs.Report.{Planes, all_sums, metric_lines}
+use Rattle.fmeda_report.specs.Report.{all_sums, metric_lines}
+use Rattle.result_file.specs.RowPlanes.{Planes}
 
 -- a reading: its words, and the plan with the points or the interval so changed
 pub record Reading : Type 0 where

@@ -1,8 +1,6 @@
 -- The planes of rows, by batch.
-use Rattle.std.proofs.Common.{◌≡◌, ◌≢◌, ℕ, zero, suc, ◌+◌, ◌<◌, ◌≤◌, Bool, true, false, List, [], ◌∷◌, length, get_or, set, map, refl, ap, sym, subst, ◌∙◌, arith}
-use Rattle.std.specs.Prelude.{◌==◌, All, nat_lt}
-use Rattle.std.proofs.lemmas.Grind.{get_or-set_at}
-use Rattle.std.proofs.lemmas.List.{get_or-set_other, get_or_past}
+use Rattle.std.proofs.Common.{◌≡◌, ◌≢◌, ℕ, zero, suc, ◌<◌, true, false, List, [], ◌∷◌, length, get_or, map, refl, ap, sym, subst, arith}
+use Rattle.std.specs.Prelude.{◌==◌, All}
 use Rattle.std.proofs.lemmas.List.Elements.{All-head, All-tail, All-cons, All-nil}
 use Rattle.metric_sums.specs.Totals.{no_sums}
 use Rattle.fm_base.specs.Once.{Lacks, IsOnce}
@@ -11,8 +9,7 @@ use Rattle.campaign_plan.specs.Analysis.{Analysis, batch_count}
 use Rattle.campaign_plan.specs.Batches.{batches}
 use Rattle.result_file.specs.declared.Row.{Row}
 use Rattle.result_file.specs.KeptRows.{entry_of}
-use Rattle.fmeda_report.specs.Rows.{HoldEachOnce, planes_in}
-use Rattle.fmeda_report.specs.Tallies.{planes_in_order}
+use Rattle.result_file.specs.RowPlanes.{HoldEachOnce, planes_in}
 
 -- the batches of rows
 abbrev pub row_batches : List Row → List ℕ
@@ -64,30 +61,6 @@ no_row = record { batch = 0; danger = 0; noticed = 0; sums = no_sums }
 abbrev pub row_at : List Row → ℕ → Row
 row_at rows k = get_or rows k no_row
 
--- ---- the planes by place
-
-abbrev placed : List Outcome → List Row → ℕ → Type 0
-placed planes rows k = planes_in_order planes (row_at rows k).batch ≡ planes_in rows (row_at rows k).batch
-
--- one more row's planes stand at its batch
-pub place_more : (rows : List Row) (planes : List Outcome) (i n : ℕ) → IsOnce (row_batches rows) → i < length rows
-    → All (λ (row : Row). row.batch < n) rows → length planes ≡ n → ((k : ℕ) → k < i → placed planes rows k)
-    → (k : ℕ) → k < i + 1 → placed (set planes (row_at rows i).batch (planes_of (row_at rows i))) rows k
-place_more rows planes i n once lt all count before k below = by_cases ((row_at rows k).batch == (row_at rows i).batch) refl
-  where
-    by_cases : (b : Bool) → ((row_at rows k).batch == (row_at rows i).batch) ≡ b
-        → placed (set planes (row_at rows i).batch (planes_of (row_at rows i))) rows k
-    by_cases true e =
-        let same : (row_at rows k).batch ≡ (row_at rows i).batch = grind (arith, e) in
-        let within : (row_at rows i).batch < length planes = omega (arith, all i no_row lt, count) in
-        get_or-set_at planes (row_at rows i).batch (row_at rows k).batch (planes_of (row_at rows i)) _ same within
-        ∙ sym (ap (planes_in rows) same ∙ planes_in-at rows once i _ lt)
-    by_cases false e =
-        let other : (row_at rows k).batch ≢ (row_at rows i).batch = grind (arith, e) in
-        let apart : k ≢ i = λ here. other (ap (λ j. (row_at rows j).batch) here) in
-        let lower : k < i = omega (arith, below, apart) in
-        get_or-set_other planes (row_at rows i).batch (row_at rows k).batch (planes_of (row_at rows i)) _ other ∙ before k lower
-
 -- each row's batch is below a bound
 pub rows_below : (rows : List Row) (n : ℕ) → All (λ batch. batch < n) (row_batches rows) → All (λ (row : Row). row.batch < n) rows
 rows_below [] n below = All-nil (λ (row : Row). row.batch < n)
@@ -95,23 +68,6 @@ rows_below (row ∷ rows) n below =
     let P : ℕ → Type 0 = λ batch. batch < n in
     All-cons (λ (r : Row). r.batch < n) row rows (All-head P row.batch (row_batches rows) below)
     (rows_below rows n (All-tail P row.batch (row_batches rows) below))
-
--- where each row's planes stand at its batch, the planes by place are those of the rows
-pub placed_all : (p : Analysis) (rows : List Row) (planes : List Outcome) → HoldEachOnce p rows → length planes ≡ batch_count p
-    → ((k : ℕ) → k < length rows → placed planes rows k) → (batch : ℕ) → planes_in_order planes batch ≡ planes_in rows batch
-placed_all p rows planes hold count each batch = by_cases (nat_lt batch (batch_count p)) refl
-  where
-    by_cases : (b : Bool) → nat_lt batch (batch_count p) ≡ b → planes_in_order planes batch ≡ planes_in rows batch
-    by_cases true e =
-        let lt : batch < batch_count p = grind (arith, e) in
-        let there = hold.each batch lt in
-        let found = row_found rows there.0 batch there.1 there.2 in
-        let same : (row_at rows there.0).batch ≡ batch = found.1 no_row in
-        ap (planes_in_order planes) (sym same) ∙ each there.0 found.0 ∙ ap (planes_in rows) same
-    by_cases false e =
-        let le : batch_count p ≤ batch = grind (arith, e) in
-        let past : length planes ≤ batch = omega (arith, le, count) in
-        get_or_past planes batch _ past ∙ sym (planes_in-none rows batch (λ k d lt. omega (arith, le, rows_below rows (batch_count p) hold.distinct.within k d lt)))
 
 -- so each row has its place
 pub rows_within : (p : Analysis) (rows : List Row) (n : ℕ) → HoldEachOnce p rows → n ≡ batch_count p → All (λ (row : Row). row.batch < n) rows
