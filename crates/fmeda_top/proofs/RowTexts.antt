@@ -9,7 +9,6 @@ use Rattle.fm_base.specs.Firsts.{given, first_answer}
 use Rattle.fm_base.specs.Lists.{below}
 use Rattle.fm_shelf.specs.Sink.{SinkState}
 use Rattle.metric_sums.specs.declared.Class.TheVariants.{Latent, Detected}
-use Rattle.campaign_plan.specs.declared.Outcome.{Outcome}
 use Rattle.campaign_plan.specs.Analysis.{Analysis, batch_count}
 use Rattle.campaign_plan.specs.Batches.{AreDistinct, AreTrue, batches, true_planes}
 use Rattle.result_file.specs.declared.KeptRows.{KeptRows}

@@ -3,7 +3,6 @@ use Rattle.std.proofs.Common.{◌≡◌, ℕ, zero, suc, ◌+◌, ◌*◌, ◌/�
 use Rattle.std.specs.Prelude.{All, nat_lt, ◌&&◌, bit_or}
 use Rattle.std.proofs.lemmas.List.Elements.{All-nil, All-cons, All-head, All-tail}
 use Rattle.fault_list.specs.Faults.{fault_at, fault_number, is_used}
-use Rattle.fm_base.specs.Lists.{below}
 use Rattle.fm_base.specs.Planes.{plane_below}
 use Rattle.campaign_plan.specs.Analysis.{Analysis, all_faults, fault_count, batch_count}
 use Rattle.campaign_plan.specs.Danger.{is_dangerous, is_noticed}
