@@ -9,7 +9,7 @@ use Rattle.std.proofs.lemmas.List.{length-map}
 use Rattle.std.proofs.lemmas.List.Sums.{sum_by-cons}
 use Rattle.std.proofs.lemmas.Option.{get_or_from_slice_get, slice_get-map, slice_get_within}
 use Rattle.fm_base.proofs.Options.{found_passes}
-use Rattle.components.specs.Graph.{AreEdges, targets}
+use Rattle.blif_hierarchy.specs.Components.{AreEdges, targets}
 use Rattle.blif_model.specs.Models.{Model, at_model, instances}
 use Rattle.blif_model.specs.declared.models.ModelLines.{ModelLines}
 use Rattle.blif_model.specs.Grouped.{model_of}

@@ -1,3 +1,8 @@
+pub mod Ways
+pub mod OpenNodes
+pub mod Parts
+pub mod SearchSteps
+pub mod SearchEnd
 pub mod FirstLines
 pub mod Bindings
 pub mod SecondNames

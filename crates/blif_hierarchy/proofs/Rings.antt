@@ -10,7 +10,7 @@ use Rattle.std.proofs.lemmas.Grind.{same_number_lists}
 use Rattle.std.proofs.lemmas.List.{get_or-map, get_or_default, length-map}
 use Rattle.std.proofs.lemmas.List.Folds.{Any-from_list_any, find_at, list_any_at}
 use Rattle.std.proofs.lemmas.Option.{slice_get-get_or, slice_get-map, slice_get_within}
-use Rattle.components.specs.Graph.{AreComponents, AreEdges, Way, target, targets}
+use Rattle.blif_hierarchy.specs.Components.{AreComponents, AreEdges, Way, target, targets}
 use Rattle.circuit.proofs.Passing.{any_at}
 use Rattle.fm_base.specs.Firsts.{first_where, given}
 use Rattle.fm_base.proofs.Distinct.{same_name, is_same}

@@ -1,3 +1,6 @@
+pub mod Components
+pub mod Searching
+pub mod NodeNumbers
 pub mod Lines
 pub mod Callees
 pub mod Rounds

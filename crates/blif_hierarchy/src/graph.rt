@@ -23,7 +23,7 @@ impl<'t, 'm, 'a> Model for ModelGraph<'t, 'm, 'a> {
     ghost use Rattle.std.specs.Prelude.{List};
     ghost use Rattle.blif_model.specs.Models.{Model};
     ghost use Rattle.blif_hierarchy.specs.Callees.{AllCallees};
-    ghost use Rattle.components.specs.Graph.{AreEdges};
+    ghost use Rattle.blif_hierarchy.specs.Components.{AreEdges};
 
     ghost Value = { List Model };
 

@@ -3,6 +3,7 @@
 #![tactic(auto)]
 
 pub mod callees;
+pub mod components;
 mod faults;
 pub mod graph;
 mod links;
@@ -12,3 +13,5 @@ mod numbered;
 pub mod port_faults;
 mod ports;
 pub mod rounds;
+mod scan;
+mod search;

@@ -5,8 +5,9 @@ ghost use Rattle.blif_model.specs.ModelFault.{recursive, too_deep, two_models};
 ghost use Rattle.blif_model.specs.Models.{has_nest};
 ghost use Rattle.blif_hierarchy.specs.Callees.{AllCallees};
 ghost use Rattle.blif_hierarchy.specs.Rounds.{one_if};
-ghost use Rattle.components.specs.Graph.{AreComponents, AreEdges};
+ghost use Rattle.blif_hierarchy.specs.Components.{AreComponents, AreEdges};
 
+use crate::components::components;
 use crate::faults::fault_at;
 use crate::graph::ModelGraph;
 use crate::numbered::{main_line, ring_line};
@@ -14,7 +15,6 @@ use crate::rounds::after_rounds;
 use blif_flatten::table::ModelTable;
 use blif_model::models::ModelLines;
 use blif_text::{NetlistFault, NetlistKind};
-use components::components;
 use std::alloc::{AllocError, Global};
 
 /// The number of each model's component.

@@ -18,7 +18,8 @@ use Rattle.campaign_plan.specs.Analysis.{Analysis, fault_count, fault_numbered, 
 use Rattle.campaign_plan.specs.Batches.{class_of_fault, class_with}
 use Rattle.campaign_plan.specs.Laws.{SumsAreOfFaults}
 use Rattle.campaign_plan.specs.Weights.{weight}
-use Rattle.fmeda_report.specs.Report.{Planes, all_sums}
+use Rattle.fmeda_report.specs.Report.{all_sums}
+use Rattle.result_file.specs.RowPlanes.{Planes}
 
 -- a class is outside by the part's role alone
 outside_by : (d n : Bool) (role : Role) (covered permanent e m : Bool)

@@ -24,7 +24,8 @@ use Rattle.campaign_plan.specs.declared.PlanRefusal.TheVariants.{MissingRate, To
 use Rattle.campaign_plan.specs.Steps.{part_of_net, unrated_net}
 use Rattle.campaign_plan.specs.Weights.{weight}
 use Rattle.campaign_plan.proofs.PartNumbers.{net_within}
-use Rattle.fmeda_report.specs.Report.{Planes, part_line}
+use Rattle.fmeda_report.specs.Report.{part_line}
+use Rattle.result_file.specs.RowPlanes.{Planes}
 use Rattle.fmeda_report.specs.Steps.{faults_of_part}
 use Rattle.campaign_laws.specs.Counts.{AddUp, PartCounts, CountsAddUp, line_with}
 use Rattle.campaign_laws.proofs.Finding.{find_none_at}

@@ -4,7 +4,8 @@ use Rattle.std.specs.Prelude.{Option, Some, None, IfSome, unwrap_or}
 use Rattle.campaign_plan.specs.Analysis.{Analysis}
 use Rattle.campaign_plan.specs.Batches.{Entry, true_planes}
 use Rattle.result_file.specs.KeptRows.{kept_entries}
-use Rattle.fmeda_report.specs.Report.{Planes, all_sums, report}
+use Rattle.fmeda_report.specs.Report.{all_sums, report}
+use Rattle.result_file.specs.RowPlanes.{Planes}
 use Rattle.campaign_run.specs.Found.{checkpointed_or_true}
 use Rattle.metric_bounds.specs.Bounds.{end_sums}
 use Rattle.metric_bounds.specs.Laws.{BoundsHold}

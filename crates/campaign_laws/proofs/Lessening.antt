@@ -11,13 +11,13 @@ use Rattle.metric_sums.specs.declared.Role.{Role}
 use Rattle.metric_sums.specs.declared.Role.TheVariants.{Mission, Mechanism, Other}
 use Rattle.metric_sums.specs.declared.Sums.{Sums}
 use Rattle.metric_sums.specs.Classes.{class_of, is_danger}
-use Rattle.campaign_plan.specs.Analysis.{Analysis, fault_count, fault_numbered, part_numbered, part_of}
+use Rattle.campaign_plan.specs.Analysis.{Analysis, fault_count, fault_numbered, part_numbered, part_of, with_interval}
 use Rattle.campaign_plan.specs.Batches.{true_planes}
 use Rattle.campaign_plan.specs.Danger.{is_dangerous, is_noticed}
 use Rattle.campaign_plan.specs.Laws.{TrueSumsAreOfFaultsAlone, class_alone, fault_share}
 use Rattle.campaign_plan.specs.Weights.{weight}
 use Rattle.fmeda_report.specs.Report.{all_sums}
-use Rattle.campaign_laws.specs.Danger.{KeepsOrLeavesDanger, LongerIntervalIsLessDangerous, MoreAlarmsDetect, with_alarms, with_interval}
+use Rattle.campaign_laws.specs.Danger.{KeepsOrLeavesDanger, LongerIntervalIsLessDangerous, MoreAlarmsDetect, with_alarms}
 use Rattle.campaign_laws.proofs.Alarming.{longer, more_alarms}
 
 -- ---- a class, by danger and notice before and after

@@ -18,7 +18,8 @@ use Rattle.campaign_plan.specs.Analysis.{Analysis, fault_count, fault_numbered, 
 use Rattle.campaign_plan.specs.Batches.{class_of_fault, class_with}
 use Rattle.campaign_plan.specs.Laws.{SumsAreOfFaults}
 use Rattle.campaign_plan.specs.Weights.{weight}
-use Rattle.fmeda_report.specs.Report.{Planes, all_sums, fault_line}
+use Rattle.fmeda_report.specs.Report.{all_sums, fault_line}
+use Rattle.result_file.specs.RowPlanes.{Planes}
 use Rattle.campaign_laws.specs.Named.{NamedWeightsAddUp, named_faults, named_line, named_weight}
 
 -- lines of those that pass, and nothing of the others

@@ -9,7 +9,8 @@ use Rattle.fm_base.specs.Names.{Bytes}
 use Rattle.fm_base.specs.Text.{line, spaced}
 use Rattle.campaign_plan.specs.Analysis.{Analysis, batch_count, fault_count}
 use Rattle.campaign_plan.specs.Batches.{Entry, total}
-use Rattle.fmeda_report.specs.Report.{Planes, all_sums, fault_line, metric_lines, part_line, report, sizes_line}
+use Rattle.fmeda_report.specs.Report.{all_sums, fault_line, metric_lines, part_line, report, sizes_line}
+use Rattle.result_file.specs.RowPlanes.{Planes}
 use Rattle.fmeda_report.specs.Words.{fraction_word, target_word}
 use Rattle.metric_bounds.specs.declared.Ends.{Ends}
 use Rattle.metric_bounds.specs.declared.EndSums.{EndSums}

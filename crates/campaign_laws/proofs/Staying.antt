@@ -8,7 +8,8 @@ use Rattle.metric_sums.specs.Metrics.{lfm, lfm_target, meets, pmhf_target, spfm_
 use Rattle.campaign_plan.specs.Analysis.{Analysis}
 use Rattle.campaign_plan.specs.Batches.{Entry}
 use Rattle.campaign_plan.specs.Laws.{SumsAreOfFaults}
-use Rattle.fmeda_report.specs.Report.{Planes, all_sums, report}
+use Rattle.fmeda_report.specs.Report.{all_sums, report}
+use Rattle.result_file.specs.RowPlanes.{Planes}
 use Rattle.fmeda_report.specs.Words.{target_word}
 use Rattle.metric_bounds.specs.declared.Ends.{Ends}
 use Rattle.metric_bounds.specs.declared.Standing.{Standing}

@@ -9,7 +9,8 @@ use Rattle.campaign_plan.specs.Batches.{AreDistinct, AreTrue, Entry, HasEach, ba
 use Rattle.result_file.specs.ResultText.{result_rows, result_text}
 use Rattle.result_file.specs.KeptRows.{entry_of}
 use Rattle.result_file.proofs.WrittenBack.{entries_are}
-use Rattle.fmeda_report.specs.Rows.{HoldEachOnce, RowsReportTruly}
+use Rattle.fmeda_report.specs.Rows.{RowsReportTruly}
+use Rattle.result_file.specs.RowPlanes.{HoldEachOnce}
 use Rattle.result_merge.specs.Merged.{first_other, merged, merged_entries, merged_unless}
 use Rattle.result_merge.specs.PlanLaws.{MergeLaws, MergesAreLawful}
 use Rattle.campaign_run.specs.Found.{IsPart}

@@ -6,7 +6,8 @@ use Rattle.campaign_plan.specs.Analysis.{Analysis}
 use Rattle.campaign_plan.specs.Batches.{Entry}
 use Rattle.result_file.specs.declared.KeptRows.{KeptRows}
 use Rattle.result_file.specs.KeptRows.{kept_entries}
-use Rattle.fmeda_report.specs.Report.{Planes, report}
+use Rattle.fmeda_report.specs.Report.{report}
+use Rattle.result_file.specs.RowPlanes.{Planes}
 use Rattle.campaign_run.specs.Found.{checkpointed_or_true}
 use Rattle.metric_bounds.specs.declared.Ends.{Ends}
 use Rattle.metric_bounds.specs.Laws.{IsBetween}

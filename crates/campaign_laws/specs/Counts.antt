@@ -7,8 +7,10 @@ use Rattle.fm_base.specs.Names.{Bytes}
 use Rattle.fm_base.specs.Text.{line}
 use Rattle.campaign_plan.specs.Analysis.{Analysis, fault_count, part_count, part_numbered}
 use Rattle.campaign_plan.specs.Kept.{IsPlan}
-use Rattle.fmeda_report.specs.Report.{Planes, part_line}
-use Rattle.fmeda_report.specs.Words.{fraction_word, role_word}
+use Rattle.fmeda_report.specs.Report.{part_line}
+use Rattle.result_file.specs.RowPlanes.{Planes}
+use Rattle.fmeda_report.specs.Words.{fraction_word}
+use Rattle.metric_sums.specs.Words.{role_word}
 
 -- how many faults there are in all, and of each class
 pub record PartCounts : Type 0 where

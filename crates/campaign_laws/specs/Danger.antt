@@ -8,17 +8,13 @@ use Rattle.alarm_points.specs.declared.Points.{Points}
 use Rattle.metric_sums.specs.declared.Class.{Class}
 use Rattle.metric_sums.specs.declared.Class.TheVariants.{Detected}
 use Rattle.metric_sums.specs.Classes.{is_danger}
-use Rattle.campaign_plan.specs.Analysis.{Analysis, fault_count}
+use Rattle.campaign_plan.specs.Analysis.{Analysis, fault_count, with_interval}
 use Rattle.campaign_plan.specs.Batches.{true_planes}
 use Rattle.campaign_plan.specs.Danger.{is_dangerous, is_noticed}
 use Rattle.campaign_plan.specs.Laws.{class_alone}
 use Rattle.fmeda_report.specs.Report.{all_sums}
 
 -- ---- a longer interval
-
--- the same plan with this interval
-abbrev pub with_interval : Analysis → ℕ → Analysis
-with_interval p ftti = record p { settings = record p.settings { ftti = ftti } }
 
 -- faults that are dangerous at a longer interval are so at a shorter one
 abbrev pub LongerTakesDanger : Type 0

@@ -10,8 +10,9 @@ use Rattle.metric_sums.specs.Classes.{is_class, is_danger}
 use Rattle.campaign_plan.specs.Analysis.{Analysis, fault_count, fault_numbered}
 use Rattle.campaign_plan.specs.Batches.{class_of_fault}
 use Rattle.campaign_plan.specs.Weights.{weight}
-use Rattle.fmeda_report.specs.Report.{Planes, all_sums, fault_line}
-use Rattle.fmeda_report.specs.Words.{class_word}
+use Rattle.fmeda_report.specs.Report.{all_sums, fault_line}
+use Rattle.result_file.specs.RowPlanes.{Planes}
+use Rattle.metric_sums.specs.Words.{class_word}
 
 -- the faults that the report names, in list order: those that are residual, single-point or latent
 abbrev pub named_faults : Analysis → Planes → List ℕ

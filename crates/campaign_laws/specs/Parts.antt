@@ -7,7 +7,7 @@ use Rattle.campaign_plan.specs.Kept.{IsPlan}
 use Rattle.result_file.specs.ResultText.{result_rows, result_text}
 use Rattle.result_file.specs.KeptRows.{header_len}
 use Rattle.fmeda_report.specs.Report.{report, true_report}
-use Rattle.fmeda_report.specs.Rows.{planes_in}
+use Rattle.result_file.specs.RowPlanes.{planes_in}
 use Rattle.result_merge.specs.Merged.{merged, merged_entries}
 use Rattle.result_merge.specs.Parts.{HasPart}
 use Rattle.campaign_run.specs.Found.{IsPart, IsWhole}

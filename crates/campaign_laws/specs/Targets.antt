@@ -3,7 +3,8 @@ use Rattle.std.specs.Prelude.{◌≡◌, ◌⊎◌, List, codes}
 use Rattle.fm_base.specs.Names.{Bytes}
 use Rattle.campaign_plan.specs.Analysis.{Analysis}
 use Rattle.campaign_plan.specs.Batches.{Entry}
-use Rattle.fmeda_report.specs.Report.{Planes, report}
+use Rattle.fmeda_report.specs.Report.{report}
+use Rattle.result_file.specs.RowPlanes.{Planes}
 use Rattle.metric_bounds.specs.Laws.{IsKeptIn}
 use Rattle.metric_bounds.specs.Missing.{AgreeWith}
 use Rattle.metric_bounds.specs.Progress.{progress}

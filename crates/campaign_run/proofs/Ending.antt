@@ -13,7 +13,7 @@ use Rattle.campaign_plan.specs.Analysis.{batch_count}
 use Rattle.campaign_plan.specs.Kept.{IsPlan}
 use Rattle.result_file.specs.ResultText.{result_text}
 use Rattle.result_file.specs.KeptRows.{entry_of as planed}
-use Rattle.fmeda_report.specs.Rows.{HoldEachOnce, planes_in}
+use Rattle.result_file.specs.RowPlanes.{HoldEachOnce, planes_in}
 use Rattle.campaign_board.specs.Boards.{Start, batches_of}
 use Rattle.campaign_board.specs.Kept.{BoardState as Board, IsBoard, IsStart}
 use Rattle.campaign_workers.specs.Finish.{IsFinished}

@@ -14,9 +14,9 @@ use Rattle.result_file.specs.declared.KeptRows.{KeptRows}
 use Rattle.result_file.specs.ResultText.{result_text}
 use Rattle.result_file.specs.KeptRows.{entry_of as planed}
 use Rattle.result_file.proofs.Whole.{no_row}
-use Rattle.fmeda_report.specs.Rows.{HoldEachOnce, planes_in}
-use Rattle.fmeda_report.proofs.RowPlanes.{row_found, rows_below, planes_in-at, planes_in-none}
-use Rattle.fmeda_report.proofs.TrueReport.{past_planes}
+use Rattle.result_file.specs.RowPlanes.{HoldEachOnce, planes_in}
+use Rattle.result_file.proofs.RowPlanes.{row_found, rows_below, planes_in-at, planes_in-none}
+use Rattle.result_file.proofs.TrueRows.{past_planes}
 use Rattle.campaign_board.specs.declared.entry.Entry.{Entry as BoardEntry}
 use Rattle.campaign_board.specs.Boards.{Start, AreEntries, board_entry, batches_of, row_with, file_text}
 use Rattle.campaign_board.specs.Kept.{AreRows}

@@ -4,7 +4,7 @@ ghost use Rattle.campaign_plan.specs.Analysis.{batch_count};
 ghost use Rattle.campaign_board.specs.Boards.{batches_of, sums_over};
 ghost use Rattle.campaign_board.specs.Kept.{IsBoard};
 ghost use Rattle.fmeda_report.specs.Rooms.{room_for};
-ghost use Rattle.fmeda_report.specs.Rows.{HoldEachOnce, planes_in};
+ghost use Rattle.result_file.specs.RowPlanes.{HoldEachOnce, planes_in};
 ghost use Rattle.campaign_run.specs.Ran.{text_for};
 ghost use Rattle.campaign_run.specs.Steps.{HaveAll, TellsEnd};
 

@@ -10,7 +10,7 @@ use Rattle.campaign_plan.specs.declared.Outcome.{Outcome}
 use Rattle.campaign_plan.specs.Analysis.{Analysis, fault_numbered, part_numbered, part_of}
 use Rattle.campaign_plan.specs.Batches.{class_with}
 use Rattle.campaign_plan.specs.Weights.{weight}
-use Rattle.fmeda_report.specs.Words.{role_word, class_word}
+use Rattle.metric_sums.specs.Words.{role_word, class_word}
 use Rattle.campaign_tables.specs.FaultTable.{fault_row}
 use Rattle.campaign_tables.specs.Words.{kind_word, covered_word, bit_word}
 

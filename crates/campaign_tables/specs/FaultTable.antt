@@ -13,7 +13,7 @@ use Rattle.campaign_plan.specs.declared.Outcome.{Outcome}
 use Rattle.campaign_plan.specs.Analysis.{Analysis, fault_count, fault_numbered, part_numbered, part_of}
 use Rattle.campaign_plan.specs.Batches.{Entry, class_in_lane}
 use Rattle.campaign_plan.specs.Weights.{weight}
-use Rattle.fmeda_report.specs.Words.{role_word, class_word}
+use Rattle.metric_sums.specs.Words.{role_word, class_word}
 use Rattle.result_merge.specs.Union.{found}
 use Rattle.campaign_tables.specs.Csv.{csv_field}
 

@@ -8,7 +8,7 @@ use Rattle.rate_table.specs.Table.{RateTable, matches}
 use Rattle.fm_base.specs.Lists.{below}
 use Rattle.fm_base.specs.Names.{Bytes}
 use Rattle.fm_base.specs.Text.{line}
-use Rattle.fmeda_report.specs.Words.{role_word}
+use Rattle.metric_sums.specs.Words.{role_word}
 
 -- the row that takes a net: the first one whose pattern matches its name, by its number from 0
 abbrev pub row_of_net : Circuit → RateTable → ℕ → Option ℕ

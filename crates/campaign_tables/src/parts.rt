@@ -3,7 +3,7 @@ ghost use Rattle.std.specs.Prelude.{◌≡◌, ◌<◌, IfOk, Option, flat_map, 
 ghost use Rattle.circuit.specs.Sound.{IsNetlist};
 ghost use Rattle.fm_base.specs.Lists.{below};
 ghost use Rattle.fm_shelf.specs.Sink.{Sends};
-ghost use Rattle.fmeda_report.specs.Words.{role_word as word_of_role};
+ghost use Rattle.metric_sums.specs.Words.{role_word as word_of_role};
 ghost use Rattle.campaign_tables.specs.PartTable.{part_table, row_line};
 ghost use Rattle.campaign_tables.specs.PartSteps.{name_or_dash as name_by, unmatched_line, star_word as word_of_star};
 
@@ -12,10 +12,10 @@ use crate::look::{rows_of_latches, rows_of_nets};
 use crate::words::covered_word;
 use circuit::netlist::Netlist;
 use circuit::parts::NetId;
+use fm_shelf::lines::{number_word, write_line};
 use fm_shelf::shelf::{Failed, Sink};
 use fm_shelf::whole::write_pieces;
-use fmeda_report::lines::write_line;
-use fmeda_report::words::{number_word, role_word};
+use metric_sums::words::role_word;
 use rate_table::{Part, Pattern, Rates};
 use std::alloc::{AllocError, Global};
 use std::marker::Model;

@@ -4,7 +4,7 @@ use Rattle.std.specs.List.{flat_map}
 use Rattle.fm_base.specs.Lists.{below}
 use Rattle.fm_shelf.specs.declared.shelf.Failed.{Failed}
 use Rattle.fm_shelf.specs.Sink.{SinkState, Sends}
-use Rattle.fmeda_report.proofs.Sending.{sends_as, sends_no_number, sends_number, sends_number_torn}
+use Rattle.fm_shelf.proofs.Sending.{sends_as, sends_no_number, sends_number, sends_number_torn}
 use Rattle.classifier.specs.Simulated.{Simulated, planes_simulated}
 use Rattle.circuit.specs.declared.parts.Fault.{Fault}
 use Rattle.circuit.specs.Circuit.{Circuit}
@@ -13,7 +13,7 @@ use Rattle.fault_list.specs.Faults.{fault_at, fault_name}
 use Rattle.metric_sums.specs.Classes.{class_of}
 use Rattle.metric_sums.specs.declared.Role.TheVariants.{Mission}
 use Rattle.campaign_plan.specs.declared.Outcome.{Outcome}
-use Rattle.fmeda_report.specs.Words.{class_word}
+use Rattle.metric_sums.specs.Words.{class_word}
 use Rattle.fm_base.specs.Names.{Bytes}
 use Rattle.fm_base.specs.Planes.{bit}
 use Rattle.class_table.specs.ClassLines.{class_line, class_lines}

@@ -9,7 +9,7 @@ use Rattle.metric_sums.specs.Classes.{class_of}
 use Rattle.metric_sums.specs.declared.Role.TheVariants.{Mission}
 use Rattle.campaign_plan.specs.declared.Outcome.{Outcome}
 use Rattle.classifier.specs.Simulated.{Simulated, planes_simulated}
-use Rattle.fmeda_report.specs.Words.{class_word}
+use Rattle.metric_sums.specs.Words.{class_word}
 use Rattle.fm_base.specs.Lists.{below}
 use Rattle.fm_base.specs.Names.{Bytes}
 use Rattle.fm_base.specs.Planes.{bit}

@@ -6,7 +6,7 @@ use Rattle.fm_base.specs.Text.{line}
 use Rattle.fault_list.specs.Faults.{fault_name}
 use Rattle.campaign_plan.specs.Analysis.{Analysis, fault_count, fault_numbered}
 use Rattle.campaign_plan.specs.Batches.{class_of_fault, true_planes}
-use Rattle.fmeda_report.specs.Words.{class_word}
+use Rattle.metric_sums.specs.Words.{class_word}
 
 -- each fault's name and class, and the number of faults
 unfoldable pub classes_text : Analysis → Bytes

@@ -9,18 +9,18 @@ ghost use Rattle.circuit.specs.Effects.{is_permanent};
 ghost use Rattle.metric_sums.specs.Classes.{class_of as class_for};
 ghost use Rattle.metric_sums.specs.declared.Role.TheVariants.{Mission};
 ghost use Rattle.fm_shelf.specs.Sink.{Sends};
-ghost use Rattle.fmeda_report.specs.Words.{class_word as word_of_class};
+ghost use Rattle.metric_sums.specs.Words.{class_word as word_of_class};
 ghost use Rattle.class_table.specs.ClassLines.{class_line, class_lines};
 
 use campaign_plan::{Outcome, has_bit};
 use circuit::netlist::Netlist;
 use classifier::BatchSimulator;
 use fault_list::FaultList;
+use fm_shelf::lines::write_line;
 use fm_shelf::shelf::{Failed, Sink};
 use fm_shelf::whole::write_pieces;
-use fmeda_report::lines::write_line;
-use fmeda_report::words::class_word;
 use itoa::Buffer;
+use metric_sums::words::class_word;
 use metric_sums::{Class, Role, class_of};
 
 // The class of a fault in a mission part that isn't covered, by the planes of its batch.

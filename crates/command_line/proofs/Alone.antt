@@ -7,7 +7,7 @@ use Rattle.clap.specs.Words.{Row, Text, subcommand_of}
 use Rattle.campaign_plan.specs.declared.Settings.{Settings}
 use Rattle.metric_sums.specs.declared.Asil.{Asil}
 use Rattle.metric_sums.specs.declared.Asil.TheVariants.{B, C, D}
-use Rattle.fmeda_report.specs.Words.{asil_word}
+use Rattle.metric_sums.specs.Words.{asil_word}
 use Rattle.commands.specs.declared.command.AuditBy.{AuditBy}
 use Rattle.commands.specs.declared.command.AuditBy.TheVariants.{Lanes, Alone}
 use Rattle.commands.specs.declared.command.Task.{Task}

@@ -8,7 +8,7 @@ use Rattle.clap.specs.Words.{Row, Text, first_of, one_of, subcommand_of}
 use Rattle.fault_list.specs.Faults.{AreCycles}
 use Rattle.campaign_plan.specs.declared.Settings.{Settings}
 use Rattle.result_file.specs.ResultText.{cycles_text}
-use Rattle.fmeda_report.specs.Words.{asil_word}
+use Rattle.metric_sums.specs.Words.{asil_word}
 use Rattle.commands.specs.declared.command.AuditBy.{AuditBy}
 use Rattle.commands.specs.declared.command.AuditBy.TheVariants.{Lanes, Alone}
 use Rattle.commands.specs.declared.command.Task.{Task}

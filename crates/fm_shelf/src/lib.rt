@@ -1,7 +1,8 @@
-// Files and output as the program sees them: traits, the fakes that tests use, the system's own, and calls over whole files.
+// Files and output as the program sees them: traits, the fakes that tests use, the system's own, and calls over whole files and lines.
 #![tactic(auto)]
 
 pub mod files;
+pub mod lines;
 pub mod memory;
 pub mod paged;
 pub mod past;

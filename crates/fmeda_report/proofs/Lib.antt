@@ -1,6 +1,4 @@
-pub mod Spacing
-pub mod Sending
-pub mod RowPlanes
+pub mod Placing
 pub mod Summing
 pub mod Tallying
 pub mod Naming

@@ -8,9 +8,10 @@ use Rattle.fault_list.specs.Faults.{fault_name}
 use Rattle.campaign_plan.specs.Analysis.{Analysis, fault_numbered}
 use Rattle.campaign_plan.specs.Batches.{class_of_fault}
 use Rattle.campaign_plan.specs.Weights.{weight}
-use Rattle.fmeda_report.specs.Report.{Planes, fault_line}
+use Rattle.fmeda_report.specs.Report.{fault_line}
+use Rattle.result_file.specs.RowPlanes.{Planes}
 use Rattle.fmeda_report.specs.Steps.{names_faults}
-use Rattle.fmeda_report.specs.Words.{class_word}
+use Rattle.metric_sums.specs.Words.{class_word}
 
 -- the line of a fault of this class, named
 abbrev pub line_named : Analysis → Class → ℕ → Bytes

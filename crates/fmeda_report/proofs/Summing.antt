@@ -13,7 +13,7 @@ use Rattle.campaign_plan.specs.Analysis.{Analysis, batch_count}
 use Rattle.campaign_plan.specs.Batches.{Entry, total, batches, own_sums, AreDistinct}
 use Rattle.campaign_plan.specs.Kept.{IsPlan}
 use Rattle.campaign_plan.proofs.Small.{consistent_sums}
-use Rattle.fmeda_report.specs.Report.{Planes}
+use Rattle.result_file.specs.RowPlanes.{Planes}
 
 -- the batches below k, with their planes
 abbrev pub first_entries : Planes → ℕ → List Entry

@@ -19,7 +19,7 @@ use Rattle.campaign_plan.specs.Batches.{class_of_fault}
 use Rattle.campaign_plan.specs.Weights.{weight}
 use Rattle.campaign_plan.proofs.Small.{weights_small}
 use Rattle.fm_base.proofs.SumsBelow.{sum_up-push, sum_up-mono, sum_by-below}
-use Rattle.fmeda_report.specs.Report.{Planes}
+use Rattle.result_file.specs.RowPlanes.{Planes}
 use Rattle.fmeda_report.specs.declared.tally.Amount.{Amount}
 use Rattle.fmeda_report.specs.declared.tally.Tally.{Tally}
 use Rattle.fmeda_report.specs.Tallies.{tally_of, empty_tally, tally_at, one_more_fault, with_fault, IsSmall, AreAmountsSmall}

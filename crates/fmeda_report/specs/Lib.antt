@@ -1,7 +1,6 @@
 pub mod Words
 pub mod Report
 pub mod Steps
-pub mod Spaces
 pub mod Rows
 pub mod Rooms
 pub mod Tallies

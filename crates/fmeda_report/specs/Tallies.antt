@@ -7,7 +7,7 @@ use Rattle.campaign_plan.specs.declared.Outcome.{Outcome}
 use Rattle.campaign_plan.specs.Analysis.{Analysis, part_count}
 use Rattle.campaign_plan.specs.Batches.{class_of_fault}
 use Rattle.campaign_plan.specs.Weights.{weight}
-use Rattle.fmeda_report.specs.Report.{Planes}
+use Rattle.result_file.specs.RowPlanes.{Planes}
 use Rattle.fmeda_report.specs.Steps.{faults_of_part}
 use Rattle.fmeda_report.specs.declared.tally.Amount.{Amount}
 use Rattle.fmeda_report.specs.declared.tally.Tally.{Tally}

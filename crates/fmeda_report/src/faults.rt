@@ -7,16 +7,17 @@ ghost use Rattle.campaign_plan.specs.Analysis.{batch_count, fault_count, fault_n
 ghost use Rattle.campaign_plan.specs.Weights.{weight};
 ghost use Rattle.fmeda_report.specs.Report.{fault_line};
 ghost use Rattle.fmeda_report.specs.Steps.{names_faults as is_named_class};
-ghost use Rattle.fmeda_report.specs.Words.{class_word as word_of_class};
+ghost use Rattle.metric_sums.specs.Words.{class_word as word_of_class};
 ghost use Rattle.fm_shelf.specs.Sink.{Sends};
 ghost use Rattle.fmeda_report.specs.Tallies.{planes_in_order};
 
 use crate::planes::class_of_fault;
-use crate::words::{class_word, number_word};
 use campaign_plan::{Outcome, Plan};
+use fm_shelf::lines::number_word;
 use fm_shelf::shelf::{Failed, Sink};
 use fm_shelf::whole::write_pieces;
 use metric_sums::Class;
+use metric_sums::words::class_word;
 
 // Whether the report names the faults of a class.
 fn is_named(class: Class) -> bool

@@ -3,15 +3,14 @@
 
 mod faults;
 mod law;
-pub mod lines;
 mod metrics;
 mod parts;
 mod planes;
 mod report;
-pub mod sizes;
+mod sizes;
 mod space;
 mod tally;
-pub mod words;
+mod words;
 
 pub use law::rows_report_truly;
 pub use metrics::write_metrics;

@@ -5,8 +5,8 @@ ghost use Rattle.fmeda_report.specs.Report.{metric_lines};
 ghost use Rattle.fmeda_report.specs.Steps.{ratio_lines, sum_lines, target_lines};
 ghost use Rattle.fm_shelf.specs.Sink.{Sends};
 
-use crate::lines::write_line;
-use crate::words::{fraction_word, number_word, target_word};
+use crate::words::{fraction_word, target_word};
+use fm_shelf::lines::{number_word, write_line};
 use fm_shelf::shelf::{Failed, Sink};
 use metric_sums::{Asil, Sums, Targets};
 

@@ -2,17 +2,20 @@
 ghost use Rattle.std.specs.Prelude.{◌≡◌, ◌<◌, ℕ, flat_map, length};
 ghost use Rattle.fm_base.specs.Lists.{below};
 ghost use Rattle.campaign_plan.specs.Analysis.{part_count};
-ghost use Rattle.fmeda_report.specs.Report.{Planes, part_line};
+ghost use Rattle.fmeda_report.specs.Report.{part_line};
+ghost use Rattle.result_file.specs.RowPlanes.{Planes};
 ghost use Rattle.fmeda_report.specs.Steps.{faults_of_part};
-ghost use Rattle.fmeda_report.specs.Words.{role_word as word_of_role, covering_word as word_of_covering};
+ghost use Rattle.fmeda_report.specs.Words.{covering_word as word_of_covering};
+ghost use Rattle.metric_sums.specs.Words.{role_word as word_of_role};
 ghost use Rattle.fm_shelf.specs.Sink.{Sends};
 ghost use Rattle.fmeda_report.specs.Tallies.{tally_at, tally_of, AreAmountsSmall, AreTallied};
 
-use crate::lines::write_line;
 use crate::tally::Tally;
-use crate::words::{covering_word, fraction_word, number_word, role_word};
+use crate::words::{covering_word, fraction_word};
 use campaign_plan::Plan;
+use fm_shelf::lines::{number_word, write_line};
 use fm_shelf::shelf::{Failed, Sink};
+use metric_sums::words::role_word;
 use rate_table::Part;
 
 // The word of a part's role.

@@ -4,7 +4,7 @@ ghost use Rattle.metric_sums.specs.Totals.{AreConsistent};
 ghost use Rattle.campaign_plan.specs.Analysis.{Analysis, batch_count, fault_count};
 ghost use Rattle.campaign_plan.specs.Batches.{class_of_fault as class_by_planes};
 ghost use Rattle.fmeda_report.specs.Report.{all_sums as sums_over};
-ghost use Rattle.fmeda_report.specs.Rows.{HoldEachOnce, planes_in};
+ghost use Rattle.result_file.specs.RowPlanes.{HoldEachOnce, planes_in};
 ghost use Rattle.fmeda_report.specs.Tallies.{planes_in_order};
 
 use campaign_plan::{Outcome, Plan, class_with, has_bit, own_sums};

@@ -3,20 +3,19 @@ ghost use Rattle.std.specs.Prelude.{◌≡◌, ◌<◌, ℕ, length};
 ghost use Rattle.campaign_plan.specs.Analysis.{batch_count, part_count};
 ghost use Rattle.fmeda_report.specs.Report.{report, summary};
 ghost use Rattle.fmeda_report.specs.Rooms.{room_for};
-ghost use Rattle.fmeda_report.specs.Rows.{HoldEachOnce, planes_in};
+ghost use Rattle.result_file.specs.RowPlanes.{HoldEachOnce, planes_in};
 ghost use Rattle.fm_shelf.specs.Sink.{Sends};
 ghost use Rattle.fmeda_report.specs.Tallies.{planes_in_order, tally_at, AreAmountsSmall, AreTallied};
 
 use crate::faults::write_faults;
-use crate::lines::write_line;
 use crate::metrics::write_metrics;
 use crate::parts::write_parts;
 use crate::planes::{all_sums, place_planes};
 use crate::sizes::write_sizes;
 use crate::space::{ReportSpace, Tallies};
 use crate::tally::{Tally, tally_faults};
-use crate::words::number_word;
 use campaign_plan::{Outcome, Plan};
+use fm_shelf::lines::{number_word, write_line};
 use fm_shelf::shelf::{Failed, Sink};
 use result_file::Row;
 

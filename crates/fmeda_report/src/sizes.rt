@@ -1,25 +1,11 @@
 // The line of the sizes and the settings.
-ghost use Rattle.std.specs.Prelude.{◌≡◌};
-ghost use Rattle.workload.specs.Runs.{all_cycles};
 ghost use Rattle.fmeda_report.specs.Report.{sizes_line};
 ghost use Rattle.fm_shelf.specs.Sink.{Sends};
 
-use crate::lines::write_line;
-use crate::words::{asil_word, number_word};
 use campaign_plan::Plan;
+use fm_shelf::lines::{number_word, write_line};
 use fm_shelf::shelf::{Failed, Sink};
-use workload::run::Workload;
-
-/// The number of cycles over all workloads.
-pub fn cycles(work: &Workload) -> u32
-    ensures { result ≡ all_cycles work.now }
-{
-    let mut cycles = 0;
-    for run in 0..work.runs() {
-        cycles += work.cycles(run);
-    }
-    cycles
-}
+use metric_sums::words::asil_word;
 
 // Writes the sizes of the netlist, the fault list and the workload, and the settings.
 pub(crate) fn write_sizes<O: Sink>(plan: &Plan, out: &mut O) -> Result<(), Failed>
@@ -41,7 +27,7 @@ pub(crate) fn write_sizes<O: Sink>(plan: &Plan, out: &mut O) -> Result<(), Faile
             b"workloads",
             number_word(u64::from(plan.work().runs())).bytes(),
             b"cycles",
-            number_word(u64::from(cycles(plan.work()))).bytes(),
+            number_word(u64::from(plan.work().all_cycles())).bytes(),
             b"ftti",
             number_word(u64::from(settings.ftti)).bytes(),
             b"asil",

@@ -1,48 +1,12 @@
 // The words of the report.
 ghost use Rattle.std.specs.Prelude.{◌≡◌, ◌++◌, codes, decimal};
-ghost use Rattle.fmeda_report.specs.Words.{role_word as word_of_role, class_word as word_of_class, asil_word as word_of_asil, covering_word as word_of_covering, fraction_word as word_of_fraction, target_word as word_of_target};
+ghost use Rattle.fmeda_report.specs.Words.{covering_word as word_of_covering, fraction_word as word_of_fraction, target_word as word_of_target};
 
 use fm_base::Line;
-use metric_sums::{Asil, Class, Fraction, Role};
+use metric_sums::Fraction;
 
-/// The word of a part's role.
-pub fn role_word(role: Role) -> &'static [u8]
-    ensures { result.now ≡ word_of_role role }
-{
-    match role {
-        Role::Mission => b"mission",
-        Role::Mechanism => b"mechanism",
-        Role::Other => b"other",
-    }
-}
-
-/// The word of a fault's class.
-pub fn class_word(class: Class) -> &'static [u8]
-    ensures { result.now ≡ word_of_class class }
-{
-    match class {
-        Class::Safe => b"safe",
-        Class::Detected => b"detected",
-        Class::Residual => b"residual",
-        Class::SinglePoint => b"single-point",
-        Class::Latent => b"latent",
-        Class::Outside => b"outside",
-    }
-}
-
-/// The letter of an automotive safety integrity level.
-pub fn asil_word(asil: Asil) -> &'static [u8]
-    ensures { result.now ≡ word_of_asil asil }
-{
-    match asil {
-        Asil::B => b"B",
-        Asil::C => b"C",
-        Asil::D => b"D",
-    }
-}
-
-/// Whether a part is covered by a safety mechanism.
-pub fn covering_word(covered: bool) -> &'static [u8]
+// Whether a part is covered by a safety mechanism.
+pub(crate) fn covering_word(covered: bool) -> &'static [u8]
     ensures { result.now ≡ word_of_covering covered }
 {
     if covered { b"covered" } else { b"uncovered" }
@@ -57,15 +21,6 @@ pub(crate) fn target_word(met: Option<bool>) -> &'static [u8]
         Some(true) => b"met",
         Some(false) => b"missed",
     }
-}
-
-/// A number in decimal digits, without leading zeros.
-pub fn number_word(n: u64) -> Line
-    ensures { result ≡ decimal n }
-{
-    let mut word = Line::new();
-    word.put_dec(n);
-    word
 }
 
 // Two numbers with a slash between them.

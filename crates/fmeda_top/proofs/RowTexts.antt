@@ -9,14 +9,12 @@ use Rattle.fm_base.specs.Firsts.{given, first_answer}
 use Rattle.fm_base.specs.Lists.{below}
 use Rattle.fm_shelf.specs.Sink.{SinkState}
 use Rattle.metric_sums.specs.declared.Class.TheVariants.{Latent, Detected}
-use Rattle.campaign_plan.specs.declared.Outcome.{Outcome}
 use Rattle.campaign_plan.specs.Analysis.{Analysis, batch_count}
 use Rattle.campaign_plan.specs.Batches.{AreDistinct, AreTrue, batches, true_planes}
 use Rattle.result_file.specs.declared.KeptRows.{KeptRows}
 use Rattle.result_file.specs.declared.Row.{Row}
 use Rattle.result_file.specs.KeptRows.{entry_of, kept_entries}
-use Rattle.fmeda_report.specs.Report.{Planes}
-use Rattle.fmeda_report.specs.Rows.{HoldEachOnce, planes_in}
+use Rattle.result_file.specs.RowPlanes.{Planes, HoldEachOnce, planes_in}
 use Rattle.pair_list.specs.declared.pairs.PairRefusal.{PairRefusal}
 use Rattle.pair_list.specs.Chosen.{AreFaults, Chosen, chosen, has_row, pair_refusal}
 use Rattle.pair_list.proofs.Placing.{under}

@@ -6,14 +6,11 @@ use Rattle.fm_base.specs.Names.{Bytes}
 use Rattle.fm_shelf.specs.Shelf.{CountRose, ShelfState}
 use Rattle.fm_shelf.specs.Sink.{SinkState, WroteOrFailed, WrotePrefix, with_more}
 use Rattle.fm_shelf.specs.Outside.{Outside, outside}
-use Rattle.circuit.specs.declared.parts.NetId.{NetId}
 use Rattle.campaign_plan.specs.declared.Outcome.{Outcome}
 use Rattle.campaign_plan.specs.Analysis.{Analysis}
-use Rattle.campaign_run.specs.Outside.{had_written}
 use Rattle.campaign_run.specs.Reported.{HasReported, ResumedAs}
 use Rattle.commands.specs.declared.command.Task.{Task}
 use Rattle.commands.specs.declared.command.Task.TheVariants as task
-use Rattle.commands.specs.declared.command.Which.{Which}
 use Rattle.commands.specs.declared.command.Which.TheVariants as which
 use Rattle.commands.specs.Commands.{Command}
 use Rattle.refusals.specs.declared.status.Status.{Status}

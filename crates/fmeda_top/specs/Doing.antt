@@ -11,7 +11,7 @@ use Rattle.campaign_plan.specs.Analysis.{Analysis}
 use Rattle.result_file.specs.declared.KeptRows.{KeptRows}
 use Rattle.result_file.specs.declared.Row.{Row}
 use Rattle.result_file.specs.KeptRows.{kept}
-use Rattle.fmeda_report.specs.Rows.{planes_in}
+use Rattle.result_file.specs.RowPlanes.{planes_in}
 use Rattle.pair_list.specs.Chosen.{Chosen, chosen, pair_refusal}
 use Rattle.campaign_run.specs.declared.run.Text.{Text}
 use Rattle.campaign_run.specs.declared.run.Text.TheVariants.{Report, Summary}

@@ -14,7 +14,7 @@ use Rattle.result_file.specs.declared.Row.{Row}
 use Rattle.result_file.specs.ResultText.{result_text, row_text}
 use Rattle.result_file.specs.KeptRows.{kept_entries}
 use Rattle.result_merge.specs.Parts.{HasPart}
-use Rattle.fmeda_report.specs.Rows.{planes_in}
+use Rattle.result_file.specs.RowPlanes.{planes_in}
 use Rattle.fmeda_report.specs.Report.{report, true_report, summary}
 use Rattle.pair_campaign.specs.PairText.{pairs_text}
 use Rattle.campaign_tables.specs.FaultTable.{fault_table}

@@ -14,7 +14,7 @@ use Rattle.result_file.specs.declared.KeptRows.{KeptRows}
 use Rattle.result_file.specs.declared.Row.{Row}
 use Rattle.result_file.specs.ResultText.{row_text}
 use Rattle.result_file.specs.KeptRows.{kept_entries}
-use Rattle.fmeda_report.specs.Rows.{planes_in}
+use Rattle.result_file.specs.RowPlanes.{planes_in}
 use Rattle.pair_list.specs.Chosen.{pair_refusal}
 use Rattle.pair_campaign.specs.PairText.{pairs_text}
 use Rattle.campaign_run.specs.Left.{LeftPrefix}

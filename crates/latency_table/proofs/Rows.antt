@@ -15,7 +15,7 @@ use Rattle.campaign_plan.specs.Danger.{is_dangerous, is_noticed}
 use Rattle.first_cycles.specs.Shown.{danger_by, if_at_most, interval_by, notice_by, shown_in, shown_of}
 use Rattle.first_cycles.proofs.Dangers.{danger_shown}
 use Rattle.first_cycles.proofs.Notices.{notice_shown}
-use Rattle.fmeda_report.specs.Words.{class_word}
+use Rattle.metric_sums.specs.Words.{class_word}
 use Rattle.campaign_tables.specs.Csv.{csv_field, csv_row}
 use Rattle.campaign_tables.specs.Words.{bit_word}
 use Rattle.campaign_tables.proofs.Quoting.{after_comma, joined, next_same}

@@ -9,7 +9,7 @@ use Rattle.campaign_plan.specs.Analysis.{Analysis, fault_numbered, part_numbered
 use Rattle.campaign_plan.specs.Batches.{class_with}
 use Rattle.campaign_plan.specs.Weights.{weight}
 use Rattle.first_cycles.specs.Shown.{if_at_most}
-use Rattle.fmeda_report.specs.Words.{class_word}
+use Rattle.metric_sums.specs.Words.{class_word}
 use Rattle.campaign_tables.specs.Csv.{csv_row}
 use Rattle.campaign_tables.specs.Words.{bit_word}
 use Rattle.latency_table.specs.declared.latency.Sighting.{Sighting}

@@ -3,7 +3,7 @@ ghost use Rattle.std.specs.Prelude.{◌≡◌, ◌<◌, ◌∷◌, Bool, flat_ma
 ghost use Rattle.std.specs.Str.{byte};
 ghost use Rattle.campaign_plan.specs.Analysis.{fault_count};
 ghost use Rattle.fm_shelf.specs.Sink.{Sends};
-ghost use Rattle.fmeda_report.specs.Words.{class_word as word_of_class};
+ghost use Rattle.metric_sums.specs.Words.{class_word as word_of_class};
 ghost use Rattle.campaign_tables.specs.Csv.{csv_field};
 ghost use Rattle.latency_table.specs.Fields.{cycle_word as word_of_cycle, fields_of, interval_word as word_of_interval, number_word as word_of_number, point_word as word_of_point, row_of, run_word as word_of_run};
 
@@ -15,10 +15,11 @@ use campaign_tables::words::bit_word;
 use circuit::netlist::Netlist;
 use circuit::parts::NetId;
 use fm_base::Line;
+use fm_shelf::lines::number_word;
 use fm_shelf::shelf::{Failed, Sink};
 use fm_shelf::whole::write_all;
-use fmeda_report::words::{class_word, number_word};
 use metric_sums::Class;
+use metric_sums::words::class_word;
 
 // The greatest interval that is told, in cycles.
 const MOST_INTERVAL: u32 = 4096;

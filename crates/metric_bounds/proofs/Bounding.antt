@@ -9,7 +9,8 @@ use Rattle.campaign_plan.proofs.Alone.{sums_of_faults}
 use Rattle.campaign_plan.specs.Analysis.{Analysis, fault_count}
 use Rattle.campaign_plan.specs.Batches.{Entry, class_of_fault}
 use Rattle.campaign_plan.specs.Laws.{fault_share}
-use Rattle.fmeda_report.specs.Report.{Planes, all_sums}
+use Rattle.fmeda_report.specs.Report.{all_sums}
+use Rattle.result_file.specs.RowPlanes.{Planes}
 use Rattle.metric_bounds.specs.declared.End.{End}
 use Rattle.metric_bounds.specs.declared.End.TheVariants.{Best, Worst, MostLatent}
 use Rattle.metric_bounds.specs.declared.EndSums.{EndSums}

@@ -10,7 +10,8 @@ use Rattle.fm_base.proofs.Below.{map-below}
 use Rattle.fault_list.specs.Faults.{fault_number, is_used}
 use Rattle.campaign_plan.specs.Analysis.{Analysis, batch_count, fault_count}
 use Rattle.campaign_plan.specs.Batches.{Entry, total}
-use Rattle.fmeda_report.specs.Report.{Planes, all_sums}
+use Rattle.fmeda_report.specs.Report.{all_sums}
+use Rattle.result_file.specs.RowPlanes.{Planes}
 use Rattle.result_merge.specs.Tables.{Table, at_batch, planes_table}
 use Rattle.result_merge.proofs.Tabling.{table_at}
 use Rattle.metric_bounds.specs.declared.End.{End}

@@ -7,7 +7,8 @@ use Rattle.metric_sums.specs.declared.Sums.{Sums}
 use Rattle.metric_sums.specs.Metrics.{lfm, spfm_permanent, spfm_transient, term}
 use Rattle.campaign_plan.specs.Analysis.{Analysis, batch_count}
 use Rattle.campaign_plan.specs.Batches.{Entry, total}
-use Rattle.fmeda_report.specs.Report.{Planes, all_sums}
+use Rattle.fmeda_report.specs.Report.{all_sums}
+use Rattle.result_file.specs.RowPlanes.{Planes}
 use Rattle.metric_bounds.specs.declared.End.{End}
 use Rattle.metric_bounds.specs.declared.End.TheVariants.{Best, Worst, MostLatent}
 use Rattle.metric_bounds.specs.declared.Ends.{Ends}

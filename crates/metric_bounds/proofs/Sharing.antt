@@ -17,7 +17,7 @@ use Rattle.campaign_plan.specs.Analysis.{Analysis, fault_count, fault_numbered, 
 use Rattle.campaign_plan.specs.Batches.{Entry, class_in_lane, class_of_fault, class_with}
 use Rattle.campaign_plan.specs.Laws.{fault_share}
 use Rattle.campaign_plan.specs.Weights.{weight}
-use Rattle.fmeda_report.specs.Report.{Planes}
+use Rattle.result_file.specs.RowPlanes.{Planes}
 use Rattle.result_merge.specs.Union.{found}
 use Rattle.metric_bounds.specs.declared.End.{End}
 use Rattle.metric_bounds.specs.declared.End.TheVariants.{Best, Worst, MostLatent}

@@ -9,7 +9,8 @@ use Rattle.metric_sums.specs.declared.Sums.{Sums}
 use Rattle.metric_sums.specs.Metrics.{fraction, lfm, meets, pmhf_target, spfm_permanent, spfm_transient, term}
 use Rattle.campaign_plan.specs.Analysis.{Analysis}
 use Rattle.campaign_plan.specs.Batches.{Entry}
-use Rattle.fmeda_report.specs.Report.{Planes, all_sums}
+use Rattle.fmeda_report.specs.Report.{all_sums}
+use Rattle.result_file.specs.RowPlanes.{Planes}
 use Rattle.metric_bounds.specs.declared.Ends.{Ends}
 use Rattle.metric_bounds.specs.declared.Standing.TheVariants.{Met, Missed, Open}
 use Rattle.metric_bounds.specs.Missing.{AgreeWith}

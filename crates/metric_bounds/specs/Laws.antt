@@ -8,7 +8,8 @@ use Rattle.metric_sums.specs.Metrics.{lfm, meets, spfm_permanent, spfm_transient
 use Rattle.campaign_plan.specs.declared.Outcome.{Outcome}
 use Rattle.campaign_plan.specs.Analysis.{Analysis, batch_count}
 use Rattle.campaign_plan.specs.Batches.{Entry}
-use Rattle.fmeda_report.specs.Report.{Planes, all_sums}
+use Rattle.fmeda_report.specs.Report.{all_sums}
+use Rattle.result_file.specs.RowPlanes.{Planes}
 use Rattle.result_merge.specs.Union.{found}
 use Rattle.metric_bounds.specs.declared.Ends.{Ends}
 use Rattle.metric_bounds.specs.declared.Standing.{Standing}

@@ -7,7 +7,7 @@ use Rattle.fault_list.specs.Faults.{fault_number, is_used, used_plane}
 use Rattle.campaign_plan.specs.declared.Outcome.{Outcome}
 use Rattle.campaign_plan.specs.Analysis.{Analysis, fault_count, fault_numbered, part_numbered, part_of}
 use Rattle.campaign_plan.specs.Batches.{Entry}
-use Rattle.fmeda_report.specs.Report.{Planes}
+use Rattle.result_file.specs.RowPlanes.{Planes}
 use Rattle.result_merge.specs.Union.{found}
 use Rattle.metric_bounds.specs.declared.End.{End}
 use Rattle.metric_bounds.specs.declared.End.TheVariants.{Best, Worst, MostLatent}

@@ -10,9 +10,8 @@ ghost use Rattle.metric_breakdown.specs.Text.{AreReadingSums, lines_by, reading_
 
 use alarm_points::Goal;
 use campaign_plan::Plan;
+use fm_shelf::lines::{number_word, write_line};
 use fm_shelf::shelf::{Failed, Sink};
-use fmeda_report::lines::write_line;
-use fmeda_report::words::number_word;
 use fmeda_report::write_metrics;
 use metric_sums::Sums;
 use reading_planes::Reading;

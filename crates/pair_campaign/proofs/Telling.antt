@@ -6,7 +6,7 @@ use Rattle.fm_base.specs.Planes.{bit}
 use Rattle.fm_base.proofs.Bits.{bit-plane_of}
 use Rattle.fault_list.specs.Faults.{batches_for, fault_number, is_used}
 use Rattle.campaign_plan.specs.Analysis.{Analysis}
-use Rattle.fmeda_report.specs.Report.{Planes}
+use Rattle.result_file.specs.RowPlanes.{Planes}
 use Rattle.pair_list.specs.Pairs.{pairs}
 use Rattle.pair_list.specs.Chosen.{Chosen, chosen, pair_count, pair_numbered}
 use Rattle.pair_campaign.specs.Together.{is_dangerous_pair}

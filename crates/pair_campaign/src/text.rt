@@ -11,10 +11,9 @@ ghost use Rattle.pair_campaign.specs.PairText.{line_by_bit, pair_line, pairs_lin
 use crate::crew::PairPlanes;
 use crate::dangerous::{count_dangerous, has_pair_bit};
 use campaign_plan::Plan;
+use fm_shelf::lines::{number_word, write_line};
 use fm_shelf::shelf::{Failed, Sink};
 use fm_shelf::whole::write_all;
-use fmeda_report::lines::write_line;
-use fmeda_report::words::number_word;
 use pair_list::Pairs;
 
 // Writes a text and the name of a fault behind it.

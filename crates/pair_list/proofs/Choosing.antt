@@ -17,9 +17,8 @@ use Rattle.campaign_plan.specs.Batches.{batches, AreDistinct}
 use Rattle.fm_base.proofs.SumsBelow.{once_le, sum_by-ones, sum_up-ones}
 use Rattle.result_file.specs.declared.Row.{Row}
 use Rattle.result_file.specs.KeptRows.{entry_of}
-use Rattle.fmeda_report.specs.Report.{Planes}
-use Rattle.fmeda_report.specs.Rows.{planes_in}
-use Rattle.fmeda_report.proofs.RowPlanes.{rows_below, planes_in-none}
+use Rattle.result_file.specs.RowPlanes.{Planes, planes_in}
+use Rattle.result_file.proofs.RowPlanes.{rows_below, planes_in-none}
 use Rattle.result_merge.specs.Union.{found}
 use Rattle.result_merge.specs.Tables.{Table, planes_table, planes_at}
 use Rattle.result_merge.proofs.Tabling.{length-table, table_at}

@@ -9,7 +9,8 @@ use Rattle.circuit.specs.Names.{net_name}
 use Rattle.fm_base.specs.Lists.{below}
 use Rattle.fm_base.proofs.Below.{below_small}
 use Rattle.alarm_points.specs.declared.Goal.{Goal}
-use Rattle.readings.specs.Breakdown.{Reading as PlanReading, goal_word, readings, with_alarms, with_goals, with_interval, other_alarms}
+use Rattle.readings.specs.Breakdown.{Reading as PlanReading, goal_word, readings, with_alarms, with_goals, other_alarms}
+use Rattle.campaign_plan.specs.Analysis.{with_interval}
 use Rattle.reading_planes.specs.Readings.{IsReadingOf, ListGivesReadings, ListIsSound, reading_by}
 use Rattle.reading_planes.specs.declared.reading.Reading.{Reading}
 use Rattle.reading_planes.specs.declared.reading.Reading.TheVariants.{Goal as GoalAlone, Interval, Only, Whole, Without}

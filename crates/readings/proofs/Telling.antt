@@ -6,10 +6,11 @@ use Rattle.circuit.specs.Names.{net_name}
 use Rattle.alarm_points.specs.declared.Goal.{Goal}
 use Rattle.fm_base.specs.Names.{Bytes}
 use Rattle.fm_base.specs.Text.{line}
-use Rattle.campaign_plan.specs.Analysis.{Analysis}
+use Rattle.campaign_plan.specs.Analysis.{Analysis, with_interval}
 use Rattle.campaign_plan.specs.Batches.{true_planes}
-use Rattle.fmeda_report.specs.Report.{Planes, all_sums, metric_lines}
-use Rattle.readings.specs.Breakdown.{Reading, breakdown_with, goal_word, readings, with_alarms, with_goals, with_interval}
+use Rattle.fmeda_report.specs.Report.{all_sums, metric_lines}
+use Rattle.result_file.specs.RowPlanes.{Planes}
+use Rattle.readings.specs.Breakdown.{Reading, breakdown_with, goal_word, readings, with_alarms, with_goals}
 use Rattle.readings.specs.Laws.{BreakdownIsShown}
 use Rattle.first_cycles.specs.Shown.{planes_by, shown_of}
 use Rattle.first_cycles.proofs.Showing.{all_shown}

@@ -6,9 +6,10 @@ use Rattle.circuit.specs.Names.{net_name}
 use Rattle.alarm_points.specs.declared.Goal.{Goal}
 use Rattle.fm_base.specs.Names.{Bytes}
 use Rattle.fm_base.specs.Text.{line}
-use Rattle.campaign_plan.specs.Analysis.{Analysis}
+use Rattle.campaign_plan.specs.Analysis.{Analysis, with_interval}
 use Rattle.campaign_plan.specs.Batches.{true_planes}
-use Rattle.fmeda_report.specs.Report.{Planes, all_sums, metric_lines}
+use Rattle.fmeda_report.specs.Report.{all_sums, metric_lines}
+use Rattle.result_file.specs.RowPlanes.{Planes}
 
 -- a reading: its words, and the plan with the points or the interval so changed
 pub record Reading : Type 0 where
@@ -19,15 +20,12 @@ pub record Reading : Type 0 where
 abbrev pub goal_word : Goal → Bytes
 goal_word goal = elim goal.name [ [] ↦ codes "-" | _ ↦ goal.name ]
 
--- a plan with other goals, with other alarm points, and with another interval in the settings
+-- a plan with other goals, and with other alarm points
 abbrev pub with_goals : Analysis → List Goal → Analysis
 with_goals p goals = record p { points = record p.points { goals = goals } }
 
 abbrev pub with_alarms : Analysis → List NetId → Analysis
 with_alarms p alarm = record p { points = record p.points { alarm = alarm } }
-
-abbrev pub with_interval : Analysis → ℕ → Analysis
-with_interval p ftti = record p { settings = record p.settings { ftti = ftti } }
 
 -- all alarm points but this one
 abbrev pub other_alarms : Analysis → NetId → List NetId

@@ -20,7 +20,7 @@ use Rattle.campaign_plan.specs.Analysis.{Analysis, fault_count, fault_numbered, 
 use Rattle.campaign_plan.specs.Batches.{class_of_fault, true_planes}
 use Rattle.campaign_plan.specs.Danger.{is_dangerous, is_raised, with_faults}
 use Rattle.campaign_plan.specs.Weights.{weight}
-use Rattle.fmeda_report.specs.Words.{class_word}
+use Rattle.metric_sums.specs.Words.{class_word}
 use Rattle.campaign_tables.specs.Csv.{csv_field}
 use Rattle.first_cycles.specs.FirstCycles.{first_below, is_raised_at}
 

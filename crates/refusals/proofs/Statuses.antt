@@ -10,7 +10,7 @@ use Rattle.campaign_plan.specs.declared.Outcome.{Outcome}
 use Rattle.result_merge.specs.declared.merge.MergeRefusal.{MergeRefusal}
 use Rattle.result_merge.specs.declared.merge.MergeRefusal.TheVariants.{Differs}
 use Rattle.commands.specs.declared.command.Which.{Which}
-use Rattle.fmeda_report.proofs.Sending.{written_none}
+use Rattle.fm_shelf.proofs.Sending.{written_none}
 use Rattle.fm_shelf.specs.Sink.{SinkState}
 
 -- the line of a status that is this one

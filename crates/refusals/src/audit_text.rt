@@ -4,9 +4,8 @@ ghost use Rattle.fm_base.specs.Text.{line};
 ghost use Rattle.fm_shelf.specs.Sink.{Sends};
 ghost use Rattle.refusals.specs.Texts.{audit_line};
 
+use fm_shelf::lines::{number_word, write_line};
 use fm_shelf::shelf::{Failed, Sink};
-use fmeda_report::lines::write_line;
-use fmeda_report::words::number_word;
 
 /// Writes that so many rows agree, each N-th of a file's, of so many batches.
 pub fn write_audit<O: Sink>(

@@ -10,10 +10,8 @@ ghost use Rattle.refusals.specs.Steps.{faults_line, netlist_line, points_line, r
 use alarm_points::{Goal, Points};
 use campaign_plan::Plan;
 use circuit::netlist::Netlist;
+use fm_shelf::lines::{number_word, write_line};
 use fm_shelf::shelf::{Failed, Sink};
-use fmeda_report::lines::write_line;
-use fmeda_report::sizes::cycles;
-use fmeda_report::words::number_word;
 use workload::run::Workload;
 
 fn write_netlist<O: Sink>(net: &Netlist, out: &mut O) -> Result<(), Failed>
@@ -43,7 +41,7 @@ fn write_workload<O: Sink>(work: &Workload, out: &mut O) -> Result<(), Failed>
             b"workload workloads",
             number_word(u64::from(work.runs())).bytes(),
             b"cycles",
-            number_word(u64::from(cycles(work))).bytes(),
+            number_word(u64::from(work.all_cycles())).bytes(),
         ],
     )
 }

@@ -7,8 +7,8 @@ ghost use Rattle.refusals.specs.RefusalLines.{bench_kind, netlist_kind, workload
 use alarm_points::{PointsFault, PointsKind};
 use bench_reader::{BenchFault, BenchKind};
 use blif_text::{NetlistFault, NetlistKind};
+use fm_shelf::lines::write_line;
 use fm_shelf::shelf::Sink;
-use fmeda_report::lines::write_line;
 use itoa::Buffer;
 use rate_table::{RatesFault, RatesKind};
 use workload::file::{WorkloadFault, WorkloadKind};

@@ -2,9 +2,8 @@
 ghost use Rattle.fm_shelf.specs.Sink.{Sends};
 ghost use Rattle.refusals.specs.Texts.{merge_line, shard_line};
 
+use fm_shelf::lines::{number_word, write_line};
 use fm_shelf::shelf::{Failed, Sink};
-use fmeda_report::lines::write_line;
-use fmeda_report::words::number_word;
 
 /// Writes which part of how many was run, and how many rows it has.
 pub fn write_shard<O: Sink>(part: u32, parts: u32, rows: u32, out: &mut O) -> Result<(), Failed>

@@ -11,3 +11,5 @@ pub mod Whole
 pub mod WrittenBack
 pub mod Feeds
 pub mod Lanes
+pub mod RowPlanes
+pub mod TrueRows

@@ -1,5 +1,6 @@
 pub mod ResultText
 pub mod KeptRows
+pub mod RowPlanes
 pub mod Numbers
 pub mod Reading
 pub mod Answers

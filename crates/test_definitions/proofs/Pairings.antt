@@ -9,7 +9,7 @@ use Rattle.campaign_plan.specs.Analysis.{Analysis}
 use Rattle.campaign_plan.specs.Danger.{is_dangerous}
 use Rattle.campaign_plan.specs.Analysis.{fault_numbered}
 use Rattle.result_file.specs.ResultText.{result_rows}
-use Rattle.fmeda_report.specs.Rows.{planes_in}
+use Rattle.result_file.specs.RowPlanes.{planes_in}
 use Rattle.pair_list.specs.declared.pairs.PairRefusal.TheVariants.{Incomplete, TooMany}
 use Rattle.pair_list.specs.Pairs.{pairs, pairs_of}
 use Rattle.pair_list.specs.Chosen.{Chosen, chosen, pair_count, pair_numbered, pair_refusal, pairs_by_rows}

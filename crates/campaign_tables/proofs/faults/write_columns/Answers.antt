@@ -1,6 +1,6 @@
 use Rattle.std.proofs.Common.{◌≡◌, refl}
 use Rattle.std.specs.Prelude.{codes}
-use Rattle.fmeda_report.proofs.Sending.{sends_as}
+use Rattle.fm_shelf.proofs.Sending.{sends_as}
 use Rattle.campaign_tables.specs.Csv.{csv_field, csv_row}
 use Rattle.campaign_tables.specs.FaultSteps.{column_names}
 use Rattle.campaign_tables.proofs.faults.write_columns.Goals as goal

@@ -1,5 +1,5 @@
 use Rattle.std.proofs.lemmas.Result.{err_from_is_err_and}
-use Rattle.fmeda_report.proofs.Sending.{sends_none, sends_more, sends_torn}
+use Rattle.fm_shelf.proofs.Sending.{sends_none, sends_more, sends_torn}
 use Rattle.campaign_tables.specs.FaultSteps.{between_quotes}
 use Rattle.campaign_tables.proofs.fields.write_bytes.Goals as goal
 

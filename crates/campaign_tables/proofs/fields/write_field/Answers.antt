@@ -1,5 +1,5 @@
 use Rattle.std.proofs.Common.{◌∙◌, sym}
-use Rattle.fmeda_report.proofs.Sending.{sends_as}
+use Rattle.fm_shelf.proofs.Sending.{sends_as}
 use Rattle.campaign_tables.proofs.Quoting.{field_plain, field_quoted}
 use Rattle.campaign_tables.proofs.fields.write_field.Goals as goal
 

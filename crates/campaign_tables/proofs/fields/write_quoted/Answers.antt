@@ -1,6 +1,6 @@
 use Rattle.std.proofs.Common.{◌∷◌, []}
 use Rattle.std.proofs.lemmas.Result.{err_from_is_err_and}
-use Rattle.fmeda_report.proofs.Sending.{sends_stop, sends_then}
+use Rattle.fm_shelf.proofs.Sending.{sends_stop, sends_then}
 use Rattle.campaign_tables.proofs.Quoting.{within}
 use Rattle.campaign_tables.proofs.fields.write_quoted.Goals as goal
 

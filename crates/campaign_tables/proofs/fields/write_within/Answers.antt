@@ -1,5 +1,5 @@
 use Rattle.std.proofs.lemmas.Result.{err_from_is_err_and}
-use Rattle.fmeda_report.proofs.Sending.{sends_none, sends_more, sends_torn}
+use Rattle.fm_shelf.proofs.Sending.{sends_none, sends_more, sends_torn}
 use Rattle.campaign_tables.proofs.Quoting.{quoted_piece}
 use Rattle.campaign_tables.proofs.fields.write_within.Goals as goal
 

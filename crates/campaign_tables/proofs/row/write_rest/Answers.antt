@@ -3,8 +3,8 @@ use Rattle.std.specs.List.{flat_map}
 use Rattle.circuit.specs.Names.{net_name}
 use Rattle.fault_list.specs.Faults.{fault_at, net_of_fault}
 use Rattle.campaign_plan.specs.Batches.{class_with}
-use Rattle.fmeda_report.specs.Words.{class_word, role_word}
-use Rattle.fmeda_report.proofs.Sending.{sends_as}
+use Rattle.metric_sums.specs.Words.{class_word, role_word}
+use Rattle.fm_shelf.proofs.Sending.{sends_as}
 use Rattle.campaign_tables.specs.Words.{bit_word, covered_word, kind_word}
 use Rattle.campaign_tables.proofs.Quoting.{after_comma, next_same}
 use Rattle.campaign_tables.proofs.row.write_rest.Goals as goal

@@ -1,7 +1,7 @@
 use Rattle.std.proofs.Common.{◌∙◌, ap, refl}
 use Rattle.std.proofs.lemmas.Result.{err_from_is_err_and}
-use Rattle.fmeda_report.specs.Words.{class_word}
-use Rattle.fmeda_report.proofs.Sending.{sends_as, sends_stop, sends_then}
+use Rattle.metric_sums.specs.Words.{class_word}
+use Rattle.fm_shelf.proofs.Sending.{sends_as, sends_stop, sends_then}
 use Rattle.class_table.proofs.ClassLines.{class_pieces}
 use Rattle.class_table.proofs.table.write_class.Goals as goal
 

@@ -3,7 +3,7 @@ use Rattle.std.specs.Prelude.{codes, decimal}
 use Rattle.fm_base.specs.Text.{line}
 use Rattle.class_table.specs.ClassLines.{class_lines}
 use Rattle.std.proofs.lemmas.Result.{err_from_is_err_and}
-use Rattle.fmeda_report.proofs.Sending.{sends_as, sends_stop, sends_then}
+use Rattle.fm_shelf.proofs.Sending.{sends_as, sends_stop, sends_then}
 use Rattle.class_table.proofs.table.write_classes.Goals as goal
 
 pub returns-in_err-write_each : goal.returns-in_err-write_each

@@ -1,7 +1,7 @@
 use Rattle.std.proofs.Common.{◌∙◌, sym}
 use Rattle.fmeda_report.specs.Tallies.{planes_in_order}
 use Rattle.fmeda_report.proofs.Naming.{named_line, unnamed_line}
-use Rattle.fmeda_report.proofs.Sending.{sends_as, sends_none}
+use Rattle.fm_shelf.proofs.Sending.{sends_as, sends_none}
 use Rattle.fmeda_report.proofs.faults.write_fault.Goals as goal
 
 pub returns-then-is_named : goal.returns-then-is_named

@@ -5,7 +5,7 @@ use Rattle.fm_base.specs.Lists.{below}
 use Rattle.campaign_plan.specs.Analysis.{fault_count}
 use Rattle.fmeda_report.specs.Report.{fault_line}
 use Rattle.fmeda_report.specs.Tallies.{planes_in_order}
-use Rattle.fmeda_report.proofs.Sending.{sends_as, sends_no_number, sends_number, sends_number_torn}
+use Rattle.fm_shelf.proofs.Sending.{sends_as, sends_no_number, sends_number, sends_number_torn}
 use Rattle.fmeda_report.proofs.faults.write_faults.Goals as goal
 
 pub loop-i-init : goal.loop-i-init

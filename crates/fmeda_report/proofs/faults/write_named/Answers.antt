@@ -6,8 +6,8 @@ use Rattle.fm_base.specs.Text.{line}
 use Rattle.fm_base.specs.Names.{Bytes}
 use Rattle.campaign_plan.specs.Analysis.{fault_numbered}
 use Rattle.campaign_plan.specs.Weights.{weight}
-use Rattle.fmeda_report.specs.Words.{class_word}
-use Rattle.fmeda_report.proofs.Sending.{sends_as, sends_stop, sends_then}
+use Rattle.metric_sums.specs.Words.{class_word}
+use Rattle.fm_shelf.proofs.Sending.{sends_as, sends_stop, sends_then}
 use Rattle.fmeda_report.proofs.faults.write_named.Goals as goal
 
 -- the pieces of a piece and a space, of the name, and of the weight behind a space

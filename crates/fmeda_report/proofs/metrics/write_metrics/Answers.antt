@@ -3,7 +3,7 @@ use Rattle.std.proofs.lemmas.Result.{err_from_is_err_and}
 use Rattle.metric_sums.specs.Metrics.{targets_of}
 use Rattle.fmeda_report.specs.Steps.{ratio_lines, target_lines}
 use Rattle.fmeda_report.proofs.Grouping.{metrics_in_groups}
-use Rattle.fmeda_report.proofs.Sending.{sends_as, sends_stop, sends_then}
+use Rattle.fm_shelf.proofs.Sending.{sends_as, sends_stop, sends_then}
 use Rattle.fmeda_report.proofs.metrics.write_metrics.Goals as goal
 
 pub returns-in_err-write_sums : goal.returns-in_err-write_sums

@@ -5,7 +5,7 @@ use Rattle.fm_base.specs.Text.{line}
 use Rattle.fm_base.specs.Names.{Bytes}
 use Rattle.fmeda_report.specs.Steps.{ratio_lines}
 use Rattle.fmeda_report.specs.Words.{fraction_word}
-use Rattle.fmeda_report.proofs.Sending.{sends_as, sends_stop, sends_then}
+use Rattle.fm_shelf.proofs.Sending.{sends_as, sends_stop, sends_then}
 use Rattle.fmeda_report.proofs.metrics.write_ratios.Goals as goal
 
 -- the lines for the words of the metrics

@@ -5,8 +5,9 @@ use Rattle.metric_sums.specs.Metrics.{fraction}
 use Rattle.rate_table.specs.declared.Part.{Part}
 use Rattle.fmeda_report.specs.declared.tally.Tally.{Tally}
 use Rattle.fmeda_report.specs.Report.{part_line}
-use Rattle.fmeda_report.specs.Words.{role_word, covering_word, fraction_word}
-use Rattle.fmeda_report.proofs.Sending.{sends_as}
+use Rattle.fmeda_report.specs.Words.{covering_word, fraction_word}
+use Rattle.metric_sums.specs.Words.{role_word}
+use Rattle.fm_shelf.proofs.Sending.{sends_as}
 use Rattle.fmeda_report.proofs.parts.write_part.Goals as goal
 
 pub returns : goal.returns

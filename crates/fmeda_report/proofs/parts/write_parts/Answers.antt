@@ -4,7 +4,7 @@ use Rattle.std.proofs.lemmas.Result.{err_from_is_err_and}
 use Rattle.fm_base.specs.Lists.{below}
 use Rattle.campaign_plan.specs.Analysis.{part_count}
 use Rattle.fmeda_report.specs.Report.{part_line}
-use Rattle.fmeda_report.proofs.Sending.{sends_as, sends_no_number, sends_number, sends_number_torn}
+use Rattle.fm_shelf.proofs.Sending.{sends_as, sends_no_number, sends_number, sends_number_torn}
 use Rattle.fmeda_report.proofs.parts.write_parts.Goals as goal
 
 pub loop-number-init : goal.loop-number-init

@@ -1,7 +1,8 @@
 use Rattle.std.proofs.Common.{Ok}
 use Rattle.std.specs.List.{flat_map}
 use Rattle.fm_base.specs.Lists.{below}
-use Rattle.fmeda_report.specs.Report.{Planes, part_line}
+use Rattle.fmeda_report.specs.Report.{part_line}
+use Rattle.result_file.specs.RowPlanes.{Planes}
 use Rattle.fm_shelf.specs.Sink.{Sends}
 use Rattle.fmeda_report.specs.Tallies.{AreTallied}
 use Rattle.fmeda_report.proofs.parts.write_parts.Given as goal

@@ -1,5 +1,5 @@
 use Rattle.std.proofs.Common.{◌∙◌, arith}
-use Rattle.fmeda_report.proofs.RowPlanes.{place_more, placed_all}
+use Rattle.fmeda_report.proofs.Placing.{place_more, placed_all}
 use Rattle.fmeda_report.proofs.planes.place_planes.Goals as goal
 
 pub loop-row-preserved : goal.loop-row-preserved

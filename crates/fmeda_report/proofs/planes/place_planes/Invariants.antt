@@ -1,8 +1,8 @@
 use Rattle.std.proofs.Common.{◌≡◌, ◌<◌, ℕ}
 use Rattle.fm_base.specs.Once.{IsOnce}
-use Rattle.fmeda_report.specs.Rows.{planes_in}
+use Rattle.result_file.specs.RowPlanes.{planes_in}
 use Rattle.fmeda_report.specs.Tallies.{planes_in_order}
-use Rattle.fmeda_report.proofs.RowPlanes.{row_batches, row_at}
+use Rattle.result_file.proofs.RowPlanes.{row_batches, row_at}
 use Rattle.fmeda_report.proofs.planes.place_planes.Given as goal
 
 abbrev pub invariant-loop-row : goal.invariant-loop-row

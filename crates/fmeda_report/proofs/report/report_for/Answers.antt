@@ -6,9 +6,10 @@ use Rattle.fm_base.specs.Lists.{below}
 use Rattle.fm_base.specs.Names.{Bytes}
 use Rattle.fm_base.specs.Text.{line}
 use Rattle.campaign_plan.specs.Analysis.{Analysis, fault_count, part_count}
-use Rattle.fmeda_report.specs.Report.{Planes, report, sizes_line, part_line, metric_lines, all_sums, fault_line}
+use Rattle.fmeda_report.specs.Report.{report, sizes_line, part_line, metric_lines, all_sums, fault_line}
+use Rattle.result_file.specs.RowPlanes.{Planes}
 use Rattle.fmeda_report.specs.Tallies.{planes_in_order}
-use Rattle.fmeda_report.proofs.Sending.{sends_as, sends_stop, sends_then}
+use Rattle.fm_shelf.proofs.Sending.{sends_as, sends_stop, sends_then}
 use Rattle.fmeda_report.proofs.report.report_for.Goals as goal
 
 -- what follows the title and the sizes

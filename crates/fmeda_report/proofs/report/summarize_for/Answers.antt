@@ -5,7 +5,7 @@ use Rattle.fm_base.specs.Names.{Bytes}
 use Rattle.fm_base.specs.Text.{line}
 use Rattle.fmeda_report.specs.Report.{summary, sizes_line, metric_lines, all_sums}
 use Rattle.fmeda_report.specs.Tallies.{planes_in_order}
-use Rattle.fmeda_report.proofs.Sending.{sends_as, sends_stop, sends_then}
+use Rattle.fm_shelf.proofs.Sending.{sends_as, sends_stop, sends_then}
 use Rattle.fmeda_report.proofs.report.summarize_for.Goals as goal
 
 -- the first line for a word, and the last

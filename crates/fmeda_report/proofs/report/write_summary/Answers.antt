@@ -2,10 +2,10 @@ use Rattle.std.proofs.Common.{◌≡◌, ℕ, length, ap, ◌∙◌, arith}
 use Rattle.std.proofs.lemmas.Grind.{common_steps}
 use Rattle.fmeda_report.specs.Report.{summary}
 use Rattle.fmeda_report.specs.Rooms.{Room}
-use Rattle.fmeda_report.specs.Rows.{planes_in}
+use Rattle.result_file.specs.RowPlanes.{planes_in}
 use Rattle.fmeda_report.specs.Tallies.{planes_in_order}
-use Rattle.fmeda_report.proofs.RowPlanes.{rows_within}
-use Rattle.fmeda_report.proofs.Sending.{sends_as}
+use Rattle.result_file.proofs.RowPlanes.{rows_within}
+use Rattle.fm_shelf.proofs.Sending.{sends_as}
 use Rattle.fmeda_report.proofs.report.write_summary.Goals as goal
 
 pub place_planes-requires : goal.place_planes-requires

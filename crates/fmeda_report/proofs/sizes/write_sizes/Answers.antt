@@ -5,8 +5,8 @@ use Rattle.workload.specs.Runs.{all_cycles}
 use Rattle.fm_base.specs.Text.{line}
 use Rattle.campaign_plan.specs.declared.Settings.{Settings}
 use Rattle.fmeda_report.specs.Report.{sizes_line}
-use Rattle.fmeda_report.specs.Words.{asil_word}
-use Rattle.fmeda_report.proofs.Sending.{sends_as}
+use Rattle.metric_sums.specs.Words.{asil_word}
+use Rattle.fm_shelf.proofs.Sending.{sends_as}
 use Rattle.fmeda_report.proofs.sizes.write_sizes.Goals as goal
 
 pub returns : goal.returns
@@ -20,7 +20,7 @@ returns g c =
     let faults = c.bytes-3.ensures ∙ c.number_word-3.ensures ∙ ap decimal (c.from.ensures ∙ c.len.ensures.count ∙ ap length c.faults.ensures.value) in
     let batches = c.bytes-4.ensures ∙ c.number_word-4.ensures ∙ ap decimal (c.from-2.ensures ∙ c.batches.ensures.count) in
     let workloads = c.bytes-5.ensures ∙ c.number_word-5.ensures ∙ ap decimal (c.from-3.ensures ∙ c.runs.ensures.count ∙ ap length c.work.ensures.value) in
-    let cycles = c.bytes-6.ensures ∙ c.number_word-6.ensures ∙ ap decimal (c.from-4.ensures ∙ c.cycles.ensures ∙ ap all_cycles c.work-2.ensures.value) in
+    let cycles = c.bytes-6.ensures ∙ c.number_word-6.ensures ∙ ap decimal (c.from-4.ensures ∙ c.all_cycles.ensures ∙ ap all_cycles c.work-2.ensures.value) in
     let ftti = c.bytes-7.ensures ∙ c.number_word-7.ensures ∙ ap decimal (c.from-5.ensures ∙ ap (λ (own : Settings). own.ftti) settings) in
     let asil = c.asil_word.ensures ∙ ap (λ (own : Settings). asil_word own.asil) settings in
     sends_as

@@ -2,7 +2,7 @@ use Rattle.std.proofs.Common.{◌≡◌, ◌∙◌, List, ap, refl, length}
 use Rattle.std.specs.Prelude.{option_map}
 use Rattle.std.proofs.lemmas.Result.{err_from_is_err_and}
 use Rattle.campaign_plan.specs.Analysis.{batch_count}
-use Rattle.fmeda_report.proofs.Sending.{sends_as}
+use Rattle.fm_shelf.proofs.Sending.{sends_as}
 use Rattle.commands.specs.declared.command.Task.TheVariants as task
 use Rattle.refusals.specs.Texts.{audit_line}
 use Rattle.result_file.specs.declared.Row.{Row}

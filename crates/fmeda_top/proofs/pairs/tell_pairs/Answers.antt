@@ -1,7 +1,7 @@
 use Rattle.std.proofs.Common.{inl, refl}
 use Rattle.std.proofs.lemmas.Result.{err_from_is_err_and}
-use Rattle.fmeda_report.proofs.Sending.{sends_as}
-use Rattle.fmeda_report.specs.Rows.{planes_in}
+use Rattle.fm_shelf.proofs.Sending.{sends_as}
+use Rattle.result_file.specs.RowPlanes.{planes_in}
 use Rattle.pair_campaign.specs.PairText.{pairs_text}
 use Rattle.commands.specs.declared.command.Task.TheVariants as task
 use Rattle.command_reads.specs.FirstRefusal.{Begun}

@@ -1,7 +1,7 @@
 use Rattle.std.proofs.Common.{◌∙◌, ap, refl, length}
 use Rattle.fmeda_report.specs.Report.{report, true_report}
 use Rattle.fmeda_report.specs.Tallies.{planes_in_order}
-use Rattle.fmeda_report.proofs.Sending.{sends_as}
+use Rattle.fm_shelf.proofs.Sending.{sends_as}
 use Rattle.fmeda_report.proofs.TrueReport.{true_count, true_in_order}
 use Rattle.commands.specs.declared.command.Task.TheVariants as task
 use Rattle.command_reads.specs.FirstRefusal.{Planned}

@@ -1,8 +1,8 @@
 use Rattle.std.proofs.Common.{◌∷◌, [], ◌∙◌, ap, decimal}
 use Rattle.std.specs.List.{flat_map}
 use Rattle.campaign_plan.specs.Analysis.{part_numbered}
-use Rattle.fmeda_report.specs.Words.{class_word}
-use Rattle.fmeda_report.proofs.Sending.{sends_as}
+use Rattle.metric_sums.specs.Words.{class_word}
+use Rattle.fm_shelf.proofs.Sending.{sends_as}
 use Rattle.campaign_tables.proofs.Quoting.{after_comma, next_same}
 use Rattle.latency_table.specs.Fields.{point_word}
 use Rattle.latency_table.proofs.row.write_rest.Goals as goal

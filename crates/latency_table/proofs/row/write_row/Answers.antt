@@ -2,7 +2,7 @@ use Rattle.std.proofs.Common.{◌∷◌, [], ◌∙◌, ap}
 use Rattle.std.specs.List.{flat_map}
 use Rattle.std.proofs.lemmas.Result.{err_from_is_err_and}
 use Rattle.fault_list.specs.Faults.{fault_at, fault_name}
-use Rattle.fmeda_report.proofs.Sending.{sends_as, sends_stop, sends_then}
+use Rattle.fm_shelf.proofs.Sending.{sends_as, sends_stop, sends_then}
 use Rattle.campaign_tables.specs.Csv.{csv_field}
 use Rattle.latency_table.specs.Fields.{fields_of}
 use Rattle.campaign_tables.proofs.Quoting.{after_comma}

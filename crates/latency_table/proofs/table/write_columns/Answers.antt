@@ -1,5 +1,5 @@
 use Rattle.std.proofs.Common.{refl}
-use Rattle.fmeda_report.proofs.Sending.{sends_as}
+use Rattle.fm_shelf.proofs.Sending.{sends_as}
 use Rattle.latency_table.proofs.table.write_columns.Goals as goal
 
 pub returns : goal.returns

@@ -2,7 +2,7 @@ use Rattle.std.proofs.Common.{ap, ◌∙◌, sym, subst}
 use Rattle.circuit.specs.declared.parts.Fault.{Fault}
 use Rattle.campaign_plan.specs.Analysis.{all_faults}
 use Rattle.fault_list.specs.Faults.{fault_at}
-use Rattle.fmeda_report.proofs.Sending.{sends_as}
+use Rattle.fm_shelf.proofs.Sending.{sends_as}
 use Rattle.readings.specs.Latencies.{is_excited}
 use Rattle.latency_table.specs.Golden.{IsFaultIn}
 use Rattle.latency_table.proofs.Exciting.{fault_in_circuit}

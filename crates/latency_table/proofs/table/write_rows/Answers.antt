@@ -3,7 +3,7 @@ use Rattle.std.specs.List.{flat_map}
 use Rattle.std.proofs.lemmas.Result.{err_from_is_err_and}
 use Rattle.fm_base.specs.Lists.{below}
 use Rattle.campaign_plan.specs.Analysis.{fault_count}
-use Rattle.fmeda_report.proofs.Sending.{sends_as, sends_no_number, sends_number, sends_number_torn}
+use Rattle.fm_shelf.proofs.Sending.{sends_as, sends_no_number, sends_number, sends_number_torn}
 use Rattle.readings.specs.Latencies.{latency_row, least_interval}
 use Rattle.latency_table.proofs.table.write_rows.Goals as goal
 

@@ -4,7 +4,7 @@ use Rattle.std.proofs.lemmas.Result.{err_from_is_err_and}
 use Rattle.fm_base.specs.Lists.{below}
 use Rattle.fm_base.specs.Text.{whole_line}
 use Rattle.campaign_plan.specs.Analysis.{Analysis, fault_count}
-use Rattle.fmeda_report.proofs.Sending.{sends_as, sends_stop, sends_then}
+use Rattle.fm_shelf.proofs.Sending.{sends_as, sends_stop, sends_then}
 use Rattle.readings.specs.Latencies.{latencies, latencies_with, latency_row, least_interval}
 use Rattle.latency_table.proofs.table.write_table.Goals as goal
 

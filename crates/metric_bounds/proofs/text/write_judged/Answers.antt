@@ -1,5 +1,5 @@
 use Rattle.std.proofs.lemmas.Result.{err_from_is_err_and}
-use Rattle.fmeda_report.proofs.Sending.{sends_stop, sends_then}
+use Rattle.fm_shelf.proofs.Sending.{sends_stop, sends_then}
 use Rattle.metric_bounds.specs.Steps.{judged_lines}
 use Rattle.metric_bounds.proofs.text.write_judged.Goals as goal
 

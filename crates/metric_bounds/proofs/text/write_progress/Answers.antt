@@ -5,7 +5,7 @@ use Rattle.campaign_plan.specs.Analysis.{batch_count}
 use Rattle.campaign_plan.specs.declared.Settings.{Settings}
 use Rattle.result_file.specs.KeptRows.{entry_of}
 use Rattle.result_merge.proofs.Tabling.{length-table}
-use Rattle.fmeda_report.proofs.Sending.{sends_as, sends_stop, sends_then}
+use Rattle.fm_shelf.proofs.Sending.{sends_as, sends_stop, sends_then}
 use Rattle.metric_bounds.specs.Steps.{bound_lines, judged_lines, standing_lines}
 use Rattle.metric_bounds.proofs.Grouping.{progress_in_groups}
 use Rattle.metric_bounds.proofs.text.write_progress.Goals as goal

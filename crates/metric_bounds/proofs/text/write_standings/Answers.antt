@@ -1,7 +1,7 @@
 use Rattle.std.proofs.Common.{◌∙◌, ap, ap₂}
 use Rattle.std.specs.Prelude.{codes, Some}
 use Rattle.std.proofs.lemmas.Result.{err_from_is_err_and}
-use Rattle.fmeda_report.proofs.Sending.{sends_as, sends_stop, sends_then}
+use Rattle.fm_shelf.proofs.Sending.{sends_as, sends_stop, sends_then}
 use Rattle.metric_bounds.specs.Bounds.{standing_of}
 use Rattle.metric_bounds.specs.Steps.{standing_line, standing_lines}
 use Rattle.metric_bounds.proofs.text.write_standings.Goals as goal

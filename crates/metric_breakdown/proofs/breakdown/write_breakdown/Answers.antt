@@ -4,7 +4,7 @@ use Rattle.std.specs.List.{flat_map}
 use Rattle.fm_base.specs.Text.{line}
 use Rattle.alarm_points.specs.declared.Points.{Points}
 use Rattle.campaign_plan.specs.Analysis.{Analysis}
-use Rattle.fmeda_report.proofs.Sending.{sends_as}
+use Rattle.fm_shelf.proofs.Sending.{sends_as}
 use Rattle.readings.specs.Breakdown.{breakdown}
 use Rattle.reading_planes.specs.Readings.{ListGivesReadings, reading_list}
 use Rattle.reading_planes.specs.declared.reading.Reading.{Reading}

@@ -1,5 +1,5 @@
 use Rattle.fmeda_report.specs.Report.{metric_lines}
-use Rattle.fmeda_report.proofs.Sending.{sends_as, sends_then}
+use Rattle.fm_shelf.proofs.Sending.{sends_as, sends_then}
 use Rattle.metric_breakdown.proofs.text.write_lines.Goals as goal
 
 pub returns : goal.returns

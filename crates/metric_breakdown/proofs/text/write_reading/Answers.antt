@@ -9,7 +9,7 @@ use Rattle.alarm_points.specs.declared.Goal.{Goal}
 use Rattle.alarm_points.specs.declared.Points.{Points}
 use Rattle.classifier.specs.Seen.{goal_at}
 use Rattle.shown_runs.specs.Record.{alarm_at}
-use Rattle.fmeda_report.proofs.Sending.{sends_as}
+use Rattle.fm_shelf.proofs.Sending.{sends_as}
 use Rattle.readings.specs.Breakdown.{goal_word}
 use Rattle.reading_planes.specs.Readings.{IsReadingOf, words_by}
 use Rattle.reading_planes.specs.declared.reading.Reading.{Reading}

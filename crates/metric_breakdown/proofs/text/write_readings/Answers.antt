@@ -3,7 +3,7 @@ use Rattle.std.specs.List.{flat_map}
 use Rattle.std.proofs.lemmas.Result.{err_from_is_err_and}
 use Rattle.metric_sums.specs.declared.Sums.{Sums}
 use Rattle.metric_sums.specs.Totals.{AreConsistent}
-use Rattle.fmeda_report.proofs.Sending.{sends_as, sends_more, sends_none, sends_torn}
+use Rattle.fm_shelf.proofs.Sending.{sends_as, sends_more, sends_none, sends_torn}
 use Rattle.reading_planes.specs.Folded.{reading_at}
 use Rattle.reading_planes.specs.declared.reading.Reading.TheVariants.{Whole}
 use Rattle.metric_breakdown.specs.Text.{lines_by, reading_lines}

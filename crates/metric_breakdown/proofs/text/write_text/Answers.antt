@@ -1,4 +1,4 @@
-use Rattle.fmeda_report.proofs.Sending.{sends_then}
+use Rattle.fm_shelf.proofs.Sending.{sends_then}
 use Rattle.metric_breakdown.proofs.text.write_text.Goals as goal
 
 pub returns : goal.returns

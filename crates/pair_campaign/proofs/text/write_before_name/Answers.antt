@@ -1,7 +1,7 @@
 use Rattle.std.proofs.lemmas.Result.{err_from_is_err_and}
 use Rattle.fault_list.specs.Faults.{fault_name, fault_at}
 use Rattle.campaign_plan.specs.Analysis.{fault_numbered}
-use Rattle.fmeda_report.proofs.Sending.{sends_as, sends_stop, sends_then}
+use Rattle.fm_shelf.proofs.Sending.{sends_as, sends_stop, sends_then}
 use Rattle.pair_campaign.proofs.text.write_before_name.Goals as goal
 
 pub returns-in_err-write_all : goal.returns-in_err-write_all

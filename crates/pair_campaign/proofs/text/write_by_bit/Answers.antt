@@ -1,6 +1,6 @@
 use Rattle.std.proofs.Common.{[], sym, ap, ◌∙◌}
 use Rattle.std.specs.Prelude.{if◌then◌else◌}
-use Rattle.fmeda_report.proofs.Sending.{sends_as, sends_none}
+use Rattle.fm_shelf.proofs.Sending.{sends_as, sends_none}
 use Rattle.pair_list.specs.Chosen.{pair_numbered}
 use Rattle.pair_campaign.specs.PairText.{pair_line}
 use Rattle.pair_campaign.proofs.text.write_by_bit.Goals as goal

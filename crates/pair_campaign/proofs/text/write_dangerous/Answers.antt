@@ -2,7 +2,7 @@ use Rattle.std.proofs.Common.{◌≡◌, ◌<◌, ap, arith}
 use Rattle.std.specs.List.{flat_map}
 use Rattle.std.proofs.lemmas.Result.{err_from_is_err_and}
 use Rattle.fm_base.specs.Lists.{below}
-use Rattle.fmeda_report.proofs.Sending.{sends_as, sends_no_number, sends_number, sends_number_torn}
+use Rattle.fm_shelf.proofs.Sending.{sends_as, sends_no_number, sends_number, sends_number_torn}
 use Rattle.pair_list.specs.Chosen.{pair_count}
 use Rattle.pair_campaign.specs.PairText.{line_by_bit}
 use Rattle.pair_campaign.proofs.text.write_dangerous.Goals as goal

@@ -2,7 +2,7 @@ use Rattle.std.proofs.Common.{◌∷◌, [], ap, ◌∙◌}
 use Rattle.std.specs.Prelude.{codes, count_by, decimal}
 use Rattle.fm_base.specs.Lists.{below}
 use Rattle.fm_base.specs.Text.{line}
-use Rattle.fmeda_report.proofs.Sending.{sends_as}
+use Rattle.fm_shelf.proofs.Sending.{sends_as}
 use Rattle.pair_campaign.specs.PairPlanes.{pair_bit}
 use Rattle.pair_campaign.proofs.text.write_numbers.Goals as goal
 

@@ -5,7 +5,7 @@ use Rattle.fault_list.specs.Faults.{fault_name}
 use Rattle.fm_base.specs.Text.{line}
 use Rattle.fm_base.specs.Names.{Bytes}
 use Rattle.campaign_plan.specs.Analysis.{Analysis, fault_numbered}
-use Rattle.fmeda_report.proofs.Sending.{sends_as, sends_stop, sends_then}
+use Rattle.fm_shelf.proofs.Sending.{sends_as, sends_stop, sends_then}
 use Rattle.pair_list.specs.Chosen.{pair_numbered}
 use Rattle.pair_campaign.proofs.Within.{first_within, second_within}
 use Rattle.pair_campaign.proofs.text.write_pair.Goals as goal

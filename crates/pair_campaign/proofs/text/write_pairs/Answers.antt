@@ -3,7 +3,7 @@ use Rattle.std.specs.Prelude.{count_by}
 use Rattle.std.specs.List.{flat_map}
 use Rattle.std.proofs.lemmas.Result.{err_from_is_err_and}
 use Rattle.fm_base.specs.Lists.{below}
-use Rattle.fmeda_report.proofs.Sending.{sends_as, sends_stop, sends_then}
+use Rattle.fm_shelf.proofs.Sending.{sends_as, sends_stop, sends_then}
 use Rattle.pair_list.specs.Chosen.{pair_count}
 use Rattle.pair_campaign.specs.PairPlanes.{pair_bit}
 use Rattle.pair_campaign.specs.PairText.{line_by_bit, pairs_line, text_by_planes}

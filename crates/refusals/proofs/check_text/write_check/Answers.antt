@@ -1,6 +1,6 @@
 use Rattle.std.proofs.Common.{◌++◌, ◌∙◌}
 use Rattle.std.proofs.lemmas.Result.{err_from_is_err_and}
-use Rattle.fmeda_report.proofs.Sending.{sends_as, sends_stop, sends_then}
+use Rattle.fm_shelf.proofs.Sending.{sends_as, sends_stop, sends_then}
 use Rattle.refusals.specs.Steps.{faults_line, netlist_line, points_line, rates_line, workload_line}
 use Rattle.refusals.proofs.CheckText.{check_is}
 use Rattle.refusals.proofs.check_text.write_check.Goals as goal

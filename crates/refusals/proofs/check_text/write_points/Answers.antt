@@ -3,7 +3,7 @@ use Rattle.std.specs.Prelude.{codes, decimal}
 use Rattle.std.specs.List.{flat_map}
 use Rattle.alarm_points.specs.declared.Goal.{Goal}
 use Rattle.fm_base.specs.Text.{line}
-use Rattle.fmeda_report.proofs.Sending.{sends_as}
+use Rattle.fm_shelf.proofs.Sending.{sends_as}
 use Rattle.refusals.proofs.check_text.write_points.Goals as goal
 
 pub returns : goal.returns

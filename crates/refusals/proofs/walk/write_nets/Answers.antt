@@ -1,6 +1,6 @@
 use Rattle.std.proofs.Common.{◌∙◌, ap, append-nil, ◌∷◌}
 use Rattle.std.proofs.lemmas.Result.{err_from_is_err_and}
-use Rattle.fmeda_report.proofs.Sending.{sends_none, sends_as, sends_more, sends_torn}
+use Rattle.fm_shelf.proofs.Sending.{sends_none, sends_as, sends_more, sends_torn}
 use Rattle.refusals.specs.Said.{spaced_net}
 use Rattle.refusals.proofs.walk.write_nets.Goals as goal
 

@@ -1,7 +1,7 @@
 use Rattle.std.proofs.Common.{◌++◌, ◌∷◌, []}
 use Rattle.std.specs.List.{flat_map}
 use Rattle.std.proofs.lemmas.Result.{err_from_is_err_and}
-use Rattle.fmeda_report.proofs.Sending.{sends_stop, sends_then}
+use Rattle.fm_shelf.proofs.Sending.{sends_stop, sends_then}
 use Rattle.refusals.specs.Said.{spaced_net}
 use Rattle.refusals.proofs.walk.write_walk.Goals as goal
 

@@ -1,6 +1,6 @@
 use Rattle.std.proofs.Common.{ap}
 use Rattle.std.proofs.lemmas.Result.{err_from_is_err_and}
-use Rattle.fmeda_report.proofs.Sending.{sends_as, sends_stop, sends_then}
+use Rattle.fm_shelf.proofs.Sending.{sends_as, sends_stop, sends_then}
 use Rattle.workload.specs.Runs.{cycles_of}
 use Rattle.wave_dump.specs.Dump.{moment}
 use Rattle.wave_dump.proofs.Writing.{dump_is}

@@ -2,7 +2,7 @@ use Rattle.std.proofs.Common.{◌∙◌, ◌+◌, ◌*◌, ◌∷◌, [], ap, sy
 use Rattle.std.specs.Prelude.{codes}
 use Rattle.fm_base.specs.Text.{line}
 use Rattle.fm_base.specs.Names.{Bytes}
-use Rattle.fmeda_report.proofs.Sending.{sends_as}
+use Rattle.fm_shelf.proofs.Sending.{sends_as}
 use Rattle.circuit.specs.Names.{net_name}
 use Rattle.std.specs.Prelude.{slice_index}
 use Rattle.wave_dump.specs.Dump.{identifier_code, variable}

@@ -1,6 +1,6 @@
 use Rattle.std.proofs.Common.{ap, length, arith}
 use Rattle.std.proofs.lemmas.Result.{err_from_is_err_and}
-use Rattle.fmeda_report.proofs.Sending.{sends_no_number, sends_number, sends_number_torn}
+use Rattle.fm_shelf.proofs.Sending.{sends_no_number, sends_number, sends_number_torn}
 use Rattle.wave_dump.specs.Steps.{wire_line}
 use Rattle.wave_dump.proofs.header.write_wires.Goals as goal
 

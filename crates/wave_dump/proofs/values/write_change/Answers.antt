@@ -1,6 +1,6 @@
 use Rattle.std.proofs.Common.{◌≡◌, ◌-◌, ◌∙◌, ◌+◌, ◌*◌, [], ap, sym, length, List, ℕ, arith}
 use Rattle.std.specs.Prelude.{◌==◌, true}
-use Rattle.fmeda_report.proofs.Sending.{sends_as, sends_none}
+use Rattle.fm_shelf.proofs.Sending.{sends_as, sends_none}
 use Rattle.fm_base.proofs.Tests.{clash}
 use Rattle.wave_dump.specs.Dump.{value_line}
 use Rattle.wave_dump.specs.Steps.{value_text}

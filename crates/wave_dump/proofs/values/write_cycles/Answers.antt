@@ -1,6 +1,6 @@
 use Rattle.std.proofs.Common.{arith}
 use Rattle.std.proofs.lemmas.Result.{err_from_is_err_and}
-use Rattle.fmeda_report.proofs.Sending.{sends_no_number, sends_number, sends_number_torn}
+use Rattle.fm_shelf.proofs.Sending.{sends_no_number, sends_number, sends_number_torn}
 use Rattle.workload.specs.Runs.{cycles_of}
 use Rattle.wave_dump.specs.Dump.{cycle_values}
 use Rattle.wave_dump.proofs.Running.{holds_none, starts_behind, still_has}

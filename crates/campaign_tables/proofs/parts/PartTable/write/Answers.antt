@@ -1,5 +1,5 @@
 use Rattle.std.proofs.lemmas.Result.{err_from_is_err_and}
-use Rattle.fmeda_report.proofs.Sending.{sends_stop, sends_then}
+use Rattle.fm_shelf.proofs.Sending.{sends_stop, sends_then}
 use Rattle.campaign_tables.specs.PartTable.{part_table}
 use Rattle.campaign_tables.specs.PartSteps.{unmatched_line}
 use Rattle.campaign_tables.proofs.parts.PartTable.write.Goals as goal

@@ -9,8 +9,8 @@ use Rattle.rate_table.specs.declared.Pattern.{Pattern}
 use Rattle.campaign_tables.specs.Words.{covered_word}
 use Rattle.fm_base.specs.Names.{Bytes}
 use Rattle.fm_base.specs.Text.{line}
-use Rattle.fmeda_report.specs.Words.{role_word}
-use Rattle.fmeda_report.proofs.Sending.{sends_as, sends_stop, sends_then}
+use Rattle.metric_sums.specs.Words.{role_word}
+use Rattle.fm_shelf.proofs.Sending.{sends_as, sends_stop, sends_then}
 use Rattle.campaign_tables.specs.PartTable.{row_line}
 use Rattle.campaign_tables.specs.PartSteps.{name_or_dash, net_numbers, part_of_pattern, pattern_numbered, star_word, row_takes}
 use Rattle.campaign_tables.specs.Counted.{Looked}

@@ -1,6 +1,6 @@
 use Rattle.std.proofs.Common.{◌≡◌, ◌<◌, length, ap, ◌∙◌, arith}
 use Rattle.std.proofs.lemmas.Result.{err_from_is_err_and}
-use Rattle.fmeda_report.proofs.Sending.{sends_no_number, sends_number, sends_number_torn}
+use Rattle.fm_shelf.proofs.Sending.{sends_no_number, sends_number, sends_number_torn}
 use Rattle.campaign_tables.specs.PartTable.{row_line}
 use Rattle.campaign_tables.specs.Counted.{Looked}
 use Rattle.campaign_tables.proofs.parts.PartTable.write_rows.Goals as goal

@@ -2,7 +2,7 @@ use Rattle.std.proofs.Common.{◌∷◌, [], ◌∙◌, ap, length, List, ℕ, a
 use Rattle.std.specs.Prelude.{codes, decimal, count_by, find, is_none, Option}
 use Rattle.fm_base.specs.Lists.{below}
 use Rattle.fm_base.specs.Text.{line}
-use Rattle.fmeda_report.proofs.Sending.{sends_as}
+use Rattle.fm_shelf.proofs.Sending.{sends_as}
 use Rattle.campaign_tables.specs.PartSteps.{name_or_dash, unmatched_line}
 use Rattle.campaign_tables.specs.Counted.{row_in_list, Looked}
 use Rattle.campaign_tables.proofs.Looking.{first_unmatched, length_rows, unmatched_count}

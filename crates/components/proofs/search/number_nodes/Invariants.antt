@@ -1,9 +1,0 @@
-use Rattle.std.proofs.Common.{length}
-use Rattle.components.proofs.Stack.{Numbers}
-use Rattle.components.proofs.search.number_nodes.Given as goal
-
-abbrev pub invariant-nodes : goal.invariant-nodes
-invariant-nodes l = Numbers l.place l.number l.initial.marks.items l.marks.items l.nodes.items
-
-abbrev pub decreases-nodes : goal.decreases-nodes
-decreases-nodes l = length l.nodes.items

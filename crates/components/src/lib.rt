@@ -1,8 +1,0 @@
-// Strongly connected components of a directed graph.
-#![tactic(auto)]
-
-mod numbers;
-mod scan;
-mod search;
-
-pub use numbers::components;
