@@ -3,7 +3,8 @@ ghost use Rattle.place_set.specs.Places.{has};
 ghost use Rattle.std.specs.Prelude.{◌≡◌, ◌<◌, ◌≤◌, ◌==◌, ℕ, false, true, IfOk, MatchOption, if◌then◌else◌};
 
 use crate::words::{
-    clear_value, fill_values, first_from, first_in, is_empty_word, set_value, value_in_words,
+    are_values_inside, clear_value, fill_values, first_from, first_in, is_empty_word, set_value,
+    value_in_words,
 };
 use std::alloc::{AllocError, Global};
 use std::marker::Model;
@@ -86,6 +87,22 @@ impl PlaceSet {
         let places = self.bound as usize;
         fill_values(&mut self.words, places);
         fill_values(&mut self.summary, (places + 63) / 64);
+    }
+
+    /// Takes the places of another set with the same bound in place of its own, a word of them at a time.
+    pub fn copy_from(&mut self, other: &PlaceSet)
+        requires { other.now.bound ≡ self.old.bound }
+        ensures { self.new ≡ other.now }
+    {
+        self.words.copy_from_slice(&other.words);
+        self.summary.copy_from_slice(&other.summary);
+    }
+
+    /// Whether each place of the set is in another one, looked at a word at a time.
+    pub fn is_inside(&self, other: &PlaceSet) -> bool
+        ensures { result ≡ true → (p : ℕ) → has self.now p ≡ true → has other.now p ≡ true }
+    {
+        are_values_inside(&self.words, &other.words)
     }
 
     /// The first place of the set from a place on.

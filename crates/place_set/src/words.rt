@@ -60,6 +60,28 @@ pub fn fill_values(words: &mut [u64], bound: usize)
     }
 }
 
+// Whether each bit of one word is in another.
+fn is_word_inside(word: u64, other: u64) -> bool
+    ensures { result ≡ true → (k : ℕ) → bit word k ≡ true → bit other k ≡ true }
+{
+    word & other == word
+}
+
+/// Whether each true value of some words is true in others, of which there are as many.
+pub fn are_values_inside(words: &[u64], others: &[u64]) -> bool
+    ensures { result ≡ true → (p : ℕ) → value_in words.now p ≡ true → value_in others.now p ≡ true }
+{
+    if words.len() != others.len() {
+        return false;
+    }
+    for at in 0..words.len() {
+        if !is_word_inside(words[at], others[at]) {
+            return false;
+        }
+    }
+    true
+}
+
 /// Whether a word has no bit.
 pub fn is_empty_word(words: &[u64], at: usize) -> bool
     requires { at < length words.now }
