@@ -1,1 +1,4 @@
 pub mod RowLemmas
+pub mod Settling
+pub mod Sources
+pub mod Simulating

@@ -1,2 +1,4 @@
 pub mod Recording
 pub mod Recorded
+pub mod Events
+pub mod Simulated

@@ -41,8 +41,8 @@ impl Golden {
         requires { IsOrder net.now order.now }
         ensures { IfOk result (λ made. made ≡ record { circuit = net.now; order = order.now; runs = work.now }) }
     {
-        let rows = GoldenRows::new(alloc, net, order, work)?;
         let fanout = Fanout::new(alloc, net, order)?;
+        let rows = GoldenRows::over(alloc, net, order, &fanout, work)?;
         Ok(Golden { rows, fanout })
     }
 

@@ -6,6 +6,7 @@ ghost use Rattle.workload.specs.Runs.{cycles_of, run_at};
 
 use crate::make::{Words, all_rows};
 use circuit::netlist::Netlist;
+use fanout::Fanout;
 use netlist_levels::Order;
 use std::alloc::{AllocError, Global};
 use std::marker::Model;
@@ -45,12 +46,27 @@ impl GoldenRows {
         requires { IsOrder netlist.now order.now }
         ensures { IfOk result (λ rows. rows ≡ record { circuit = netlist.now; runs = work.now }) }
     {
-        let width = netlist.nets() / 64 + 1;
-        let rows = all_rows(alloc, netlist, order, work, width)?;
+        let fanout = Fanout::new(alloc, netlist, order)?;
+        GoldenRows::over(alloc, netlist, order, &fanout, work)
+    }
+
+    // The same, with the readers of all nets.
+    pub(crate) fn over(
+        alloc: Global,
+        netlist: &Netlist,
+        order: &Order,
+        fanout: &Fanout,
+        work: &Workload,
+    ) -> Result<Self, AllocError>
+        requires order { IsOrder netlist.now order.now }
+        requires fanout { fanout.now ≡ record { circuit = netlist.now; order = order.now } }
+        ensures { IfOk result (λ rows. rows ≡ record { circuit = netlist.now; runs = work.now }) }
+    {
+        let rows = all_rows(alloc, netlist, order, fanout, work)?;
         Ok(GoldenRows {
             circuit: Snapshot::of(netlist),
             runs: Snapshot::of(work),
-            width,
+            width: netlist.nets() / 64 + 1,
             rows,
         })
     }

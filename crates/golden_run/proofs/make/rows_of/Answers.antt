@@ -1,29 +1,42 @@
-use Rattle.std.proofs.Common.{◌≡◌, ◌<◌, ◌+◌, [], length, take, ap, sym, ◌∙◌, arith}
-use Rattle.std.proofs.lemmas.List.{length-take-le}
-use Rattle.circuit.specs.Circuit.{Circuit}
-use Rattle.circuit.specs.Trace.{trace}
-use Rattle.circuit.proofs.Cycles.{trace_taken}
-use Rattle.golden_difference.specs.Bare.{IsGoldenAfter}
-use Rattle.workload.specs.Runs.{cycles_of, run_at}
-use Rattle.golden_run.proofs.RowLemmas.{row_more}
+use Rattle.std.proofs.Common.{◌≡◌, ◌+◌, ◌-◌, ◌/◌, ◌%◌, ◌++◌, [], ℕ, List, length, get_or, refl, rules, ap, sym, ◌∙◌, arith}
+use Rattle.std.proofs.lemmas.List.{get_or-append_right, get_or_append_left, length-append}
+use Rattle.circuit.proofs.Steps.{raw_state-zero}
+use Rattle.fm_base.specs.Planes.{bit}
+use Rattle.workload.specs.Runs.{run_at}
+use Rattle.golden_run.specs.Simulated.{HasRun}
+use Rattle.golden_run.proofs.RowLemmas.{no_rows, row_more}
 use Rattle.golden_run.proofs.make.rows_of.Goals as goal
 
+pub loop-t-init : goal.loop-t-init
+loop-t-init c =
+    let circuit = c.args.wiring.now.netlist.now in
+    let run = run_at c.args.work.now c.args.run in
+    record {
+      made = c.start.ensures.made;
+      raw = c.start.ensures.raw ∙ sym (raw_state-zero circuit [] run.vectors);
+      rows = no_rows circuit run (length circuit.drivers / 64 + 1) c.in_ok-words.words.items c.in_ok-words.ensures.items;
+    }
+
 pub loop-t-preserved : goal.loop-t-preserved
-loop-t-preserved g c =
+loop-t-preserved c =
+    let circuit = c.args.wiring.now.netlist.now in
     let run = run_at c.args.work.now c.args.run in
     let t = c.loop-t.t in
-    let lt : t < cycles_of run = omega (arith, c.loop-t-test.true, c.cycles-cycles.ensures.count) in
-    let here : IsGoldenAfter (take (t + 1) run.vectors) c.run_next.new.lanes = c.run_next.ensures.step run t lt c.vector.ensures c.loop-t.invariant.after in
-    let size : t + 1 ≡ length (take (t + 1) run.vectors) = sym (length-take-le (t + 1) run.vectors (omega (arith, lt))) in
-    let circuit : c.run_next.new.lanes.circuit ≡ c.args.net.now = c.run_next.ensures.made.circuit in
+    let words = c.loop-t.words.items in
+    let row = c.cycle.new.self.values.row.items in
+    let next = c.extend_from_slice.new.self.items in
+    let has : HasRun circuit run.vectors t c.cycle.new.self = c.cycle.ensures.run run.vectors t c.vector.ensures c.loop-t.invariant.raw in
+    let added : next ≡ words ++ c.deref.result.now = search rules in
+    let more : next ≡ words ++ row = added ∙ ap (λ (last : List ℕ). words ++ last) c.deref.ensures.value in
     record {
-      made = c.run_next.ensures.made;
-      cycle = c.run_next.ensures.cycle ∙ ap (λ n. n + 1) c.loop-t.invariant.cycle;
-      after = here;
-      rows = row_more c.args.net.now run c.args.width t c.loop-t.words.items c.push_row.new.words.items c.loop-t.invariant.rows c.requires.width
-          c.in_ok-push_row.ensures.count c.in_ok-push_row.ensures.kept
+      made = c.cycle.ensures.made;
+      raw = has.raw;
+      rows = row_more circuit run (length circuit.drivers / 64 + 1) t words next c.loop-t.invariant.rows refl
+          (ap (λ (ws : List ℕ). length ws) more ∙ length-append words row ∙ ap (λ n. length words + n) c.cycle.ensures.made.values.sizes.row)
+          (λ i less. ap (λ (ws : List ℕ). get_or ws i 0) more ∙ get_or_append_left words row 0 i less)
           (λ net within.
-          c.in_ok-push_row.ensures.values (take (t + 1) run.vectors) t here size net (omega (arith, within, c.nets.ensures.count))
-          ∙ ap (λ (m : Circuit). trace m [] (take (t + 1) run.vectors) t net) circuit
-          ∙ trace_taken c.args.net.now [] run.vectors t net lt);
+          let back : length words + net / 64 - length words ≡ net / 64 = omega arith in
+          ap (λ (ws : List ℕ). bit (get_or ws (length words + net / 64) 0) (net % 64)) more
+          ∙ ap (λ w. bit w (net % 64)) (get_or-append_right words row (length words) (length words + net / 64) 0 refl (omega arith) ∙ ap (λ i. get_or row i 0) back)
+          ∙ has.row net within);
     }
