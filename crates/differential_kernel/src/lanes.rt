@@ -12,6 +12,7 @@ ghost use Rattle.place_set.specs.Places.{has};
 ghost use Rattle.differential_kernel.specs.Differences.{IsSame};
 ghost use Rattle.differential_kernel.specs.Picked.{AreBelow, ArePicks, lane_at, place_in};
 
+use crate::cone::Cone;
 use crate::cycle::advance;
 use crate::difference::value_word;
 use crate::drop::{keep_lanes, unload};
@@ -61,7 +62,8 @@ pub struct DifferentialLanes<W: Word = u64> {
     forces: Forces<W>,
     stale: bool,
     cycle: u32,
-    // The number of cycles to come that are run by all tables.
+    // What the faults of a run can reach, and the number of cycles to come that are run by all tables of it.
+    cone: Cone,
     sweeps: u32,
     latches: LatchDifferences<W>,
     nets: NetDifferences<W>,
@@ -109,6 +111,7 @@ impl<W: Word> DifferentialLanes<W> {
         let forces = Forces::new(alloc, net_count)?;
         let latches = LatchDifferences::new(alloc, latch_count)?;
         let nets = NetDifferences::new(alloc, net_count, table_count + latch_count)?;
+        let cone = Cone::new(alloc, net_count, table_count, latch_count)?;
         Ok(DifferentialLanes {
             circuit: Snapshot::of(netlist),
             order: Snapshot::of(order),
@@ -122,6 +125,7 @@ impl<W: Word> DifferentialLanes<W> {
             forces,
             stale: true,
             cycle: 0,
+            cone,
             sweeps: 0,
             latches,
             nets,
@@ -164,6 +168,7 @@ impl<W: Word> DifferentialLanes<W> {
         clear(&mut self.latches.live, &mut self.latches.raw);
         self.cycle = 0;
         self.sweeps = 0;
+        self.cone.made = false;
     }
 
     // Drops the lanes whose bit is set, in all words.
@@ -238,6 +243,7 @@ impl<W: Word> DifferentialLanes<W> {
         self.whole = false;
         self.cycle = other.cycle;
         self.sweeps = other.sweeps;
+        self.cone.made = false;
     }
 
     /// Simulates the next cycle in all lanes, where `row` has the golden value of each net in this cycle. There can be 65,536
@@ -283,7 +289,9 @@ impl<W: Word> DifferentialLanes<W> {
         advance(
             &golden,
             &self.program,
+            &self.in_force,
             &self.forces,
+            &mut self.cone,
             &mut self.latches,
             &mut self.nets,
             &mut self.sweeps,

@@ -1,6 +1,7 @@
 // Many faulty circuits at once, of which only what differs from the golden run is simulated.
 #![tactic(auto)]
 
+mod cone;
 mod cycle;
 mod difference;
 mod drop;
