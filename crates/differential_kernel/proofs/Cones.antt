@@ -1,13 +1,13 @@
 -- Nets that are put into a cone, until no path leads out of it.
-use Rattle.std.proofs.Common.{◌≡◌, ◌≢◌, inl, inr, ℕ, ◌+◌, ◌-◌, ◌<◌, ◌≤◌, ◌==◌, ltb, cond, Bool, true, false, length, refl, ap, sym, subst, ◌∙◌, arith}
+use Rattle.std.proofs.Common.{◌≡◌, inl, inr, ℕ, ◌+◌, ◌-◌, ◌<◌, ◌==◌, cond, Bool, true, false, length, refl, ap, sym, subst, ◌∙◌, arith}
 use Rattle.std.proofs.lemmas.Bool.{cases_eq, false_from_ne_true, le-ltb, lt-ltb, ne_eqb, true≢false}
 use Rattle.circuit.specs.Order.{net_at}
 use Rattle.fanout.specs.Readers.{IsReadAt, Ordered}
 use Rattle.lane_words.specs.Gates.{latch_at}
 use Rattle.place_set.specs.Places.{Places, has}
 use Rattle.differential_kernel.specs.declared.cone.Cone.{Cone}
-use Rattle.differential_kernel.specs.Cone.{AreThose, IsClosed, IsClosedBut, IsConeOf, IsNewCone, LeadsInto, Spreads, driven_at}
-use Rattle.differential_kernel.specs.Differences.{Grows, IsEmptySet}
+use Rattle.differential_kernel.specs.Cone.{IsClosed, IsClosedBut, IsConeOf, IsNewCone, LeadsInto, Spreads, driven_at}
+use Rattle.differential_kernel.specs.Differences.{IsEmptySet}
 use Rattle.differential_kernel.proofs.Notes.{grows_none, not_put, put_grows, taken_other}
 use Rattle.differential_kernel.proofs.Walking.{latch_read}
 
@@ -112,7 +112,14 @@ module _ (o : Ordered) where
   -- a cone is one whether it was made in this run or not
   pub cone_kept : (cone : Cone) (made : Bool) → IsConeOf o cone
       → IsConeOf o (record {
-        nets = cone.nets; left = cone.left; tables = cone.tables; table_count = cone.table_count; latches = cone.latches; ends = cone.ends; end_count = cone.end_count; made = made
+        nets = cone.nets;
+        left = cone.left;
+        tables = cone.tables;
+        table_count = cone.table_count;
+        latches = cone.latches;
+        ends = cone.ends;
+        end_count = cone.end_count;
+        made = made;
       })
   cone_kept cone made is = record {
     nets = is.nets;

@@ -1,12 +1,12 @@
 -- Places outside of a cone, in one lane.
-use Rattle.std.proofs.Common.{◌≡◌, inl, inr, ℕ, zero, suc, ◌+◌, ◌<◌, ◌≤◌, Bool, false, List, length, take, get_or, ap, sym, subst, ◌∙◌, arith}
+use Rattle.std.proofs.Common.{◌≡◌, inl, inr, ℕ, zero, suc, ◌+◌, ◌<◌, ◌≤◌, Bool, false, List, length, take, ap, subst, ◌∙◌, arith}
 use Rattle.std.proofs.lemmas.Bool.{cases_eq}
 use Rattle.circuit.specs.declared.parts.NetId.{NetId}
 use Rattle.circuit.specs.Circuit.{Circuit}
 use Rattle.circuit.specs.Order.{IsOrder, net_at}
 use Rattle.circuit.specs.Sound.{IsNetlist}
 use Rattle.circuit.specs.Value.{Cycle}
-use Rattle.fanout.specs.Readers.{IsReadAt, Ordered}
+use Rattle.fanout.specs.Readers.{Ordered}
 use Rattle.golden_difference.proofs.Exclusive.{either_same}
 use Rattle.golden_difference.proofs.Walked.{Walked}
 use Rattle.lane_words.specs.Bits.{either}
@@ -14,7 +14,7 @@ use Rattle.lane_words.specs.declared.force.Force.{Force}
 use Rattle.lane_words.specs.Forces.{AreForces, IsIdleAt}
 use Rattle.place_set.specs.Places.{Places, has, value_in}
 use Rattle.differential_kernel.specs.Cone.{IsClosed}
-use Rattle.differential_kernel.specs.Differences.{AreSameOff, IsSame, read_in}
+use Rattle.differential_kernel.specs.Differences.{AreSameOff, read_in}
 use Rattle.differential_kernel.specs.Walk.{IsPair}
 use Rattle.differential_kernel.proofs.Cones.{table_out}
 use Rattle.differential_kernel.proofs.Walking.{quiet_here}

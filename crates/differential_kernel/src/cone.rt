@@ -88,12 +88,7 @@ fn put_all(set: &PlaceSet, nets: &mut PlaceSet, left: &mut PlaceSet)
 }
 
 // So the net of a latch that a fault flips, in whatever cycle.
-fn put_flip(
-    netlist: &Netlist,
-    fault: &Option<Fault>,
-    nets: &mut PlaceSet,
-    left: &mut PlaceSet,
-)
+fn put_flip(netlist: &Netlist, fault: &Option<Fault>, nets: &mut PlaceSet, left: &mut PlaceSet)
     requires nets { nets.old.bound ≡ length netlist.now.drivers }
     requires left { left.old.bound ≡ nets.old.bound }
     ensures { Spreads nets.old left.old nets.new left.new }
@@ -105,12 +100,7 @@ fn put_flip(
     }
 }
 
-fn put_flips(
-    netlist: &Netlist,
-    faults: &[Option<Fault>],
-    nets: &mut PlaceSet,
-    left: &mut PlaceSet,
-)
+fn put_flips(netlist: &Netlist, faults: &[Option<Fault>], nets: &mut PlaceSet, left: &mut PlaceSet)
     requires nets { nets.old.bound ≡ length netlist.now.drivers }
     requires left { left.old.bound ≡ nets.old.bound }
     ensures { Spreads nets.old left.old nets.new left.new }
@@ -150,12 +140,7 @@ fn driven_net(cycle: &GoldenCycle<'_>, place: usize) -> NetId
 }
 
 // Puts the nets that are driven at some places.
-fn put_driven(
-    cycle: &GoldenCycle<'_>,
-    places: &[u32],
-    nets: &mut PlaceSet,
-    left: &mut PlaceSet,
-)
+fn put_driven(cycle: &GoldenCycle<'_>, places: &[u32], nets: &mut PlaceSet, left: &mut PlaceSet)
     requires golden { IsGoldenCycle cycle.now }
     requires places { All (λ place. place < length cycle.now.order.now + length cycle.now.netlist.now.latches) places.now }
     requires nets { nets.old.bound ≡ length cycle.now.netlist.now.drivers }

@@ -90,7 +90,15 @@ fn run_cone<W: Word, L: Ledger>(
     ensures run { RunsCycle W.lanes W.lane_bit cycle.now forces.now latches.old latches.new nets.new }
     ensures cost { steps.new ≤ steps.old + length cycle.now.order.now }
 {
-    sweep_cone(cycle, program, forces, cone, &latches.raw, &mut nets.words, steps);
+    sweep_cone(
+        cycle,
+        program,
+        forces,
+        cone,
+        &latches.raw,
+        &mut nets.words,
+        steps,
+    );
     take_ends(cycle.netlist, cone, &nets.words, &mut latches.raw);
     latches.live.copy_from(&cone.latches);
     nets.touched.copy_from(&cone.nets);
@@ -149,6 +157,10 @@ pub fn advance<W: Word, L: Ledger>(
     } else {
         let evaluated = run(cycle, program, forces, latches, nets, steps);
         make_once(cycle, loads, &forces.named, &nets.touched, evaluated, cone);
-        *sweeps = if cone.made { sweeps_after(evaluated, cone.table_count) } else { 0 };
+        *sweeps = if cone.made {
+            sweeps_after(evaluated, cone.table_count)
+        } else {
+            0
+        };
     }
 }

@@ -1,4 +1,4 @@
-use Rattle.std.proofs.Common.{◌≡◌, ◌<◌, ◌-◌, List, false, length, get_or, ap, sym, ◌∙◌, arith}
+use Rattle.std.proofs.Common.{◌-◌, List, false, length, get_or, ap, arith}
 use Rattle.circuit.specs.declared.parts.Latch.{Latch}
 use Rattle.lane_words.proofs.Latches.{latches_inside}
 use Rattle.differential_kernel.proofs.cone.driven_net.Goals as goal

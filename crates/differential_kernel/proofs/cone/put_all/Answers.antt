@@ -1,4 +1,3 @@
-use Rattle.std.proofs.Common.{arith}
 use Rattle.differential_kernel.proofs.Cones.{spreads_none, spreads_on}
 use Rattle.differential_kernel.proofs.cone.put_all.Goals as goal
 

@@ -1,4 +1,4 @@
-use Rattle.std.proofs.Common.{◌≡◌, false, length, ap, ap₂, subst, sym, ◌∙◌, arith}
+use Rattle.std.proofs.Common.{◌≡◌, length, ap, ap₂, subst, sym, ◌∙◌, arith}
 use Rattle.circuit.specs.Value.{bit_at}
 use Rattle.fanout.specs.Readers.{Ordered}
 use Rattle.golden_difference.proofs.Exclusive.{either_again}
@@ -6,7 +6,6 @@ use Rattle.lane_words.specs.Bits.{either}
 use Rattle.lane_words.specs.Gates.{plane}
 use Rattle.place_set.specs.Places.{value_in}
 use Rattle.differential_kernel.specs.Cone.{AreEnds}
-use Rattle.differential_kernel.specs.Differences.{AreSameOff}
 use Rattle.differential_kernel.specs.Parts.{AreForcesOf}
 use Rattle.differential_kernel.specs.Places.{AreTablePlaces}
 use Rattle.differential_kernel.proofs.Begun.{begun}

@@ -1,4 +1,4 @@
-use Rattle.std.proofs.Common.{◌≡◌, ◌≢◌, ◌<◌, ◌≤◌, ◌+◌, ℕ, Bool, false, List, length, get_or, take, ap, sym, subst, ◌∙◌, arith}
+use Rattle.std.proofs.Common.{◌≡◌, ◌≢◌, ◌<◌, ◌+◌, ℕ, Bool, List, length, get_or, take, ap, sym, subst, ◌∙◌, arith}
 use Rattle.std.proofs.lemmas.Bool.{true≢false}
 use Rattle.std.proofs.lemmas.List.{take_all}
 use Rattle.circuit.specs.declared.parts.NetId.{NetId}
@@ -8,7 +8,6 @@ use Rattle.circuit.specs.Value.{bit_at}
 use Rattle.fanout.specs.Readers.{Ordered}
 use Rattle.golden_difference.proofs.Walked.{Walked, walked_all}
 use Rattle.lane_words.specs.declared.gate.Gate.{Gate}
-use Rattle.lane_words.specs.Forces.{IsIdleAt}
 use Rattle.lane_words.specs.Gates.{IsGate, gate_at, plane}
 use Rattle.lane_words.specs.declared.force.Force.{Force}
 use Rattle.place_set.specs.Places.{has}

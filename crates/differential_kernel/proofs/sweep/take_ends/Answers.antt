@@ -27,16 +27,16 @@ loop-at-preserved g c =
       taken = λ k i lt less.
           ap (λ ws. bit_at (plane bit k ws) (get_or cone.ends.items i 0)) stored
           ∙ elim (cases_eq i at) as (λ _. bit_at (plane bit k (set raw l c.word_at.result)) (get_or cone.ends.items i 0) ≡ bit_at (plane bit k words) (latch_at latches (get_or cone.ends.items i 0)).from.0) [
-        | inl same ↦
-            subst (λ j. bit_at (plane bit k (set raw l c.word_at.result)) (get_or cone.ends.items j 0) ≡ bit_at (plane bit k words) (latch_at latches (get_or cone.ends.items j 0)).from.0) (sym same)
-            (at_set_same bit k raw l c.word_at.result within ∙ c.word_at.ensures k lt
-            ∙ ap (λ (ls : List Latch). bit_at (plane bit k words) (get_or ls slot none).from.0) c.latches-latches.ensures.value
-            ∙ ap (λ j. bit_at (plane bit k words) (latch_at latches j).from.0) here)
-        | inr other ↦
-            (let low : i < at = omega (arith, less, other) in
-            at_set_other bit k raw l (get_or cone.ends.items i 0) c.word_at.result (ends_apart c.args.netlist.now cone ends i at low c.loop-at-test.true)
-            ∙ c.loop-at.invariant.taken k i lt low)
-      ];
+            | inl same ↦
+                subst (λ j. bit_at (plane bit k (set raw l c.word_at.result)) (get_or cone.ends.items j 0) ≡ bit_at (plane bit k words) (latch_at latches (get_or cone.ends.items j 0)).from.0) (sym same)
+                (at_set_same bit k raw l c.word_at.result within ∙ c.word_at.ensures k lt
+                ∙ ap (λ (ls : List Latch). bit_at (plane bit k words) (get_or ls slot none).from.0) c.latches-latches.ensures.value
+                ∙ ap (λ j. bit_at (plane bit k words) (latch_at latches j).from.0) here)
+            | inr other ↦
+                (let low : i < at = omega (arith, less, other) in
+                at_set_other bit k raw l (get_or cone.ends.items i 0) c.word_at.result (ends_apart c.args.netlist.now cone ends i at low c.loop-at-test.true)
+                ∙ c.loop-at.invariant.taken k i lt low)
+          ];
       same = λ n out k lt.
           let other : n ≢ l = λ same. true≢false (sym (ends.listed.each at c.loop-at-test.true) ∙ ap (has cone.latches) (sym same) ∙ out) in
           ap (λ ws. bit_at (plane bit k ws) n) stored ∙ at_set_other bit k raw l n c.word_at.result other ∙ c.loop-at.invariant.same n out k lt;
