@@ -108,24 +108,3 @@ module _ (o : Ordered) where
       };
     };
   }
-
-  -- a cone is one whether it was made in this run or not
-  pub cone_kept : (cone : Cone) (made : Bool) → IsConeOf o cone
-      → IsConeOf o (record {
-        nets = cone.nets;
-        left = cone.left;
-        tables = cone.tables;
-        table_count = cone.table_count;
-        latches = cone.latches;
-        ends = cone.ends;
-        end_count = cone.end_count;
-        made = made;
-      })
-  cone_kept cone made is = record {
-    nets = is.nets;
-    left = is.left;
-    closed = is.closed;
-    room = is.room;
-    tables = is.tables;
-    ends = record { bound = is.ends.bound; latches = is.ends.latches; room = is.ends.room; listed = is.ends.listed };
-  }

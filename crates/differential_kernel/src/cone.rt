@@ -31,8 +31,6 @@ pub struct Cone {
     pub latches: PlaceSet,
     pub ends: Vec<u32>,
     pub end_count: usize,
-    /// Whether it was made in this run.
-    pub made: bool,
 }
 
 impl Cone {
@@ -55,7 +53,6 @@ impl Cone {
             latches: PlaceSet::new(alloc, latches as u32)?,
             ends: vec![in alloc; 0; latches]?,
             end_count: 0,
-            made: false,
         })
     }
 }
@@ -286,7 +283,6 @@ pub fn make(
     cone.table_count = list_tables(cycle.order, &cone.nets, &mut cone.tables);
     find_latches(cycle.netlist.latches(), &cone.nets, &mut cone.latches);
     cone.end_count = list_all(&cone.latches, &mut cone.ends);
-    cone.made = true;
 }
 
 /// Whether what is forced and what differs before a cycle is in a cone, looked at a word at a time.

@@ -10,6 +10,7 @@ use crate::force::Forces;
 use crate::golden_cycle::GoldenCycle;
 use crate::latches::LatchDifferences;
 use crate::nets::NetDifferences;
+use crate::pace::Pace;
 use crate::program::Program;
 use crate::sources::{clear, force_all, take_live};
 use crate::sweep::{blank_inputs, force_sources, show_latches, sweep, take_ends};
@@ -19,9 +20,6 @@ use fm_base::Steps;
 use lane_words::Word;
 use place_set::PlaceSet;
 use std::sync::ledger::Ledger;
-
-// After so many cycles that were run by a cone, one shows again how much differs.
-const SWEEPS: u32 = 31;
 
 // Runs one cycle with the forces of this cycle, on what the latches differ in after flips, and answers how many tables were
 // evaluated.
@@ -104,20 +102,22 @@ fn run_cone<W: Word, L: Ledger>(
     nets.touched.copy_from(&cone.nets);
 }
 
-// How many cycles to come are run by a cone, after one in which so many tables were evaluated. To find a table that reads what
-// differs takes some five times as long as to evaluate it in its turn, and forced nets are looked at beside.
-fn sweeps_after(evaluated: usize, tables: usize) -> u32 {
-    if evaluated > tables / 6 { SWEEPS } else { 0 }
+// Whether so many tables were evaluated that all tables of the cone, which are so many, are evaluated as soon in their turn. To find
+// a table that reads what differs takes some five times as long, and forced nets are looked at beside.
+fn is_much(evaluated: usize, tables: usize) -> bool {
+    evaluated > tables / 6
 }
 
-// Makes the cone of this run, if that is worth it and wasn't done yet.
-fn make_once(
+// After a cycle in which so many tables were evaluated, makes the cone of this run, if that is worth it and wasn't done yet, and says
+// how the next cycles are run.
+fn look_ahead(
     cycle: &GoldenCycle<'_>,
     loads: &[[Option<Fault>; 2]],
     named: &PlaceSet,
     touched: &PlaceSet,
     evaluated: usize,
     cone: &mut Cone,
+    pace: &mut Pace,
 )
     requires golden { IsGoldenCycle cycle.now }
     requires named { named.now.bound ≡ length cycle.now.netlist.now.drivers }
@@ -125,13 +125,15 @@ fn make_once(
     requires cone { IsConeOf cycle.now.fanout.now cone.old }
     ensures { IsConeOf cycle.now.fanout.now cone.new }
 {
-    if !cone.made && evaluated > cycle.order.len() / 32 {
+    if !pace.made && evaluated > cycle.order.len() / 16 {
         make(cycle, loads, named, touched, cone);
+        pace.made = true;
     }
+    pace.go_on(pace.made && is_much(evaluated, cone.table_count));
 }
 
-/// Runs one cycle with the forces of this cycle, on what the latches differ in after flips: by all tables of the cone where `sweeps`
-/// says so, which is the number of cycles to come that are run so, and all is in it; and else by those that read what differs.
+/// Runs one cycle with the forces of this cycle, on what the latches differ in after flips: by all tables of the cone where the pace
+/// says so, and all that is forced or differs is in it; and else by those that read what differs.
 pub fn advance<W: Word, L: Ledger>(
     cycle: &GoldenCycle<'_>,
     program: &Program<W>,
@@ -140,7 +142,7 @@ pub fn advance<W: Word, L: Ledger>(
     cone: &mut Cone,
     latches: &mut LatchDifferences<W>,
     nets: &mut NetDifferences<W>,
-    sweeps: &mut u32,
+    pace: &mut Pace,
     steps: &mut Steps<L>,
 )
     requires fit { FitTogether W.lanes W.lane_bit cycle.now program.now forces.now }
@@ -151,16 +153,11 @@ pub fn advance<W: Word, L: Ledger>(
     ensures cone { IsConeOf cycle.now.fanout.now cone.new }
     ensures cost { steps.new ≤ steps.old + length cycle.now.order.now }
 {
-    if *sweeps > 0 && holds(cone, forces, latches, nets) {
-        *sweeps -= 1;
+    if pace.sweeps > 0 && holds(cone, forces, latches, nets) {
+        pace.sweeps -= 1;
         run_cone(cycle, program, forces, cone, latches, nets, steps);
     } else {
         let evaluated = run(cycle, program, forces, latches, nets, steps);
-        make_once(cycle, loads, &forces.named, &nets.touched, evaluated, cone);
-        *sweeps = if cone.made {
-            sweeps_after(evaluated, cone.table_count)
-        } else {
-            0
-        };
+        look_ahead(cycle, loads, &forces.named, &nets.touched, evaluated, cone, pace);
     }
 }

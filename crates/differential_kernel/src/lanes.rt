@@ -22,6 +22,7 @@ use crate::golden_cycle::GoldenCycle;
 use crate::latches::LatchDifferences;
 use crate::nets::NetDifferences;
 use crate::note::{has_some_stuck, prepare};
+use crate::pace::Pace;
 use crate::picks::Picks;
 use crate::program::Program;
 use crate::sources::clear;
@@ -62,9 +63,9 @@ pub struct DifferentialLanes<W: Word = u64> {
     forces: Forces<W>,
     stale: bool,
     cycle: u32,
-    // What the faults of a run can reach, and the number of cycles to come that are run by all tables of it.
+    // What the faults of a run can reach, and how long cycles are run by all tables of it.
     cone: Cone,
-    sweeps: u32,
+    pace: Pace,
     latches: LatchDifferences<W>,
     nets: NetDifferences<W>,
 }
@@ -126,7 +127,7 @@ impl<W: Word> DifferentialLanes<W> {
             stale: true,
             cycle: 0,
             cone,
-            sweeps: 0,
+            pace: Pace::new(),
             latches,
             nets,
         })
@@ -167,8 +168,7 @@ impl<W: Word> DifferentialLanes<W> {
         self.take_loads();
         clear(&mut self.latches.live, &mut self.latches.raw);
         self.cycle = 0;
-        self.sweeps = 0;
-        self.cone.made = false;
+        self.pace = Pace::new();
     }
 
     // Drops the lanes whose bit is set, in all words.
@@ -242,8 +242,7 @@ impl<W: Word> DifferentialLanes<W> {
         self.noted = false;
         self.whole = false;
         self.cycle = other.cycle;
-        self.sweeps = other.sweeps;
-        self.cone.made = false;
+        self.pace = Pace::new();
     }
 
     /// Simulates the next cycle in all lanes, where `row` has the golden value of each net in this cycle. There can be 65,536
@@ -294,7 +293,7 @@ impl<W: Word> DifferentialLanes<W> {
             &mut self.cone,
             &mut self.latches,
             &mut self.nets,
-            &mut self.sweeps,
+            &mut self.pace,
             steps,
         );
         self.cycle += 1;

@@ -12,6 +12,7 @@ mod lanes;
 mod latches;
 mod nets;
 mod note;
+mod pace;
 mod picks;
 mod program;
 mod sources;

@@ -1,4 +1,4 @@
-use Rattle.std.proofs.Common.{◌≡◌, ℕ, true, List, length, ap, sym, subst, ◌∙◌, arith}
+use Rattle.std.proofs.Common.{◌≡◌, ℕ, List, length, ap, sym, subst, ◌∙◌, arith}
 use Rattle.std.proofs.lemmas.Grind.{common_steps}
 use Rattle.std.specs.Vec.{with_items}
 use Rattle.circuit.specs.declared.parts.Latch.{Latch}
@@ -35,7 +35,6 @@ returns c =
       latches = c.find_latches.new.set;
       ends = with_items cone.ends c.list_all-cone.new.list;
       end_count = c.list_all-cone.result;
-      made = true;
     } in
     subst (λ (o : Ordered). IsConeOf o made) (sym fanout)
     (record {

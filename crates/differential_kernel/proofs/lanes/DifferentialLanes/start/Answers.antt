@@ -1,4 +1,4 @@
-use Rattle.std.proofs.Common.{◌≡◌, false, List, length, refl, ap, sym, subst, ◌∙◌, arith}
+use Rattle.std.proofs.Common.{◌≡◌, List, length, refl, ap, sym, subst, ◌∙◌, arith}
 use Rattle.std.proofs.lemmas.Grind.{common_steps}
 use Rattle.std.specs.Vec.{with_items}
 use Rattle.circuit.specs.After.{Moment}
@@ -7,8 +7,6 @@ use Rattle.golden_difference.proofs.NextCycle.{beside_none}
 use Rattle.lane_words.specs.Gates.{plane}
 use Rattle.lane_words.specs.Loads.{loaded_faults}
 use Rattle.differential_kernel.specs.Differences.{DifferOnlyIn}
-use Rattle.differential_kernel.proofs.Cones.{cone_kept}
-use Rattle.differential_kernel.proofs.Stepped.{ordered}
 use Rattle.differential_kernel.proofs.lanes.DifferentialLanes.start.Goals as goal
 
 pub clear-requires : goal.clear-requires
@@ -41,7 +39,7 @@ invariant_of-self g c =
         };
       };
       nets = kept.nets;
-      cone = cone_kept (ordered s.circuit.value s.order.value) s.cone false kept.cone;
+      cone = kept.cone;
     }
 
 pub returns-clause-start : goal.returns-clause-start

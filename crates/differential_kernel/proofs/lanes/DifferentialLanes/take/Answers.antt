@@ -1,4 +1,4 @@
-use Rattle.std.proofs.Common.{◌≡◌, false, inl, inr, List, length, refl, ap, sym, ◌∙◌, subst, arith}
+use Rattle.std.proofs.Common.{◌≡◌, inl, inr, List, length, refl, ap, sym, ◌∙◌, subst, arith}
 use Rattle.std.specs.Prelude.{Option}
 use Rattle.std.proofs.lemmas.Bool.{cases_lt, false≢true}
 use Rattle.std.proofs.lemmas.Grind.{common_steps}
@@ -15,10 +15,8 @@ use Rattle.golden_difference.specs.Lanes.{Lanes, bank_of}
 use Rattle.differential_kernel.specs.Differences.{AreSameOff, DifferOnlyIn}
 use Rattle.differential_kernel.specs.Kernel.{lanes_of}
 use Rattle.differential_kernel.specs.Picked.{lane_at}
-use Rattle.differential_kernel.proofs.Cones.{cone_kept}
 use Rattle.differential_kernel.proofs.Dropping.{beside_dropped, beside_kept}
 use Rattle.differential_kernel.proofs.Picking.{picked_behind, picked_within}
-use Rattle.differential_kernel.proofs.Stepped.{ordered}
 use Rattle.differential_kernel.proofs.lanes.DifferentialLanes.take.Goals as goal
 
 pub invariant_of-self : goal.invariant_of-self
@@ -55,7 +53,7 @@ invariant_of-self g c =
         touched = subst (λ (ws : List g.row.W.Denot). DifferOnlyIn g.W.Word.lanes bit c.take_words-2.new.set ws) (sym words) c.take_words-2.ensures.own;
         marks = kept.nets.marks;
       };
-      cone = cone_kept (ordered s.circuit.value s.order.value) s.cone false kept.cone;
+      cone = kept.cone;
     }
 
 pub take_faults-requires-clause-few : goal.take_faults-requires-clause-few
