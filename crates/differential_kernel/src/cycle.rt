@@ -102,14 +102,15 @@ fn run_cone<W: Word, L: Ledger>(
     nets.touched.copy_from(&cone.nets);
 }
 
-// Whether so many tables were evaluated that all tables of the cone, which are so many, are evaluated as soon in their turn. To find
-// a table that reads what differs takes some five times as long, and forced nets are looked at beside.
+// Whether so many tables were evaluated that all are evaluated as soon in their turn. To find a table that reads what differs takes
+// some five times as long, and forced nets are looked at beside. A cone has fewer tables, but with a threshold by these more cycles
+// are run by it in which little differs any more.
 fn is_much(evaluated: usize, tables: usize) -> bool {
     evaluated > tables / 6
 }
 
-// After a cycle in which so many tables were evaluated, makes the cone of this run, if that is worth it and wasn't done yet, and says
-// how the next cycles are run.
+// After a cycle in which so many tables were evaluated, says how the next ones are run, and makes the cone of this run where it is
+// needed for the first time.
 fn look_ahead(
     cycle: &GoldenCycle<'_>,
     loads: &[[Option<Fault>; 2]],
@@ -125,11 +126,12 @@ fn look_ahead(
     requires cone { IsConeOf cycle.now.fanout.now cone.old }
     ensures { IsConeOf cycle.now.fanout.now cone.new }
 {
-    if !pace.made && evaluated > cycle.order.len() / 16 {
+    let much = is_much(evaluated, cycle.order.len());
+    if much && !pace.made {
         make(cycle, loads, named, touched, cone);
         pace.made = true;
     }
-    pace.go_on(pace.made && is_much(evaluated, cone.table_count));
+    pace.go_on(much);
 }
 
 /// Runs one cycle with the forces of this cycle, on what the latches differ in after flips: by all tables of the cone where the pace
@@ -158,6 +160,14 @@ pub fn advance<W: Word, L: Ledger>(
         run_cone(cycle, program, forces, cone, latches, nets, steps);
     } else {
         let evaluated = run(cycle, program, forces, latches, nets, steps);
-        look_ahead(cycle, loads, &forces.named, &nets.touched, evaluated, cone, pace);
+        look_ahead(
+            cycle,
+            loads,
+            &forces.named,
+            &nets.touched,
+            evaluated,
+            cone,
+            pace,
+        );
     }
 }
