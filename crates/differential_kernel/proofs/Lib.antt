@@ -9,3 +9,7 @@ pub mod Begun
 pub mod Stepped
 pub mod Dropping
 pub mod Picking
+pub mod Listing
+pub mod Cones
+pub mod Outside
+pub mod Ends

@@ -1,7 +1,7 @@
 -- Words that are stored, lane by lane, and what is noted of them.
 use Rattle.std.proofs.Common.{◌≡◌, ◌≢◌, inl, inr, ℕ, zero, suc, ◌+◌, ◌<◌, ◌≤◌, ◌==◌, Bool, true, false, cond, List, [], ◌∷◌, ◌++◌, length, set, refl, ap, sym, subst, ◌∙◌, arith}
 use Rattle.std.proofs.lemmas.Bool.{cases_eq, cases_lt, eq-eqb, false_from_ne_true, ne_eqb, true≢false}
-use Rattle.std.proofs.lemmas.List.{map-set, get_or-set_same, get_or-set_other, get_or_past}
+use Rattle.std.proofs.lemmas.List.{map-set, get_or-set_same, get_or-set_other}
 use Rattle.circuit.specs.Value.{bit_at}
 use Rattle.fanout.specs.Readers.{IsReadAt, Ordered}
 use Rattle.lane_words.specs.Gates.{plane}
@@ -85,16 +85,9 @@ module _ {W : Type 0} (lanes : ℕ) (bit : W → ℕ → Bool) where
         | inr other ↦ at_set_other bit k words n p v other ∙ same p (sym (taken_other old new n p is other) ∙ none) k lt
       ]
 
-  -- a set with each place of the words
-  pub only_in_full : (set : Places) (words : List W) → set.bound ≡ length words → ((p : ℕ) → p < set.bound → has set p ≡ true) → DifferOnlyIn lanes bit set words
-  only_in_full set words bound full = record {
-    bound = bound;
-    same = λ n none k lt.
-        elim (cases_lt n (length words)) [
-          | inl less ↦ absurd (true≢false (sym (full n (omega (arith, less, bound))) ∙ none))
-          | inr past ↦ get_or_past (plane bit k words) n false (omega (arith, past, length_plane bit k words))
-        ];
-  }
+  -- a greater set
+  pub only_in_more : (set more : Places) (words : List W) → Grows set more → more.bound ≡ length words → DifferOnlyIn lanes bit set words → DifferOnlyIn lanes bit more words
+  only_in_more set more words grows bound own = record { bound = bound; same = λ n none. own.same n (grows_none set more n grows none) }
 
   -- where one word is stored, the places that don't read its net are as they were
   pub same_other : (words : List W) (n m : ℕ) (v : W) → m ≢ n → IsSame lanes bit words m → IsSame lanes bit (set words n v) m

@@ -4,6 +4,7 @@ use Rattle.circuit.specs.Order.{IsOrder}
 use Rattle.circuit.specs.Sound.{IsNetlist}
 use Rattle.golden_difference.specs.Lanes.{Lanes}
 use Rattle.differential_kernel.specs.declared.lanes.DifferentialLanes.TheInside.{Inside}
+use Rattle.differential_kernel.specs.Cone.{IsConeOf}
 use Rattle.differential_kernel.specs.Forces.{has_stuck}
 use Rattle.differential_kernel.specs.Noted.{AreFaultsNoted}
 use Rattle.differential_kernel.specs.Parts.{AreForcesOf, AreLatchesOf, AreNetsOf, IsProgramOf}
@@ -34,3 +35,4 @@ pub record IsDifferenceKernel {W : Type 0} (lanes : ℕ) (bit : W → ℕ → Bo
   pub forces : AreForcesOf lanes bit (length s.circuit.value.drivers) s.forces
   pub latches : AreLatchesOf lanes bit s.circuit.value s.latches
   pub nets : AreNetsOf lanes bit (record { circuit = s.circuit.value; order = s.order.value }) s.nets
+  pub cone : IsConeOf (record { circuit = s.circuit.value; order = s.order.value }) s.cone

@@ -7,4 +7,5 @@ pub mod Forced
 pub mod Noted
 pub mod Cycle
 pub mod Picked
+pub mod Cone
 pub mod Kernel

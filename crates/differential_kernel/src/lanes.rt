@@ -12,6 +12,7 @@ ghost use Rattle.place_set.specs.Places.{has};
 ghost use Rattle.differential_kernel.specs.Differences.{IsSame};
 ghost use Rattle.differential_kernel.specs.Picked.{AreBelow, ArePicks, lane_at, place_in};
 
+use crate::cone::Cone;
 use crate::cycle::advance;
 use crate::difference::value_word;
 use crate::drop::{keep_lanes, unload};
@@ -21,6 +22,7 @@ use crate::golden_cycle::GoldenCycle;
 use crate::latches::LatchDifferences;
 use crate::nets::NetDifferences;
 use crate::note::{has_some_stuck, prepare};
+use crate::pace::Pace;
 use crate::picks::Picks;
 use crate::program::Program;
 use crate::sources::clear;
@@ -61,8 +63,9 @@ pub struct DifferentialLanes<W: Word = u64> {
     forces: Forces<W>,
     stale: bool,
     cycle: u32,
-    // The number of cycles to come that are run by all tables.
-    sweeps: u32,
+    // What the faults of a run can reach, and how long cycles are run by all tables of it.
+    cone: Cone,
+    pace: Pace,
     latches: LatchDifferences<W>,
     nets: NetDifferences<W>,
 }
@@ -109,6 +112,7 @@ impl<W: Word> DifferentialLanes<W> {
         let forces = Forces::new(alloc, net_count)?;
         let latches = LatchDifferences::new(alloc, latch_count)?;
         let nets = NetDifferences::new(alloc, net_count, table_count + latch_count)?;
+        let cone = Cone::new(alloc, net_count, table_count, latch_count)?;
         Ok(DifferentialLanes {
             circuit: Snapshot::of(netlist),
             order: Snapshot::of(order),
@@ -122,7 +126,8 @@ impl<W: Word> DifferentialLanes<W> {
             forces,
             stale: true,
             cycle: 0,
-            sweeps: 0,
+            cone,
+            pace: Pace::new(),
             latches,
             nets,
         })
@@ -163,7 +168,7 @@ impl<W: Word> DifferentialLanes<W> {
         self.take_loads();
         clear(&mut self.latches.live, &mut self.latches.raw);
         self.cycle = 0;
-        self.sweeps = 0;
+        self.pace = Pace::new();
     }
 
     // Drops the lanes whose bit is set, in all words.
@@ -237,7 +242,7 @@ impl<W: Word> DifferentialLanes<W> {
         self.noted = false;
         self.whole = false;
         self.cycle = other.cycle;
-        self.sweeps = other.sweeps;
+        self.pace = Pace::new();
     }
 
     /// Simulates the next cycle in all lanes, where `row` has the golden value of each net in this cycle. There can be 65,536
@@ -283,10 +288,12 @@ impl<W: Word> DifferentialLanes<W> {
         advance(
             &golden,
             &self.program,
+            &self.in_force,
             &self.forces,
+            &mut self.cone,
             &mut self.latches,
             &mut self.nets,
-            &mut self.sweeps,
+            &mut self.pace,
             steps,
         );
         self.cycle += 1;

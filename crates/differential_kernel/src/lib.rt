@@ -1,6 +1,7 @@
 // Many faulty circuits at once, of which only what differs from the golden run is simulated.
 #![tactic(auto)]
 
+mod cone;
 mod cycle;
 mod difference;
 mod drop;
@@ -11,6 +12,7 @@ mod lanes;
 mod latches;
 mod nets;
 mod note;
+mod pace;
 mod picks;
 mod program;
 mod sources;

@@ -1,5 +1,5 @@
 // The nets that faults name, the cycles in which they act, and the forces.
-ghost use Rattle.std.specs.Prelude.{◌≡◌, ◌<◌, ◌≤◌, ◌||◌, ◌==◌, ℕ, Bool, true, false, length, if◌then◌else◌};
+ghost use Rattle.std.specs.Prelude.{◌≡◌, ◌<◌, ◌≤◌, ◌||◌, ◌==◌, ◌^◌, ℕ, Bool, true, false, length, if◌then◌else◌};
 ghost use Rattle.std.specs.List.{list_any};
 ghost use Rattle.circuit.specs.Effects.{has_flip, is_permanent};
 ghost use Rattle.lane_words.specs.Loads.{some_names, names, somes};
@@ -75,16 +75,16 @@ pub fn note_all(loads: &[[Option<Fault>; 2]], set: &mut PlaceSet)
     note_lanes(loads, set);
 }
 
-// Takes all cycles out of a set.
-fn forget_cycles(set: &mut PlaceSet)
-    requires { set.old.bound ≤ 65536 }
+/// Takes all places out of a set.
+pub fn forget(set: &mut PlaceSet)
+    requires { set.old.bound < 2 ^ 32 }
     ensures bound { set.new.bound ≡ set.old.bound }
     ensures none { IsEmptySet set.new }
 {
     let mut from = 0;
-    'cycles: while let Some(t) = set.next_from(from) {
-        set.remove(t);
-        from = t + 1;
+    'places: while let Some(place) = set.next_from(from) {
+        set.remove(place);
+        from = place + 1;
     }
 }
 
@@ -116,7 +116,7 @@ pub fn note_cycles(loads: &[[Option<Fault>; 2]], set: &mut PlaceSet)
     ensures bound { set.new.bound ≡ set.old.bound }
     ensures acts { AreActs loads.now set.new }
 {
-    forget_cycles(set);
+    forget(set);
     note_acts(loads, set);
 }
 

@@ -1,18 +1,21 @@
-// A cycle in which every table is evaluated. Where much differs, that is quicker than to find out what does.
-ghost use Rattle.std.specs.Prelude.{◌≡◌, ◌≢◌, ◌<◌, ◌^◌, ◌+◌, ℕ, [], false, None, length, slice_index_or};
+// A cycle in which every table of a cone is evaluated. Where much differs, that is quicker than to find out what does.
+ghost use Rattle.std.specs.Prelude.{◌≡◌, ◌≢◌, ◌<◌, ◌≤◌, ◌^◌, ◌+◌, ℕ, [], false, None, length, slice_index_or};
 ghost use Rattle.circuit.specs.declared.parts.Driver.TheVariants.{Input, Table as FromTable};
 ghost use Rattle.circuit.specs.Value.{Cycle, bit_at, driver_at, net_value};
 ghost use Rattle.golden_difference.proofs.Walked.{Walked};
 ghost use Rattle.golden_difference.specs.Beside.{latched};
-ghost use Rattle.lane_words.specs.Gates.{AreOps, IsGate, plane};
+ghost use Rattle.lane_words.specs.Gates.{AreOps, IsGate, latch_at, plane};
+ghost use Rattle.place_set.specs.Places.{has};
 ghost use Rattle.lane_words.specs.declared.force.Force.{Force as ForceValue};
+ghost use Rattle.differential_kernel.specs.Cone.{AreEnds, IsConeOf};
 ghost use Rattle.differential_kernel.specs.Cycle.{FitTogether, LatchesTake};
-ghost use Rattle.differential_kernel.specs.Differences.{read_in};
+ghost use Rattle.differential_kernel.specs.Differences.{AreSameOff, DifferOnlyIn, Grows, IsSame, read_in};
 ghost use Rattle.differential_kernel.specs.Forced.{IsSettled, forced_in};
 ghost use Rattle.lane_words.specs.Forces.{AreForces};
 ghost use Rattle.differential_kernel.specs.Parts.{AreForcesOf};
 ghost use Rattle.differential_kernel.specs.Walk.{IsPair};
 
+use crate::cone::Cone;
 use crate::difference::{forced_difference, set_word, value_word};
 use crate::force::Forces;
 use crate::golden_cycle::GoldenCycle;
@@ -29,23 +32,30 @@ use std::sync::ledger::Ledger;
 /// No input differs.
 pub fn blank_inputs<W: Word>(netlist: &Netlist, words: &mut [W])
     requires { length words.old ≡ length netlist.now.drivers }
-    ensures { (k n i : ℕ) → k < W.lanes → n < length netlist.now.drivers → driver_at netlist.now n ≡ Input i → bit_at (plane W.lane_bit k words.new) n ≡ false }
+    ensures inputs { (k n i : ℕ) → k < W.lanes → n < length netlist.now.drivers → driver_at netlist.now n ≡ Input i → bit_at (plane W.lane_bit k words.new) n ≡ false }
+    ensures same { (n : ℕ) → IsSame W.lanes W.lane_bit words.old n → IsSame W.lanes W.lane_bit words.new n }
 {
     for net in netlist.inputs() {
         set_word(*net, W::all(false), words);
     }
 }
 
-/// The net of each latch differs in what the latch holds.
-pub fn show_latches<W: Word>(netlist: &Netlist, raw: &[W], words: &mut [W])
+/// The net of each latch of a cone differs in what the latch holds.
+pub fn show_latches<W: Word>(netlist: &Netlist, cone: &Cone, raw: &[W], words: &mut [W])
+    requires ends { AreEnds netlist.now cone.now }
     requires nets { length words.old ≡ length netlist.now.drivers }
     requires inputs { (k n i : ℕ) → k < W.lanes → n < length netlist.now.drivers → driver_at netlist.now n ≡ Input i → bit_at (plane W.lane_bit k words.old) n ≡ false }
-    requires raw { length raw.now ≡ length netlist.now.latches }
-    ensures { (k n : ℕ) → k < W.lanes → n < length netlist.now.drivers → ((i : ℕ) → driver_at netlist.now n ≡ FromTable i → ⊥)
+    requires raw { DifferOnlyIn W.lanes W.lane_bit cone.now.latches raw.now }
+    requires same { AreSameOff W.lanes W.lane_bit cone.now.nets words.old }
+    ensures shown { (k n : ℕ) → k < W.lanes → n < length netlist.now.drivers → ((i : ℕ) → driver_at netlist.now n ≡ FromTable i → ⊥)
         → bit_at (plane W.lane_bit k words.new) n ≡ latched (bit_at (plane W.lane_bit k raw.now)) (driver_at netlist.now n) }
+    ensures same { AreSameOff W.lanes W.lane_bit cone.now.nets words.new }
 {
-    for (l, latch) in netlist.latches().iter().enumerate() {
-        set_word(latch.to, word_at(raw, l), words);
+    let latches = netlist.latches();
+    let ends = cone.ends.as_slice();
+    for at in 0..cone.end_count {
+        let l = ends[at] as usize;
+        set_word(latches[l].to, word_at(raw, l), words);
     }
 }
 
@@ -79,8 +89,9 @@ pub fn force_sources<W: Word>(
     requires few { length words.old < 2 ^ 32 }
     requires each_place { length places.now ≡ length words.old }
     requires forces { AreForcesOf W.lanes W.lane_bit (length words.old) forces.now }
-    ensures { (k n : ℕ) (d : ForceValue W) → k < W.lanes → n < length words.old → slice_index_or places.now n None ≡ None
+    ensures forced { (k n : ℕ) (d : ForceValue W) → k < W.lanes → n < length words.old → slice_index_or places.now n None ≡ None
         → bit_at (plane W.lane_bit k words.new) n ≡ forced_in W.lane_bit k row.now forces.now.by_net.items d words.old n }
+    ensures others { (k n : ℕ) → has forces.now.named n ≡ false → bit_at (plane W.lane_bit k words.new) n ≡ bit_at (plane W.lane_bit k words.old) n }
 {
     let mut from = 0;
     'nets: while let Some(n) = forces.named.next_from(from) {
@@ -108,35 +119,48 @@ fn settle<W: Word>(
     words[gate.to as usize] = table_difference(netlist, gate, ops, row, forces, words);
 }
 
-/// Evaluates all tables, in the order's sequence, with one step for each.
+/// Evaluates the tables of a cone, in the order's sequence, with one step for each.
 pub fn sweep<W: Word, L: Ledger>(
     cycle: &GoldenCycle<'_>,
     program: &Program<W>,
     forces: &Forces<W>,
+    cone: &Cone,
     words: &mut [W],
     steps: &mut Steps<L>,
 )
     requires fit { FitTogether W.lanes W.lane_bit cycle.now program.now forces.now }
+    requires cone { IsConeOf cycle.now.fanout.now cone.now }
+    requires named { Grows forces.now.named cone.now.nets }
     requires nets { length words.old ≡ length cycle.now.netlist.now.drivers }
+    requires same { AreSameOff W.lanes W.lane_bit cone.now.nets words.old }
     ensures values { (k : ℕ) (x golden : Cycle) → k < W.lanes → IsPair cycle.now.netlist.now cycle.now.row.now x golden → AreForces W.lane_bit k forces.now.by_net.items x
         → Walked x (read_in W.lane_bit k cycle.now.row.now words.old) [] 0
         → (n : ℕ) → n < length cycle.now.netlist.now.drivers → read_in W.lane_bit k cycle.now.row.now words.new n ≡ net_value x n }
-    ensures cost { steps.new ≡ steps.old + length cycle.now.order.now }
+    ensures same { AreSameOff W.lanes W.lane_bit cone.now.nets words.new }
+    ensures cost { steps.new ≤ steps.old + length cycle.now.order.now }
 {
     let gates = program.gates.as_slice();
     let ops = program.ops.as_slice();
-    for place in 0..cycle.order.len() {
+    let places = cone.tables.as_slice();
+    for at in 0..cone.table_count {
+        let place = places[at] as usize;
         settle(cycle.netlist, &gates[place], ops, cycle.row, forces, words);
         steps.tick();
     }
 }
 
-/// Each latch takes what the net differs in that it reads.
-pub fn take_all<W: Word>(netlist: &Netlist, words: &[W], raw: &mut [W])
-    requires { length raw.old ≡ length netlist.now.latches }
-    ensures { LatchesTake W.lanes W.lane_bit netlist.now words.now raw.new }
+/// Each latch of a cone takes what the net differs in that it reads.
+pub fn take_ends<W: Word>(netlist: &Netlist, cone: &Cone, words: &[W], raw: &mut [W])
+    requires ends { AreEnds netlist.now cone.now }
+    requires takes { (l : ℕ) → l < length netlist.now.latches → has cone.now.latches l ≡ false → IsSame W.lanes W.lane_bit words.now (latch_at netlist.now.latches l).from.0 }
+    requires raw { DifferOnlyIn W.lanes W.lane_bit cone.now.latches raw.old }
+    ensures taken { LatchesTake W.lanes W.lane_bit netlist.now words.now raw.new }
+    ensures raw { DifferOnlyIn W.lanes W.lane_bit cone.now.latches raw.new }
 {
-    for (l, latch) in netlist.latches().iter().enumerate() {
-        raw[l] = word_at(words, latch.from.0 as usize);
+    let latches = netlist.latches();
+    let ends = cone.ends.as_slice();
+    for at in 0..cone.end_count {
+        let l = ends[at] as usize;
+        raw[l] = word_at(words, latches[l].from.0 as usize);
     }
 }

@@ -1,8 +1,9 @@
-use Rattle.std.proofs.Common.{◌≡◌, inl, inr, ◌<◌, ◌≤◌, ℕ, length, get_or, refl, ap, sym, ◌∙◌, subst, arith}
+use Rattle.std.proofs.Common.{◌≡◌, ◌≢◌, inl, inr, ◌<◌, ◌≤◌, ℕ, length, get_or, refl, ap, sym, ◌∙◌, subst, arith}
 use Rattle.std.specs.Prelude.{None}
-use Rattle.std.proofs.lemmas.Bool.{cases_eq, cases_lt}
+use Rattle.std.proofs.lemmas.Bool.{cases_eq, cases_lt, true≢false}
 use Rattle.circuit.specs.Value.{bit_at}
 use Rattle.lane_words.specs.Gates.{plane}
+use Rattle.place_set.specs.Places.{has}
 use Rattle.lane_words.specs.declared.force.Force.{Force}
 use Rattle.differential_kernel.specs.Forced.{forced_in}
 use Rattle.differential_kernel.proofs.Forcing.{forced_idle, forced_same}
@@ -12,6 +13,7 @@ pub nets-init : goal.nets-init
 nets-init g c = record {
   ahead = λ k n lt le. refl;
   source = λ k n d lt within below none. absurd (omega arith);
+  others = λ k n none. refl;
 }
 
 pub nets-preserved : goal.nets-preserved
@@ -41,10 +43,13 @@ nets-preserved g c =
           | inr most ↦ c.nets.invariant.ahead k n lt most ∙ sym (idle k n d lt (omega (arith, within, size)) most (omega (arith, below, other)))
         ]
       ];
+      others = λ k n none.
+          let other : n ≢ q = λ same. true≢false (sym found.2 ∙ ap (has c.args.forces.now.named) (sym same) ∙ none) in
+          c.force_source.ensures.others k n other ∙ c.nets.invariant.others k n none;
     }
 
-pub returns : goal.returns
-returns g c = λ k n d lt within none.
+pub returns-clause-forced : goal.returns-clause-forced
+returns-clause-forced g c = λ k n d lt within none.
     elim (cases_lt n c.nets.from) [
       | inl less ↦ c.nets.invariant.source k n d lt (omega (arith, within, c.nets.auto.words)) less none
       | inr most ↦

@@ -1,58 +1,114 @@
-use Rattle.std.proofs.Common.{◌≡◌, ◌<◌, List, length, take, ap, sym, subst, ◌∙◌, arith}
+use Rattle.std.proofs.Common.{◌≡◌, ◌≢◌, ◌<◌, ◌+◌, ℕ, Bool, List, length, get_or, take, ap, sym, subst, ◌∙◌, arith}
+use Rattle.std.proofs.lemmas.Bool.{true≢false}
 use Rattle.std.proofs.lemmas.List.{take_all}
 use Rattle.circuit.specs.declared.parts.NetId.{NetId}
 use Rattle.circuit.specs.Circuit.{Circuit}
 use Rattle.circuit.specs.Order.{IsOrder, net_at}
 use Rattle.circuit.specs.Value.{bit_at}
+use Rattle.fanout.specs.Readers.{Ordered}
 use Rattle.golden_difference.proofs.Walked.{Walked, walked_all}
 use Rattle.lane_words.specs.declared.gate.Gate.{Gate}
 use Rattle.lane_words.specs.Gates.{IsGate, gate_at, plane}
 use Rattle.lane_words.specs.declared.force.Force.{Force}
-use Rattle.differential_kernel.specs.Differences.{read_in}
+use Rattle.place_set.specs.Places.{has}
+use Rattle.differential_kernel.specs.Cone.{IsConeOf}
+use Rattle.differential_kernel.specs.Differences.{AreSameOff, read_in}
 use Rattle.differential_kernel.specs.Forced.{evaluated_in}
 use Rattle.differential_kernel.specs.Walk.{IsGivenAt}
+use Rattle.differential_kernel.proofs.Listing.{next_above, next_end, next_here, next_in, next_within, none_first, none_next}
+use Rattle.differential_kernel.proofs.Notes.{grows_none}
+use Rattle.differential_kernel.proofs.Outside.{quiet_outs}
 use Rattle.differential_kernel.proofs.Walking.{evaluated, given, some_force}
 use Rattle.differential_kernel.proofs.sweep.sweep.Goals as goal
 
 pub settle-requires-clause-gate : goal.settle-requires-clause-gate
 settle-requires-clause-gate g c =
-    let lt : c.loop-place.place < length c.args.program.now.gates.items = omega (arith, c.loop-place-test.true, c.requires.fit.program.gates.count) in
-    subst (λ (gates : List Gate). IsGate c.args.cycle.now.netlist.now (gate_at gates c.loop-place.place)) (sym c.as_slice-gates.ensures.value) (c.requires.fit.program.gates.gates_are c.loop-place.place lt)
+    let at = c.loop-at.at in
+    let place = get_or c.as_slice-places.result.now at 0 in
+    let here : place ≡ get_or c.args.cone.now.tables.items at 0 = ap (λ (items : List ℕ). get_or items at 0) c.as_slice-places.ensures.value in
+    let below = c.requires.cone.tables.below at c.loop-at-test.true in
+    let order = ap (λ (o : Ordered). length o.order) c.requires.fit.golden.fanout in
+    let lt : place < length c.args.program.now.gates.items = omega (arith, here, below, order, c.requires.fit.program.gates.count) in
+    subst (λ (gates : List Gate). IsGate c.args.cycle.now.netlist.now (gate_at gates place)) (sym c.as_slice-gates.ensures.value) (c.requires.fit.program.gates.gates_are place lt)
 
-pub loop-place-preserved : goal.loop-place-preserved
-loop-place-preserved g c =
+pub loop-at-init : goal.loop-at-init
+loop-at-init g c =
+    let circuit = c.args.cycle.now.netlist.now in
+    let order = c.args.cycle.now.order.now in
+    let cone = c.args.cone.now in
+    let golden = c.requires.fit.golden in
+    let are_cone : IsConeOf (record { circuit = circuit; order = order }) cone = subst (λ (o : Ordered). IsConeOf o cone) golden.fanout c.requires.cone in
+    let is : ℕ → Bool = λ p. has cone.nets (net_at order p).0 in
+    let to = next_in cone.tables.items cone.table_count (length order) 0 in
+    record {
+      values = λ k x other lt pair are first.
+          quiet_outs g.W.Word.lanes g.W.Word.lane_bit k lt circuit order golden.sound golden.ordered c.args.cycle.now.row.now c.args.forces.now.by_net.items c.requires.fit.forces.each x other pair are
+          c.args.words.now cone.nets 0 to (omega arith) (next_within is cone.tables.items cone.table_count (length order) 0 are_cone.tables) are_cone.closed c.requires.same
+          (λ n within out. c.requires.fit.forces.idle n within (grows_none c.args.forces.now.named cone.nets n c.requires.named out))
+          (λ q low less. none_first is cone.tables.items cone.table_count (length order) q are_cone.tables less)
+          first;
+      same = c.requires.same;
+      cost = omega arith;
+    }
+
+pub loop-at-preserved : goal.loop-at-preserved
+loop-at-preserved g c =
     let lanes = g.W.Word.lanes in
     let bit = g.W.Word.lane_bit in
     let circuit = c.args.cycle.now.netlist.now in
     let order = c.args.cycle.now.order.now in
     let row = c.args.cycle.now.row.now in
     let forces = c.args.forces.now.by_net.items in
-    let p = c.loop-place.place in
-    let within : p < length order = c.loop-place-test.true in
-    let inside : (net_at order p).0 < length forces = omega (arith, c.requires.fit.golden.ordered.nets p (record { 0 = 0 }) within, c.requires.fit.forces.each) in
-    let has : p < length c.args.program.now.gates.items = omega (arith, within, c.requires.fit.program.gates.count) in
-    let to : (gate_at c.as_slice-gates.result.now p).to ≡ (net_at order p).0 = ap (λ (gates : List Gate). (gate_at gates p).to) c.as_slice-gates.ensures.value ∙ c.requires.fit.program.gates.nets p has in
+    let cone = c.args.cone.now in
+    let golden = c.requires.fit.golden in
+    let are_cone : IsConeOf (record { circuit = circuit; order = order }) cone = subst (λ (o : Ordered). IsConeOf o cone) golden.fanout c.requires.cone in
+    let is : ℕ → Bool = λ q. has cone.nets (net_at order q).0 in
+    let at = c.loop-at.at in
+    let p = get_or cone.tables.items at 0 in
+    let place = get_or c.as_slice-places.result.now at 0 in
+    let here : place ≡ p = ap (λ (items : List ℕ). get_or items at 0) c.as_slice-places.ensures.value in
+    let within : p < length order = are_cone.tables.below at c.loop-at-test.true in
+    let inside : (net_at order p).0 < length forces = omega (arith, golden.ordered.nets p (record { 0 = 0 }) within, c.requires.fit.forces.each) in
+    let gate : p < length c.args.program.now.gates.items = omega (arith, within, c.requires.fit.program.gates.count) in
+    let to : (gate_at c.as_slice-gates.result.now place).to ≡ (net_at order p).0 =
+    ap (λ (gates : List Gate). (gate_at gates place).to) c.as_slice-gates.ensures.value ∙ ap (λ q. (gate_at c.args.program.now.gates.items q).to) here ∙ c.requires.fit.program.gates.nets p gate in
+    let same : AreSameOff lanes bit cone.nets c.settle.new.words = λ n out k lt.
+    (let other : n ≢ (net_at order p).0 = λ e. true≢false (sym (are_cone.tables.each at c.loop-at-test.true) ∙ ap (has cone.nets) (sym e) ∙ out) in
+    c.settle.ensures.others k n (λ e. other (e ∙ to)) ∙ c.loop-at.invariant.same n out k lt) in
     record {
-      values = λ k x golden lt pair are first.
+      values = λ k x other lt pair are first.
           let d : Force g.row.W.Denot = some_force forces (net_at order p).0 inside in
-          evaluated lanes bit k lt circuit order c.requires.fit.golden.sound c.requires.fit.golden.ordered row forces c.requires.fit.forces.each x golden pair are d c.loop-place.words c.settle.new.words p within
+          let now : next_in cone.tables.items cone.table_count (length order) at ≡ p = next_here cone.tables.items cone.table_count (length order) at c.loop-at-test.true in
+          let next = next_in cone.tables.items cone.table_count (length order) (at + 1) in
+          quiet_outs lanes bit k lt circuit order golden.sound golden.ordered row forces c.requires.fit.forces.each x other pair are
+          c.settle.new.words cone.nets (p + 1) next (next_above is cone.tables.items cone.table_count (length order) at are_cone.tables c.loop-at-test.true)
+          (next_within is cone.tables.items cone.table_count (length order) (at + 1) are_cone.tables) are_cone.closed same
+          (λ n inner out. c.requires.fit.forces.idle n inner (grows_none c.args.forces.now.named cone.nets n c.requires.named out))
+          (λ q low less. none_next is cone.tables.items cone.table_count (length order) at q are_cone.tables c.loop-at-test.true (omega (arith, low)) less)
+          (evaluated lanes bit k lt circuit order golden.sound golden.ordered row forces c.requires.fit.forces.each x other pair are d c.loop-at.words c.settle.new.words p within
           (λ state inputs. subst (λ n. IsGivenAt circuit row n → bit_at (plane bit k c.settle.new.words) n
-          ≡ evaluated_in bit k circuit row forces d state inputs c.loop-place.words n) to
+          ≡ evaluated_in bit k circuit row forces d state inputs c.loop-at.words n) to
           (c.settle.ensures.value k d state inputs lt)
-          (given lanes bit k lt circuit order c.requires.fit.golden.sound c.requires.fit.golden.ordered row forces c.requires.fit.forces.each x golden pair are p within))
-          (λ n other. c.settle.ensures.others k n (λ same. other (same ∙ to)))
-          (c.loop-place.invariant.values k x golden lt pair are first);
-      cost = omega (arith, c.tick.ensures, c.loop-place.invariant.cost);
+          (given lanes bit k lt circuit order golden.sound golden.ordered row forces c.requires.fit.forces.each x other pair are p within))
+          (λ n apart. c.settle.ensures.others k n (λ e. apart (e ∙ to)))
+          (subst (λ j. Walked x (read_in bit k row c.loop-at.words) (take j order) j) now (c.loop-at.invariant.values k x other lt pair are first)));
+      same = same;
+      cost = omega (arith, c.tick.ensures, c.loop-at.invariant.cost);
     }
+
+pub returns-clause-cost : goal.returns-clause-cost
+returns-clause-cost g c =
+    omega (arith, c.loop-at.invariant.cost, c.loop-at.auto.at-end, c.requires.cone.tables.few, ap (λ (o : Ordered). length o.order) c.requires.fit.golden.fanout)
 
 pub returns-clause-values : goal.returns-clause-values
 returns-clause-values g c = λ k x golden lt pair are first n net.
     let bit = g.W.Word.lane_bit in
     let order = c.args.cycle.now.order.now in
     let row = c.args.cycle.now.row.now in
-    let words = c.loop-place.words in
-    let end : c.loop-place.place ≡ length order = omega (arith, c.loop-place-test.false, c.loop-place.auto.place-end) in
+    let words = c.loop-at.words in
+    let cone = c.args.cone.now in
+    let end : next_in cone.tables.items cone.table_count (length order) c.loop-at.at ≡ length order = next_end cone.tables.items cone.table_count (length order) c.loop-at.at c.loop-at-test.false in
     walked_all x (read_in bit k row words) order (subst (λ (m : Circuit). IsOrder m order) (sym pair.circuit) c.requires.fit.golden.ordered)
     (subst (λ (nets : List NetId). Walked x (read_in bit k row words) nets (length order)) (take_all (length order) order (omega arith))
-    (subst (λ j. Walked x (read_in bit k row words) (take j order) j) end (c.loop-place.invariant.values k x golden lt pair are first))) n
+    (subst (λ j. Walked x (read_in bit k row words) (take j order) j) end (c.loop-at.invariant.values k x golden lt pair are first))) n
     (subst (λ (m : Circuit). n < length m.drivers) (sym pair.circuit) net)

@@ -15,6 +15,7 @@ use Rattle.lane_words.specs.Bank.{lane_of}
 use Rattle.lane_words.specs.Gates.{latch_at, plane}
 use Rattle.lane_words.specs.Loads.{loaded_faults}
 use Rattle.lane_words.proofs.Planes.{length_plane}
+use Rattle.differential_kernel.specs.Cone.{IsConeOf}
 use Rattle.differential_kernel.specs.Forces.{has_acts, has_stuck}
 use Rattle.differential_kernel.specs.Kernel.{lanes_of}
 use Rattle.differential_kernel.specs.Noted.{AreFaultsNoted}
@@ -75,6 +76,13 @@ advance-requires-clause-nets g c =
     let same : own ≡ c.args.fanout.now = same_ordered s.circuit.value c.args.netlist.now s.order.value c.args.order.now circuit order ∙ sym c.requires.fanout in
     subst (λ (o : Ordered). AreNetsOf g.W.Word.lanes g.W.Word.lane_bit o s.nets) same c.self.invariant.nets
 
+pub advance-requires-clause-cone : goal.advance-requires-clause-cone
+advance-requires-clause-cone g c =
+    let s = c.self.inside in
+    let circuit : s.circuit.value ≡ c.args.netlist.now = ap (λ (lanes : Lanes g.row.W.Denot). lanes.circuit) c.self.view_is ∙ c.requires.made.circuit in
+    let order : s.order.value ≡ c.args.order.now = ap (λ (lanes : Lanes g.row.W.Denot). lanes.order) c.self.view_is ∙ c.requires.made.order in
+    subst (λ (o : Ordered). IsConeOf o s.cone) (same_ordered s.circuit.value c.args.netlist.now s.order.value c.args.order.now circuit order ∙ sym c.requires.fanout) c.self.invariant.cone
+
 pub invariant_of-self : goal.invariant_of-self
 invariant_of-self g c =
     let s = c.self.inside in
@@ -99,6 +107,7 @@ invariant_of-self g c =
       forces = subst (λ n. AreForcesOf lanes bit n prepared.new.forces) kept.forces.each prepared.ensures.forces;
       latches = subst (λ (m : Circuit). AreLatchesOf lanes bit m c.advance.new.latches) (sym circuit) c.advance.ensures.run.latches;
       nets = subst (λ (o : Ordered). AreNetsOf lanes bit o c.advance.new.nets) (sym same) c.advance.ensures.run.nets;
+      cone = subst (λ (o : Ordered). IsConeOf o c.advance.new.cone) (sym same) c.advance.ensures.cone;
     }
 
 pub returns-clause-step : goal.returns-clause-step

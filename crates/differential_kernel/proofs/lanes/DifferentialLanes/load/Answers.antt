@@ -28,6 +28,7 @@ invariant_of-self g c =
       forces = kept.forces;
       latches = kept.latches;
       nets = kept.nets;
+      cone = kept.cone;
     }
 
 pub returns-clause-others : goal.returns-clause-others

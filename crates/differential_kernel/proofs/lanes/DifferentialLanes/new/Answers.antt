@@ -6,7 +6,10 @@ use Rattle.circuit.specs.Circuit.{Circuit}
 use Rattle.circuit.specs.Order.{IsOrder}
 use Rattle.circuit.specs.Sound.{IsNetlist}
 use Rattle.circuit.proofs.FewTables.{few_tables}
+use Rattle.differential_kernel.specs.Cone.{IsNewCone}
 use Rattle.differential_kernel.specs.Parts.{IsProgramOf}
+use Rattle.differential_kernel.proofs.Cones.{new_cone}
+use Rattle.differential_kernel.proofs.Stepped.{ordered}
 use Rattle.differential_kernel.proofs.lanes.DifferentialLanes.new.Goals as goal
 
 pub new-requires-5-clause-places : goal.new-requires-5-clause-places
@@ -48,4 +51,8 @@ invariant_of-result g c =
         touched = c.in_ok-nets.ensures.touched;
         marks = omega (arith, c.in_ok-nets.ensures.marks, tables, latches);
       };
+      cone = new_cone (ordered c.of.result.value c.of-2.result.value) c.in_ok-cone.cone
+          (subst (λ n. IsNewCone n (length c.of-2.result.value) (length c.of.result.value.latches) c.in_ok-cone.cone) nets
+          (subst (λ n. IsNewCone c.nets-net_count.result n (length c.of.result.value.latches) c.in_ok-cone.cone) tables
+          (subst (λ n. IsNewCone c.nets-net_count.result (length c.nets-table_count.result.now) n c.in_ok-cone.cone) latches c.in_ok-cone.ensures)));
     }

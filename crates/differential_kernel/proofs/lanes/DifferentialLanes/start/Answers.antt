@@ -39,6 +39,7 @@ invariant_of-self g c =
         };
       };
       nets = kept.nets;
+      cone = kept.cone;
     }
 
 pub returns-clause-start : goal.returns-clause-start

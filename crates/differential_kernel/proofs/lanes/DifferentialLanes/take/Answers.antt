@@ -53,6 +53,7 @@ invariant_of-self g c =
         touched = subst (λ (ws : List g.row.W.Denot). DifferOnlyIn g.W.Word.lanes bit c.take_words-2.new.set ws) (sym words) c.take_words-2.ensures.own;
         marks = kept.nets.marks;
       };
+      cone = kept.cone;
     }
 
 pub take_faults-requires-clause-few : goal.take_faults-requires-clause-few

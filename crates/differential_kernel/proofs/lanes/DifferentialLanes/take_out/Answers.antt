@@ -69,6 +69,7 @@ invariant_of-self g c =
         };
         marks = kept.nets.marks;
       };
+      cone = kept.cone;
     }
 
 pub returns-clause-dropped : goal.returns-clause-dropped

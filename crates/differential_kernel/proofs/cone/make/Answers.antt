@@ -1,0 +1,59 @@
+use Rattle.std.proofs.Common.{◌≡◌, ℕ, List, length, ap, sym, subst, ◌∙◌, arith}
+use Rattle.std.proofs.lemmas.Grind.{common_steps}
+use Rattle.std.specs.Vec.{with_items}
+use Rattle.circuit.specs.declared.parts.Latch.{Latch}
+use Rattle.circuit.specs.Order.{net_at}
+use Rattle.circuit.proofs.FewTables.{few_tables}
+use Rattle.fanout.specs.Readers.{Ordered}
+use Rattle.lane_words.specs.Gates.{latch_at}
+use Rattle.place_set.specs.Places.{has}
+use Rattle.differential_kernel.specs.Cone.{AreThose, IsClosed, IsConeOf}
+use Rattle.differential_kernel.specs.declared.cone.Cone.{Cone}
+use Rattle.differential_kernel.proofs.cone.make.Goals as goal
+
+pub list_tables-cone-requires-clause-few : goal.list_tables-cone-requires-clause-few
+list_tables-cone-requires-clause-few c =
+    let sound = c.requires.golden.sound in
+    omega (arith, few_tables c.args.cycle.now.netlist.now sound, c.requires.golden.ordered.count)
+
+pub returns : goal.returns
+returns c =
+    let cone = c.args.cone.now in
+    let circuit = c.args.cycle.now.netlist.now in
+    let order = c.args.cycle.now.order.now in
+    let tables : (with_items cone.tables c.list_tables-cone.new.tables).items ≡ c.list_tables-cone.new.tables = grind (arith, common_steps) in
+    let ends : (with_items cone.ends c.list_all-cone.new.list).items ≡ c.list_all-cone.new.list = grind (arith, common_steps) in
+    let fanout = c.requires.golden.fanout in
+    let latches : c.latches.result.now ≡ circuit.latches = c.latches.ensures.value in
+    let bound : c.find_latches.new.set.bound ≡ length circuit.latches =
+    c.find_latches.ensures.bound ∙ c.requires.cone.ends.bound ∙ ap (λ (o : Ordered). length o.circuit.latches) fanout in
+    let made : Cone = record {
+      nets = c.reach.new.nets;
+      left = c.reach.new.left;
+      tables = with_items cone.tables c.list_tables-cone.new.tables;
+      table_count = c.list_tables-cone.result;
+      latches = c.find_latches.new.set;
+      ends = with_items cone.ends c.list_all-cone.new.list;
+      end_count = c.list_all-cone.result;
+    } in
+    subst (λ (o : Ordered). IsConeOf o made) (sym fanout)
+    (record {
+      nets = c.reach.ensures.nets ∙ c.requires.cone.nets ∙ ap (λ (o : Ordered). length o.circuit.drivers) fanout;
+      left = c.reach.ensures.left ∙ c.requires.cone.left ∙ ap (λ (o : Ordered). length o.circuit.drivers) fanout;
+      closed = subst (λ (o : Ordered). IsClosed o c.reach.new.nets) fanout c.reach.ensures.closed;
+      room =
+          ap (λ (list : List ℕ). length list) tables ∙ c.list_tables-cone.auto.tables ∙ ap (λ (list : List ℕ). length list) c.deref_mut.ensures.value
+          ∙ c.requires.cone.room ∙ ap (λ (o : Ordered). length o.order) fanout;
+      tables = subst (λ list. AreThose (λ place. has c.reach.new.nets (net_at order place).0) (length order) list c.list_tables-cone.result) (sym tables) c.list_tables-cone.ensures;
+      ends = record {
+        bound = bound;
+        latches = λ l lt.
+            c.find_latches.ensures.each l (omega (arith, lt, ap (λ (ls : List Latch). length ls) latches))
+            ∙ ap (λ (ls : List Latch). has c.reach.new.nets (latch_at ls l).to.0) latches;
+        room =
+            ap (λ (list : List ℕ). length list) ends ∙ c.list_all-cone.auto.list ∙ ap (λ (list : List ℕ). length list) c.deref_mut-2.ensures.value
+            ∙ c.requires.cone.ends.room ∙ ap (λ (o : Ordered). length o.circuit.latches) fanout;
+        listed = subst (λ list. AreThose (has c.find_latches.new.set) (length circuit.latches) list c.list_all-cone.result) (sym ends)
+            (subst (λ n. AreThose (has c.find_latches.new.set) n c.list_all-cone.new.list c.list_all-cone.result) bound c.list_all-cone.ensures);
+      };
+    })

@@ -1,0 +1,78 @@
+-- A cone: nets out of which no path through tables and latches leads.
+use Rattle.std.specs.Prelude.{◌≡◌, ℕ, ◌<◌, ◌≤◌, ◌-◌, Bool, true, false, List, length, nat_lt, slice_index, if◌then◌else◌}
+use Rattle.circuit.specs.Circuit.{Circuit}
+use Rattle.circuit.specs.Order.{net_at}
+use Rattle.fanout.specs.Readers.{IsReadAt, Ordered}
+use Rattle.lane_words.specs.Gates.{latch_at}
+use Rattle.place_set.specs.Places.{Places, has}
+use Rattle.differential_kernel.specs.declared.cone.Cone.{Cone}
+use Rattle.differential_kernel.specs.declared.force.Forces.{Forces}
+use Rattle.differential_kernel.specs.declared.latches.LatchDifferences.{LatchDifferences}
+use Rattle.differential_kernel.specs.declared.nets.NetDifferences.{NetDifferences}
+use Rattle.differential_kernel.specs.Differences.{Grows, IsEmptySet}
+
+-- the net that is driven at a place: by a table of the order, or behind them all by a latch
+abbrev pub driven_at : Ordered → ℕ → ℕ
+driven_at o place = if nat_lt place (length o.order) then (net_at o.order place).0 else (latch_at o.circuit.latches (place - length o.order)).to.0
+
+-- each place that reads the net drives one of the set
+abbrev pub LeadsInto : Ordered → Places → ℕ → Type 0
+LeadsInto o nets n = (place : ℕ) → IsReadAt o n place → has nets (driven_at o place) ≡ true
+
+-- no path leads out of the set, unless from nets that are left to be looked at
+abbrev pub IsClosedBut : Ordered → Places → Places → Type 0
+IsClosedBut o left nets = (n : ℕ) → has nets n ≡ true → has left n ≡ false → LeadsInto o nets n
+
+-- no path leads out of the set
+abbrev pub IsClosed : Ordered → Places → Type 0
+IsClosed o nets = (n : ℕ) → has nets n ≡ true → LeadsInto o nets n
+
+-- nets are put into a set, and those that weren't there are left to be looked at
+pub record Spreads (nets left more waiting : Places) : Type 0 where
+  pub bound : more.bound ≡ nets.bound
+  pub left_bound : waiting.bound ≡ left.bound
+  pub kept : Grows nets more
+  pub left_kept : Grows left waiting
+  pub own : (n : ℕ) → has more n ≡ true → has waiting n ≡ false → has nets n ≡ true
+
+-- the first numbers of a list, so many, are those below a bound of which something is true, ascending
+pub record AreThose (is : ℕ → Bool) (bound : ℕ) (list : List ℕ) (count : ℕ) : Type 0 where
+  pub few : count ≤ bound
+  pub below : (i : ℕ) → i < count → slice_index list i < bound
+  pub each : (i : ℕ) → i < count → is (slice_index list i) ≡ true
+  pub ascending : (i j : ℕ) → i < j → j < count → slice_index list i < slice_index list j
+  pub whole : (p : ℕ) → p < bound → is p ≡ true → (i : ℕ) × (i < count) × (slice_index list i ≡ p)
+
+-- the latches that drive nets of the cone, as a set and as a list
+pub record AreEnds (c : Circuit) (cone : Cone) : Type 0 where
+  pub bound : cone.latches.bound ≡ length c.latches
+  pub latches : (l : ℕ) → l < length c.latches → has cone.latches l ≡ has cone.nets (latch_at c.latches l).to.0
+  pub room : length cone.ends.items ≡ length c.latches
+  pub listed : AreThose (has cone.latches) (length c.latches) cone.ends.items cone.end_count
+
+-- a cone of a circuit, with the places of the tables that drive its nets, and the latches
+pub record IsConeOf (o : Ordered) (cone : Cone) : Type 0 where
+  pub nets : cone.nets.bound ≡ length o.circuit.drivers
+  pub left : cone.left.bound ≡ length o.circuit.drivers
+  pub closed : IsClosed o cone.nets
+  pub room : length cone.tables.items ≡ length o.order
+  pub tables : AreThose (λ place. has cone.nets (net_at o.order place).0) (length o.order) cone.tables.items cone.table_count
+  pub ends : AreEnds o.circuit cone
+
+-- what is forced, and what differs before a cycle, is in the cone
+pub record Holds {W : Type 0} (cone : Cone) (forces : Forces W) (latches : LatchDifferences W) (nets : NetDifferences W) : Type 0 where
+  pub named : Grows forces.named cone.nets
+  pub touched : Grows nets.touched cone.nets
+  pub live : Grows latches.live cone.latches
+
+-- a cone without nets, where there are so many nets, tables and latches
+pub record IsNewCone (nets tables latches : ℕ) (cone : Cone) : Type 0 where
+  pub bound : cone.nets.bound ≡ nets
+  pub left_bound : cone.left.bound ≡ nets
+  pub none : IsEmptySet cone.nets
+  pub room : length cone.tables.items ≡ tables
+  pub count : cone.table_count ≡ 0
+  pub end_bound : cone.latches.bound ≡ latches
+  pub end_none : IsEmptySet cone.latches
+  pub end_room : length cone.ends.items ≡ latches
+  pub end_count : cone.end_count ≡ 0

@@ -1,0 +1,300 @@
+// What the faults of a run can reach.
+ghost use Rattle.std.specs.Prelude.{◌≡◌, ◌≢◌, ◌<◌, ◌+◌, ◌^◌, ℕ, Bool, true, All, IfOk, length};
+ghost use Rattle.circuit.specs.Order.{net_at};
+ghost use Rattle.lane_words.specs.Gates.{latch_at};
+ghost use Rattle.place_set.specs.Places.{has};
+ghost use Rattle.differential_kernel.specs.Cone.{AreThose, Holds, IsClosed, IsClosedBut, IsConeOf, IsNewCone, Spreads, driven_at};
+ghost use Rattle.differential_kernel.specs.Cycle.{IsGoldenCycle};
+ghost use Rattle.differential_kernel.specs.Differences.{IsEmptySet};
+
+use crate::force::Forces;
+use crate::golden_cycle::GoldenCycle;
+use crate::latches::LatchDifferences;
+use crate::nets::NetDifferences;
+use crate::note::forget;
+use circuit::netlist::Netlist;
+use circuit::parts::{Fault, Latch, NetId};
+use lane_words::Word;
+use place_set::PlaceSet;
+use std::alloc::{AllocError, Global};
+
+/// A cone: nets out of which no path through tables and latches leads, with the tables and latches that drive them.
+#[derive(Drop)]
+pub struct Cone {
+    pub nets: PlaceSet,
+    /// The nets whose readers are still to be looked at, while it is made.
+    pub left: PlaceSet,
+    /// The places of the tables that drive its nets: the first of these, so many.
+    pub tables: Vec<u32>,
+    pub table_count: usize,
+    /// The latches that drive its nets, as a set, and in the first of these, so many.
+    pub latches: PlaceSet,
+    pub ends: Vec<u32>,
+    pub end_count: usize,
+}
+
+impl Cone {
+    /// A cone without nets, where there are so many nets, tables and latches.
+    pub fn new(
+        alloc: Global,
+        nets: usize,
+        tables: usize,
+        latches: usize,
+    ) -> Result<Self, AllocError>
+        requires nets { nets < 2 ^ 32 }
+        requires latches { latches < 2 ^ 32 }
+        ensures { IfOk result (IsNewCone nets tables latches) }
+    {
+        Ok(Cone {
+            nets: PlaceSet::new(alloc, nets as u32)?,
+            left: PlaceSet::new(alloc, nets as u32)?,
+            tables: vec![in alloc; 0; tables]?,
+            table_count: 0,
+            latches: PlaceSet::new(alloc, latches as u32)?,
+            ends: vec![in alloc; 0; latches]?,
+            end_count: 0,
+        })
+    }
+}
+
+// Puts a net into a cone; if it wasn't there, its readers are to be looked at.
+fn put_net(net: usize, nets: &mut PlaceSet, left: &mut PlaceSet)
+    requires net { net < nets.old.bound }
+    requires left { left.old.bound ≡ nets.old.bound }
+    ensures spreads { Spreads nets.old left.old nets.new left.new }
+    ensures there { has nets.new net ≡ true }
+{
+    if !nets.has(net) {
+        nets.put(net);
+        left.put(net);
+    }
+}
+
+// So each net of a set.
+fn put_all(set: &PlaceSet, nets: &mut PlaceSet, left: &mut PlaceSet)
+    requires bound { set.now.bound ≡ nets.old.bound }
+    requires few { nets.old.bound < 2 ^ 32 }
+    requires left { left.old.bound ≡ nets.old.bound }
+    ensures { Spreads nets.old left.old nets.new left.new }
+{
+    let mut from = 0;
+    'nets: while let Some(n) = set.next_from(from) {
+        put_net(n, nets, left);
+        from = n + 1;
+    }
+}
+
+// So the net of a latch that a fault flips, in whatever cycle.
+fn put_flip(netlist: &Netlist, fault: &Option<Fault>, nets: &mut PlaceSet, left: &mut PlaceSet)
+    requires nets { nets.old.bound ≡ length netlist.now.drivers }
+    requires left { left.old.bound ≡ nets.old.bound }
+    ensures { Spreads nets.old left.old nets.new left.new }
+{
+    if let Some(Fault::Flip(l, _)) = fault {
+        if let Some(latch) = netlist.latches().get(*l as usize) {
+            put_net(latch.to.0 as usize, nets, left);
+        }
+    }
+}
+
+fn put_flips(netlist: &Netlist, faults: &[Option<Fault>], nets: &mut PlaceSet, left: &mut PlaceSet)
+    requires nets { nets.old.bound ≡ length netlist.now.drivers }
+    requires left { left.old.bound ≡ nets.old.bound }
+    ensures { Spreads nets.old left.old nets.new left.new }
+{
+    for fault in faults {
+        put_flip(netlist, fault, nets, left);
+    }
+}
+
+fn put_all_flips(
+    netlist: &Netlist,
+    loads: &[[Option<Fault>; 2]],
+    nets: &mut PlaceSet,
+    left: &mut PlaceSet,
+)
+    requires nets { nets.old.bound ≡ length netlist.now.drivers }
+    requires left { left.old.bound ≡ nets.old.bound }
+    ensures { Spreads nets.old left.old nets.new left.new }
+{
+    for faults in loads {
+        put_flips(netlist, faults, nets, left);
+    }
+}
+
+// The net that is driven at a place.
+fn driven_net(cycle: &GoldenCycle<'_>, place: usize) -> NetId
+    requires golden { IsGoldenCycle cycle.now }
+    requires place { place < length cycle.now.order.now + length cycle.now.netlist.now.latches }
+    ensures driven { result.0 ≡ driven_at cycle.now.fanout.now place }
+    ensures net { result.0 < length cycle.now.netlist.now.drivers }
+{
+    if place < cycle.order.len() {
+        cycle.order[place]
+    } else {
+        cycle.netlist.latches()[place - cycle.order.len()].to
+    }
+}
+
+// Puts the nets that are driven at some places.
+fn put_driven(cycle: &GoldenCycle<'_>, places: &[u32], nets: &mut PlaceSet, left: &mut PlaceSet)
+    requires golden { IsGoldenCycle cycle.now }
+    requires places { All (λ place. place < length cycle.now.order.now + length cycle.now.netlist.now.latches) places.now }
+    requires nets { nets.old.bound ≡ length cycle.now.netlist.now.drivers }
+    requires left { left.old.bound ≡ nets.old.bound }
+    ensures spreads { Spreads nets.old left.old nets.new left.new }
+    ensures there { All (λ place. has nets.new (driven_at cycle.now.fanout.now place) ≡ true) places.now }
+{
+    for place in places {
+        put_net(driven_net(cycle, *place as usize).0 as usize, nets, left);
+    }
+}
+
+// Puts the nets that are driven where one of the cone's is read, until none is left, and answers whether that came to an end. Each
+// net is left once, so it does.
+fn close(cycle: &GoldenCycle<'_>, nets: &mut PlaceSet, left: &mut PlaceSet) -> bool
+    requires golden { IsGoldenCycle cycle.now }
+    requires nets { nets.old.bound ≡ length cycle.now.netlist.now.drivers }
+    requires left { left.old.bound ≡ nets.old.bound }
+    requires closed { IsClosedBut cycle.now.fanout.now left.old nets.old }
+    ensures nets { nets.new.bound ≡ nets.old.bound }
+    ensures left { left.new.bound ≡ left.old.bound }
+    ensures closed { result ≡ true → IsClosed cycle.now.fanout.now nets.new }
+{
+    for _ in 0..nets.bound() {
+        match left.next_from(0) {
+            None => {
+                return true;
+            }
+            Some(n) => {
+                left.remove(n);
+                put_driven(cycle, cycle.fanout.readers(NetId(n as u32)), nets, left);
+            }
+        }
+    }
+    left.next_from(0).is_none()
+}
+
+// Makes the nets of a cone those that a path leads to from the nets of two sets, and from latches that are flipped.
+fn reach(
+    cycle: &GoldenCycle<'_>,
+    loads: &[[Option<Fault>; 2]],
+    named: &PlaceSet,
+    touched: &PlaceSet,
+    nets: &mut PlaceSet,
+    left: &mut PlaceSet,
+)
+    requires golden { IsGoldenCycle cycle.now }
+    requires named { named.now.bound ≡ length cycle.now.netlist.now.drivers }
+    requires touched { touched.now.bound ≡ length cycle.now.netlist.now.drivers }
+    requires nets { nets.old.bound ≡ length cycle.now.netlist.now.drivers }
+    requires left { left.old.bound ≡ length cycle.now.netlist.now.drivers }
+    ensures nets { nets.new.bound ≡ nets.old.bound }
+    ensures left { left.new.bound ≡ left.old.bound }
+    ensures closed { IsClosed cycle.now.fanout.now nets.new }
+{
+    forget(nets);
+    put_all(named, nets, left);
+    put_all(touched, nets, left);
+    put_all_flips(cycle.netlist, loads, nets, left);
+    if !close(cycle, nets, left) {
+        forget(nets);
+    }
+}
+
+// Puts a place behind those in a list, of which there are so many, if it is one of them, and answers how many there are then.
+fn list_if(is: bool, place: u32, list: &mut [u32], count: usize) -> usize
+    requires { count < length list.old }
+    ensures { (those : ℕ → Bool) → those place ≡ is → AreThose those place list.old count → AreThose those (place + 1) list.new result }
+{
+    if is {
+        list[count] = place;
+        count + 1
+    } else {
+        count
+    }
+}
+
+// Lists the places of the tables whose nets are in a set, and answers how many there are.
+fn list_tables(order: &[NetId], nets: &PlaceSet, tables: &mut [u32]) -> usize
+    requires few { length order.now < 2 ^ 32 }
+    requires room { length tables.old ≡ length order.now }
+    ensures { AreThose (λ place. has nets.now (net_at order.now place).0) (length order.now) tables.new result }
+{
+    let mut count = 0;
+    for (place, net) in order.iter().enumerate() {
+        count = list_if(nets.has(net.0 as usize), place as u32, tables, count);
+    }
+    count
+}
+
+// Lists the places of a set, and answers how many there are.
+fn list_all(set: &PlaceSet, list: &mut [u32]) -> usize
+    requires { length list.old ≡ set.now.bound }
+    ensures { AreThose (has set.now) set.now.bound list.new result }
+{
+    let mut count = 0;
+    for place in 0..set.bound() {
+        count = list_if(set.has(place as usize), place, list, count);
+    }
+    count
+}
+
+// Puts a place into a set, or takes it out.
+fn set_place(is: bool, place: usize, set: &mut PlaceSet)
+    requires { place < set.old.bound }
+    ensures bound { set.new.bound ≡ set.old.bound }
+    ensures here { has set.new place ≡ is }
+    ensures others { (p : ℕ) → p ≢ place → has set.new p ≡ has set.old p }
+{
+    if is {
+        set.put(place);
+    } else {
+        set.remove(place);
+    }
+}
+
+// The latches whose nets are in a set.
+fn find_latches(latches: &[Latch], nets: &PlaceSet, set: &mut PlaceSet)
+    requires { set.old.bound ≡ length latches.now }
+    ensures bound { set.new.bound ≡ set.old.bound }
+    ensures each { (l : ℕ) → l < length latches.now → has set.new l ≡ has nets.now (latch_at latches.now l).to.0 }
+{
+    for (l, latch) in latches.iter().enumerate() {
+        set_place(nets.has(latch.to.0 as usize), l, set);
+    }
+}
+
+/// Makes a cone of what is forced, what differs, and what faults flip.
+pub fn make(
+    cycle: &GoldenCycle<'_>,
+    loads: &[[Option<Fault>; 2]],
+    named: &PlaceSet,
+    touched: &PlaceSet,
+    cone: &mut Cone,
+)
+    requires golden { IsGoldenCycle cycle.now }
+    requires named { named.now.bound ≡ length cycle.now.netlist.now.drivers }
+    requires touched { touched.now.bound ≡ length cycle.now.netlist.now.drivers }
+    requires cone { IsConeOf cycle.now.fanout.now cone.old }
+    ensures { IsConeOf cycle.now.fanout.now cone.new }
+{
+    reach(cycle, loads, named, touched, &mut cone.nets, &mut cone.left);
+    cone.table_count = list_tables(cycle.order, &cone.nets, &mut cone.tables);
+    find_latches(cycle.netlist.latches(), &cone.nets, &mut cone.latches);
+    cone.end_count = list_all(&cone.latches, &mut cone.ends);
+}
+
+/// Whether what is forced and what differs before a cycle is in a cone, looked at a word at a time.
+pub fn holds<W: Word>(
+    cone: &Cone,
+    forces: &Forces<W>,
+    latches: &LatchDifferences<W>,
+    nets: &NetDifferences<W>,
+) -> bool
+    ensures { result ≡ true → Holds cone.now forces.now latches.now nets.now }
+{
+    forces.named.is_inside(&cone.nets)
+        && nets.touched.is_inside(&cone.nets)
+        && latches.live.is_inside(&cone.latches)
+}
