@@ -1,13 +1,13 @@
 // The netlist of what was gathered, or its fault.
-ghost use Rattle.std.specs.Prelude.{◌≡◌, None, IfOk};
+ghost use Rattle.std.specs.Prelude.{◌≡◌, None, Err, IfOk, MatchResult};
 ghost use Rattle.fm_base.specs.Answers.{Gives};
 ghost use Rattle.bench_reader.specs.Answer.{answer_of, circuit_from, fault_in, IsSmallNetlist};
 
 use crate::gather::Gathered;
-use crate::nets::Nets;
 use crate::parts::Parts;
 use crate::{BenchFault, BenchKind};
 use circuit::netlist::Netlist;
+use circuit::parts::{Drivers, Names};
 use fm_base::Refusal;
 use net_names::drivers::drivers_of;
 use std::alloc::{AllocError, Global};
@@ -31,41 +31,61 @@ fn fault_of(alloc: Global, gathered: &Gathered<'_>) -> Result<Option<BenchFault>
     gathered.nets.undriven(alloc)
 }
 
-/// The netlist of nets and parts.
-fn built(alloc: Global, gathered: Gathered<'_>) -> Result<Netlist, AllocError>
-    requires { IsSmallNetlist gathered }
-    ensures { IfOk result (λ n. n ≡ circuit_from gathered.entry) }
+/// What a netlist has of its nets.
+#[derive(Drop)]
+struct NetParts {
+    names: Names,
+    drivers: Drivers,
+}
+
+/// The names and the drivers of the nets, or the first fault.
+fn net_parts(alloc: Global, gathered: &Gathered<'_>) -> Result<NetParts, Refusal<BenchFault>>
+    requires { fault_in gathered.now ≡ None → IsSmallNetlist gathered.now }
+    ensures { MatchResult result
+        (λ nets. (fault_in gathered.now ≡ None) × (nets.names ≡ gathered.now.nets.names) × (nets.drivers ≡ (circuit_from gathered.now).drivers))
+        (λ refusal. Gives (answer_of gathered.now) (Err refusal)) }
 {
-    let Gathered {
-        nets,
-        parts,
-        cells: _,
-        second: _,
-    } = gathered;
+    if let Some(fault) = fault_of(alloc, gathered)? {
+        return Err(Refusal::Fault(fault));
+    }
+    let parts = &gathered.parts;
     let drivers = drivers_of(
         alloc,
         parts.inputs.as_slice(),
         parts.table_nets.as_slice(),
         parts.latch_nets.as_slice(),
-        nets.len(),
+        gathered.nets.len(),
     )?;
-    let names = nets.names(alloc)?;
+    Ok(NetParts {
+        names: gathered.nets.names(alloc)?,
+        drivers,
+    })
+}
+
+/// The netlist of what was gathered, with what it has of its nets.
+fn built(gathered: Gathered<'_>, nets: NetParts) -> Netlist
+    requires small { IsSmallNetlist gathered }
+    requires names { nets.names ≡ gathered.nets.names }
+    requires drivers { nets.drivers ≡ (circuit_from gathered).drivers }
+    ensures { result ≡ circuit_from gathered.entry }
+{
+    let Gathered { parts, .. } = gathered;
     let Parts {
         inputs,
         outputs,
         tables,
-        table_nets: _,
         latches,
-        latch_nets: _,
+        ..
     } = parts;
-    Ok(Netlist {
+    let NetParts { names, drivers } = nets;
+    Netlist {
         names,
         drivers,
         tables,
         latches,
         inputs,
         outputs,
-    })
+    }
 }
 
 /// The netlist of what was gathered of lines without faults of their own.
@@ -73,8 +93,11 @@ pub fn netlist_of(alloc: Global, gathered: Gathered<'_>) -> Result<Netlist, Refu
     requires { fault_in gathered ≡ None → IsSmallNetlist gathered }
     ensures { Gives (answer_of gathered.entry) result }
 {
-    match fault_of(alloc, &gathered)? {
-        Some(fault) => Err(Refusal::Fault(fault)),
-        None => Ok(built(alloc, gathered)?),
+    match net_parts(alloc, &gathered) {
+        Ok(nets) => Ok(built(gathered, nets)),
+        Err(refusal) => {
+            drop(gathered);
+            Err(refusal)
+        }
     }
 }

@@ -38,7 +38,13 @@ fn gather<'a>(alloc: Global, bytes: &'a [u8]) -> Result<Gathered<'a>, Refusal<Be
     let mut line = 1;
     'lines: loop {
         let n = feed_place(rest);
-        take_line(alloc, &mut gathered, line, &rest[..n])?;
+        match take_line(alloc, &mut gathered, line, &rest[..n]) {
+            Ok(()) => {}
+            Err(refusal) => {
+                drop(gathered);
+                return Err(refusal);
+            }
+        }
         if n == rest.len() {
             return Ok(gathered);
         }
