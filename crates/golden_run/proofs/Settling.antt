@@ -99,23 +99,23 @@ module _ (o : Ordered) (sound : IsNetlist o.circuit) (ordered : IsOrder o.circui
   pub source_changed : (net : ℕ) (value : Bool) (old new : Values) → AreValuesOf o old → IsSource o.circuit net → IsChanged o net value old new → AreValuesOf o new
   source_changed net value old new are source changed = record {
     sizes = changed.sizes;
-    settled = λ p lt none.
-        settled_still o p net value old.row.items new.row.items lt changed.values (source_apart p net lt source) (λ reads. changed.marked p lt reads none)
-        (are.settled p lt (none_before old.marks new.marks p changed.kept none));
+    settled = λ p lt few none.
+        let some : old.all ≡ false = sym changed.all ∙ few in
+        settled_still o p net value old.row.items new.row.items lt changed.values (source_apart p net lt source) (λ reads. changed.marked p lt reads some none)
+        (are.settled p lt some (none_before old.marks new.marks p changed.kept none));
   }
 
-  module _ (place : ℕ) (value : Bool) (old new : Values) (marks : Places) (lt : place < length o.order) (are : AreValuesOf o old)
-      (taken : (p : ℕ) → has marks p ≡ cond (p == place) false (has old.marks p))
-      (given : (state inputs : List Bool) → value ≡ driven state inputs (table_gives o.circuit (value_in old.row.items)) (driver_at o.circuit (net_at o.order place).0))
-      (changed : IsChanged o (net_at o.order place).0 value (record { row = old.row; marks = marks }) new) where
+  module _ (place : ℕ) (value : Bool) (old new : List ℕ) (lt : place < length o.order)
+      (given : (state inputs : List Bool) → value ≡ driven state inputs (table_gives o.circuit (value_in old)) (driver_at o.circuit (net_at o.order place).0))
+      (is : (n : ℕ) → value_in new n ≡ cond (n == (net_at o.order place).0) value (value_in old n)) where
     abbrev net : ℕ
     net = (net_at o.order place).0
 
-    own : IsSettled o new.row.items place
+    own : IsSettled o new place
     own state inputs =
-        gives_same o place old.row.items new.row.items state inputs lt
-        (read_same o place net value old.row.items new.row.items changed.values (λ reads. let less = read_behind place place lt lt reads in absurd (omega (arith, less))))
-        ∙ sym (given state inputs) ∙ sym (at_here old.row.items new.row.items net value changed.values)
+        gives_same o place old new state inputs lt
+        (read_same o place net value old new is (λ reads. let less = read_behind place place lt lt reads in absurd (omega (arith, less))))
+        ∙ sym (given state inputs) ∙ sym (at_here old new net value is)
 
     -- A TABLE IS EVALUATED
     pub evaluated : IsEvaluated o place old new
@@ -123,23 +123,29 @@ module _ (o : Ordered) (sound : IsNetlist o.circuit) (ordered : IsOrder o.circui
       own = own;
       before = λ q less settled.
           let within : q < length o.order = omega (arith, less, lt) in
-          settled_still o q net value old.row.items new.row.items within changed.values
+          settled_still o q net value old new within is
           (order_apart o.circuit o.order sound ordered q place within lt (omega (arith, less)))
           (λ reads. let behind = read_behind place q lt within reads in absurd (omega (arith, behind, less))) settled;
-      others = λ n other. at_other old.row.items new.row.items net value n changed.values other;
+      others = λ n other. at_other old new net value n is other;
     }
 
-    pub values_evaluated : AreValuesOf o new
-    values_evaluated = record {
-      sizes = changed.sizes;
-      settled = λ p within none.
-          elim (cases_eq p place) [
-            | inl same ↦ subst (IsSettled o new.row.items) (sym same) own
-            | inr other ↦
-                settled_still o p net value old.row.items new.row.items within changed.values
-                (order_apart o.circuit o.order sound ordered p place within lt other)
-                (λ reads. changed.marked p within reads none)
-                (are.settled p within
-                (sym (ap (λ b. cond b false (has old.marks p)) (ne_eqb p place other)) ∙ sym (taken p) ∙ none_before marks new.marks p changed.kept none))
-          ];
-    }
+  -- and its mark is taken away
+  pub values_evaluated : (place : ℕ) (value : Bool) (old new : Values) (marks : Places) → place < length o.order → AreValuesOf o old
+      → ((p : ℕ) → has marks p ≡ cond (p == place) false (has old.marks p))
+      → ((state inputs : List Bool) → value ≡ driven state inputs (table_gives o.circuit (value_in old.row.items)) (driver_at o.circuit (net_at o.order place).0))
+      → IsChanged o (net_at o.order place).0 value (record { row = old.row; marks = marks; all = old.all }) new → AreValuesOf o new
+  values_evaluated place value old new marks lt are taken given changed = record {
+    sizes = changed.sizes;
+    settled = λ p within few none.
+        let some : old.all ≡ false = sym changed.all ∙ few in
+        elim (cases_eq p place) [
+          | inl same ↦
+              subst (IsSettled o new.row.items) (sym same) (evaluated place value old.row.items new.row.items lt given changed.values).own
+          | inr other ↦
+              settled_still o p (net_at o.order place).0 value old.row.items new.row.items within changed.values
+              (order_apart o.circuit o.order sound ordered p place within lt other)
+              (λ reads. changed.marked p within reads some none)
+              (are.settled p within some
+              (sym (ap (λ b. cond b false (has old.marks p)) (ne_eqb p place other)) ∙ sym (taken p) ∙ none_before marks new.marks p changed.kept none))
+        ];
+  }

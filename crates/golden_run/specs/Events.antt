@@ -34,20 +34,21 @@ pub record HasSizes (o : Ordered) (values : Values) : Type 0 where
   pub row : length values.row.items ≡ length o.circuit.drivers / 64 + 1
   pub marks : values.marks.bound ≡ length o.order
 
--- each table that isn't marked is settled
+-- where not all tables count as marked, each that isn't marked is settled
 pub record AreValuesOf (o : Ordered) (values : Values) : Type 0 where
   pub sizes : HasSizes o values
-  pub settled : (p : ℕ) → p < length o.order → has values.marks p ≡ false → IsSettled o values.row.items p
+  pub settled : (p : ℕ) → p < length o.order → values.all ≡ false → has values.marks p ≡ false → IsSettled o values.row.items p
 
--- an event: the net has this value now, and where it had another one, the tables that read it are marked
+-- an event: the net has this value now, and where it had another one, the tables that read it are marked, or all count as marked
 pub record IsChanged (o : Ordered) (net : ℕ) (value : Bool) (old new : Values) : Type 0 where
   pub sizes : HasSizes o new
+  pub all : new.all ≡ old.all
   pub values : (n : ℕ) → value_in new.row.items n ≡ (if n == net then value else value_in old.row.items n)
   pub kept : (p : ℕ) → has old.marks p ≡ true → has new.marks p ≡ true
-  pub marked : (p : ℕ) → p < length o.order → IsReadAt o net p → has new.marks p ≡ false → value_in old.row.items net ≡ value
+  pub marked : (p : ℕ) → p < length o.order → IsReadAt o net p → old.all ≡ false → has new.marks p ≡ false → value_in old.row.items net ≡ value
 
 -- the table at a place is settled, those before it are as they were, and no other net has changed
-pub record IsEvaluated (o : Ordered) (place : ℕ) (old new : Values) : Type 0 where
-  pub own : IsSettled o new.row.items place
-  pub before : (q : ℕ) → q < place → IsSettled o old.row.items q → IsSettled o new.row.items q
-  pub others : (n : ℕ) → n ≢ (net_at o.order place).0 → value_in new.row.items n ≡ value_in old.row.items n
+pub record IsEvaluated (o : Ordered) (place : ℕ) (old new : List ℕ) : Type 0 where
+  pub own : IsSettled o new place
+  pub before : (q : ℕ) → q < place → IsSettled o old q → IsSettled o new q
+  pub others : (n : ℕ) → n ≢ (net_at o.order place).0 → value_in new n ≡ value_in old n

@@ -8,7 +8,7 @@ ghost use Rattle.golden_run.specs.Simulated.{IsSimulationOf, HasRun};
 
 use crate::source::{show_inputs, show_latches, take_latches, take_starts};
 use crate::values::Values;
-use crate::walk::walk;
+use crate::walk::settle;
 use crate::wiring::Wiring;
 use circuit::netlist::Netlist;
 use netlist_levels::Order;
@@ -27,8 +27,7 @@ impl Simulation {
         requires { IsOrder netlist.now order.now }
         ensures { IfOk result (λ simulation. IsSimulationOf (record { circuit = netlist.now; order = order.now }) simulation) }
     {
-        let mut values = Values::new(alloc, netlist, order)?;
-        values.marks.fill();
+        let values = Values::new(alloc, netlist, order)?;
         let raw = vec![in alloc; false; netlist.latches().len()]?;
         Ok(Simulation { values, raw })
     }
@@ -40,10 +39,10 @@ impl Simulation {
         ensures raw { self.new.raw.items ≡ first_state wiring.now.netlist.now }
     {
         take_starts(wiring.netlist.latches(), &mut self.raw);
-        self.values.marks.fill();
+        self.values.all = true;
     }
 
-    /// Simulates the next cycle, with these bits of the inputs. Only tables are evaluated of which an input has changed.
+    /// Simulates the next cycle, with these bits of the inputs. Where few tables were evaluated in the last one, only those are of which an input has changed.
     pub fn cycle(&mut self, wiring: &Wiring<'_>, inputs: &[bool])
         requires wiring { IsWiring wiring.now }
         requires made { IsSimulationOf (ordered_of wiring.now) self.old }
@@ -52,7 +51,7 @@ impl Simulation {
     {
         show_latches(wiring, &self.raw, &mut self.values);
         show_inputs(wiring, inputs, &mut self.values);
-        walk(wiring, &mut self.values);
+        settle(wiring, &mut self.values);
         take_latches(wiring.netlist.latches(), &self.values.row, &mut self.raw);
     }
 }

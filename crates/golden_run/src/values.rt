@@ -3,7 +3,7 @@ ghost use Rattle.std.specs.Prelude.{◌≡◌, ◌<◌, ◌/◌, ◌==◌, ℕ, 
 ghost use Rattle.circuit.specs.Order.{IsOrder};
 ghost use Rattle.circuit.specs.Sound.{IsNet};
 ghost use Rattle.place_set.specs.Places.{has, value_in};
-ghost use Rattle.golden_run.specs.Events.{HasSizes, IsChanged, IsWiring, ordered_of};
+ghost use Rattle.golden_run.specs.Events.{AreValuesOf, HasSizes, IsChanged, IsWiring, ordered_of};
 
 use crate::wiring::Wiring;
 use circuit::netlist::Netlist;
@@ -19,18 +19,21 @@ pub(crate) struct Values {
     // A bit for each net, 64 to a word.
     pub row: Vec<u64>,
     pub marks: PlaceSet,
+    // Whether all tables count as marked.
+    pub all: bool,
 }
 
 impl Values {
-    /// Values of which nothing is known, and no marks.
+    /// Values of which nothing is known: all tables count as marked.
     pub fn new(alloc: Global, netlist: &Netlist, order: &Order) -> Result<Self, AllocError>
         requires { IsOrder netlist.now order.now }
-        ensures { IfOk result (λ values. HasSizes (record { circuit = netlist.now; order = order.now }) values) }
+        ensures { IfOk result (λ values. AreValuesOf (record { circuit = netlist.now; order = order.now }) values) }
     {
         let width = netlist.nets() / 64 + 1;
         Ok(Values {
             row: vec![in alloc; 0; width]?,
             marks: PlaceSet::new(alloc, order.nets().len() as u32)?,
+            all: true,
         })
     }
 }
@@ -48,8 +51,8 @@ fn mark_all(places: &[u32], marks: &mut PlaceSet)
     }
 }
 
-// Sets the bit at a place.
-fn put_bit(words: &mut [u64], place: usize, value: bool)
+/// Sets the bit at a place.
+pub(crate) fn put_bit(words: &mut [u64], place: usize, value: bool)
     requires { place / 64 < length words.old }
     ensures count { length words.new ≡ length words.old }
     ensures bits { (p : ℕ) → value_in words.new p ≡ (if p == place then value else value_in words.old p) }
@@ -58,7 +61,7 @@ fn put_bit(words: &mut [u64], place: usize, value: bool)
     words[at] = words[at].put((place % 64) as u32, value);
 }
 
-/// Gives a net a value: where that is another one, the tables that read the net are marked.
+/// Gives a net a value: where that is another one, the tables that read the net are marked, if not all count as marked.
 pub(crate) fn change(wiring: &Wiring<'_>, net: NetId, value: bool, values: &mut Values)
     requires wiring { IsWiring wiring.now }
     requires net { IsNet wiring.now.netlist.now net }
@@ -67,6 +70,8 @@ pub(crate) fn change(wiring: &Wiring<'_>, net: NetId, value: bool, values: &mut 
 {
     if value_in_words(&values.row, net.0 as usize) != value {
         put_bit(&mut values.row, net.0 as usize, value);
-        mark_all(wiring.fanout.readers(net), &mut values.marks);
+        if !values.all {
+            mark_all(wiring.fanout.readers(net), &mut values.marks);
+        }
     }
 }

@@ -14,7 +14,9 @@ places-preserved c =
     let lt : p < length o.order = omega (arith, found.1, inv.values.sizes.marks) in
     record {
       within = omega (arith, lt);
+      few = omega (arith, found.0, inv.few);
       values = c.evaluate.ensures.values;
+      marked = c.evaluate.ensures.all ∙ inv.marked;
       before = λ q less.
           elim (cases_eq q p) [
             | inl same ↦ subst (IsSettled o c.evaluate.new.values.row.items) (sym same) c.evaluate.ensures.evaluated.own
@@ -23,7 +25,7 @@ places-preserved c =
                 c.evaluate.ensures.evaluated.before q ahead
                 (elim (cases_lt q from) [
                   | inl done ↦ inv.before q done
-                  | inr most ↦ inv.values.settled q (omega (arith, ahead, lt)) (found.3 q most ahead)
+                  | inr most ↦ inv.values.settled q (omega (arith, ahead, lt)) inv.marked (found.3 q most ahead)
                 ]))
           ];
       sources = λ n source.
@@ -35,5 +37,5 @@ pub returns-clause-settled : goal.returns-clause-settled
 returns-clause-settled c = λ q lt.
     elim (cases_lt q c.places.from) [
       | inl done ↦ c.places.invariant.before q done
-      | inr most ↦ c.places.invariant.values.settled q lt (c.in_default.ensures q most)
+      | inr most ↦ c.places.invariant.values.settled q lt c.places.invariant.marked (c.in_default.ensures q most)
     ]

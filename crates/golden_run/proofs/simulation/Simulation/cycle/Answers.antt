@@ -17,13 +17,13 @@ returns-clause-run c = λ vectors t given holds.
     let ordered = c.requires.wiring.program.ordered in
     let raw = c.args.self.now.raw.items in
     let inputs = c.args.inputs.now in
-    let row = c.walk.new.values.row.items in
+    let row = c.settle.new.values.row.items in
     let latches : (n k : ℕ) → n < length circuit.drivers → driver_at circuit n ≡ FromLatch k → value_in row n ≡ bit_at raw k =
     λ n k within driver.
-    c.walk.ensures.sources n (latch_source circuit n k driver) ∙ c.show_inputs.ensures.others n k driver ∙ c.show_latches.ensures.shown n k within driver
+    c.settle.ensures.sources n (latch_source circuit n k driver) ∙ c.show_inputs.ensures.others n k driver ∙ c.show_latches.ensures.shown n k within driver
     ∙ ap (λ (bits : List Bool). bit_at bits k) c.deref.ensures.value in
     let ins : (n k : ℕ) → n < length circuit.drivers → driver_at circuit n ≡ Input k → value_in row n ≡ bit_at inputs k =
-    λ n k within driver. c.walk.ensures.sources n (input_source circuit n k driver) ∙ c.show_inputs.ensures.shown n k within driver in
+    λ n k within driver. c.settle.ensures.sources n (input_source circuit n k driver) ∙ c.show_inputs.ensures.shown n k within driver in
     let sources : (n : ℕ) → n < length circuit.drivers → IsSource circuit n → value_in row n ≡ driven raw inputs (λ k. false) (driver_at circuit n) =
     sources_shown circuit raw inputs row latches ins in
     let o = ordered_of c.args.wiring.now in
@@ -36,6 +36,6 @@ returns-clause-run c = λ vectors t given holds.
     ∙ sym c.requires.made.latches ∙ sym c.args.self.now.raw.ok.0 in
     let is : (with_items c.args.self.now.raw c.take_latches.new.raw).items ≡ c.take_latches.new.raw = with_items_is c.args.self.now.raw c.take_latches.new.raw size in
     record {
-      row = golden_row o sound ordered vectors t raw inputs row holds given sources c.walk.ensures.settled;
-      raw = is ∙ next_raw o sound ordered vectors t raw inputs row holds given sources c.walk.ensures.settled c.take_latches.new.raw taken;
+      row = golden_row o sound ordered vectors t raw inputs row holds given sources c.settle.ensures.settled;
+      raw = is ∙ next_raw o sound ordered vectors t raw inputs row holds given sources c.settle.ensures.settled c.take_latches.new.raw taken;
     }
