@@ -4,7 +4,7 @@ ghost use Rattle.circuit.specs.Order.{IsOrder};
 ghost use Rattle.golden_difference.specs.Beside.{IsGoldenRow};
 ghost use Rattle.workload.specs.Runs.{cycles_of, run_at};
 
-use crate::GoldenRows;
+use crate::rows::GoldenRows;
 use circuit::netlist::Netlist;
 use fanout::Fanout;
 use netlist_levels::Order;
@@ -42,7 +42,7 @@ impl Golden {
         ensures { IfOk result (λ made. made ≡ record { circuit = net.now; order = order.now; runs = work.now }) }
     {
         let fanout = Fanout::new(alloc, net, order)?;
-        let rows = GoldenRows::over(alloc, net, order, &fanout, work)?;
+        let rows = GoldenRows::new(alloc, net, order, &fanout, work)?;
         Ok(Golden { rows, fanout })
     }
 

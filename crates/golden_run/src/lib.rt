@@ -12,4 +12,3 @@ mod walk;
 mod wiring;
 
 pub use golden::Golden;
-pub use rows::GoldenRows;

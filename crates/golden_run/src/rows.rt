@@ -16,7 +16,7 @@ use workload::run::Workload;
 /// The golden values of all nets in each cycle of each run: a bit for each, in rows of words. It takes no memory once it is made.
 /// For 262,144 nets and 65,536 cycles it takes 2.1 GB.
 #[derive(Drop)]
-pub struct GoldenRows {
+pub(crate) struct GoldenRows {
     circuit: Snapshot<Netlist>,
     runs: Snapshot<Workload>,
     // The number of words of a row.
@@ -36,22 +36,8 @@ impl Model for GoldenRows {
 }
 
 impl GoldenRows {
-    /// The golden values of all nets of a netlist over the runs of a workload.
+    /// The golden values of all nets of a netlist over the runs of a workload, by the readers of its nets.
     pub fn new(
-        alloc: Global,
-        netlist: &Netlist,
-        order: &Order,
-        work: &Workload,
-    ) -> Result<Self, AllocError>
-        requires { IsOrder netlist.now order.now }
-        ensures { IfOk result (λ rows. rows ≡ record { circuit = netlist.now; runs = work.now }) }
-    {
-        let fanout = Fanout::new(alloc, netlist, order)?;
-        GoldenRows::over(alloc, netlist, order, &fanout, work)
-    }
-
-    // The same, with the readers of all nets.
-    pub(crate) fn over(
         alloc: Global,
         netlist: &Netlist,
         order: &Order,
