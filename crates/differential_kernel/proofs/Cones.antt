@@ -1,5 +1,5 @@
 -- Nets that are put into a cone, until no path leads out of it.
-use Rattle.std.proofs.Common.{◌≡◌, inl, inr, ℕ, ◌+◌, ◌-◌, ◌<◌, ◌==◌, cond, Bool, true, false, length, refl, ap, sym, subst, ◌∙◌, arith}
+use Rattle.std.proofs.Common.{◌≡◌, inl, inr, ℕ, ◌+◌, ◌-◌, ◌<◌, ◌==◌, cond, true, false, length, refl, ap, sym, subst, ◌∙◌, arith}
 use Rattle.std.proofs.lemmas.Bool.{cases_eq, false_from_ne_true, le-ltb, lt-ltb, ne_eqb, true≢false}
 use Rattle.circuit.specs.Order.{net_at}
 use Rattle.fanout.specs.Readers.{IsReadAt, Ordered}
@@ -105,6 +105,18 @@ module _ (o : Ordered) where
         each = λ i lt. absurd (omega (arith, lt, new.end_count));
         ascending = λ i j less lt. absurd (omega (arith, lt, new.end_count));
         whole = λ p lt there. absurd (true≢false (sym there ∙ new.end_none p));
+      };
+    };
+    reads = record {
+      bound = new.read_bound;
+      found = λ n lt none place within own reads. absurd (true≢false (sym own ∙ new.none (net_at o.order place).0));
+      room = new.read_room;
+      listed = record {
+        few = omega (arith, new.read_count);
+        below = λ i lt. absurd (omega (arith, lt, new.read_count));
+        each = λ i lt. absurd (omega (arith, lt, new.read_count));
+        ascending = λ i j less lt. absurd (omega (arith, lt, new.read_count));
+        whole = λ p lt there. absurd (true≢false (sym there ∙ new.read_none p));
       };
     };
   }

@@ -13,3 +13,4 @@ pub mod Listing
 pub mod Cones
 pub mod Outside
 pub mod Ends
+pub mod Valued

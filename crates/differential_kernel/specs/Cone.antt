@@ -1,7 +1,9 @@
 -- A cone: nets out of which no path through tables and latches leads.
 use Rattle.std.specs.Prelude.{◌≡◌, ℕ, ◌<◌, ◌≤◌, ◌-◌, Bool, true, false, List, length, nat_lt, slice_index, if◌then◌else◌}
 use Rattle.circuit.specs.Circuit.{Circuit}
+use Rattle.circuit.specs.declared.parts.Driver.TheVariants.{Table as FromTable}
 use Rattle.circuit.specs.Order.{net_at}
+use Rattle.circuit.specs.Value.{driver_at}
 use Rattle.fanout.specs.Readers.{IsReadAt, Ordered}
 use Rattle.lane_words.specs.Gates.{latch_at}
 use Rattle.place_set.specs.Places.{Places, has}
@@ -50,6 +52,21 @@ pub record AreEnds (c : Circuit) (cone : Cone) : Type 0 where
   pub room : length cone.ends.items ≡ length c.latches
   pub listed : AreThose (has cone.latches) (length c.latches) cone.ends.items cone.end_count
 
+-- a table drives the net, which is in the set
+abbrev pub IsTableOf : Circuit → Places → ℕ → Type 0
+IsTableOf c nets n = (has nets n ≡ true) × ((k : ℕ) × (driver_at c n ≡ FromTable k))
+
+-- if a table reads the net that drives one of the set, a table drives the net, which is in the set too
+abbrev pub IsFoundIn : Ordered → Places → ℕ → Type 0
+IsFoundIn o nets n = (place : ℕ) → place < length o.order → has nets (net_at o.order place).0 ≡ true → IsReadAt o n place → IsTableOf o.circuit nets n
+
+-- a net that a table of the cone reads is driven by one of them or is listed
+pub record AreReads (o : Ordered) (cone : Cone) : Type 0 where
+  pub bound : cone.read.bound ≡ length o.circuit.drivers
+  pub found : (n : ℕ) → n < length o.circuit.drivers → has cone.read n ≡ false → IsFoundIn o cone.nets n
+  pub room : length cone.reads.items ≡ length o.circuit.drivers
+  pub listed : AreThose (has cone.read) (length o.circuit.drivers) cone.reads.items cone.read_count
+
 -- a cone of a circuit, with the places of the tables that drive its nets, and the latches
 pub record IsConeOf (o : Ordered) (cone : Cone) : Type 0 where
   pub nets : cone.nets.bound ≡ length o.circuit.drivers
@@ -58,6 +75,7 @@ pub record IsConeOf (o : Ordered) (cone : Cone) : Type 0 where
   pub room : length cone.tables.items ≡ length o.order
   pub tables : AreThose (λ place. has cone.nets (net_at o.order place).0) (length o.order) cone.tables.items cone.table_count
   pub ends : AreEnds o.circuit cone
+  pub reads : AreReads o cone
 
 -- what is forced, and what differs before a cycle, is in the cone
 pub record Holds {W : Type 0} (cone : Cone) (forces : Forces W) (latches : LatchDifferences W) (nets : NetDifferences W) : Type 0 where
@@ -76,3 +94,7 @@ pub record IsNewCone (nets tables latches : ℕ) (cone : Cone) : Type 0 where
   pub end_none : IsEmptySet cone.latches
   pub end_room : length cone.ends.items ≡ latches
   pub end_count : cone.end_count ≡ 0
+  pub read_bound : cone.read.bound ≡ nets
+  pub read_none : IsEmptySet cone.read
+  pub read_room : length cone.reads.items ≡ nets
+  pub read_count : cone.read_count ≡ 0

@@ -36,3 +36,4 @@ pub record IsDifferenceKernel {W : Type 0} (lanes : ℕ) (bit : W → ℕ → Bo
   pub latches : AreLatchesOf lanes bit s.circuit.value s.latches
   pub nets : AreNetsOf lanes bit (record { circuit = s.circuit.value; order = s.order.value }) s.nets
   pub cone : IsConeOf (record { circuit = s.circuit.value; order = s.order.value }) s.cone
+  pub values : length s.values.items ≡ length s.circuit.value.drivers

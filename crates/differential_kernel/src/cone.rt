@@ -1,9 +1,10 @@
 // What the faults of a run can reach.
-ghost use Rattle.std.specs.Prelude.{◌≡◌, ◌≢◌, ◌<◌, ◌+◌, ◌^◌, ℕ, Bool, true, All, IfOk, length};
+ghost use Rattle.std.specs.Prelude.{◌≡◌, ◌≢◌, ◌<◌, ◌+◌, ◌^◌, ℕ, Bool, false, true, All, Contains, IfOk, length};
 ghost use Rattle.circuit.specs.Order.{net_at};
+ghost use Rattle.circuit.specs.Sound.{IsNet};
 ghost use Rattle.lane_words.specs.Gates.{latch_at};
 ghost use Rattle.place_set.specs.Places.{has};
-ghost use Rattle.differential_kernel.specs.Cone.{AreThose, Holds, IsClosed, IsClosedBut, IsConeOf, IsNewCone, Spreads, driven_at};
+ghost use Rattle.differential_kernel.specs.Cone.{AreThose, Holds, IsClosed, IsClosedBut, IsConeOf, IsFoundIn, IsNewCone, IsTableOf, Spreads, driven_at};
 ghost use Rattle.differential_kernel.specs.Cycle.{IsGoldenCycle};
 ghost use Rattle.differential_kernel.specs.Differences.{IsEmptySet};
 
@@ -13,7 +14,7 @@ use crate::latches::LatchDifferences;
 use crate::nets::NetDifferences;
 use crate::note::forget;
 use circuit::netlist::Netlist;
-use circuit::parts::{Fault, Latch, NetId};
+use circuit::parts::{Driver, Fault, Latch, NetId};
 use lane_words::Word;
 use place_set::PlaceSet;
 use std::alloc::{AllocError, Global};
@@ -31,6 +32,10 @@ pub struct Cone {
     pub latches: PlaceSet,
     pub ends: Vec<u32>,
     pub end_count: usize,
+    /// The nets that its tables read and that none of them drives, as a set, and in the first of these, so many.
+    pub read: PlaceSet,
+    pub reads: Vec<u32>,
+    pub read_count: usize,
 }
 
 impl Cone {
@@ -53,6 +58,9 @@ impl Cone {
             latches: PlaceSet::new(alloc, latches as u32)?,
             ends: vec![in alloc; 0; latches]?,
             end_count: 0,
+            read: PlaceSet::new(alloc, nets as u32)?,
+            reads: vec![in alloc; 0; nets]?,
+            read_count: 0,
         })
     }
 }
@@ -265,6 +273,51 @@ fn find_latches(latches: &[Latch], nets: &PlaceSet, set: &mut PlaceSet)
     }
 }
 
+// Whether a table at one of some places drives a net of a set.
+fn drives_one(order: &[NetId], places: &[u32], nets: &PlaceSet) -> bool
+    ensures { (place : ℕ) → result ≡ false → Contains places.now place → place < length order.now → has nets.now (net_at order.now place).0 ≡ false }
+{
+    for place in places {
+        let at = *place as usize;
+        if at < order.len() && nets.has(order[at].0 as usize) {
+            return true;
+        }
+    }
+    false
+}
+
+// Whether a table drives a net that is in a set.
+fn is_driven(netlist: &Netlist, net: NetId, nets: &PlaceSet) -> bool
+    requires { IsNet netlist.now net }
+    ensures { result ≡ true → IsTableOf netlist.now nets.now net.0 }
+{
+    match netlist.driver(net) {
+        Driver::Table(_) => nets.has(net.0 as usize),
+        _ => false,
+    }
+}
+
+// Whether a table of a cone reads a net, and none drives it.
+fn is_source(cycle: &GoldenCycle<'_>, net: NetId, nets: &PlaceSet) -> bool
+    requires golden { IsGoldenCycle cycle.now }
+    requires net { IsNet cycle.now.netlist.now net }
+    ensures { result ≡ false → IsFoundIn cycle.now.fanout.now nets.now net.0 }
+{
+    !is_driven(cycle.netlist, net, nets) && drives_one(cycle.order, cycle.fanout.readers(net), nets)
+}
+
+// The nets that the tables of a cone read and that none of them drives.
+fn find_sources(cycle: &GoldenCycle<'_>, nets: &PlaceSet, set: &mut PlaceSet)
+    requires golden { IsGoldenCycle cycle.now }
+    requires bound { set.old.bound ≡ length cycle.now.netlist.now.drivers }
+    ensures bound { set.new.bound ≡ set.old.bound }
+    ensures each { (n : ℕ) → n < set.old.bound → has set.new n ≡ false → IsFoundIn cycle.now.fanout.now nets.now n }
+{
+    for n in 0..set.bound() {
+        set_place(is_source(cycle, NetId(n), nets), n as usize, set);
+    }
+}
+
 /// Makes a cone of what is forced, what differs, and what faults flip.
 pub fn make(
     cycle: &GoldenCycle<'_>,
@@ -283,6 +336,8 @@ pub fn make(
     cone.table_count = list_tables(cycle.order, &cone.nets, &mut cone.tables);
     find_latches(cycle.netlist.latches(), &cone.nets, &mut cone.latches);
     cone.end_count = list_all(&cone.latches, &mut cone.ends);
+    find_sources(cycle, &cone.nets, &mut cone.read);
+    cone.read_count = list_all(&cone.read, &mut cone.reads);
 }
 
 /// Whether what is forced and what differs before a cycle is in a cone, looked at a word at a time.

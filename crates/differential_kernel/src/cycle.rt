@@ -52,6 +52,7 @@ fn sweep_cone<W: Word, L: Ledger>(
     forces: &Forces<W>,
     cone: &Cone,
     raw: &[W],
+    values: &mut [W],
     words: &mut [W],
     steps: &mut Steps<L>,
 )
@@ -60,6 +61,7 @@ fn sweep_cone<W: Word, L: Ledger>(
     requires named { Grows forces.now.named cone.now.nets }
     requires raw { DifferOnlyIn W.lanes W.lane_bit cone.now.latches raw.now }
     requires nets { DifferOnlyIn W.lanes W.lane_bit cone.now.nets words.old }
+    requires room { length values.old ≡ length cycle.now.netlist.now.drivers }
     ensures values { NetsDiffer W.lanes W.lane_bit cycle.now forces.now.by_net.items raw.now words.new }
     ensures nets { DifferOnlyIn W.lanes W.lane_bit cone.now.nets words.new }
     ensures cost { steps.new ≤ steps.old + length cycle.now.order.now }
@@ -67,7 +69,7 @@ fn sweep_cone<W: Word, L: Ledger>(
     blank_inputs(cycle.netlist, words);
     show_latches(cycle.netlist, cone, raw, words);
     force_sources(&program.places, cycle.row, forces, words);
-    sweep(cycle, program, forces, cone, words, steps);
+    sweep(cycle, program, forces, cone, values, words, steps);
 }
 
 // The same as a run, by all tables of a cone, in which all is that is forced or differs.
@@ -78,11 +80,13 @@ fn run_cone<W: Word, L: Ledger>(
     cone: &Cone,
     latches: &mut LatchDifferences<W>,
     nets: &mut NetDifferences<W>,
+    values: &mut [W],
     steps: &mut Steps<L>,
 )
     requires fit { FitTogether W.lanes W.lane_bit cycle.now program.now forces.now }
     requires cone { IsConeOf cycle.now.fanout.now cone.now }
     requires holds { Holds cone.now forces.now latches.old nets.old }
+    requires room { length values.old ≡ length cycle.now.netlist.now.drivers }
     requires latches { AreLatchesOf W.lanes W.lane_bit cycle.now.netlist.now latches.old }
     requires nets { AreNetsOf W.lanes W.lane_bit cycle.now.fanout.now nets.old }
     ensures run { RunsCycle W.lanes W.lane_bit cycle.now forces.now latches.old latches.new nets.new }
@@ -94,6 +98,7 @@ fn run_cone<W: Word, L: Ledger>(
         forces,
         cone,
         &latches.raw,
+        values,
         &mut nets.words,
         steps,
     );
@@ -135,7 +140,8 @@ fn look_ahead(
 }
 
 /// Runs one cycle with the forces of this cycle, on what the latches differ in after flips: by all tables of the cone where the pace
-/// says so, and all that is forced or differs is in it; and else by those that read what differs.
+/// says so, and all that is forced or differs is in it; and else by those that read what differs. `values` has room for the value of
+/// each net.
 pub fn advance<W: Word, L: Ledger>(
     cycle: &GoldenCycle<'_>,
     program: &Program<W>,
@@ -144,6 +150,7 @@ pub fn advance<W: Word, L: Ledger>(
     cone: &mut Cone,
     latches: &mut LatchDifferences<W>,
     nets: &mut NetDifferences<W>,
+    values: &mut [W],
     pace: &mut Pace,
     steps: &mut Steps<L>,
 )
@@ -151,13 +158,14 @@ pub fn advance<W: Word, L: Ledger>(
     requires cone { IsConeOf cycle.now.fanout.now cone.old }
     requires latches { AreLatchesOf W.lanes W.lane_bit cycle.now.netlist.now latches.old }
     requires nets { AreNetsOf W.lanes W.lane_bit cycle.now.fanout.now nets.old }
+    requires room { length values.old ≡ length cycle.now.netlist.now.drivers }
     ensures run { RunsCycle W.lanes W.lane_bit cycle.now forces.now latches.old latches.new nets.new }
     ensures cone { IsConeOf cycle.now.fanout.now cone.new }
     ensures cost { steps.new ≤ steps.old + length cycle.now.order.now }
 {
     if pace.sweeps > 0 && holds(cone, forces, latches, nets) {
         pace.sweeps -= 1;
-        run_cone(cycle, program, forces, cone, latches, nets, steps);
+        run_cone(cycle, program, forces, cone, latches, nets, values, steps);
     } else {
         let evaluated = run(cycle, program, forces, latches, nets, steps);
         look_ahead(

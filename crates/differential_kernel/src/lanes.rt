@@ -14,7 +14,7 @@ ghost use Rattle.differential_kernel.specs.Picked.{AreBelow, ArePicks, lane_at, 
 
 use crate::cone::Cone;
 use crate::cycle::advance;
-use crate::difference::value_word;
+use crate::difference::{same_words, value_word};
 use crate::drop::{keep_lanes, unload};
 use crate::flip::flip;
 use crate::force::Forces;
@@ -68,6 +68,8 @@ pub struct DifferentialLanes<W: Word = u64> {
     pace: Pace,
     latches: LatchDifferences<W>,
     nets: NetDifferences<W>,
+    // Room for the value of each net, in a cycle that is run by a cone.
+    values: Vec<W>,
 }
 
 /// 256 simulations in four words.
@@ -113,6 +115,7 @@ impl<W: Word> DifferentialLanes<W> {
         let latches = LatchDifferences::new(alloc, latch_count)?;
         let nets = NetDifferences::new(alloc, net_count, table_count + latch_count)?;
         let cone = Cone::new(alloc, net_count, table_count, latch_count)?;
+        let values = same_words(alloc, net_count)?;
         Ok(DifferentialLanes {
             circuit: Snapshot::of(netlist),
             order: Snapshot::of(order),
@@ -130,6 +133,7 @@ impl<W: Word> DifferentialLanes<W> {
             pace: Pace::new(),
             latches,
             nets,
+            values,
         })
     }
 
@@ -293,6 +297,7 @@ impl<W: Word> DifferentialLanes<W> {
             &mut self.cone,
             &mut self.latches,
             &mut self.nets,
+            &mut self.values,
             &mut self.pace,
             steps,
         );

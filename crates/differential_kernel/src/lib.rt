@@ -19,6 +19,7 @@ mod sources;
 mod sweep;
 mod table;
 mod take;
+mod values;
 mod walk;
 
 pub use lanes::{DifferentialLanes, DifferentialLanes4};

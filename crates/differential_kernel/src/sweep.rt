@@ -1,31 +1,31 @@
 // A cycle in which every table of a cone is evaluated. Where much differs, that is quicker than to find out what does.
-ghost use Rattle.std.specs.Prelude.{◌≡◌, ◌≢◌, ◌<◌, ◌≤◌, ◌^◌, ◌+◌, ℕ, [], false, None, length, slice_index_or};
+ghost use Rattle.std.specs.Prelude.{◌≡◌, ◌≢◌, ◌<◌, ◌≤◌, ◌^◌, ◌+◌, ℕ, [], false, true, None, length, slice_index_or};
 ghost use Rattle.circuit.specs.declared.parts.Driver.TheVariants.{Input, Table as FromTable};
 ghost use Rattle.circuit.specs.Value.{Cycle, bit_at, driver_at, net_value};
 ghost use Rattle.golden_difference.proofs.Walked.{Walked};
 ghost use Rattle.golden_difference.specs.Beside.{latched};
-ghost use Rattle.lane_words.specs.Gates.{AreOps, IsGate, latch_at, plane};
+ghost use Rattle.lane_words.specs.Gates.{IsGate, latch_at, plane};
 ghost use Rattle.place_set.specs.Places.{has};
 ghost use Rattle.lane_words.specs.declared.force.Force.{Force as ForceValue};
-ghost use Rattle.differential_kernel.specs.Cone.{AreEnds, IsConeOf};
+ghost use Rattle.differential_kernel.specs.Cone.{AreEnds, AreThose, IsConeOf};
 ghost use Rattle.differential_kernel.specs.Cycle.{FitTogether, LatchesTake};
 ghost use Rattle.differential_kernel.specs.Differences.{AreSameOff, DifferOnlyIn, Grows, IsSame, read_in};
-ghost use Rattle.differential_kernel.specs.Forced.{IsSettled, forced_in};
+ghost use Rattle.differential_kernel.specs.Forced.{IsValued, forced_in};
 ghost use Rattle.lane_words.specs.Forces.{AreForces};
 ghost use Rattle.differential_kernel.specs.Parts.{AreForcesOf};
 ghost use Rattle.differential_kernel.specs.Walk.{IsPair};
 
 use crate::cone::Cone;
-use crate::difference::{forced_difference, set_word, value_word};
+use crate::difference::{forced_difference, golden_word, set_word, value_word};
 use crate::force::Forces;
 use crate::golden_cycle::GoldenCycle;
 use crate::program::Program;
-use crate::table::table_difference;
+use crate::values::table_word;
 use circuit::netlist::Netlist;
 use circuit::parts::NetId;
 use fm_base::Steps;
 use lane_words::force::Force;
-use lane_words::gate::{Gate, Masks};
+use lane_words::gate::Gate;
 use lane_words::{Word, word_at};
 use std::sync::ledger::Ledger;
 
@@ -100,31 +100,49 @@ pub fn force_sources<W: Word>(
     }
 }
 
-// Evaluates the table of a net, and sets what the net differs in.
+// Reads the value of each net that the tables of a cone read and don't drive.
+fn read_values<W: Word>(cone: &Cone, row: &[u64], words: &[W], values: &mut [W])
+    requires reads { AreThose (has cone.now.read) (length words.now) cone.now.reads.items cone.now.read_count }
+    requires room { length cone.now.reads.items ≡ length words.now }
+    requires nets { length values.old ≡ length words.now }
+    ensures { (k n : ℕ) → k < W.lanes → n < length words.now → has cone.now.read n ≡ true
+        → bit_at (plane W.lane_bit k values.new) n ≡ read_in W.lane_bit k row.now words.now n }
+{
+    let reads = cone.reads.as_slice();
+    for at in 0..cone.read_count {
+        let net = reads[at];
+        values[net as usize] = value_word(row, words, net);
+    }
+}
+
+// Evaluates the table of a net, and sets its value and what the net differs in.
 #[inline(always)]
 fn settle<W: Word>(
     netlist: &Netlist,
     gate: &Gate,
-    ops: &[Masks<W>],
     row: &[u64],
     forces: &Forces<W>,
+    values: &mut [W],
     words: &mut [W],
 )
     requires gate { IsGate netlist.now gate.now }
-    requires ops { AreOps W.lanes W.lane_bit ops.now }
     requires forces { AreForcesOf W.lanes W.lane_bit (length netlist.now.drivers) forces.now }
     requires nets { length words.old ≡ length netlist.now.drivers }
-    ensures { IsSettled W.lanes W.lane_bit netlist.now row.now forces.now.by_net.items gate.now.to words.old words.new }
+    requires values { length values.old ≡ length netlist.now.drivers }
+    ensures { IsValued W.lanes W.lane_bit netlist.now row.now forces.now.by_net.items gate.now.to values.old values.new words.old words.new }
 {
-    words[gate.to as usize] = table_difference(netlist, gate, ops, row, forces, words);
+    let value = table_word(netlist, gate, forces, values);
+    values[gate.to as usize] = value;
+    words[gate.to as usize] = value.xor(golden_word(row, gate.to));
 }
 
-/// Evaluates the tables of a cone, in the order's sequence, with one step for each.
+/// Evaluates the tables of a cone on values, in the order's sequence, with one step for each. `values` has room for that of each net.
 pub fn sweep<W: Word, L: Ledger>(
     cycle: &GoldenCycle<'_>,
     program: &Program<W>,
     forces: &Forces<W>,
     cone: &Cone,
+    values: &mut [W],
     words: &mut [W],
     steps: &mut Steps<L>,
 )
@@ -132,6 +150,7 @@ pub fn sweep<W: Word, L: Ledger>(
     requires cone { IsConeOf cycle.now.fanout.now cone.now }
     requires named { Grows forces.now.named cone.now.nets }
     requires nets { length words.old ≡ length cycle.now.netlist.now.drivers }
+    requires room { length values.old ≡ length cycle.now.netlist.now.drivers }
     requires same { AreSameOff W.lanes W.lane_bit cone.now.nets words.old }
     ensures values { (k : ℕ) (x golden : Cycle) → k < W.lanes → IsPair cycle.now.netlist.now cycle.now.row.now x golden → AreForces W.lane_bit k forces.now.by_net.items x
         → Walked x (read_in W.lane_bit k cycle.now.row.now words.old) [] 0
@@ -139,12 +158,19 @@ pub fn sweep<W: Word, L: Ledger>(
     ensures same { AreSameOff W.lanes W.lane_bit cone.now.nets words.new }
     ensures cost { steps.new ≤ steps.old + length cycle.now.order.now }
 {
+    read_values(cone, cycle.row, words, values);
     let gates = program.gates.as_slice();
-    let ops = program.ops.as_slice();
     let places = cone.tables.as_slice();
     for at in 0..cone.table_count {
         let place = places[at] as usize;
-        settle(cycle.netlist, &gates[place], ops, cycle.row, forces, words);
+        settle(
+            cycle.netlist,
+            &gates[place],
+            cycle.row,
+            forces,
+            values,
+            words,
+        );
         steps.tick();
     }
 }

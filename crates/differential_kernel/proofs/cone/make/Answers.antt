@@ -7,7 +7,7 @@ use Rattle.circuit.proofs.FewTables.{few_tables}
 use Rattle.fanout.specs.Readers.{Ordered}
 use Rattle.lane_words.specs.Gates.{latch_at}
 use Rattle.place_set.specs.Places.{has}
-use Rattle.differential_kernel.specs.Cone.{AreThose, IsClosed, IsConeOf}
+use Rattle.differential_kernel.specs.Cone.{AreThose, IsClosed, IsConeOf, IsFoundIn}
 use Rattle.differential_kernel.specs.declared.cone.Cone.{Cone}
 use Rattle.differential_kernel.proofs.cone.make.Goals as goal
 
@@ -23,7 +23,10 @@ returns c =
     let order = c.args.cycle.now.order.now in
     let tables : (with_items cone.tables c.list_tables-cone.new.tables).items ≡ c.list_tables-cone.new.tables = grind (arith, common_steps) in
     let ends : (with_items cone.ends c.list_all-cone.new.list).items ≡ c.list_all-cone.new.list = grind (arith, common_steps) in
+    let reads : (with_items cone.reads c.list_all-cone-2.new.list).items ≡ c.list_all-cone-2.new.list = grind (arith, common_steps) in
     let fanout = c.requires.golden.fanout in
+    let read_bound : c.find_sources.new.set.bound ≡ length circuit.drivers =
+    c.find_sources.ensures.bound ∙ c.requires.cone.reads.bound ∙ ap (λ (o : Ordered). length o.circuit.drivers) fanout in
     let latches : c.latches.result.now ≡ circuit.latches = c.latches.ensures.value in
     let bound : c.find_latches.new.set.bound ≡ length circuit.latches =
     c.find_latches.ensures.bound ∙ c.requires.cone.ends.bound ∙ ap (λ (o : Ordered). length o.circuit.latches) fanout in
@@ -35,6 +38,9 @@ returns c =
       latches = c.find_latches.new.set;
       ends = with_items cone.ends c.list_all-cone.new.list;
       end_count = c.list_all-cone.result;
+      read = c.find_sources.new.set;
+      reads = with_items cone.reads c.list_all-cone-2.new.list;
+      read_count = c.list_all-cone-2.result;
     } in
     subst (λ (o : Ordered). IsConeOf o made) (sym fanout)
     (record {
@@ -55,5 +61,15 @@ returns c =
             ∙ c.requires.cone.ends.room ∙ ap (λ (o : Ordered). length o.circuit.latches) fanout;
         listed = subst (λ list. AreThose (has c.find_latches.new.set) (length circuit.latches) list c.list_all-cone.result) (sym ends)
             (subst (λ n. AreThose (has c.find_latches.new.set) n c.list_all-cone.new.list c.list_all-cone.result) bound c.list_all-cone.ensures);
+      };
+      reads = record {
+        bound = read_bound;
+        found = λ n lt none. subst (λ (o : Ordered). IsFoundIn o c.reach.new.nets n) fanout
+            (c.find_sources.ensures.each n (omega (arith, lt, c.requires.cone.reads.bound, ap (λ (o : Ordered). length o.circuit.drivers) fanout)) none);
+        room =
+            ap (λ (list : List ℕ). length list) reads ∙ c.list_all-cone-2.auto.list ∙ ap (λ (list : List ℕ). length list) c.deref_mut-3.ensures.value
+            ∙ c.requires.cone.reads.room ∙ ap (λ (o : Ordered). length o.circuit.drivers) fanout;
+        listed = subst (λ list. AreThose (has c.find_sources.new.set) (length circuit.drivers) list c.list_all-cone-2.result) (sym reads)
+            (subst (λ n. AreThose (has c.find_sources.new.set) n c.list_all-cone-2.new.list c.list_all-cone-2.result) read_bound c.list_all-cone-2.ensures);
       };
     })

@@ -1,4 +1,6 @@
 use Rattle.std.proofs.Common.{◌≡◌, ◌<◌, ◌+◌, ◌++◌, ◌∷◌, [], Bool, List, Option, length, refl, ap, ap₂, sym, ◌∙◌, subst, arith}
+use Rattle.std.proofs.lemmas.Grind.{common_steps}
+use Rattle.std.specs.Vec.{with_items}
 use Rattle.circuit.specs.declared.parts.Fault.{Fault}
 use Rattle.circuit.specs.declared.parts.NetId.{NetId}
 use Rattle.circuit.specs.After.{Moment}
@@ -94,6 +96,7 @@ invariant_of-self g c =
     let order : s.order.value ≡ c.args.order.now = ap (λ (lanes : Lanes g.row.W.Denot). lanes.order) c.self.view_is ∙ c.requires.made.order in
     let own : Ordered = record { circuit = s.circuit.value; order = s.order.value } in
     let same : own ≡ c.args.fanout.now = same_ordered s.circuit.value c.args.netlist.now s.order.value c.args.order.now circuit order ∙ sym c.requires.fanout in
+    let values : (with_items s.values c.advance.new.values).items ≡ c.advance.new.values = grind (arith, common_steps) in
     record {
       sound = kept.sound;
       ordered = kept.ordered;
@@ -108,6 +111,9 @@ invariant_of-self g c =
       latches = subst (λ (m : Circuit). AreLatchesOf lanes bit m c.advance.new.latches) (sym circuit) c.advance.ensures.run.latches;
       nets = subst (λ (o : Ordered). AreNetsOf lanes bit o c.advance.new.nets) (sym same) c.advance.ensures.run.nets;
       cone = subst (λ (o : Ordered). IsConeOf o c.advance.new.cone) (sym same) c.advance.ensures.cone;
+      values =
+          ap (λ (ws : List g.row.W.Denot). length ws) values ∙ c.advance.auto.values ∙ ap (λ (ws : List g.row.W.Denot). length ws) c.deref_mut.ensures.value
+          ∙ kept.values;
     }
 
 pub returns-clause-step : goal.returns-clause-step

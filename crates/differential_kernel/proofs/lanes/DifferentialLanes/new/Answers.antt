@@ -55,4 +55,5 @@ invariant_of-result g c =
           (subst (λ n. IsNewCone n (length c.of-2.result.value) (length c.of.result.value.latches) c.in_ok-cone.cone) nets
           (subst (λ n. IsNewCone c.nets-net_count.result n (length c.of.result.value.latches) c.in_ok-cone.cone) tables
           (subst (λ n. IsNewCone c.nets-net_count.result (length c.nets-table_count.result.now) n c.in_ok-cone.cone) latches c.in_ok-cone.ensures)));
+      values = c.in_ok-values.ensures.count ∙ nets;
     }

@@ -40,6 +40,7 @@ invariant_of-self g c =
       };
       nets = kept.nets;
       cone = kept.cone;
+      values = kept.values;
     }
 
 pub returns-clause-start : goal.returns-clause-start

@@ -54,6 +54,7 @@ invariant_of-self g c =
         marks = kept.nets.marks;
       };
       cone = kept.cone;
+      values = kept.values;
     }
 
 pub take_faults-requires-clause-few : goal.take_faults-requires-clause-few

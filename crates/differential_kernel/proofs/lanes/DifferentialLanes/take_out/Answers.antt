@@ -70,6 +70,7 @@ invariant_of-self g c =
         marks = kept.nets.marks;
       };
       cone = kept.cone;
+      values = kept.values;
     }
 
 pub returns-clause-dropped : goal.returns-clause-dropped
