@@ -283,14 +283,13 @@ impl<W: Word> DifferentialLanes<W> {
         self.noted = true;
         let acting = self.acts.has(self.cycle as usize);
         flip(&self.in_force, acting, self.cycle, &mut self.latches);
-        let golden = GoldenCycle {
-            netlist,
-            order: order.nets(),
-            fanout,
-            row,
-        };
         advance(
-            &golden,
+            &GoldenCycle {
+                netlist,
+                order: order.nets(),
+                fanout,
+                row,
+            },
             &self.program,
             &self.in_force,
             &self.forces,
