@@ -131,12 +131,16 @@ fn settle<W: Word>(
     requires values { length values.old ≡ length netlist.now.drivers }
     ensures { IsValued W.lanes W.lane_bit netlist.now row.now forces.now.by_net.items gate.now.to values.old values.new words.old words.new }
 {
+    let to = gate.to;
+    let golden: W = golden_word(row, to);
     let value = table_word(netlist, gate, forces, values);
-    values[gate.to as usize] = value;
-    words[gate.to as usize] = value.xor(golden_word(row, gate.to));
+    values[to as usize] = value;
+    words[to as usize] = value.xor(golden);
 }
 
 /// Evaluates the tables of a cone on values, in the order's sequence, with one step for each. `values` has room for that of each net.
+/// The loop has the registers to itself where this is called.
+#[inline(never)]
 pub fn sweep<W: Word, L: Ledger>(
     cycle: &GoldenCycle<'_>,
     program: &Program<W>,

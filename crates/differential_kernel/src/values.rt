@@ -1,5 +1,5 @@
 // What tables give in each lane, over the values of nets.
-ghost use Rattle.std.specs.Prelude.{◌≡◌, ◌<◌, ◌≤◌, ℕ, List, Bool, length, not, slice_index_or};
+ghost use Rattle.std.specs.Prelude.{◌≡◌, ◌<◌, ℕ, List, Bool, length, not, slice_index_or};
 ghost use Rattle.circuit.specs.declared.parts.Driver.TheVariants.{Table as FromTable};
 ghost use Rattle.circuit.specs.Sound.{IsNet};
 ghost use Rattle.circuit.specs.Value.{bit_at, driven, driver_at, table_gives};
@@ -37,10 +37,10 @@ fn inverse<W: Word>(a: W) -> W
     a.xor(W::all(true))
 }
 
-// An operation that has no product of its bits.
+// An operation by its number.
 #[inline(always)]
-fn sum_word<W: Word>(op: u8, a: W, b: W) -> W
-    requires { op < 8 }
+fn op_word<W: Word>(op: u8, a: W, b: W) -> W
+    requires { op < 16 }
     ensures { (k : ℕ) → k < W.lanes → W.lane_bit result k ≡ op_value op (W.lane_bit a k) (W.lane_bit b k) }
 {
     match op {
@@ -51,18 +51,7 @@ fn sum_word<W: Word>(op: u8, a: W, b: W) -> W
         4 => b,
         5 => inverse(b),
         6 => a.xor(b),
-        _ => inverse(a.xor(b)),
-    }
-}
-
-// An operation that has one.
-#[inline(always)]
-fn product_word<W: Word>(op: u8, a: W, b: W) -> W
-    requires least { 8 ≤ op }
-    requires narrow { op < 16 }
-    ensures { (k : ℕ) → k < W.lanes → W.lane_bit result k ≡ op_value op (W.lane_bit a k) (W.lane_bit b k) }
-{
-    match op {
+        7 => inverse(a.xor(b)),
         8 => a.and(b),
         9 => inverse(a.and(b)),
         10 => a.and(inverse(b)),
@@ -71,19 +60,6 @@ fn product_word<W: Word>(op: u8, a: W, b: W) -> W
         13 => inverse(inverse(a).and(b)),
         14 => inverse(inverse(a).and(inverse(b))),
         _ => inverse(a).and(inverse(b)),
-    }
-}
-
-// An operation by its number.
-#[inline(always)]
-fn op_word<W: Word>(op: u8, a: W, b: W) -> W
-    requires { op < 16 }
-    ensures { (k : ℕ) → k < W.lanes → W.lane_bit result k ≡ op_value op (W.lane_bit a k) (W.lane_bit b k) }
-{
-    if op < 8 {
-        sum_word(op, a, b)
-    } else {
-        product_word(op, a, b)
     }
 }
 

@@ -14,7 +14,7 @@ returns g c =
       differs = λ k lt.
           at_set_same bit k c.args.words.now to c.xor.result (omega (arith, c.requires.gate.inside.to, c.requires.nets))
           ∙ c.xor.ensures k lt
-          ∙ ap₂ either (sym (at_set_same bit k c.args.values.now to c.table_word-value.result (omega (arith, c.requires.gate.inside.to, c.requires.values)))) (c.golden_word.ensures k lt);
+          ∙ ap₂ either (sym (at_set_same bit k c.args.values.now to c.table_word-value.result (omega (arith, c.requires.gate.inside.to, c.requires.values)))) (c.golden_word-golden.ensures k lt);
       others = λ k n other. at_set_other bit k c.args.values.now to n c.table_word-value.result other;
       others_differ = λ k n other. at_set_other bit k c.args.words.now to n c.xor.result other;
     }
