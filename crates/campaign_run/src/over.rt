@@ -125,10 +125,9 @@ pub(crate) fn run_over<
         order,
         name,
         own,
-        kept,
+        kept: KeptRows { rows, whole },
         text,
     } = campaign;
-    let KeptRows { rows, whole } = kept;
     let batches = plan.batches();
     let prepared = prepare::<F, N>(alloc, plan, order, batches, rows, workers, shelf, name);
     let Prepared { mut space, crew } = match prepared {

@@ -1,8 +1,9 @@
 // What a command does.
-ghost use Rattle.std.specs.Prelude.{ℕ, ◌≡◌, true};
+ghost use Rattle.std.specs.Prelude.{ℕ, ◌≡◌, ◌<◌, ◌≤◌, true};
 ghost use Rattle.fm_shelf.specs.Content.{Content};
 ghost use Rattle.fm_shelf.specs.Outside.{outside};
 ghost use Rattle.campaign_plan.specs.declared.Settings.{Settings};
+ghost use Rattle.commands.specs.declared.command.Task.TheVariants as task;
 ghost use Rattle.commands.specs.declared.command.Which.TheVariants as which;
 ghost use Rattle.commands.specs.Commands.{HasFitNumbers, IsFit, name_by, told_by};
 ghost use Rattle.command_reads.specs.Files.{Reads};
@@ -113,32 +114,57 @@ fn printed<O: Sink>(names: &FileNames<'_>, told: Result<Status, Refused>, out: &
 }
 
 // Does what a task asks that runs no campaign, over what its files stand for.
-fn do_at_once<R: Threads + Sync, F: Shelf, O: Sink>(
+fn do_at_once<R: Threads + Sync, F: Shelf + Drop, O: Sink>(
     rt: &R,
     alloc: Global,
     names: &FileNames<'_>,
     task: &Task,
     judged: &Judged,
-    shelf: &mut F,
+    shelf: F,
     out: &mut O,
-) -> Status
+) -> Ended<F>
     requires fit { HasFitNumbers task.now }
     requires alone { RunsNoCampaign task.now }
     requires judged { IsJudged task.now judged.now }
     ensures { (held : Content) (reads : Reads) (set : Settings) → IsReady held reads judged.now
-        → DoesAs (record { files = name_by names.now; settings = set; task = task.now }) (made_by judged.now) reads result
-        (outside (F.seen shelf.old) (O.seen out.old)) (outside (F.seen shelf.new) (O.seen out.new)) }
+        → DoesAs (record { files = name_by names.now; settings = set; task = task.now }) (made_by judged.now) reads result.status
+        (outside (F.seen shelf) (O.seen out.old)) (outside (F.seen result.shelf) (O.seen out.new)) }
 {
+    let mut shelf = shelf;
     match task {
         Task::Merge => {
-            let end = merge(alloc, judged.merged(), names.result, shelf, out);
-            say_end(out, names, end)
+            let end = merge(alloc, judged.merged(), names.result, &mut shelf, out);
+            let status = say_end(out, names, end);
+            Ended { status, shelf }
         }
         prints => {
             let told = print(rt, alloc, prints, judged, out);
-            printed(names, told, out)
+            let status = printed(names, told, out);
+            Ended { status, shelf }
         }
     }
+}
+
+// Runs a part of a campaign, and writes the line of how it has ended.
+fn do_share<F: Shelf + Drop, O: Sink>(
+    alloc: Global,
+    names: &FileNames<'_>,
+    part: u32,
+    parts: u32,
+    judged: &Judged,
+    shelf: F,
+    out: &mut O,
+) -> Ended<F>
+    requires part { (part < parts) × (parts ≤ 1024) }
+    requires judged { IsJudged (task.Shard part parts) judged.now }
+    requires ready { (held : Content) × (reads : Reads) × IsReady held reads judged.now }
+    ensures { (held : Content) (reads : Reads) (set : Settings) → IsReady held reads judged.now
+        → DoesAs (record { files = name_by names.now; settings = set; task = task.Shard part parts }) (made_by judged.now) reads result.status
+        (outside (F.seen shelf) (O.seen out.old)) (outside (F.seen result.shelf) (O.seen out.new)) }
+{
+    let part = Shard { part, parts };
+    let ran = run_share(alloc, judged.planned(), names.result, part, shelf, out);
+    ended(ran, names, out)
 }
 
 // Does what a task asks, over what its files stand for. Several workers of a campaign come to the turn so.
@@ -164,18 +190,9 @@ fn do_task<R: Threads + Sync, F: Shelf + Send + Drop, O: Sink, G: Gate + Sync, T
     let name = names.result;
     match task {
         Task::Run { workers } => {
-            let plan = judged.planned();
+            let (plan, text) = (judged.planned(), Text::Report);
             let ran = run_anew(
-                rt,
-                turn,
-                alloc,
-                plan,
-                name,
-                Text::Report,
-                *workers,
-                shelf,
-                out,
-                gate,
+                rt, turn, alloc, plan, name, text, *workers, shelf, out, gate,
             );
             ended(ran, names, out)
         }
@@ -191,19 +208,8 @@ fn do_task<R: Threads + Sync, F: Shelf + Send + Drop, O: Sink, G: Gate + Sync, T
             let ran = run_on(rt, turn, alloc, begun, name, *workers, shelf, out, gate);
             ended(ran, names, out)
         }
-        Task::Shard { part, parts } => {
-            let part = Shard {
-                part: *part,
-                parts: *parts,
-            };
-            let ran = run_share(alloc, judged.planned(), name, part, shelf, out);
-            ended(ran, names, out)
-        }
-        at_once => {
-            let mut shelf = shelf;
-            let status = do_at_once(rt, alloc, names, at_once, &judged, &mut shelf, out);
-            Ended { status, shelf }
-        }
+        Task::Shard { part, parts } => do_share(alloc, names, *part, *parts, &judged, shelf, out),
+        at_once => do_at_once(rt, alloc, names, at_once, &judged, shelf, out),
     }
 }
 

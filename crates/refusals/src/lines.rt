@@ -61,6 +61,19 @@ pub(crate) fn refuse_planes<'a, O: Sink>(
     )
 }
 
+// The five sums of a row as words.
+fn sums_lines(sums: Sums) -> [Line; 5]
+    ensures { result ≡ sums_words sums }
+{
+    [
+        hex16(sums.permanent_all),
+        hex16(sums.permanent_danger),
+        hex16(sums.latent),
+        hex16(sums.transient_all),
+        hex16(sums.transient_danger),
+    ]
+}
+
 // A line on a row whose sums are others than those that were computed.
 pub(crate) fn refuse_sums<'a, O: Sink>(
     out: &mut O,
@@ -75,16 +88,7 @@ pub(crate) fn refuse_sums<'a, O: Sink>(
         (refused (first.now ∷ decimal number ∷ second.now ∷ sums_words kept ++ third.now ∷ sums_words computed)) }
 {
     let mut digits = Buffer::new();
-    let kept_all = hex16(kept.permanent_all);
-    let kept_danger = hex16(kept.permanent_danger);
-    let kept_latent = hex16(kept.latent);
-    let kept_transient = hex16(kept.transient_all);
-    let kept_transient_danger = hex16(kept.transient_danger);
-    let all = hex16(computed.permanent_all);
-    let danger = hex16(computed.permanent_danger);
-    let latent = hex16(computed.latent);
-    let transient = hex16(computed.transient_all);
-    let transient_danger = hex16(computed.transient_danger);
+    let (kept, computed) = (sums_lines(kept), sums_lines(computed));
     say(
         out,
         &[
@@ -92,17 +96,17 @@ pub(crate) fn refuse_sums<'a, O: Sink>(
             first,
             digits.format(number).as_bytes(),
             second,
-            kept_all.bytes(),
-            kept_danger.bytes(),
-            kept_latent.bytes(),
-            kept_transient.bytes(),
-            kept_transient_danger.bytes(),
+            kept[0].bytes(),
+            kept[1].bytes(),
+            kept[2].bytes(),
+            kept[3].bytes(),
+            kept[4].bytes(),
             third,
-            all.bytes(),
-            danger.bytes(),
-            latent.bytes(),
-            transient.bytes(),
-            transient_danger.bytes(),
+            computed[0].bytes(),
+            computed[1].bytes(),
+            computed[2].bytes(),
+            computed[3].bytes(),
+            computed[4].bytes(),
         ],
     )
 }

@@ -20,7 +20,7 @@ use circuit::parts::Name;
 use commands::{FileNames, Which};
 use fm_shelf::shelf::Sink;
 use pair_list::PairRefusal;
-use result_file::ResultRefusal;
+use result_file::{FalseRow, ResultRefusal};
 use result_merge::MergeRefusal;
 
 // The name of one of the files.
@@ -108,6 +108,22 @@ fn refuse_pairs<O: Sink>(out: &mut O, cause: PairRefusal)
     }
 }
 
+// The line of a row whose planes aren't those that were computed.
+fn refuse_disagreeing<O: Sink>(out: &mut O, row: &FalseRow)
+    ensures { (file : Which → Bytes) (c : Circuit) → IsSaid (O.seen out.old) (O.seen out.new) (refusal_line file c (Status.Disagrees row.now)) }
+{
+    let (kept, computed) = (row.kept, row.computed);
+    refuse_planes(
+        out,
+        b"batch",
+        row.batch,
+        b"kept",
+        kept,
+        b"computed",
+        computed,
+    )
+}
+
 /// Writes the line of a refusal. `nets` has the names of the netlist's nets, for the line of a loop.
 pub fn refuse<O: Sink>(out: &mut O, names: &FileNames, nets: &[Name], status: &Status)
     ensures { (c : Circuit) → c.names ≡ nets.now
@@ -116,14 +132,10 @@ pub fn refuse<O: Sink>(out: &mut O, names: &FileNames, nets: &[Name], status: &S
     match status {
         Status::Done => (),
         Status::OutFault => (),
-        Status::ResultFault => say(
-            out,
-            &[
-                b"refused:",
-                b"cannot write",
-                file_name(names, Which::Result),
-            ],
-        ),
+        Status::ResultFault => {
+            let file = file_name(names, Which::Result);
+            say(out, &[b"refused:", b"cannot write", file])
+        }
         Status::Usage => say(out, &[b"refused:", b"usage"]),
         Status::Memory => say(out, &[b"refused:", b"out of memory"]),
         Status::ManyOutputs => say(out, &[b"refused:", b"more than 1024 outputs"]),
@@ -140,23 +152,13 @@ pub fn refuse<O: Sink>(out: &mut O, names: &FileNames, nets: &[Name], status: &S
         Status::Loop(walk) => refuse_loop(out, nets, walk.as_slice()),
         Status::Rates(fault) => refuse_row(out, b"rates row", fault.row, rates_kind(fault.kind)),
         Status::Points(fault) => refuse_row(out, b"points row", fault.row, points_kind(fault.kind)),
-        Status::Workload(fault) => refuse_row(
-            out,
-            b"workload row",
-            fault.row,
-            workload_kind(fault.kind),
-        ),
+        Status::Workload(fault) => {
+            let kind = workload_kind(fault.kind);
+            refuse_row(out, b"workload row", fault.row, kind)
+        }
         Status::Plan(cause) => refuse_plan(out, cause),
         Status::Result(cause) => refuse_result(out, cause),
-        Status::Disagrees(row) => refuse_planes(
-            out,
-            b"batch",
-            row.batch,
-            b"kept",
-            row.kept,
-            b"computed",
-            row.computed,
-        ),
+        Status::Disagrees(row) => refuse_disagreeing(out, row),
         Status::Merge(cause) => refuse_merge(out, *cause),
         Status::Pairs(cause) => refuse_pairs(out, *cause),
         Status::NoRun => say(out, &[b"refused:", b"no such run"]),

@@ -14,19 +14,19 @@ returns-in-Merge g c =
     let names = name_by c.args.names.now in
     let both = c.merged.result.now in
     let shelf = g.F.Shelf.seen c.merge-end.new.shelf in
-    let before : Outside = outside (g.F.Shelf.seen c.args.shelf.now) (g.O.Sink.seen c.args.out.now) in
+    let before : Outside = outside (g.F.Shelf.seen c.args.shelf) (g.O.Sink.seen c.args.out.now) in
     let after : Outside = outside shelf (g.O.Sink.seen c.merge-end.new.out) in
-    let out = g.O.Sink.seen c.say_end.new.out in
+    let out = g.O.Sink.seen c.say_end-status.new.out in
     λ held reads set ready.
     let own = subst (IsReady held reads) c.merged.ensures ready in
-    told_does names set c.args.task.now task.Merge c.args.judged.now (made.Merged both) reads c.say_end.result before c.in-Merge.is c.merged.ensures
-    after shelf out c.merge-end.result refl refl (c.merge-end.ensures reads own.0) c.say_end.ensures refl
+    told_does names set c.args.task.now task.Merge c.args.judged.now (made.Merged both) reads c.say_end-status.result before c.in-Merge.is c.merged.ensures
+    after shelf out c.merge-end.result refl refl (c.merge-end.ensures reads own.0) c.say_end-status.ensures refl
 
 pub returns-in_default : goal.returns-in_default
 returns-in_default g c =
     let out = g.O.Sink.seen c.args.out.now in
     let mid = g.O.Sink.seen c.print-told.new.out in
-    let now = g.O.Sink.seen c.printed.new.out in
+    let now = g.O.Sink.seen c.printed-status.new.out in
     λ held reads set ready.
-    printed_does (record { files = name_by c.args.names.now; settings = set; task = c.args.task.now }) (made_by c.args.judged.now) reads (g.F.Shelf.seen c.args.shelf.now)
-    out mid now c.printed.result c.print-told.result c.print-told.ensures c.printed.ensures
+    printed_does (record { files = name_by c.args.names.now; settings = set; task = c.args.task.now }) (made_by c.args.judged.now) reads (g.F.Shelf.seen c.args.shelf)
+    out mid now c.printed-status.result c.print-told.result c.print-told.ensures c.printed-status.ensures

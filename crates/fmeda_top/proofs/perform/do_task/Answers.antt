@@ -1,10 +1,12 @@
-use Rattle.std.proofs.Common.{ap, refl, subst}
+use Rattle.std.proofs.Common.{ap, refl, subst, sym}
 use Rattle.fm_shelf.specs.Outside.{Outside, outside}
+use Rattle.commands.specs.declared.command.Task.{Task}
 use Rattle.commands.specs.declared.command.Task.TheVariants as task
 use Rattle.commands.specs.declared.command.Which.TheVariants as which
 use Rattle.commands.specs.Commands.{name_by}
 use Rattle.command_reads.specs.declared.judge.Judged.TheVariants as made
-use Rattle.fmeda_top.specs.Doing.{IsReady}
+use Rattle.command_reads.specs.Judging.{made_by}
+use Rattle.fmeda_top.specs.Doing.{DoesAs, IsReady}
 use Rattle.fmeda_top.specs.Words.{WaitsForNobody}
 use Rattle.fmeda_top.proofs.Writing.{told_does}
 use Rattle.fmeda_top.proofs.perform.do_task.Goals as goal
@@ -62,17 +64,12 @@ returns-in-Resume g c =
 
 pub returns-in-Shard : goal.returns-in-Shard
 returns-in-Shard g c =
-    let names = name_by c.args.names.now in
-    let held = (g.F.Shelf.seen c.args.shelf).content (names which.Result) in
-    let before : Outside = outside (g.F.Shelf.seen c.args.shelf) (g.O.Sink.seen c.args.out.now) in
-    let after : Outside = outside (g.F.Shelf.seen c.run_share-ran.result.shelf) (g.O.Sink.seen c.run_share-ran.new.out) in
-    λ reads set ready.
-    let own = subst (IsReady held reads) c.planned.ensures ready in
-    told_does names set c.args.task.now (task.Shard c.in-Shard.part c.in-Shard.parts) c.args.judged (made.Planned c.planned.result.now) reads c.ended-in-Shard.result.status before c.in-Shard.is c.planned.ensures
-    after (g.F.Shelf.seen c.ended-in-Shard.result.shelf) (g.O.Sink.seen c.ended-in-Shard.new.out) c.run_share-ran.result.end refl refl (c.run_share-ran.ensures reads own.0) c.ended-in-Shard.ensures.said
-    (ap g.F.Shelf.seen c.ended-in-Shard.ensures.shelf)
+    let held = (g.F.Shelf.seen c.args.shelf).content (name_by c.args.names.now which.Result) in
+    λ reads set ready. subst (λ (asked : Task). DoesAs (record { files = name_by c.args.names.now; settings = set; task = asked }) (made_by c.args.judged) reads
+    c.do_share.result.status (outside (g.F.Shelf.seen c.args.shelf) (g.O.Sink.seen c.args.out.now)) (outside (g.F.Shelf.seen c.do_share.result.shelf) (g.O.Sink.seen c.do_share.new.out)))
+    (sym c.in-Shard.is) (c.do_share.ensures held reads set ready)
 
 pub returns-in_default : goal.returns-in_default
 returns-in_default g c =
     let held = (g.F.Shelf.seen c.args.shelf).content (name_by c.args.names.now which.Result) in
-    λ reads set ready. c.do_at_once-status.ensures held reads set ready
+    λ reads set ready. c.do_at_once.ensures held reads set ready

@@ -21,7 +21,7 @@ returns-in-Memory g c = λ k names. said_as _ _ (name_by c.args.names.now) k c.a
 
 pub returns-in-ReadFault : goal.returns-in-ReadFault
 unfolding refusal_line
-returns-in-ReadFault g c = λ k names. said_as _ _ (name_by c.args.names.now) k c.args.status.now _ c.in-ReadFault.is (words_said _ _ _ _ (ap (λ (n : Bytes). codes "cannot read" ∷ n ∷ []) c.file_name-in-ReadFault.ensures) c.say-in-ReadFault.ensures)
+returns-in-ReadFault g c = λ k names. said_as _ _ (name_by c.args.names.now) k c.args.status.now _ c.in-ReadFault.is (words_said _ _ _ _ (ap (λ (n : Bytes). codes "cannot read" ∷ n ∷ []) c.file_name.ensures) c.say-in-ReadFault.ensures)
 
 pub returns-in-Netlist : goal.returns-in-Netlist
 unfolding refusal_line
@@ -46,11 +46,10 @@ returns-in-Points g c = λ k names. said_as _ _ (name_by c.args.names.now) k c.a
 
 pub returns-in-Workload : goal.returns-in-Workload
 unfolding refusal_line
-returns-in-Workload g c = λ k names. said_as _ _ (name_by c.args.names.now) k c.args.status.now _ c.in-Workload.is (words_said _ _ _ _ (ap (λ (w : Bytes). codes "workload row" ∷ decimal c.in-Workload.fault.row ∷ w ∷ []) c.workload_kind.ensures) c.refuse_row-in-Workload.ensures)
+returns-in-Workload g c = λ k names. said_as _ _ (name_by c.args.names.now) k c.args.status.now _ c.in-Workload.is (words_said _ _ _ _ (ap (λ (w : Bytes). codes "workload row" ∷ decimal c.in-Workload.fault.row ∷ w ∷ []) c.workload_kind-kind.ensures) c.refuse_row-in-Workload.ensures)
 
 pub returns-in-Disagrees : goal.returns-in-Disagrees
-unfolding refusal_line
-returns-in-Disagrees g c = λ k names. said_as _ _ (name_by c.args.names.now) k c.args.status.now _ c.in-Disagrees.is (c.refuse_planes.ensures)
+returns-in-Disagrees g c = λ k names. said_as _ _ (name_by c.args.names.now) k c.args.status.now _ c.in-Disagrees.is (c.refuse_disagreeing.ensures (name_by c.args.names.now) k)
 
 pub returns-in-OutFault : goal.returns-in-OutFault
 unfolding refusal_line
@@ -58,11 +57,11 @@ returns-in-OutFault g c = λ k names. said_as _ _ (name_by c.args.names.now) k c
 
 pub returns-in-ResultFault : goal.returns-in-ResultFault
 unfolding refusal_line
-returns-in-ResultFault g c = λ k names. said_as _ _ (name_by c.args.names.now) k c.args.status.now _ c.in-ResultFault.is (words_said _ _ _ _ (ap (λ (n : Bytes). codes "cannot write" ∷ n ∷ []) c.file_name.ensures) c.say.ensures)
+returns-in-ResultFault g c = λ k names. said_as _ _ (name_by c.args.names.now) k c.args.status.now _ c.in-ResultFault.is (words_said _ _ _ _ (ap (λ (n : Bytes). codes "cannot write" ∷ n ∷ []) c.file_name-file.ensures) c.say.ensures)
 
 pub returns-in-TooLong : goal.returns-in-TooLong
 unfolding refusal_line
-returns-in-TooLong g c = λ k names. said_as _ _ (name_by c.args.names.now) k c.args.status.now _ c.in-TooLong.is (words_said _ _ _ _ (ap (λ (n : Bytes). n ∷ codes "is longer than 67108864 bytes" ∷ []) c.file_name-file.ensures) c.say-in-TooLong.ensures)
+returns-in-TooLong g c = λ k names. said_as _ _ (name_by c.args.names.now) k c.args.status.now _ c.in-TooLong.is (words_said _ _ _ _ (ap (λ (n : Bytes). n ∷ codes "is longer than 67108864 bytes" ∷ []) c.file_name-file-in-TooLong.ensures) c.say-in-TooLong.ensures)
 
 pub returns-in-ManyOutputs : goal.returns-in-ManyOutputs
 unfolding refusal_line
