@@ -29,7 +29,6 @@ invariant_of-self g c =
       latches = kept.latches;
       nets = kept.nets;
       cone = kept.cone;
-      values = kept.values;
     }
 
 pub returns-clause-others : goal.returns-clause-others
