@@ -1,6 +1,6 @@
 -- What a cycle that is run by a cone begins with, in one lane.
 use Rattle.std.proofs.Common.{◌≡◌, ◌≢◌, inl, inr, ℕ, ◌<◌, ◌&&◌, Bool, true, false, List, length, get_or, refl, ap, sym, subst, ◌∙◌}
-use Rattle.std.proofs.lemmas.Bool.{cases_Bool, true≢false}
+use Rattle.std.proofs.lemmas.Bool.{cases_Bool}
 use Rattle.std.proofs.lemmas.Option.{slice_get_within}
 use Rattle.circuit.specs.declared.parts.Driver.{Driver}
 use Rattle.circuit.specs.declared.parts.Driver.TheVariants.{Input, Table as FromTable, Latch as FromLatch}
@@ -62,17 +62,15 @@ module _ {W : Type 0} (lanes : ℕ) (bit : W → ℕ → Bool) (k : ℕ) (lt_k :
           apart l lt own same = (let clash : Input i ≡ FromLatch l = sym e ∙ ap (driver_at c) same ∙ latches_driven c sound l lt in cc)
 
           read : has cone.read n ≡ true
-          read = elim (cases_Bool (has cone.read n)) [ inl yes ↦ yes | inr no ↦ absurd ((is.reads.found n net no).inside there i e) ]
+          read = elim (cases_Bool (has cone.read n)) [ inl listed ↦ listed | inr out ↦ absurd ((is.reads.found n net out).inside there i e) ]
       by_driver (FromTable i) e = absurd (free i e)
       by_driver (FromLatch l) e =
           subst (λ m. bit_at (plane bit k values) m ≡ either (value_in row m) (bit_at (plane bit k raw) l)) here
           (ends l within (is.ends.latches l within ∙ ap (has cone.nets) here ∙ there))
           ∙ sym (ap (λ d. either (value_in row n) (latched (bit_at (plane bit k raw)) d)) e)
         where
-          at = subst (IsNetOf c n) e (sound.nets n net)
-
           within : l < length c.latches
-          within = slice_get_within c.latches l at.0 at.1
+          within = (let at = subst (IsNetOf c n) e (sound.nets n net) in slice_get_within c.latches l at.0 at.1)
 
           here : (latch_at c.latches l).to.0 ≡ n
           here = latch_net c sound n l net e
@@ -100,12 +98,12 @@ module _ {W : Type 0} (lanes : ℕ) (bit : W → ℕ → Bool) (k : ℕ) (lt_k :
 
       named_source : has cone.source n ≡ has cone.named n
       named_source = is.sources.each n net ∙ ap (λ b. has cone.named n && b) (source_of (driver_at c n) free) ∙ elim (cases_Bool (has cone.named n)) [
-        | inl yes ↦ ap (λ b. b && true) yes ∙ sym yes
-        | inr no ↦ ap (λ b. b && true) no ∙ sym no
+        | inl named ↦ ap (λ b. b && true) named ∙ sym named
+        | inr free_of ↦ ap (λ b. b && true) free_of ∙ sym free_of
       ]
 
       inside : has cone.nets n ≡ true → bit_at (plane bit k new) n ≡ force_value bit k (get_or forces n d) own
       inside there = elim (cases_Bool (has cone.source n)) [
-        | inl yes ↦ forced n d net yes ∙ ap (force_value bit k (get_or forces n d)) (sources n net there free)
-        | inr no ↦ others n no ∙ sources n net there free ∙ sym (idle n net (sym named_source ∙ no) k d own lt_k)
+        | inl listed ↦ forced n d net listed ∙ ap (force_value bit k (get_or forces n d)) (sources n net there free)
+        | inr out ↦ others n out ∙ sources n net there free ∙ sym (idle n net (sym named_source ∙ out) k d own lt_k)
       ]

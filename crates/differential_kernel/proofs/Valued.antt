@@ -2,7 +2,6 @@
 use Rattle.std.proofs.Common.{◌≡◌, inl, inr, ℕ, ◌+◌, ◌<◌, Bool, true, false, List, length, get_or, ap, sym, subst, ◌∙◌}
 use Rattle.std.proofs.lemmas.Bool.{cases_Bool, true≢false}
 use Rattle.std.proofs.lemmas.List.Elements.{Contains-get_or}
-use Rattle.circuit.specs.declared.parts.Driver.TheVariants.{Table as FromTable}
 use Rattle.circuit.specs.declared.parts.NetId.{NetId}
 use Rattle.circuit.specs.Circuit.{Circuit}
 use Rattle.circuit.specs.Order.{IsOrder, net_at}
@@ -15,7 +14,7 @@ use Rattle.lane_words.specs.Bits.{either}
 use Rattle.lane_words.specs.Gates.{latch_at, plane}
 use Rattle.place_set.specs.Places.{Places, has, value_in}
 use Rattle.differential_kernel.specs.Differences.{read_in}
-use Rattle.differential_kernel.specs.Cone.{IsClosed, IsUnread, driven_at}
+use Rattle.differential_kernel.specs.Cone.{IsUnread, driven_at}
 use Rattle.differential_kernel.specs.Shown.{told_in, valued_in}
 use Rattle.differential_kernel.proofs.Cones.{driven_latch, driven_table}
 use Rattle.differential_kernel.proofs.Told.{told_out, told_there, valued_out, valued_there}

@@ -1,4 +1,4 @@
-use Rattle.std.proofs.Common.{◌≡◌, ◌<◌, ◌+◌, ◌/◌, inl, inr, ℕ, false, List, length, ap, sym, subst, ◌∙◌, arith}
+use Rattle.std.proofs.Common.{◌≡◌, ◌<◌, ◌/◌, inl, inr, ℕ, false, List, length, ap, sym, subst, ◌∙◌, arith}
 use Rattle.std.proofs.lemmas.Bool.{cases_Bool}
 use Rattle.std.proofs.lemmas.Grind.{common_steps}
 use Rattle.std.specs.Vec.{with_items}
@@ -8,8 +8,7 @@ use Rattle.lane_words.specs.Gates.{latch_at, plane}
 use Rattle.place_set.specs.Places.{Places, has}
 use Rattle.differential_kernel.specs.Cone.{AreEnds, IsConeOf}
 use Rattle.differential_kernel.specs.Differences.{DifferOnlyIn, read_in}
-use Rattle.differential_kernel.specs.Shown.{AreShownNetsOf, ReadGolden, shown_of, told_in}
-use Rattle.differential_kernel.specs.declared.shown.ShownNets.{ShownNets}
+use Rattle.differential_kernel.specs.Shown.{shown_of, told_in}
 use Rattle.differential_kernel.proofs.Cones.{latch_out}
 use Rattle.differential_kernel.proofs.Ends.{end_out}
 use Rattle.differential_kernel.proofs.Notes.{only_in_more}

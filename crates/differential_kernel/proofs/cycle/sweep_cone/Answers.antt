@@ -1,11 +1,10 @@
-use Rattle.std.proofs.Common.{◌≡◌, ◌≢◌, ◌<◌, ◌&&◌, ℕ, true, false, List, length, ap, ap₂, subst, sym, ◌∙◌, arith}
+use Rattle.std.proofs.Common.{◌≡◌, ◌<◌, ◌&&◌, ℕ, false, length, ap, ap₂, subst, sym, ◌∙◌, arith}
 use Rattle.std.proofs.lemmas.Bool.{true≢false}
 use Rattle.circuit.specs.Value.{bit_at, driver_at}
 use Rattle.fanout.specs.Readers.{Ordered}
 use Rattle.golden_difference.proofs.Exclusive.{either_again}
 use Rattle.lane_words.specs.Bits.{either}
-use Rattle.lane_words.specs.declared.force.Force.{Force}
-use Rattle.lane_words.specs.Gates.{latch_at, plane}
+use Rattle.lane_words.specs.Gates.{plane}
 use Rattle.place_set.specs.Places.{has, value_in}
 use Rattle.differential_kernel.specs.Cone.{AreEnds, AreThose, IsConeOf, is_source}
 use Rattle.differential_kernel.specs.Shown.{told_in, valued_in}
