@@ -5,7 +5,7 @@ use Rattle.workload.specs.declared.run.Kind.{Kind}
 use Rattle.workload.specs.declared.run.Run.{Run}
 use Rattle.workload.specs.Runs.{cycles_of}
 use Rattle.golden_difference.specs.Beside.{AreBeside, IsGoldenRow, IsOver}
-use Rattle.golden_difference.specs.Lanes.{Lanes, bank_of}
+use Rattle.golden_difference.specs.Lanes.{Lanes}
 use Rattle.classifier.specs.Load.{Load, in_lane, load_of}
 use Rattle.classifier.specs.Testbench.{Testbench}
 
@@ -23,7 +23,7 @@ in_run count bit lanes = record {
   load = load_of lanes;
   faults = in_lane lanes.in_force;
   cycle = lanes.cycle;
-  IsAfter = λ vectors. AreBeside count bit vectors (bank_of lanes);
+  IsAfter = λ vectors. AreBeside count bit vectors lanes;
 }
 
 -- they were made for the testbench

@@ -6,7 +6,7 @@ use Rattle.circuit.specs.Circuit.{Circuit}
 use Rattle.differential_kernel.specs.Picked.{place_in}
 use Rattle.fm_base.specs.Planes.{bit}
 use Rattle.golden_difference.specs.Beside.{AreBeside}
-use Rattle.golden_difference.specs.Lanes.{IsMadeFor, bank_of}
+use Rattle.golden_difference.specs.Lanes.{IsMadeFor}
 use Rattle.lane_words.specs.Loads.{loaded_faults}
 use Rattle.classifier.specs.InRun.{LanesInRun}
 use Rattle.classifier.specs.Load.{load_of}
@@ -31,7 +31,7 @@ narrow_in_run s = record {
   load = load_of s.lanes;
   faults = narrow_faults s;
   cycle = s.lanes.cycle;
-  IsAfter = λ vectors. AreBeside 64 bit vectors (bank_of s.lanes);
+  IsAfter = λ vectors. AreBeside 64 bit vectors s.lanes;
 }
 
 -- the lanes of four words go on in others, from the same place and with the same faults

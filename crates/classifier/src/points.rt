@@ -11,7 +11,6 @@ ghost use Rattle.golden_difference.specs.Beside.{IsGoldenRow, AreBeside};
 ghost use Rattle.lane_words.specs.Bits.{either};
 ghost use Rattle.classifier.specs.Load.{in_lane};
 ghost use Rattle.classifier.specs.Noise.{IsNoiseOf};
-ghost use Rattle.golden_difference.specs.Lanes.{bank_of};
 
 use crate::noise::{Noise, SILENT};
 use circuit::parts::NetId;
@@ -50,7 +49,7 @@ pub fn lanes_without(plane: u64, other: u64) -> u64
 /// The lanes of a word in which a net differs from the golden run, in the last cycle of a run so far.
 pub fn differs_at<W: Word>(lanes: &DifferentialLanes<W>, word: u32, net: NetId) -> u64
     requires { word < W.words }
-    ensures { (run : Run) (t k : ℕ) → t < cycles_of run → AreBeside W.lanes W.lane_bit (take (t + 1) run.vectors) (bank_of lanes.now) → k < 64 → IsNet lanes.now.circuit net
+    ensures { (run : Run) (t k : ℕ) → t < cycles_of run → AreBeside W.lanes W.lane_bit (take (t + 1) run.vectors) lanes.now → k < 64 → IsNet lanes.now.circuit net
         → bit result k ≡ either (with_faults lanes.now.circuit (in_lane lanes.now.in_force word k) run t net) (golden_value lanes.now.circuit run t net) }
 {
     lanes.differs(net, word)
@@ -60,7 +59,7 @@ pub fn differs_at<W: Word>(lanes: &DifferentialLanes<W>, word: u32, net: NetId) 
 pub fn differing<W: Word>(lanes: &DifferentialLanes<W>, word: u32, nets: &[NetId]) -> u64
     requires word { word < W.words }
     requires nets { All (IsNet lanes.now.circuit) nets.now }
-    ensures { (run : Run) (t k : ℕ) → t < cycles_of run → AreBeside W.lanes W.lane_bit (take (t + 1) run.vectors) (bank_of lanes.now) → k < 64
+    ensures { (run : Run) (t k : ℕ) → t < cycles_of run → AreBeside W.lanes W.lane_bit (take (t + 1) run.vectors) lanes.now → k < 64
         → bit result k ≡ list_any (λ net. not (same_bit (with_faults lanes.now.circuit (in_lane lanes.now.in_force word k) run t net)
         (golden_value lanes.now.circuit run t net))) nets.now }
 {
@@ -92,7 +91,7 @@ pub fn noise_in<W: Word>(
 ) -> Noise
     requires word { word < W.words }
     requires nets { All (IsNet lanes.now.circuit) nets.now }
-    ensures { (run : Run) (t : ℕ) → t < cycles_of run → AreBeside W.lanes W.lane_bit (take (t + 1) run.vectors) (bank_of lanes.now)
+    ensures { (run : Run) (t : ℕ) → t < cycles_of run → AreBeside W.lanes W.lane_bit (take (t + 1) run.vectors) lanes.now
         → IsGoldenRow lanes.now.circuit run.vectors t row.now
         → IsNoiseOf lanes.now.circuit (in_lane lanes.now.in_force word) run t nets.now result }
 {

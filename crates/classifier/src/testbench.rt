@@ -7,7 +7,7 @@ ghost use Rattle.alarm_points.specs.PointsKept.{ArePointsFor};
 ghost use Rattle.golden_difference.specs.Beside.{IsGoldenRow, AreBeside};
 ghost use Rattle.classifier.specs.Load.{load_of};
 ghost use Rattle.classifier.specs.Testbench.{testbench_of};
-ghost use Rattle.golden_difference.specs.Lanes.{bank_of, IsMadeFor};
+ghost use Rattle.golden_difference.specs.Lanes.{IsMadeFor};
 
 use alarm_points::Points;
 use campaign_plan::Plan;
@@ -158,8 +158,8 @@ impl<'a> Testbench<'a> {
         ensures keeps { load_of lanes.new ≡ load_of lanes.old }
         ensures in_force { lanes.new.in_force ≡ lanes.old.in_force }
         ensures cycles { lanes.new.cycle ≡ lanes.old.cycle + 1 }
-        ensures step { (vectors : List (List Bool)) (inputs : List Bool) → AreBeside W.lanes W.lane_bit vectors (bank_of lanes.old)
-            → IsGoldenRow self.now.circuit (vectors ++ inputs ∷ []) (length vectors) row.now → AreBeside W.lanes W.lane_bit (vectors ++ inputs ∷ []) (bank_of lanes.new) }
+        ensures step { (vectors : List (List Bool)) (inputs : List Bool) → AreBeside W.lanes W.lane_bit vectors lanes.old
+            → IsGoldenRow self.now.circuit (vectors ++ inputs ∷ []) (length vectors) row.now → AreBeside W.lanes W.lane_bit (vectors ++ inputs ∷ []) lanes.new }
         ensures cost { steps.new ≤ steps.old + length self.now.circuit.tables }
     {
         lanes.cycle(self.net, self.order, self.golden.fanout(), row, steps);

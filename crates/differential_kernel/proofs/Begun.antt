@@ -59,26 +59,25 @@ no_place c order places n ordered are none =
     none table.0 (ap (driver_at c) (sym at.1) ∙ table.1))
 
 module _ {W : Type 0} (lanes : ℕ) (bit : W → ℕ → Bool) (k : ℕ) (lt_k : k < lanes) (c : Circuit) (order : List NetId) (sound : IsNetlist c) (ordered : IsOrder c order)
-    (places : List (Option ℕ)) (are_places : AreTablePlaces c order places)
     (row : List ℕ) (forces : List (Force W)) (size : length forces ≡ length c.drivers)
     (x golden : Cycle) (pair : IsPair c row x golden) (are : AreForces bit k forces x) where
-  -- BEFORE THE FIRST TABLE the nets that no table drives are read with their values
-  pub begun : (held : ℕ → Bool) (words next : List W)
+  -- BEFORE THE FIRST TABLE the nets that no table drives are read with their values: forced from their golden values, but for what
+  -- their latches hold
+  pub begun_by : (held read : ℕ → Bool)
       → ((l : ℕ) → l < length c.latches → held l ≡ either (bit_at x.state l) (bit_at golden.state l))
-      → ((n : ℕ) → n < length c.drivers → ((i : ℕ) → driver_at c n ≡ FromTable i → ⊥) → bit_at (plane bit k words) n ≡ latched held (driver_at c n))
-      → ((n : ℕ) (d : Force W) → n < length c.drivers → get_or places n None ≡ None → bit_at (plane bit k next) n ≡ forced_in bit k row forces d words n)
-      → Walked x (read_in bit k row next) [] 0
-  begun held words next holds values forced =
-      walked_none x (read_in bit k row next) each
+      → ((n : ℕ) (d : Force W) → n < length c.drivers → ((i : ℕ) → driver_at c n ≡ FromTable i → ⊥)
+      → read n ≡ force_value bit k (get_or forces n d) (either (value_in row n) (latched held (driver_at c n))))
+      → Walked x read [] 0
+  begun_by held read holds forced =
+      walked_none x read each
     where
       back : c ≡ x.circuit
       back = sym pair.circuit
 
-      each : (m : NetId) → m.0 < length x.circuit.drivers → ((i : ℕ) → driver_at x.circuit m.0 ≡ FromTable i → ⊥) → read_in bit k row next m.0 ≡ shown x (λ i. false) m.0
+      each : (m : NetId) → m.0 < length x.circuit.drivers → ((i : ℕ) → driver_at x.circuit m.0 ≡ FromTable i → ⊥) → read m.0 ≡ shown x (λ i. false) m.0
       each m net none =
-          ap (either (value_in row m.0)) (forced m.0 d within (no_place c order places m.0 ordered are_places free))
-          ∙ either_back (value_in row m.0) (force_value bit k (get_or forces m.0 d) (read_in bit k row words m.0))
-          ∙ are m.0 d (read_in bit k row words m.0) inside
+          forced m.0 d within free
+          ∙ are m.0 d (either (value_in row m.0) (latched held (driver_at c m.0))) inside
           ∙ ap (affected x.faults x.number m.0) own
         where
           within : m.0 < length c.drivers
@@ -93,9 +92,22 @@ module _ {W : Type 0} (lanes : ℕ) (bit : W → ℕ → Bool) (k : ℕ) (lt_k :
           d : Force W
           d = some_force forces m.0 inside
 
-          own : read_in bit k row words m.0 ≡ driven x.state x.inputs (λ i. false) (driver_at x.circuit m.0)
+          own : either (value_in row m.0) (latched held (driver_at c m.0)) ≡ driven x.state x.inputs (λ i. false) (driver_at x.circuit m.0)
           own =
-              ap₂ either (pair.values m.0 within) (values m.0 within free ∙ ap (λ (e : Circuit). latched held (driver_at e m.0)) back)
+              ap₂ either (pair.values m.0 within) (ap (λ (e : Circuit). latched held (driver_at e m.0)) back)
               ∙ sym
               (source_gives x golden order held (subst IsNetlist back sound) (subst (λ (e : Circuit). IsOrder e order) back ordered) (pair.golden_circuit ∙ back) pair.none pair.inputs
               (λ l lt. holds l (subst (λ (e : Circuit). l < length e.latches) pair.circuit lt)) m.0 net none)
+
+  -- where words tell what they differ in
+  pub begun : (places : List (Option ℕ)) → AreTablePlaces c order places → (held : ℕ → Bool) (words next : List W)
+      → ((l : ℕ) → l < length c.latches → held l ≡ either (bit_at x.state l) (bit_at golden.state l))
+      → ((n : ℕ) → n < length c.drivers → ((i : ℕ) → driver_at c n ≡ FromTable i → ⊥) → bit_at (plane bit k words) n ≡ latched held (driver_at c n))
+      → ((n : ℕ) (d : Force W) → n < length c.drivers → get_or places n None ≡ None → bit_at (plane bit k next) n ≡ forced_in bit k row forces d words n)
+      → Walked x (read_in bit k row next) [] 0
+  begun places are_places held words next holds values forced =
+      begun_by held (read_in bit k row next) holds
+      (λ n d within free.
+      ap (either (value_in row n)) (forced n d within (no_place c order places n ordered are_places free))
+      ∙ either_back (value_in row n) (force_value bit k (get_or forces n d) (read_in bit k row words n))
+      ∙ ap (λ b. force_value bit k (get_or forces n d) (either (value_in row n) b)) (values n within free))

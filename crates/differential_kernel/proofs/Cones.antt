@@ -1,12 +1,13 @@
 -- Nets that are put into a cone, until no path leads out of it.
-use Rattle.std.proofs.Common.{◌≡◌, inl, inr, ℕ, ◌+◌, ◌-◌, ◌<◌, ◌==◌, cond, true, false, length, refl, ap, sym, subst, ◌∙◌, arith}
+use Rattle.std.proofs.Common.{◌≡◌, inl, inr, ℕ, ◌+◌, ◌-◌, ◌<◌, ◌==◌, ◌&&◌, cond, true, false, length, refl, ap, sym, subst, ◌∙◌, arith}
 use Rattle.std.proofs.lemmas.Bool.{cases_eq, false_from_ne_true, le-ltb, lt-ltb, ne_eqb, true≢false}
 use Rattle.circuit.specs.Order.{net_at}
+use Rattle.circuit.specs.Value.{driver_at}
 use Rattle.fanout.specs.Readers.{IsReadAt, Ordered}
 use Rattle.lane_words.specs.Gates.{latch_at}
 use Rattle.place_set.specs.Places.{Places, has}
 use Rattle.differential_kernel.specs.declared.cone.Cone.{Cone}
-use Rattle.differential_kernel.specs.Cone.{IsClosed, IsClosedBut, IsConeOf, IsNewCone, LeadsInto, Spreads, driven_at}
+use Rattle.differential_kernel.specs.Cone.{IsClosed, IsClosedBut, IsConeOf, IsNewCone, LeadsInto, Spreads, driven_at, is_source}
 use Rattle.differential_kernel.specs.Differences.{IsEmptySet}
 use Rattle.differential_kernel.proofs.Notes.{grows_none, not_put, put_grows, taken_other}
 use Rattle.differential_kernel.proofs.Walking.{latch_read}
@@ -109,7 +110,10 @@ module _ (o : Ordered) where
     };
     reads = record {
       bound = new.read_bound;
-      found = λ n lt none place within own reads. absurd (true≢false (sym own ∙ new.none (net_at o.order place).0));
+      found = λ n lt none. record {
+          outside = λ out place reads. new.none (driven_at o place);
+          inside = λ there i is. true≢false (sym there ∙ new.none n);
+      };
       room = new.read_room;
       listed = record {
         few = omega (arith, new.read_count);
@@ -119,4 +123,19 @@ module _ (o : Ordered) where
         whole = λ p lt there. absurd (true≢false (sym there ∙ new.read_none p));
       };
     };
+    sources = record {
+      named = new.named_bound;
+      inside = λ n there. absurd (true≢false (sym there ∙ new.named_none n));
+      bound = new.source_bound;
+      each = λ n lt. new.source_none n ∙ sym (ap (λ b. b && is_source (driver_at o.circuit n)) (new.named_none n));
+      room = new.source_room;
+      listed = record {
+        few = omega (arith, new.source_count);
+        below = λ i lt. absurd (omega (arith, lt, new.source_count));
+        each = λ i lt. absurd (omega (arith, lt, new.source_count));
+        ascending = λ i j less lt. absurd (omega (arith, lt, new.source_count));
+        whole = λ p lt there. absurd (true≢false (sym there ∙ new.source_none p));
+      };
+    };
+    gates = record { room = new.gate_room; each = λ i lt. absurd (omega (arith, lt, new.count)) };
   }

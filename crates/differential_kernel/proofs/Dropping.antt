@@ -2,10 +2,9 @@
 use Rattle.std.proofs.Common.{◌≡◌, ℕ, ◌<◌, ◌&&◌, Bool, true, false, not, List, [], length, get_or, refl, ap, sym, ◌∙◌}
 use Rattle.std.proofs.lemmas.List.{get_or-map}
 use Rattle.circuit.specs.declared.parts.Fault.{Fault}
-use Rattle.circuit.specs.After.{Moment}
 use Rattle.circuit.specs.Circuit.{Circuit}
 use Rattle.circuit.specs.Value.{bit_at}
-use Rattle.golden_difference.specs.Beside.{IsBeside, state_differs, trace_differs}
+use Rattle.golden_difference.specs.Beside.{IsBeside, Stand, state_differs, trace_differs}
 use Rattle.golden_difference.proofs.Exclusive.{either_same}
 use Rattle.lane_words.specs.Bits.{either}
 use Rattle.lane_words.specs.Gates.{plane}
@@ -35,21 +34,21 @@ pub at_plane : {W : Type 0} (bit : W → ℕ → Bool) (k : ℕ) (words : List W
 at_plane bit k words n d lt = sym (get_or-map (λ w. bit w k) words n d false lt)
 
 -- a lane in which nothing differs stands as one without faults
-pub beside_dropped : (c : Circuit) (faults : List Fault) (vectors : List (List Bool)) (moment : Moment) → faults ≡ [] → moment.cycle ≡ length vectors
-    → ((l : ℕ) → bit_at moment.raw l ≡ false) → ((n : ℕ) → bit_at moment.values n ≡ false) → IsBeside c faults vectors moment
-beside_dropped c faults vectors moment none cycle raw values = record {
+pub beside_dropped : (c : Circuit) (faults : List Fault) (vectors : List (List Bool)) (stand : Stand) → faults ≡ [] → stand.cycle ≡ length vectors
+    → ((l : ℕ) → bit_at stand.raw l ≡ false) → ((n : ℕ) → n < length c.drivers → stand.nets n ≡ false) → IsBeside c faults vectors stand
+beside_dropped c faults vectors stand none cycle raw values = record {
   cycle = cycle;
   raw = λ l lt.
       raw l ∙ sym (ap (λ fs. state_differs c fs vectors (length vectors) l) none ∙ either_same (bit_at (raw_state c [] vectors (length vectors)) l));
-  values = λ t n last lt. values n ∙ sym (ap (λ fs. trace_differs c fs vectors t n) none ∙ either_same (trace c [] vectors t n));
+  values = λ t n last lt. values n lt ∙ sym (ap (λ fs. trace_differs c fs vectors t n) none ∙ either_same (trace c [] vectors t n));
 }
 
 -- a lane that isn't dropped stands as it did
-pub beside_kept : (c : Circuit) (faults before : List Fault) (vectors : List (List Bool)) (old new : Moment) → faults ≡ before → new.cycle ≡ old.cycle
-    → ((l : ℕ) → bit_at new.raw l ≡ bit_at old.raw l) → ((n : ℕ) → bit_at new.values n ≡ bit_at old.values n)
+pub beside_kept : (c : Circuit) (faults before : List Fault) (vectors : List (List Bool)) (old new : Stand) → faults ≡ before → new.cycle ≡ old.cycle
+    → ((l : ℕ) → bit_at new.raw l ≡ bit_at old.raw l) → ((n : ℕ) → n < length c.drivers → new.nets n ≡ old.nets n)
     → IsBeside c before vectors old → IsBeside c faults vectors new
 beside_kept c faults before vectors old new same cycle raw values beside = record {
   cycle = cycle ∙ beside.cycle;
   raw = λ l lt. raw l ∙ beside.raw l lt ∙ ap (λ fs. state_differs c fs vectors (length vectors) l) (sym same);
-  values = λ t n last lt. values n ∙ beside.values t n last lt ∙ ap (λ fs. trace_differs c fs vectors t n) (sym same);
+  values = λ t n last lt. values n lt ∙ beside.values t n last lt ∙ ap (λ fs. trace_differs c fs vectors t n) (sym same);
 }

@@ -1,7 +1,7 @@
 -- Latches whose nets differ in what they held, one after the other.
 use Rattle.std.proofs.Common.{◌≡◌, ◌≢◌, inl, inr, ℕ, ◌+◌, ◌<◌, ◌≤◌, ◌&&◌, ltb, Bool, false, length, refl, ap, sym, subst, ◌∙◌, arith}
 use Rattle.std.proofs.lemmas.Bool.{cases_lt, le-ltb, lt-ltb}
-use Rattle.std.proofs.lemmas.Option.{get_or_from_slice_get, slice_get_within}
+use Rattle.std.proofs.lemmas.Option.{get_or_from_slice_get}
 use Rattle.circuit.specs.declared.parts.Driver.{Driver}
 use Rattle.circuit.specs.declared.parts.Driver.TheVariants.{Input, Table as FromTable, Latch as FromLatch}
 use Rattle.circuit.specs.declared.parts.Latch.{Latch}
@@ -36,7 +36,7 @@ latched_all from held (FromLatch l) none =
     elim (cases_lt l from) [ inl less ↦ below from held l less | inr most ↦ behind from held l most ∙ sym (none l most) ]
 
 module _ (c : Circuit) (sound : IsNetlist c) where
-  latch_net : (n q : ℕ) → n < length c.drivers → driver_at c n ≡ FromLatch q → (latch_at c.latches q).to.0 ≡ n
+  pub latch_net : (n q : ℕ) → n < length c.drivers → driver_at c n ≡ FromLatch q → (latch_at c.latches q).to.0 ≡ n
   latch_net n q lt e =
       let is = subst (IsNetOf c n) e (sound.nets n lt) in
       ap (λ (latch : Latch). latch.to.0) (get_or_from_slice_get c.latches q is.0 (record { from = record { 0 = 0 }; to = record { 0 = 0 }; start = false }) is.1) ∙ is.2
@@ -77,17 +77,3 @@ module _ (c : Circuit) (sound : IsNetlist c) where
       let e : FromLatch i ≡ FromLatch j = sym (latches_driven c sound i lt_i) ∙ ap (driver_at c) same ∙ latches_driven c sound j lt_j in
       let here : i ≡ j = cc in
       other here
-
-  -- where no input differs and each latch's net differs in what the latch holds
-  pub shown_latches : (read held : ℕ → Bool)
-      → ((l : ℕ) → l < length c.latches → read (latch_at c.latches l).to.0 ≡ held l)
-      → ((n i : ℕ) → n < length c.drivers → driver_at c n ≡ Input i → read n ≡ false)
-      → (n : ℕ) → n < length c.drivers → ((i : ℕ) → driver_at c n ≡ FromTable i → ⊥) → read n ≡ latched held (driver_at c n)
-  shown_latches read held latches inputs n lt free = by_driver (driver_at c n) refl
-    where
-      by_driver : (d : Driver) → driver_at c n ≡ d → read n ≡ latched held (driver_at c n)
-      by_driver (Input i) e = inputs n i lt e ∙ sym (ap (latched held) e)
-      by_driver (FromTable i) e = absurd (free i e)
-      by_driver (FromLatch l) e =
-          let is = subst (IsNetOf c n) e (sound.nets n lt) in
-          ap read (sym (latch_net n l lt e)) ∙ latches l (slice_get_within c.latches l is.0 is.1) ∙ sym (ap (latched held) e)

@@ -13,4 +13,6 @@ pub mod Listing
 pub mod Cones
 pub mod Outside
 pub mod Ends
+pub mod Told
 pub mod Valued
+pub mod Swept

@@ -71,23 +71,28 @@ module _ {W : Type 0} (lanes : ℕ) (bit : W → ℕ → Bool) (k : ℕ) (lt_k :
 
   -- A PLACE THAT ISN'T EVALUATED
   -- it reads nothing that differs, and its net doesn't differ and isn't forced away from its golden value
-  pub quiet_here : (words : List W) (j : ℕ) → j < length order → ((m : ℕ) → IsReadAt ordered_of m j → IsSame lanes bit words m) → IsSame lanes bit words (net_at order j).0
+  pub quiet_by : (differs : ℕ → Bool) (j : ℕ) → j < length order → ((m : ℕ) → IsReadAt ordered_of m j → differs m ≡ false) → differs (net_at order j).0 ≡ false
       → ((d : Force W) → either (force_value bit k (get_or forces (net_at order j).0 d) (value_in row (net_at order j).0)) (value_in row (net_at order j).0) ≡ false)
-      → Walked x (read_in bit k row words) (take j order) j → Walked x (read_in bit k row words) (take (j + 1) order) (j + 1)
-  quiet_here words j lt reads own free walked =
+      → Walked x (λ n. either (value_in row n) (differs n)) (take j order) j → Walked x (λ n. either (value_in row n) (differs n)) (take (j + 1) order) (j + 1)
+  quiet_by differs j lt reads own free walked =
       let back : c ≡ x.circuit = sym pair.circuit in
       let inside : (net_at order j).0 < length forces = omega (arith, ordered.nets j (record { 0 = 0 }) lt, size) in
       let d : Force W = some_force forces (net_at order j).0 inside in
-      walked_more x (read_in bit k row words) (read_in bit k row words) order j (subst IsNetlist back sound) (subst (λ (m : Circuit). IsOrder m order) back ordered) lt
+      walked_more x (λ n. either (value_in row n) (differs n)) (λ n. either (value_in row n) (differs n)) order j
+      (subst IsNetlist back sound) (subst (λ (m : Circuit). IsOrder m order) back ordered) lt
       (λ m within other. refl)
-      (quiet_place x golden (value_in row) (bit_at (plane bit k words)) order j (subst IsNetlist back sound) (subst (λ (m : Circuit). IsOrder m order) back ordered) lt
+      (quiet_place x golden (value_in row) differs order j (subst IsNetlist back sound) (subst (λ (m : Circuit). IsOrder m order) back ordered) lt
       (pair.golden_circuit ∙ back) pair.none (λ m within. pair.values m (subst (λ (e : Circuit). m < length e.drivers) pair.circuit within))
       (λ i m driver there. reads m.0
-      (table_read ordered_of j i m lt (ap (λ (e : Circuit). driver_at e (net_at order j).0) back ∙ driver) (subst (λ (e : Circuit). Contains (table_at e.tables i).ins m) pair.circuit there))
-      k lt_k)
-      (own k lt_k)
+      (table_read ordered_of j i m lt (ap (λ (e : Circuit). driver_at e (net_at order j).0) back ∙ driver) (subst (λ (e : Circuit). Contains (table_at e.tables i).ins m) pair.circuit there)))
+      own
       (ap (λ b. either b (value_in row (net_at order j).0)) (sym (are (net_at order j).0 d (value_in row (net_at order j).0) inside)) ∙ free d))
       walked
+
+  quiet_here : (words : List W) (j : ℕ) → j < length order → ((m : ℕ) → IsReadAt ordered_of m j → IsSame lanes bit words m) → IsSame lanes bit words (net_at order j).0
+      → ((d : Force W) → either (force_value bit k (get_or forces (net_at order j).0 d) (value_in row (net_at order j).0)) (value_in row (net_at order j).0) ≡ false)
+      → Walked x (read_in bit k row words) (take j order) j → Walked x (read_in bit k row words) (take (j + 1) order) (j + 1)
+  quiet_here words j lt reads own free walked = quiet_by (bit_at (plane bit k words)) j lt (λ m is. reads m is k lt_k) (own k lt_k) free walked
 
   -- one that isn't marked
   quiet : (words : List W) (marks : Places) (from j : ℕ) → from ≤ j → j < length order → AreMarked lanes bit ordered_of from words marks
@@ -141,20 +146,34 @@ module _ {W : Type 0} (lanes : ℕ) (bit : W → ℕ → Bool) (k : ℕ) (lt_k :
       gives = table_gives c (value_in row)
 
   -- A PLACE THAT IS EVALUATED
+  pub evaluated_by : (d : Force W) (before after : ℕ → Bool) (j : ℕ) → j < length order
+      → ((state inputs : List Bool) → after (net_at order j).0
+      ≡ force_value bit k (get_or forces (net_at order j).0 d) (driven state inputs (table_gives c before) (driver_at c (net_at order j).0)))
+      → ((n : ℕ) → n ≢ (net_at order j).0 → after n ≡ before n)
+      → Walked x before (take j order) j → Walked x after (take (j + 1) order) (j + 1)
+  evaluated_by d before after j lt value others walked =
+      let back : c ≡ x.circuit = sym pair.circuit in
+      walked_more x before after order j (subst IsNetlist back sound) (subst (λ (m : Circuit). IsOrder m order) back ordered) lt
+      (λ m within other. others m other)
+      (value x.state x.inputs
+      ∙ are n d (driven x.state x.inputs (table_gives c before) (driver_at c n)) (omega (arith, ordered.nets j (record { 0 = 0 }) lt, size))
+      ∙ ap (λ (m : Circuit). affected x.faults x.number n (driven x.state x.inputs (table_gives m before) (driver_at m n))) back)
+      walked
+    where
+      n : ℕ
+      n = (net_at order j).0
+
+  -- one of which the result is turned into what its net differs in
   pub evaluated : (d : Force W) (words next : List W) (j : ℕ) → j < length order
       → ((state inputs : List Bool) → bit_at (plane bit k next) (net_at order j).0
       ≡ either (force_value bit k (get_or forces (net_at order j).0 d) (driven state inputs (table_gives c (read_in bit k row words)) (driver_at c (net_at order j).0))) (value_in row (net_at order j).0))
       → ((n : ℕ) → n ≢ (net_at order j).0 → bit_at (plane bit k next) n ≡ bit_at (plane bit k words) n)
       → Walked x (read_in bit k row words) (take j order) j → Walked x (read_in bit k row next) (take (j + 1) order) (j + 1)
   evaluated d words next j lt value others walked =
-      let back : c ≡ x.circuit = sym pair.circuit in
-      walked_more x (read_in bit k row words) (read_in bit k row next) order j (subst IsNetlist back sound) (subst (λ (m : Circuit). IsOrder m order) back ordered) lt
-      (λ m within other. ap (either (value_in row m)) (others m other))
-      (ap (either (value_in row n)) (value x.state x.inputs)
-      ∙ either_back (value_in row n) (force_value bit k (get_or forces n d) (driven x.state x.inputs (table_gives c (read_in bit k row words)) (driver_at c n)))
-      ∙ are n d (driven x.state x.inputs (table_gives c (read_in bit k row words)) (driver_at c n)) (omega (arith, ordered.nets j (record { 0 = 0 }) lt, size))
-      ∙ ap (λ (m : Circuit). affected x.faults x.number n (driven x.state x.inputs (table_gives m (read_in bit k row words)) (driver_at m n))) back)
+      evaluated_by d (read_in bit k row words) (read_in bit k row next) j lt
+      (λ state inputs.
+      ap (either (value_in row (net_at order j).0)) (value state inputs)
+      ∙ either_back (value_in row (net_at order j).0)
+      (force_value bit k (get_or forces (net_at order j).0 d) (driven state inputs (table_gives c (read_in bit k row words)) (driver_at c (net_at order j).0))))
+      (λ n other. ap (either (value_in row n)) (others n other))
       walked
-    where
-      n : ℕ
-      n = (net_at order j).0

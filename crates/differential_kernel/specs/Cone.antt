@@ -1,13 +1,15 @@
 -- A cone: nets out of which no path through tables and latches leads.
-use Rattle.std.specs.Prelude.{◌≡◌, ℕ, ◌<◌, ◌≤◌, ◌-◌, Bool, true, false, List, length, nat_lt, slice_index, if◌then◌else◌}
+use Rattle.std.specs.Prelude.{◌≡◌, ℕ, ◌<◌, ◌≤◌, ◌-◌, ◌&&◌, Bool, true, false, List, length, nat_lt, slice_index, slice_index_or, if◌then◌else◌}
 use Rattle.circuit.specs.Circuit.{Circuit}
-use Rattle.circuit.specs.declared.parts.Driver.TheVariants.{Table as FromTable}
+use Rattle.circuit.specs.declared.parts.Driver.{Driver}
+use Rattle.circuit.specs.declared.parts.Driver.TheVariants.{Input, Table as FromTable, Latch as FromLatch}
 use Rattle.circuit.specs.Order.{net_at}
 use Rattle.circuit.specs.Value.{driver_at}
 use Rattle.fanout.specs.Readers.{IsReadAt, Ordered}
-use Rattle.lane_words.specs.Gates.{latch_at}
+use Rattle.lane_words.specs.Gates.{IsGate, latch_at}
 use Rattle.place_set.specs.Places.{Places, has}
 use Rattle.differential_kernel.specs.declared.cone.Cone.{Cone}
+use Rattle.differential_kernel.specs.declared.cone.ConeTable.{ConeTable}
 use Rattle.differential_kernel.specs.declared.force.Forces.{Forces}
 use Rattle.differential_kernel.specs.declared.latches.LatchDifferences.{LatchDifferences}
 use Rattle.differential_kernel.specs.declared.nets.NetDifferences.{NetDifferences}
@@ -52,20 +54,48 @@ pub record AreEnds (c : Circuit) (cone : Cone) : Type 0 where
   pub room : length cone.ends.items ≡ length c.latches
   pub listed : AreThose (has cone.latches) (length c.latches) cone.ends.items cone.end_count
 
--- a table drives the net, which is in the set
-abbrev pub IsTableOf : Circuit → Places → ℕ → Type 0
-IsTableOf c nets n = (has nets n ≡ true) × ((k : ℕ) × (driver_at c n ≡ FromTable k))
+-- a cycle that is run by a cone needn't read the net's golden value: outside of the cone no place reads it that drives one of the
+-- cone's nets, and in it no input drives it
+pub record IsUnread (o : Ordered) (nets : Places) (n : ℕ) : Type 0 where
+  pub outside : has nets n ≡ false → (place : ℕ) → IsReadAt o n place → has nets (driven_at o place) ≡ false
+  pub inside : has nets n ≡ true → (i : ℕ) → driver_at o.circuit n ≡ Input i → ⊥
 
--- if a table reads the net that drives one of the set, a table drives the net, which is in the set too
-abbrev pub IsFoundIn : Ordered → Places → ℕ → Type 0
-IsFoundIn o nets n = (place : ℕ) → place < length o.order → has nets (net_at o.order place).0 ≡ true → IsReadAt o n place → IsTableOf o.circuit nets n
-
--- a net that a table of the cone reads is driven by one of them or is listed
+-- the nets whose golden values are read, as a set and as a list
 pub record AreReads (o : Ordered) (cone : Cone) : Type 0 where
   pub bound : cone.read.bound ≡ length o.circuit.drivers
-  pub found : (n : ℕ) → n < length o.circuit.drivers → has cone.read n ≡ false → IsFoundIn o cone.nets n
+  pub found : (n : ℕ) → n < length o.circuit.drivers → has cone.read n ≡ false → IsUnread o cone.nets n
   pub room : length cone.reads.items ≡ length o.circuit.drivers
   pub listed : AreThose (has cone.read) (length o.circuit.drivers) cone.reads.items cone.read_count
+
+-- no table drives it
+abbrev pub is_source : Driver → Bool
+is_source (Input i) = true
+is_source (FromTable i) = false
+is_source (FromLatch l) = true
+
+-- the nets that were named are in the cone, and of these the ones that no table drives are in a set and in a list
+pub record AreSources (o : Ordered) (cone : Cone) : Type 0 where
+  pub named : cone.named.bound ≡ length o.circuit.drivers
+  pub inside : Grows cone.named cone.nets
+  pub bound : cone.source.bound ≡ length o.circuit.drivers
+  pub each : (n : ℕ) → n < length o.circuit.drivers → has cone.source n ≡ (has cone.named n && is_source (driver_at o.circuit n))
+  pub room : length cone.sources.items ≡ length o.circuit.drivers
+  pub listed : AreThose (has cone.source) (length o.circuit.drivers) cone.sources.items cone.source_count
+
+-- the table of a cone in a list of them
+abbrev pub cone_table : List ConeTable → ℕ → ConeTable
+cone_table tables i = slice_index_or tables i (record { gate = record { to = 0; a = 0; b = 0; op = 0 }; forced = false })
+
+-- the gate of a place, and whether its net was named
+pub record IsConeTable (o : Ordered) (named : Places) (place : ℕ) (table : ConeTable) : Type 0 where
+  pub gate : IsGate o.circuit table.gate
+  pub to : table.gate.to ≡ (net_at o.order place).0
+  pub forced : table.forced ≡ has named table.gate.to
+
+-- the tables of the places that are listed, one after the other
+pub record AreTablesIn (o : Ordered) (cone : Cone) : Type 0 where
+  pub room : length cone.gates.items ≡ length o.order
+  pub each : (i : ℕ) → i < cone.table_count → IsConeTable o cone.named (slice_index cone.tables.items i) (cone_table cone.gates.items i)
 
 -- a cone of a circuit, with the places of the tables that drive its nets, and the latches
 pub record IsConeOf (o : Ordered) (cone : Cone) : Type 0 where
@@ -76,10 +106,12 @@ pub record IsConeOf (o : Ordered) (cone : Cone) : Type 0 where
   pub tables : AreThose (λ place. has cone.nets (net_at o.order place).0) (length o.order) cone.tables.items cone.table_count
   pub ends : AreEnds o.circuit cone
   pub reads : AreReads o cone
+  pub sources : AreSources o cone
+  pub gates : AreTablesIn o cone
 
--- what is forced, and what differs before a cycle, is in the cone
+-- what is forced was named when the cone was made, and what differs before a cycle is in the cone
 pub record Holds {W : Type 0} (cone : Cone) (forces : Forces W) (latches : LatchDifferences W) (nets : NetDifferences W) : Type 0 where
-  pub named : Grows forces.named cone.nets
+  pub named : Grows forces.named cone.named
   pub touched : Grows nets.touched cone.nets
   pub live : Grows latches.live cone.latches
 
@@ -98,3 +130,10 @@ pub record IsNewCone (nets tables latches : ℕ) (cone : Cone) : Type 0 where
   pub read_none : IsEmptySet cone.read
   pub read_room : length cone.reads.items ≡ nets
   pub read_count : cone.read_count ≡ 0
+  pub named_bound : cone.named.bound ≡ nets
+  pub named_none : IsEmptySet cone.named
+  pub source_bound : cone.source.bound ≡ nets
+  pub source_none : IsEmptySet cone.source
+  pub source_room : length cone.sources.items ≡ nets
+  pub source_count : cone.source_count ≡ 0
+  pub gate_room : length cone.gates.items ≡ tables

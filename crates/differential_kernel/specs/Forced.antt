@@ -26,14 +26,6 @@ pub record IsForcedAt {W : Type 0} (lanes : ℕ) (bit : W → ℕ → Bool) (row
   pub table : (k p : ℕ) → place ≡ Some p → k < lanes → bit_at (plane bit k new) n ≡ bit_at (plane bit k old) n
   pub marked : (k p : ℕ) (d : Force W) → place ≡ Some p → has marks p ≡ false → k < lanes → IsSame lanes bit old n → forced_in bit k row forces d old n ≡ false
 
--- the value of a net is what its table gives over the values, forced, and it differs by this; the others are as they were
-pub record IsValued {W : Type 0} (lanes : ℕ) (bit : W → ℕ → Bool) (c : Circuit) (row : List ℕ) (forces : List (Force W)) (n : ℕ) (old new words next : List W) : Type 0 where
-  pub value : (k : ℕ) (d : Force W) (state inputs : List Bool) → k < lanes
-      → bit_at (plane bit k new) n ≡ force_value bit k (slice_index_or forces n d) (driven state inputs (table_gives c (bit_at (plane bit k old))) (driver_at c n))
-  pub differs : (k : ℕ) → k < lanes → bit_at (plane bit k next) n ≡ either (bit_at (plane bit k new) n) (value_in row n)
-  pub others : (k m : ℕ) → m ≢ n → bit_at (plane bit k new) m ≡ bit_at (plane bit k old) m
-  pub others_differ : (k m : ℕ) → m ≢ n → bit_at (plane bit k next) m ≡ bit_at (plane bit k words) m
-
 -- where the golden value of a net is what its table gives, it differs by its table and its force, and the others as they did
 pub record IsSettled {W : Type 0} (lanes : ℕ) (bit : W → ℕ → Bool) (c : Circuit) (row : List ℕ) (forces : List (Force W)) (n : ℕ) (old new : List W) : Type 0 where
   pub value : (k : ℕ) (d : Force W) (state inputs : List Bool) → k < lanes → IsGivenAt c row n → bit_at (plane bit k new) n ≡ evaluated_in bit k c row forces d state inputs old n

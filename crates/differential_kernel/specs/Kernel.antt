@@ -7,18 +7,19 @@ use Rattle.differential_kernel.specs.declared.lanes.DifferentialLanes.TheInside.
 use Rattle.differential_kernel.specs.Cone.{IsConeOf}
 use Rattle.differential_kernel.specs.Forces.{has_stuck}
 use Rattle.differential_kernel.specs.Noted.{AreFaultsNoted}
-use Rattle.differential_kernel.specs.Parts.{AreForcesOf, AreLatchesOf, AreNetsOf, IsProgramOf}
+use Rattle.differential_kernel.specs.Parts.{AreForcesOf, AreLatchesOf, IsProgramOf}
+use Rattle.differential_kernel.specs.Shown.{AreShownNetsOf, all_shown}
 
 -- a kernel as contracts see it
-abbrev pub lanes_of : {W : Type 0} → Inside W → Lanes W
-lanes_of s = record {
+abbrev pub lanes_of : {W : Type 0} → ℕ → (W → ℕ → Bool) → Inside W → Lanes W
+lanes_of lanes bit s = record {
   circuit = s.circuit.value;
   order = s.order.value;
   loads = s.loads.items;
   in_force = s.in_force.items;
   cycle = s.cycle;
   raw = s.latches.raw.items;
-  words = s.nets.words.items;
+  shown = all_shown lanes bit (length s.circuit.value.drivers) s.nets;
 }
 
 -- the nets that differ, and the latches, are in sets; the forces are those of the faults of all lanes once these are noted
@@ -34,6 +35,5 @@ pub record IsDifferenceKernel {W : Type 0} (lanes : ℕ) (bit : W → ℕ → Bo
   pub noted : s.noted ≡ true → AreFaultsNoted lanes bit s.in_force.items s.stale s.acts s.forces
   pub forces : AreForcesOf lanes bit (length s.circuit.value.drivers) s.forces
   pub latches : AreLatchesOf lanes bit s.circuit.value s.latches
-  pub nets : AreNetsOf lanes bit (record { circuit = s.circuit.value; order = s.order.value }) s.nets
-  pub cone : IsConeOf (record { circuit = s.circuit.value; order = s.order.value }) s.cone
-  pub values : length s.values.items ≡ length s.circuit.value.drivers
+  pub nets : AreShownNetsOf lanes bit (record { circuit = s.circuit.value; order = s.order.value }) s.nets
+  pub cone : IsConeOf (record { circuit = s.circuit.value; order = s.order.value }) s.pace.cone

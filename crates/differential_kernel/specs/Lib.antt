@@ -3,6 +3,7 @@ pub mod Differences
 pub mod Walk
 pub mod Places
 pub mod Parts
+pub mod Shown
 pub mod Forced
 pub mod Noted
 pub mod Cycle

@@ -1,12 +1,14 @@
 // What the faults of a run can reach.
-ghost use Rattle.std.specs.Prelude.{◌≡◌, ◌≢◌, ◌<◌, ◌+◌, ◌^◌, ℕ, Bool, false, true, All, Contains, IfOk, length};
+ghost use Rattle.std.specs.Prelude.{◌≡◌, ◌≢◌, ◌<◌, ◌≤◌, ◌+◌, ◌^◌, ◌&&◌, ℕ, Bool, false, true, All, Contains, IfOk, length, slice_index};
+ghost use Rattle.circuit.specs.declared.parts.Driver.TheVariants.{Input};
 ghost use Rattle.circuit.specs.Order.{net_at};
 ghost use Rattle.circuit.specs.Sound.{IsNet};
-ghost use Rattle.lane_words.specs.Gates.{latch_at};
+ghost use Rattle.circuit.specs.Value.{driver_at};
+ghost use Rattle.lane_words.specs.Gates.{IsProgram, gate_at, latch_at};
 ghost use Rattle.place_set.specs.Places.{has};
-ghost use Rattle.differential_kernel.specs.Cone.{AreThose, Holds, IsClosed, IsClosedBut, IsConeOf, IsFoundIn, IsNewCone, IsTableOf, Spreads, driven_at};
+ghost use Rattle.differential_kernel.specs.Cone.{AreThose, Holds, IsClosed, IsClosedBut, IsConeOf, IsNewCone, IsUnread, Spreads, cone_table, driven_at, is_source};
 ghost use Rattle.differential_kernel.specs.Cycle.{IsGoldenCycle};
-ghost use Rattle.differential_kernel.specs.Differences.{IsEmptySet};
+ghost use Rattle.differential_kernel.specs.Differences.{Grows, IsEmptySet};
 
 use crate::force::Forces;
 use crate::golden_cycle::GoldenCycle;
@@ -16,6 +18,7 @@ use crate::note::forget;
 use circuit::netlist::Netlist;
 use circuit::parts::{Driver, Fault, Latch, NetId};
 use lane_words::Word;
+use lane_words::gate::Gate;
 use place_set::PlaceSet;
 use std::alloc::{AllocError, Global};
 
@@ -32,10 +35,39 @@ pub struct Cone {
     pub latches: PlaceSet,
     pub ends: Vec<u32>,
     pub end_count: usize,
-    /// The nets that its tables read and that none of them drives, as a set, and in the first of these, so many.
+    /// The nets whose golden values a cycle reads that is run by it: its inputs, and those outside of it that its tables and latches
+    /// read; as a set, and in the first of these, so many.
     pub read: PlaceSet,
     pub reads: Vec<u32>,
     pub read_count: usize,
+    /// Those of its nets that faults named when it was made.
+    pub named: PlaceSet,
+    /// Of these the ones that no table drives, as a set, and in the first of these, so many.
+    pub source: PlaceSet,
+    pub sources: Vec<u32>,
+    pub source_count: usize,
+    /// The tables at its places, one behind the other.
+    pub gates: Vec<ConeTable>,
+}
+
+/// A table of a cone, and whether its net was named when the cone was made.
+#[derive(Clone, Copy)]
+pub struct ConeTable {
+    pub gate: Gate,
+    pub forced: bool,
+}
+
+// No table.
+fn no_table() -> ConeTable {
+    ConeTable {
+        gate: Gate {
+            to: 0,
+            a: 0,
+            b: 0,
+            op: 0,
+        },
+        forced: false,
+    }
 }
 
 impl Cone {
@@ -61,6 +93,11 @@ impl Cone {
             read: PlaceSet::new(alloc, nets as u32)?,
             reads: vec![in alloc; 0; nets]?,
             read_count: 0,
+            named: PlaceSet::new(alloc, nets as u32)?,
+            source: PlaceSet::new(alloc, nets as u32)?,
+            sources: vec![in alloc; 0; nets]?,
+            source_count: 0,
+            gates: vec![in alloc; no_table(); tables]?,
         })
     }
 }
@@ -273,60 +310,144 @@ fn find_latches(latches: &[Latch], nets: &PlaceSet, set: &mut PlaceSet)
     }
 }
 
-// Whether a table at one of some places drives a net of a set.
-fn drives_one(order: &[NetId], places: &[u32], nets: &PlaceSet) -> bool
-    ensures { (place : ℕ) → result ≡ false → Contains places.now place → place < length order.now → has nets.now (net_at order.now place).0 ≡ false }
+// Whether a net of a set is driven at one of some places.
+fn drives_one(cycle: &GoldenCycle<'_>, places: &[u32], nets: &PlaceSet) -> bool
+    requires golden { IsGoldenCycle cycle.now }
+    requires places { All (λ place. place < length cycle.now.order.now + length cycle.now.netlist.now.latches) places.now }
+    ensures { (place : ℕ) → result ≡ false → Contains places.now place → has nets.now (driven_at cycle.now.fanout.now place) ≡ false }
 {
     for place in places {
-        let at = *place as usize;
-        if at < order.len() && nets.has(order[at].0 as usize) {
+        if nets.has(driven_net(cycle, *place as usize).0 as usize) {
             return true;
         }
     }
     false
 }
 
-// Whether a table drives a net that is in a set.
-fn is_driven(netlist: &Netlist, net: NetId, nets: &PlaceSet) -> bool
+// Whether an input drives a net.
+fn is_input(netlist: &Netlist, net: NetId) -> bool
     requires { IsNet netlist.now net }
-    ensures { result ≡ true → IsTableOf netlist.now nets.now net.0 }
+    ensures { (i : ℕ) → result ≡ false → driver_at netlist.now net.0 ≡ Input i → ⊥ }
 {
     match netlist.driver(net) {
-        Driver::Table(_) => nets.has(net.0 as usize),
+        Driver::Input(_) => true,
         _ => false,
     }
 }
 
-// Whether a table of a cone reads a net, and none drives it.
-fn is_source(cycle: &GoldenCycle<'_>, net: NetId, nets: &PlaceSet) -> bool
+// Whether a cycle that is run by a cone reads the golden value of a net.
+fn is_read(cycle: &GoldenCycle<'_>, net: NetId, nets: &PlaceSet) -> bool
     requires golden { IsGoldenCycle cycle.now }
     requires net { IsNet cycle.now.netlist.now net }
-    ensures { result ≡ false → IsFoundIn cycle.now.fanout.now nets.now net.0 }
+    ensures { result ≡ false → IsUnread cycle.now.fanout.now nets.now net.0 }
 {
-    !is_driven(cycle.netlist, net, nets) && drives_one(cycle.order, cycle.fanout.readers(net), nets)
-}
-
-// The nets that the tables of a cone read and that none of them drives.
-fn find_sources(cycle: &GoldenCycle<'_>, nets: &PlaceSet, set: &mut PlaceSet)
-    requires golden { IsGoldenCycle cycle.now }
-    requires bound { set.old.bound ≡ length cycle.now.netlist.now.drivers }
-    ensures bound { set.new.bound ≡ set.old.bound }
-    ensures each { (n : ℕ) → n < set.old.bound → has set.new n ≡ false → IsFoundIn cycle.now.fanout.now nets.now n }
-{
-    for n in 0..set.bound() {
-        set_place(is_source(cycle, NetId(n), nets), n as usize, set);
+    if nets.has(net.0 as usize) {
+        is_input(cycle.netlist, net)
+    } else {
+        drives_one(cycle, cycle.fanout.readers(net), nets)
     }
 }
 
-/// Makes a cone of what is forced, what differs, and what faults flip.
+// The nets whose golden values such a cycle reads.
+fn find_reads(cycle: &GoldenCycle<'_>, nets: &PlaceSet, set: &mut PlaceSet)
+    requires golden { IsGoldenCycle cycle.now }
+    requires bound { set.old.bound ≡ length cycle.now.netlist.now.drivers }
+    ensures bound { set.new.bound ≡ set.old.bound }
+    ensures each { (n : ℕ) → n < set.old.bound → has set.new n ≡ false → IsUnread cycle.now.fanout.now nets.now n }
+{
+    for n in 0..set.bound() {
+        set_place(is_read(cycle, NetId(n), nets), n as usize, set);
+    }
+}
+
+// Keeps the nets that faults name; none where one of them isn't in the cone.
+fn keep_named(named: &PlaceSet, nets: &PlaceSet, own: &mut PlaceSet)
+    requires bound { named.now.bound ≡ own.old.bound }
+    requires few { own.old.bound < 2 ^ 32 }
+    ensures bound { own.new.bound ≡ own.old.bound }
+    ensures inside { Grows own.new nets.now }
+{
+    own.copy_from(named);
+    if !own.is_inside(nets) {
+        forget(own);
+    }
+}
+
+// Whether no table drives a net.
+fn is_source_net(netlist: &Netlist, net: NetId) -> bool
+    requires { IsNet netlist.now net }
+    ensures { result ≡ is_source (driver_at netlist.now net.0) }
+{
+    match netlist.driver(net) {
+        Driver::Table(_) => false,
+        _ => true,
+    }
+}
+
+// Whether a net is in a set, and no table drives it.
+fn is_named_source(netlist: &Netlist, named: &PlaceSet, net: NetId) -> bool
+    requires { IsNet netlist.now net }
+    ensures { result ≡ (has named.now net.0 && is_source (driver_at netlist.now net.0)) }
+{
+    if named.has(net.0 as usize) {
+        is_source_net(netlist, net)
+    } else {
+        false
+    }
+}
+
+// The nets of a set that no table drives.
+fn find_sources(netlist: &Netlist, named: &PlaceSet, set: &mut PlaceSet)
+    requires { set.old.bound ≡ length netlist.now.drivers }
+    ensures bound { set.new.bound ≡ set.old.bound }
+    ensures each { (n : ℕ) → n < set.old.bound → has set.new n ≡ (has named.now n && is_source (driver_at netlist.now n)) }
+{
+    for n in 0..set.bound() {
+        set_place(is_named_source(netlist, named, NetId(n)), n as usize, set);
+    }
+}
+
+// A gate, and whether its net is in a set.
+fn table_of(gate: &Gate, named: &PlaceSet) -> ConeTable
+    ensures gate { result.gate ≡ gate.now }
+    ensures forced { result.forced ≡ has named.now gate.now.to }
+{
+    ConeTable {
+        gate: *gate,
+        forced: named.has(gate.to as usize),
+    }
+}
+
+// Lists the gates of so many places, one behind the other.
+fn copy_tables(
+    gates: &[Gate],
+    places: &[u32],
+    count: usize,
+    named: &PlaceSet,
+    tables: &mut [ConeTable],
+)
+    requires places { count ≤ length places.now }
+    requires room { count ≤ length tables.old }
+    requires below { (i : ℕ) → i < count → slice_index places.now i < length gates.now }
+    ensures gates { (i : ℕ) → i < count → (cone_table tables.new i).gate ≡ gate_at gates.now (slice_index places.now i) }
+    ensures forced { (i : ℕ) → i < count → (cone_table tables.new i).forced ≡ has named.now (gate_at gates.now (slice_index places.now i)).to }
+{
+    for at in 0..count {
+        tables[at] = table_of(&gates[places[at] as usize], named);
+    }
+}
+
+/// Makes a cone of what is forced, what differs, and what faults flip. `gates` are those of all tables.
 pub fn make(
     cycle: &GoldenCycle<'_>,
+    gates: &[Gate],
     loads: &[[Option<Fault>; 2]],
     named: &PlaceSet,
     touched: &PlaceSet,
     cone: &mut Cone,
 )
     requires golden { IsGoldenCycle cycle.now }
+    requires gates { IsProgram cycle.now.netlist.now cycle.now.order.now gates.now }
     requires named { named.now.bound ≡ length cycle.now.netlist.now.drivers }
     requires touched { touched.now.bound ≡ length cycle.now.netlist.now.drivers }
     requires cone { IsConeOf cycle.now.fanout.now cone.old }
@@ -336,11 +457,21 @@ pub fn make(
     cone.table_count = list_tables(cycle.order, &cone.nets, &mut cone.tables);
     find_latches(cycle.netlist.latches(), &cone.nets, &mut cone.latches);
     cone.end_count = list_all(&cone.latches, &mut cone.ends);
-    find_sources(cycle, &cone.nets, &mut cone.read);
+    find_reads(cycle, &cone.nets, &mut cone.read);
     cone.read_count = list_all(&cone.read, &mut cone.reads);
+    keep_named(named, &cone.nets, &mut cone.named);
+    find_sources(cycle.netlist, &cone.named, &mut cone.source);
+    cone.source_count = list_all(&cone.source, &mut cone.sources);
+    copy_tables(
+        gates,
+        &cone.tables,
+        cone.table_count,
+        &cone.named,
+        &mut cone.gates,
+    );
 }
 
-/// Whether what is forced and what differs before a cycle is in a cone, looked at a word at a time.
+/// Whether what is forced was named when a cone was made, and what differs before a cycle is in it, looked at a word at a time.
 pub fn holds<W: Word>(
     cone: &Cone,
     forces: &Forces<W>,
@@ -349,7 +480,7 @@ pub fn holds<W: Word>(
 ) -> bool
     ensures { result ≡ true → Holds cone.now forces.now latches.now nets.now }
 {
-    forces.named.is_inside(&cone.nets)
+    forces.named.is_inside(&cone.named)
         && nets.touched.is_inside(&cone.nets)
         && latches.live.is_inside(&cone.latches)
 }

@@ -2,37 +2,34 @@
 ghost use Rattle.std.specs.Prelude.{◌≡◌, ◌≢◌, ◌<◌, ◌≤◌, ◌+◌, ◌*◌, ◌⊎◌, ◌++◌, ◌∷◌, [], ℕ, Bool, true, false, List, IfOk, IfSome, None, length};
 ghost use Rattle.circuit.specs.Order.{IsOrder};
 ghost use Rattle.circuit.specs.Trace.{trace};
-ghost use Rattle.circuit.specs.Value.{bit_at};
 ghost use Rattle.fm_base.specs.Planes.{bit};
 ghost use Rattle.golden_difference.specs.Beside.{AreBeside, DoNothing, IsGoldenRow, IsOver, trace_differs};
-ghost use Rattle.golden_difference.specs.Lanes.{AreBare, IsMadeFor, KeepsLoads, bank_of};
-ghost use Rattle.lane_words.specs.Gates.{plane};
+ghost use Rattle.golden_difference.specs.Lanes.{AreBare, IsMadeFor, KeepsLoads};
 ghost use Rattle.lane_words.specs.Loads.{loaded_faults};
 ghost use Rattle.place_set.specs.Places.{has};
-ghost use Rattle.differential_kernel.specs.Differences.{IsSame};
 ghost use Rattle.differential_kernel.specs.Picked.{AreBelow, ArePicks, lane_at, place_in};
 
 use crate::cone::Cone;
 use crate::cycle::advance;
-use crate::difference::{same_words, value_word};
-use crate::drop::{keep_lanes, unload};
+use crate::difference::golden_word;
+use crate::drop::{keep_lanes, keep_nets, unload};
 use crate::flip::flip;
 use crate::force::Forces;
 use crate::golden_cycle::GoldenCycle;
 use crate::latches::LatchDifferences;
-use crate::nets::NetDifferences;
 use crate::note::{has_some_stuck, prepare};
 use crate::pace::Pace;
 use crate::picks::Picks;
 use crate::program::Program;
+use crate::shown::ShownNets;
 use crate::sources::clear;
-use crate::take::{take_faults, take_words};
+use crate::take::{take_faults, take_nets, take_words};
 use circuit::netlist::Netlist;
 use circuit::parts::{Fault, NetId};
 use fanout::Fanout;
 use fm_base::Steps;
 use lane_words::arm::{no_faults, place};
-use lane_words::{Quad, Word, word_at};
+use lane_words::{Quad, Word};
 use netlist_levels::Order;
 use place_set::PlaceSet;
 use std::alloc::{AllocError, Global};
@@ -64,12 +61,9 @@ pub struct DifferentialLanes<W: Word = u64> {
     stale: bool,
     cycle: u32,
     // What the faults of a run can reach, and how long cycles are run by all tables of it.
-    cone: Cone,
     pace: Pace,
     latches: LatchDifferences<W>,
-    nets: NetDifferences<W>,
-    // Room for the value of each net, in a cycle that is run by a cone.
-    values: Vec<W>,
+    nets: ShownNets<W>,
 }
 
 /// 256 simulations in four words.
@@ -82,7 +76,7 @@ impl<W: Word> Model for DifferentialLanes<W> {
 
     ghost use Rattle.differential_kernel.specs.Kernel.{IsDifferenceKernel, lanes_of};
 
-    ghost view = { lanes_of };
+    ghost view = { lanes_of W.lanes W.lane_bit };
 
     ghost invariant = { IsDifferenceKernel W.lanes W.lane_bit };
 }
@@ -113,9 +107,8 @@ impl<W: Word> DifferentialLanes<W> {
         let acts = PlaceSet::new(alloc, MOST_CYCLES)?;
         let forces = Forces::new(alloc, net_count)?;
         let latches = LatchDifferences::new(alloc, latch_count)?;
-        let nets = NetDifferences::new(alloc, net_count, table_count + latch_count)?;
+        let nets = ShownNets::new(alloc, net_count, table_count + latch_count)?;
         let cone = Cone::new(alloc, net_count, table_count, latch_count)?;
-        let values = same_words(alloc, net_count)?;
         Ok(DifferentialLanes {
             circuit: Snapshot::of(netlist),
             order: Snapshot::of(order),
@@ -129,11 +122,9 @@ impl<W: Word> DifferentialLanes<W> {
             forces,
             stale: true,
             cycle: 0,
-            cone,
-            pace: Pace::new(),
+            pace: Pace::new(cone),
             latches,
             nets,
-            values,
         })
     }
 
@@ -167,12 +158,12 @@ impl<W: Word> DifferentialLanes<W> {
         ensures in_force { self.new.in_force ≡ self.new.loads }
         ensures cycle { self.new.cycle ≡ 0 }
         // No cycle was simulated yet.
-        ensures start { AreBeside W.lanes W.lane_bit [] (bank_of self.new) }
+        ensures start { AreBeside W.lanes W.lane_bit [] self.new }
     {
         self.take_loads();
         clear(&mut self.latches.live, &mut self.latches.raw);
         self.cycle = 0;
-        self.pace = Pace::new();
+        self.pace.begin();
     }
 
     // Drops the lanes whose bit is set, in all words.
@@ -181,11 +172,11 @@ impl<W: Word> DifferentialLanes<W> {
         ensures cycle { self.new.cycle ≡ self.old.cycle }
         ensures dropped { (k : ℕ) → k < W.lanes → W.lane_bit out k ≡ true → loaded_faults self.new.in_force k ≡ [] }
         ensures others { (k : ℕ) → k < W.lanes → W.lane_bit out k ≡ false → loaded_faults self.new.in_force k ≡ loaded_faults self.old.in_force k }
-        ensures beside { (vectors : List (List Bool)) → AreBeside W.lanes W.lane_bit vectors (bank_of self.old) → AreBeside W.lanes W.lane_bit vectors (bank_of self.new) }
+        ensures beside { (vectors : List (List Bool)) → AreBeside W.lanes W.lane_bit vectors self.old → AreBeside W.lanes W.lane_bit vectors self.new }
     {
         unload(out, &mut self.in_force);
         keep_lanes(out, &self.latches.live, &mut self.latches.raw);
-        keep_lanes(out, &self.nets.touched, &mut self.nets.words);
+        keep_nets(out, &mut self.nets);
         self.noted = false;
         self.whole = false;
     }
@@ -199,7 +190,7 @@ impl<W: Word> DifferentialLanes<W> {
         ensures dropped { (k : ℕ) → k < 64 → bit out k ≡ true → loaded_faults self.new.in_force (word * 64 + k) ≡ [] }
         ensures others { (other k : ℕ) → other < W.words → k < 64 → (other ≢ word) ⊎ (bit out k ≡ false)
             → loaded_faults self.new.in_force (other * 64 + k) ≡ loaded_faults self.old.in_force (other * 64 + k) }
-        ensures beside { (vectors : List (List Bool)) → AreBeside W.lanes W.lane_bit vectors (bank_of self.old) → AreBeside W.lanes W.lane_bit vectors (bank_of self.new) }
+        ensures beside { (vectors : List (List Bool)) → AreBeside W.lanes W.lane_bit vectors self.old → AreBeside W.lanes W.lane_bit vectors self.new }
     {
         self.take_out(W::of_part(word, out));
     }
@@ -224,7 +215,7 @@ impl<W: Word> DifferentialLanes<W> {
         ensures cycle { self.new.cycle ≡ other.now.cycle }
         ensures taken { (place : ℕ) → place < picks.now.count → loaded_faults self.new.in_force place ≡ loaded_faults other.now.in_force (lane_at picks.now place) }
         ensures rest { (place : ℕ) → picks.now.count ≤ place → loaded_faults self.new.in_force place ≡ [] }
-        ensures beside { (vectors : List (List Bool)) → AreBeside V.lanes V.lane_bit vectors (bank_of other.now) → AreBeside W.lanes W.lane_bit vectors (bank_of self.new) }
+        ensures beside { (vectors : List (List Bool)) → AreBeside V.lanes V.lane_bit vectors other.now → AreBeside W.lanes W.lane_bit vectors self.new }
     {
         let _some = V::words();
         let _few = W::words();
@@ -236,17 +227,17 @@ impl<W: Word> DifferentialLanes<W> {
             &mut self.latches.live,
             &mut self.latches.raw,
         );
-        take_words(
+        take_nets(
             picks,
-            &other.nets.touched,
-            &other.nets.words,
-            &mut self.nets.touched,
-            &mut self.nets.words,
+            &other.nets,
+            &mut self.nets.own.touched,
+            &mut self.nets.own.words,
         );
+        self.nets.swept = false;
         self.noted = false;
         self.whole = false;
         self.cycle = other.cycle;
-        self.pace = Pace::new();
+        self.pace.begin();
     }
 
     /// Simulates the next cycle in all lanes, where `row` has the golden value of each net in this cycle. There can be 65,536
@@ -266,8 +257,8 @@ impl<W: Word> DifferentialLanes<W> {
         ensures in_force { self.new.in_force ≡ self.old.in_force }
         ensures cycle { self.new.cycle ≡ self.old.cycle + 1 }
         // After cycles with some vectors, each lane is after those and this one, with its own faults in force alone.
-        ensures step { (vectors : List (List Bool)) (inputs : List Bool) → AreBeside W.lanes W.lane_bit vectors (bank_of self.old)
-            → IsGoldenRow netlist.now (vectors ++ inputs ∷ []) (length vectors) row.now → AreBeside W.lanes W.lane_bit (vectors ++ inputs ∷ []) (bank_of self.new) }
+        ensures step { (vectors : List (List Bool)) (inputs : List Bool) → AreBeside W.lanes W.lane_bit vectors self.old
+            → IsGoldenRow netlist.now (vectors ++ inputs ∷ []) (length vectors) row.now → AreBeside W.lanes W.lane_bit (vectors ++ inputs ∷ []) self.new }
         // At most one step for each table, for all words together.
         ensures cost { steps.new ≤ steps.old + length netlist.now.tables }
     {
@@ -293,11 +284,9 @@ impl<W: Word> DifferentialLanes<W> {
             &self.program,
             &self.in_force,
             &self.forces,
-            &mut self.cone,
+            &mut self.pace,
             &mut self.latches,
             &mut self.nets,
-            &mut self.values,
-            &mut self.pace,
             steps,
         );
         self.cycle += 1;
@@ -314,7 +303,7 @@ impl<W: Word> DifferentialLanes<W> {
     /// no.
     pub fn is_over(&self) -> bool
         // After cycles with these vectors: in no later cycle does a net differ, in any lane.
-        ensures { (vectors : List (List Bool)) (k : ℕ) → result ≡ true → AreBeside W.lanes W.lane_bit vectors (bank_of self.now) → k < W.lanes
+        ensures { (vectors : List (List Bool)) (k : ℕ) → result ≡ true → AreBeside W.lanes W.lane_bit vectors self.now → k < W.lanes
             → IsOver self.now.circuit (loaded_faults self.now.in_force k) vectors 65536 }
     {
         self.is_calm() && is_empty_from(&self.latches.live, 0)
@@ -325,32 +314,21 @@ impl<W: Word> DifferentialLanes<W> {
     pub fn net(&self, net: NetId, word: u32, row: &[u64]) -> u64
         requires { word < W.words }
         // After cycles with these vectors, t being the last: bit k is the net's trace under the faults in force in lane k of the word alone.
-        ensures { (vectors : List (List Bool)) (t k : ℕ) → AreBeside W.lanes W.lane_bit vectors (bank_of self.now) → IsGoldenRow self.now.circuit vectors t row.now
+        ensures { (vectors : List (List Bool)) (t k : ℕ) → AreBeside W.lanes W.lane_bit vectors self.now → IsGoldenRow self.now.circuit vectors t row.now
             → t + 1 ≡ length vectors → k < 64 → net.0 < length self.now.circuit.drivers
             → bit result k ≡ trace self.now.circuit (loaded_faults self.now.in_force (word * 64 + k)) vectors t net.0 }
     {
-        let values: W = value_word(row, &self.nets.words, net.0);
-        values.part(word)
-    }
-
-    // Whether a net doesn't differ in any lane in the last cycle; it may not differ where the answer is no.
-    fn is_same(&self, net: NetId) -> bool
-        ensures { result ≡ true → IsSame W.lanes W.lane_bit self.now.words net.0 }
-    {
-        !self.nets.touched.has(net.0 as usize)
+        let golden: W = golden_word(row, net.0);
+        golden.xor(self.nets.difference(net.0 as usize)).part(word)
     }
 
     /// The lanes of a word in which a net has another value than in the golden run, in the cycle that was simulated last.
     pub fn differs(&self, net: NetId, word: u32) -> u64
         requires { word < W.words }
-        ensures { (vectors : List (List Bool)) (t k : ℕ) → AreBeside W.lanes W.lane_bit vectors (bank_of self.now) → t + 1 ≡ length vectors → k < 64
+        ensures { (vectors : List (List Bool)) (t k : ℕ) → AreBeside W.lanes W.lane_bit vectors self.now → t + 1 ≡ length vectors → k < 64
             → net.0 < length self.now.circuit.drivers
             → bit result k ≡ trace_differs self.now.circuit (loaded_faults self.now.in_force (word * 64 + k)) vectors t net.0 }
     {
-        if self.is_same(net) {
-            0
-        } else {
-            word_at(&self.nets.words, net.0 as usize).part(word)
-        }
+        self.nets.difference(net.0 as usize).part(word)
     }
 }

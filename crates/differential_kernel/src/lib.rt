@@ -15,6 +15,7 @@ mod note;
 mod pace;
 mod picks;
 mod program;
+mod shown;
 mod sources;
 mod sweep;
 mod table;

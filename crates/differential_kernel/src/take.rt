@@ -5,8 +5,10 @@ ghost use Rattle.lane_words.specs.Gates.{plane};
 ghost use Rattle.lane_words.specs.Loads.{loaded_faults};
 ghost use Rattle.differential_kernel.specs.Differences.{AreSameOff, DifferOnlyIn};
 ghost use Rattle.differential_kernel.specs.Picked.{AreBelow, lane_at, picked};
+ghost use Rattle.differential_kernel.specs.Shown.{shown_of};
 
 use crate::picks::Picks;
+use crate::shown::ShownNets;
 use crate::sources::clear;
 use circuit::parts::Fault;
 use lane_words::{Word, word_at};
@@ -46,6 +48,31 @@ pub fn take_words<V: Word, W: Word>(
     let mut from = 0;
     'places: while let Some(n) = other_set.next_from(from) {
         words[n] = gather(word_at(others, n), picks);
+        set.put(n);
+        from = n + 1;
+    }
+}
+
+/// So what the nets of others are shown to differ in, by words.
+pub fn take_nets<V: Word, W: Word>(
+    picks: &Picks,
+    others: &ShownNets<V>,
+    set: &mut PlaceSet,
+    words: &mut [W],
+)
+    requires few { picks.now.count ≤ W.lanes }
+    requires below { AreBelow V.lanes picks.now }
+    requires bounds { others.now.own.touched.bound ≡ set.old.bound }
+    requires others { AreSameOff V.lanes V.lane_bit others.now.own.touched others.now.own.words.items }
+    requires own { DifferOnlyIn W.lanes W.lane_bit set.old words.old }
+    ensures words { (place n : ℕ) → place < W.lanes
+        → bit_at (plane W.lane_bit place words.new) n ≡ picked picks.now (λ lane. shown_of V.lane_bit others.now lane n) place }
+    ensures own { DifferOnlyIn W.lanes W.lane_bit set.new words.new }
+{
+    clear(set, words);
+    let mut from = 0;
+    'places: while let Some(n) = others.own.touched.next_from(from) {
+        words[n] = gather(others.difference(n), picks);
         set.put(n);
         from = n + 1;
     }

@@ -1,13 +1,15 @@
 // What tables give in each lane, over the values of nets.
-ghost use Rattle.std.specs.Prelude.{◌≡◌, ◌<◌, ℕ, List, Bool, length, not, slice_index_or};
+ghost use Rattle.std.specs.Prelude.{◌≡◌, ◌<◌, ℕ, List, Bool, false, length, not, slice_index_or};
 ghost use Rattle.circuit.specs.declared.parts.Driver.TheVariants.{Table as FromTable};
 ghost use Rattle.circuit.specs.Sound.{IsNet};
 ghost use Rattle.circuit.specs.Value.{bit_at, driven, driver_at, table_gives};
 ghost use Rattle.lane_words.specs.Forces.{force_value};
 ghost use Rattle.lane_words.specs.Gates.{IsGate, IsInside, gate_value, op_value, plane};
 ghost use Rattle.lane_words.specs.declared.force.Force.{Force as ForceValue};
+ghost use Rattle.place_set.specs.Places.{has};
 ghost use Rattle.differential_kernel.specs.Parts.{AreForcesOf};
 
+use crate::cone::ConeTable;
 use crate::force::Forces;
 use circuit::netlist::Netlist;
 use circuit::parts::NetId;
@@ -99,19 +101,25 @@ fn own_word<W: Word>(netlist: &Netlist, gate: &Gate, values: &[W]) -> W
     }
 }
 
-/// The value of a net by its table and its force, where the forces on nets that aren't named leave each net as it is.
+/// The value of a net by its table and its force, where the forces on nets that weren't named leave each net as it is.
 #[inline(always)]
-pub fn table_word<W: Word>(netlist: &Netlist, gate: &Gate, forces: &Forces<W>, values: &[W]) -> W
-    requires gate { IsGate netlist.now gate.now }
+pub fn table_word<W: Word>(
+    netlist: &Netlist,
+    table: &ConeTable,
+    forces: &Forces<W>,
+    values: &[W],
+) -> W
+    requires gate { IsGate netlist.now table.now.gate }
     requires forces { AreForcesOf W.lanes W.lane_bit (length netlist.now.drivers) forces.now }
     requires nets { length values.now ≡ length netlist.now.drivers }
+    requires named { table.now.forced ≡ false → has forces.now.named table.now.gate.to ≡ false }
     ensures { (k : ℕ) (d : ForceValue W) (state inputs : List Bool) → k < W.lanes
-        → W.lane_bit result k ≡ force_value W.lane_bit k (slice_index_or forces.now.by_net.items gate.now.to d)
-        (driven state inputs (table_gives netlist.now (bit_at (plane W.lane_bit k values.now))) (driver_at netlist.now gate.now.to)) }
+        → W.lane_bit result k ≡ force_value W.lane_bit k (slice_index_or forces.now.by_net.items table.now.gate.to d)
+        (driven state inputs (table_gives netlist.now (bit_at (plane W.lane_bit k values.now))) (driver_at netlist.now table.now.gate.to)) }
 {
-    let own = own_word(netlist, gate, values);
-    if forces.named.has(gate.to as usize) {
-        forced_at(&forces.by_net, gate.to, own)
+    let own = own_word(netlist, &table.gate, values);
+    if table.forced {
+        forced_at(&forces.by_net, table.gate.to, own)
     } else {
         own
     }

@@ -10,6 +10,7 @@ ghost use Rattle.differential_kernel.specs.Differences.{IsEmptySet, read_in};
 ghost use Rattle.differential_kernel.specs.Forced.{IsSettled};
 ghost use Rattle.differential_kernel.specs.Noted.{AreNoted, StayNoted};
 ghost use Rattle.differential_kernel.specs.Parts.{AreForcesOf, AreLatchesOf, AreNetsOf};
+ghost use Rattle.differential_kernel.specs.Shown.{shown_by};
 ghost use Rattle.differential_kernel.specs.Walk.{IsAhead, IsPair};
 
 use crate::difference::store;
@@ -105,7 +106,7 @@ pub fn take_latches<W: Word>(
     ensures latches { AreLatchesOf W.lanes W.lane_bit cycle.now.netlist.now latches.new }
     ensures nets { AreNetsOf W.lanes W.lane_bit cycle.now.fanout.now nets.new }
     ensures words { nets.new.words.items ≡ nets.old.words.items }
-    ensures taken { LatchesTake W.lanes W.lane_bit cycle.now.netlist.now nets.old.words.items latches.new.raw.items }
+    ensures taken { LatchesTake W.lanes W.lane_bit cycle.now.netlist.now (shown_by W.lane_bit nets.old.words.items) latches.new.raw.items }
 {
     let ends = cycle.netlist.latches();
     let tables = cycle.order.len();

@@ -3,7 +3,6 @@ use Rattle.std.proofs.Common.{◌≡◌, ℕ, zero, suc, ◌+◌, ◌<◌, Bool,
 use Rattle.std.proofs.lemmas.List.{get_or-map, length-map, length_push}
 use Rattle.circuit.specs.declared.parts.Fault.{Fault}
 use Rattle.circuit.specs.declared.parts.Latch.{Latch}
-use Rattle.circuit.specs.After.{Moment}
 use Rattle.circuit.specs.Circuit.{Circuit}
 use Rattle.circuit.specs.Effects.{has_flip, inverted}
 use Rattle.circuit.specs.Sound.{IsNetlist}
@@ -11,7 +10,7 @@ use Rattle.circuit.specs.Trace.{cycle_at, first_state, flipped, flipped_from, ra
 use Rattle.circuit.specs.Value.{bit_at, net_value}
 use Rattle.circuit.proofs.Steps.{raw_state-suc, raw_state-zero}
 use Rattle.lane_words.specs.Bits.{either}
-use Rattle.golden_difference.specs.Beside.{IsBeside, state_differs, trace_differs}
+use Rattle.golden_difference.specs.Beside.{IsBeside, Stand, state_differs, trace_differs}
 use Rattle.golden_difference.proofs.Exclusive.{either_inverted, either_same}
 use Rattle.circuit.proofs.Cycles.{raw_state-append}
 
@@ -20,9 +19,9 @@ abbrev latch_at : List Latch → ℕ → Latch
 latch_at latches l = get_or latches l (record { from = record { 0 = 0 }; to = record { 0 = 0 }; start = false })
 
 -- before the first cycle no latch differs
-pub beside_none : (c : Circuit) (faults : List Fault) (moment : Moment) → moment.cycle ≡ 0 → ((l : ℕ) → l < length c.latches → bit_at moment.raw l ≡ false)
-    → IsBeside c faults [] moment
-beside_none c faults moment cycle raw = record {
+pub beside_none : (c : Circuit) (faults : List Fault) (stand : Stand) → stand.cycle ≡ 0 → ((l : ℕ) → l < length c.latches → bit_at stand.raw l ≡ false)
+    → IsBeside c faults [] stand
+beside_none c faults stand cycle raw = record {
   cycle = cycle;
   raw = λ l lt.
       raw l lt ∙ sym (ap₂ (λ (a b : List Bool). either (bit_at a l) (bit_at b l)) (raw_state-zero c faults []) (raw_state-zero c [] []) ∙ either_same (bit_at (first_state c) l));
@@ -37,10 +36,10 @@ next_at c faults vectors t l lt =
     ∙ get_or-map (λ (latch : Latch). net_value (cycle_at c faults vectors t) latch.from.0) c.latches l (record { from = record { 0 = 0 }; to = record { 0 = 0 }; start = false }) false lt
 
 -- THE NEXT CYCLE: where each net holds what differs in it, and each latch what the net differs in that it reads
-pub beside_more : (c : Circuit) (faults : List Fault) (vectors : List (List Bool)) (inputs : List Bool) (old new : Moment)
+pub beside_more : (c : Circuit) (faults : List Fault) (vectors : List (List Bool)) (inputs : List Bool) (old new : Stand)
     → IsNetlist c → IsBeside c faults vectors old
-    → ((net : ℕ) → net < length c.drivers → bit_at new.values net ≡ trace_differs c faults (vectors ++ inputs ∷ []) (length vectors) net)
-    → ((l : ℕ) → l < length c.latches → bit_at new.raw l ≡ bit_at new.values (latch_at c.latches l).from.0)
+    → ((net : ℕ) → net < length c.drivers → new.nets net ≡ trace_differs c faults (vectors ++ inputs ∷ []) (length vectors) net)
+    → ((l : ℕ) → l < length c.latches → bit_at new.raw l ≡ new.nets (latch_at c.latches l).from.0)
     → new.cycle ≡ old.cycle + 1
     → IsBeside c faults (vectors ++ inputs ∷ []) new
 beside_more c faults vectors inputs old new sound beside values raw cycle = record {

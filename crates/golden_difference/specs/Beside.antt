@@ -1,16 +1,16 @@
 -- Simulations of one circuit that stand between two cycles, beside the golden run, which is the run without faults: of each latch
 -- and each net they hold only whether it differs. Source: concurrent and differential fault simulation.
-use Rattle.std.specs.Prelude.{◌≡◌, ℕ, ◌+◌, ◌<◌, ◌≤◌, ◌++◌, Bool, false, List, [], length}
+use Rattle.std.specs.Prelude.{◌≡◌, ℕ, ◌+◌, ◌<◌, ◌≤◌, ◌++◌, Bool, false, List, [], length, slice_index_or}
 use Rattle.circuit.specs.declared.parts.Driver.{Driver}
 use Rattle.circuit.specs.declared.parts.Driver.TheVariants.{Input, Table as FromTable, Latch as FromLatch}
 use Rattle.circuit.specs.declared.parts.Fault.{Fault}
-use Rattle.circuit.specs.After.{Moment}
 use Rattle.circuit.specs.Circuit.{Circuit}
 use Rattle.circuit.specs.Effects.{affected}
 use Rattle.circuit.specs.Trace.{flipped, raw_state, trace}
 use Rattle.circuit.specs.Value.{bit_at}
-use Rattle.lane_words.specs.Bank.{Bank, lane_of}
+use Rattle.golden_difference.specs.Lanes.{Lanes}
 use Rattle.lane_words.specs.Bits.{either}
+use Rattle.lane_words.specs.Gates.{plane}
 use Rattle.lane_words.specs.Loads.{loaded_faults}
 use Rattle.place_set.specs.Places.{value_in}
 
@@ -22,17 +22,28 @@ state_differs c faults vectors t latch = either (bit_at (raw_state c faults vect
 abbrev pub trace_differs : Circuit → List Fault → List (List Bool) → ℕ → ℕ → Bool
 trace_differs c faults vectors t net = either (trace c faults vectors t net) (trace c [] vectors t net)
 
--- since the start cycles were simulated with these vectors, one after the other, and with these faults in all of them; the
--- moment holds what differs from the golden run of the same vectors
-pub record IsBeside (c : Circuit) (faults : List Fault) (vectors : List (List Bool)) (moment : Moment) : Type 0 where
-  pub cycle : moment.cycle ≡ length vectors
-  pub raw : (latch : ℕ) → latch < length c.latches → bit_at moment.raw latch ≡ state_differs c faults vectors (length vectors) latch
-  -- each net differs or not in the last of these cycles, if there is one
-  pub values : (t net : ℕ) → t + 1 ≡ length vectors → net < length c.drivers → bit_at moment.values net ≡ trace_differs c faults vectors t net
+-- a simulation between two cycles: the number of cycles since the start, of each latch whether it differs, and of each net whether
+-- it differs in the last cycle
+pub record Stand : Type 0 where
+  pub cycle : ℕ
+  pub raw : List Bool
+  pub nets : ℕ → Bool
 
--- the same in each lane, with its own faults alone
-abbrev pub AreBeside : {W : Type 0} → ℕ → (W → ℕ → Bool) → List (List Bool) → Bank W → Type 0
-AreBeside lanes bit vectors bank = (k : ℕ) → k < lanes → IsBeside bank.circuit (loaded_faults bank.loads k) vectors (lane_of bit k bank)
+-- since the start cycles were simulated with these vectors, one after the other, and with these faults in all of them; what
+-- differs does so from the golden run of the same vectors
+pub record IsBeside (c : Circuit) (faults : List Fault) (vectors : List (List Bool)) (stand : Stand) : Type 0 where
+  pub cycle : stand.cycle ≡ length vectors
+  pub raw : (latch : ℕ) → latch < length c.latches → bit_at stand.raw latch ≡ state_differs c faults vectors (length vectors) latch
+  -- each net differs or not in the last of these cycles, if there is one
+  pub values : (t net : ℕ) → t + 1 ≡ length vectors → net < length c.drivers → stand.nets net ≡ trace_differs c faults vectors t net
+
+-- the simulation in one lane
+abbrev pub stand_in : {W : Type 0} → (W → ℕ → Bool) → ℕ → Lanes W → Stand
+stand_in bit k lanes = record { cycle = lanes.cycle; raw = plane bit k lanes.raw; nets = bit_at (slice_index_or lanes.shown k []) }
+
+-- the same in each lane, with its own faults in force alone
+abbrev pub AreBeside : {W : Type 0} → ℕ → (W → ℕ → Bool) → List (List Bool) → Lanes W → Type 0
+AreBeside count bit vectors lanes = (k : ℕ) → k < count → IsBeside lanes.circuit (loaded_faults lanes.in_force k) vectors (stand_in bit k lanes)
 
 -- in cycle t the faults change no net and flip no latch
 pub record DoNothing (faults : List Fault) (t : ℕ) : Type 0 where

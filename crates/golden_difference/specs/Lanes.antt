@@ -1,14 +1,14 @@
 -- Simulations of one circuit in lanes, beside the golden run, as contracts see them. A lane whose outcome is decided can be
 -- dropped: until the next start its faults are not in force. Source: fault dropping in fault simulation.
-use Rattle.std.specs.Prelude.{◌≡◌, ℕ, List, [], Option}
+use Rattle.std.specs.Prelude.{◌≡◌, ℕ, Bool, List, [], Option}
 use Rattle.circuit.specs.declared.parts.Fault.{Fault}
 use Rattle.circuit.specs.declared.parts.NetId.{NetId}
 use Rattle.circuit.specs.Circuit.{Circuit}
-use Rattle.lane_words.specs.Bank.{Bank}
 use Rattle.lane_words.specs.Loads.{loaded_faults}
 
 -- the circuit and the order of its tables that the lanes were made for, the faults that each lane was loaded with and those that
--- are in force in it, the number of cycles since the start, and what the latches and, in the last cycle, the nets differ in
+-- are in force in it, the number of cycles since the start, what the latches differ in, and of each lane a bit for each net: whether
+-- it differs in the last cycle
 pub record Lanes (W : Type 0) : Type 0 where
   pub circuit : Circuit
   pub order : List NetId
@@ -16,18 +16,7 @@ pub record Lanes (W : Type 0) : Type 0 where
   pub in_force : List (List (Option Fault))
   pub cycle : ℕ
   pub raw : List W
-  pub words : List W
-
--- the simulations as they stand, with the faults that are in force
-abbrev pub bank_of : {W : Type 0} → Lanes W → Bank W
-bank_of lanes = record {
-  circuit = lanes.circuit;
-  order = lanes.order;
-  loads = lanes.in_force;
-  cycle = lanes.cycle;
-  raw = lanes.raw;
-  words = lanes.words;
-}
+  pub shown : List (List Bool)
 
 -- the lanes were made for this circuit and this order of its tables
 pub record IsMadeFor {W : Type 0} (c : Circuit) (nets : List NetId) (lanes : Lanes W) : Type 0 where

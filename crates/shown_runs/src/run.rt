@@ -7,7 +7,7 @@ ghost use Rattle.workload.specs.Runs.{cycles_of, run_at};
 ghost use Rattle.alarm_points.specs.PointsKept.{ArePointsFor};
 ghost use Rattle.fm_base.specs.Planes.{bit};
 ghost use Rattle.golden_difference.specs.Beside.{AreBeside, IsGoldenRow, IsOver};
-ghost use Rattle.golden_difference.specs.Lanes.{IsMadeFor, bank_of};
+ghost use Rattle.golden_difference.specs.Lanes.{IsMadeFor};
 ghost use Rattle.classifier.specs.Load.{in_lane, lane_faults, load_of};
 ghost use Rattle.shown_runs.specs.Record.{AreRecordsFor, record_at};
 ghost use Rattle.shown_runs.specs.Seen.{HasSeen, IsFollowed};
@@ -41,7 +41,7 @@ fn drop_more<W: Word>(lanes: &mut DifferentialLanes<W>, word: u32, before: u64, 
     requires { word < W.words }
     ensures load { load_of lanes.new ≡ load_of lanes.old }
     ensures cycles { lanes.new.cycle ≡ lanes.old.cycle }
-    ensures after { (vectors : List (List Bool)) → AreBeside W.lanes W.lane_bit vectors (bank_of lanes.old) → AreBeside W.lanes W.lane_bit vectors (bank_of lanes.new) }
+    ensures after { (vectors : List (List Bool)) → AreBeside W.lanes W.lane_bit vectors lanes.old → AreBeside W.lanes W.lane_bit vectors lanes.new }
     ensures dropped { (k : ℕ) → k < 64 → bit out k ≡ true → (bit before k ≡ false) ⊎ (in_lane lanes.old.in_force word k ≡ [])
         → in_lane lanes.new.in_force word k ≡ [] }
     ensures others { (other k : ℕ) → other < W.words → k < 64 → (other ≢ word) ⊎ (bit out k ≡ false)
@@ -57,7 +57,7 @@ fn drop_out<W: Word>(out: &[u64], lanes: &mut DifferentialLanes<W>)
     requires { length out.now ≡ W.words }
     ensures load { load_of lanes.new ≡ load_of lanes.old }
     ensures cycles { lanes.new.cycle ≡ lanes.old.cycle }
-    ensures after { (vectors : List (List Bool)) → AreBeside W.lanes W.lane_bit vectors (bank_of lanes.old) → AreBeside W.lanes W.lane_bit vectors (bank_of lanes.new) }
+    ensures after { (vectors : List (List Bool)) → AreBeside W.lanes W.lane_bit vectors lanes.old → AreBeside W.lanes W.lane_bit vectors lanes.new }
     ensures others { (word k : ℕ) → word < W.words → k < 64 → bit (slice_index out.now word) k ≡ false
         → in_lane lanes.new.in_force word k ≡ in_lane lanes.old.in_force word k }
 {
@@ -100,9 +100,9 @@ fn see_words<W: Word, R: LeavingRule>(
     requires fit { AreRecordsFor points.now records.old }
     ensures load { load_of lanes.new ≡ load_of lanes.old }
     ensures cycles { lanes.new.cycle ≡ lanes.old.cycle }
-    ensures after { (vectors : List (List Bool)) → AreBeside W.lanes W.lane_bit vectors (bank_of lanes.old) → AreBeside W.lanes W.lane_bit vectors (bank_of lanes.new) }
+    ensures after { (vectors : List (List Bool)) → AreBeside W.lanes W.lane_bit vectors lanes.old → AreBeside W.lanes W.lane_bit vectors lanes.new }
     ensures fit { AreRecordsFor points.now records.new }
-    ensures seen { (run : Run) (faults : List (List (Option Fault))) (out : List ℕ) → t < cycles_of run → AreBeside W.lanes W.lane_bit (take (t + 1) run.vectors) (bank_of lanes.old)
+    ensures seen { (run : Run) (faults : List (List (Option Fault))) (out : List ℕ) → t < cycles_of run → AreBeside W.lanes W.lane_bit (take (t + 1) run.vectors) lanes.old
         → IsGoldenRow lanes.old.circuit run.vectors t row.now
         → AreFollowing lanes.old.circuit points.now run faults (λ word k n r. R.may_leave rule.now word kind n r k) W.words t out lanes.old.in_force left.old records.old
         → AreFollowing lanes.old.circuit points.now run faults (λ word k n r. R.may_leave rule.now word kind n r k) W.words (t + 1) out lanes.new.in_force left.new records.new }
@@ -133,13 +133,13 @@ fn run_cycle<W: Word, R: LeavingRule, L: Ledger>(
     requires few { t < 65536 }
     requires made { IsMadeFor bench.now.circuit bench.now.order lanes.old }
     requires cycles { lanes.old.cycle ≡ t }
-    requires after { AreBeside W.lanes W.lane_bit (take t (run_at bench.now.runs run).vectors) (bank_of lanes.old) }
+    requires after { AreBeside W.lanes W.lane_bit (take t (run_at bench.now.runs run).vectors) lanes.old }
     requires records { length records.old ≡ W.words }
     requires left { length left.old ≡ W.words }
     requires fit { AreRecordsFor bench.now.points records.old }
     ensures load { load_of lanes.new ≡ load_of lanes.old }
     ensures cycles { lanes.new.cycle ≡ t + 1 }
-    ensures after { AreBeside W.lanes W.lane_bit (take (t + 1) (run_at bench.now.runs run).vectors) (bank_of lanes.new) }
+    ensures after { AreBeside W.lanes W.lane_bit (take (t + 1) (run_at bench.now.runs run).vectors) lanes.new }
     ensures fit { AreRecordsFor bench.now.points records.new }
     ensures seen { (faults : List (List (Option Fault))) (out : List ℕ)
         → AreFollowing bench.now.circuit bench.now.points (run_at bench.now.runs run) faults (λ word k n r. R.may_leave rule.now word (run_at bench.now.runs run).kind n r k) W.words t out lanes.old.in_force left.old records.old
@@ -163,7 +163,7 @@ fn run_cycle<W: Word, R: LeavingRule, L: Ledger>(
 // Whether a run of so many cycles goes on in cycle t: there is one, and the run isn't over.
 fn goes_on<W: Word>(lanes: &DifferentialLanes<W>, t: u32, cycles: u32) -> bool
     ensures more { result ≡ true → t < cycles }
-    ensures over { (vectors : List (List Bool)) (word k : ℕ) → result ≡ false → t < cycles → AreBeside W.lanes W.lane_bit vectors (bank_of lanes.now) → word < W.words → k < 64
+    ensures over { (vectors : List (List Bool)) (word k : ℕ) → result ≡ false → t < cycles → AreBeside W.lanes W.lane_bit vectors lanes.now → word < W.words → k < 64
         → IsOver lanes.now.circuit (in_lane lanes.now.in_force word k) vectors 65536 }
 {
     if t < cycles { !lanes.is_over() } else { false }

@@ -7,7 +7,6 @@ ghost use Rattle.alarm_points.specs.PointsKept.{ArePointsFor};
 ghost use Rattle.campaign_plan.specs.Danger.{differs};
 ghost use Rattle.fm_base.specs.Planes.{bit};
 ghost use Rattle.golden_difference.specs.Beside.{AreBeside, IsGoldenRow};
-ghost use Rattle.golden_difference.specs.Lanes.{bank_of};
 ghost use Rattle.classifier.specs.Load.{in_lane};
 ghost use Rattle.classifier.specs.Seen.{goal_at};
 ghost use Rattle.first_cycles.specs.FirstCycles.{is_raised_at};
@@ -36,7 +35,7 @@ fn see_goals<W: Word>(
     requires word { word < W.words }
     requires nets { (g : ℕ) → g < length goals.now → All (IsNet lanes.now.circuit) (goal_at goals.now g).observe }
     requires count { length firsts.old ≡ length goals.now }
-    ensures { (run : Run) (g k : ℕ) → g < length goals.now → t < cycles_of run → AreBeside W.lanes W.lane_bit (take (t + 1) run.vectors) (bank_of lanes.now) → k < 64
+    ensures { (run : Run) (g k : ℕ) → g < length goals.now → t < cycles_of run → AreBeside W.lanes W.lane_bit (take (t + 1) run.vectors) lanes.now → k < 64
         → first_in (goal_cycles firsts.new g) k
         ≡ first_with (first_in (goal_cycles firsts.old g) k) (differs lanes.now.circuit (goal_at goals.now g) (in_lane lanes.now.in_force word k) run t) t }
 {
@@ -58,11 +57,11 @@ fn see_alarms<W: Word>(
     requires word { word < W.words }
     requires nets { All (IsNet lanes.now.circuit) nets.now }
     requires count { length alarms.old ≡ length nets.now }
-    ensures raised { (run : Run) (a k : ℕ) → a < length nets.now → t < cycles_of run → AreBeside W.lanes W.lane_bit (take (t + 1) run.vectors) (bank_of lanes.now)
+    ensures raised { (run : Run) (a k : ℕ) → a < length nets.now → t < cycles_of run → AreBeside W.lanes W.lane_bit (take (t + 1) run.vectors) lanes.now
         → IsGoldenRow lanes.now.circuit run.vectors t row.now → k < 64
         → first_in (alarm_cycles alarms.new a).raised k
         ≡ first_with (first_in (alarm_cycles alarms.old a).raised k) (is_raised_at lanes.now.circuit (in_lane lanes.now.in_force word k) run (alarm_at nets.now a) t) t }
-    ensures silenced { (run : Run) (a k : ℕ) → a < length nets.now → t < cycles_of run → AreBeside W.lanes W.lane_bit (take (t + 1) run.vectors) (bank_of lanes.now)
+    ensures silenced { (run : Run) (a k : ℕ) → a < length nets.now → t < cycles_of run → AreBeside W.lanes W.lane_bit (take (t + 1) run.vectors) lanes.now
         → IsGoldenRow lanes.now.circuit run.vectors t row.now → k < 64
         → bit (alarm_cycles alarms.new a).silenced k
         ≡ (bit (alarm_cycles alarms.old a).silenced k || is_silenced_at lanes.now.circuit (in_lane lanes.now.in_force word k) run (alarm_at nets.now a) t) }
@@ -87,7 +86,7 @@ pub(crate) fn see_cycle<W: Word>(
     requires points { ArePointsFor lanes.now.circuit points.now }
     requires fit { IsRecordFor points.now kept.old }
     ensures fit { IsRecordFor points.now kept.new }
-    ensures seen { (run : Run) (k : ℕ) → t < cycles_of run → AreBeside W.lanes W.lane_bit (take (t + 1) run.vectors) (bank_of lanes.now)
+    ensures seen { (run : Run) (k : ℕ) → t < cycles_of run → AreBeside W.lanes W.lane_bit (take (t + 1) run.vectors) lanes.now
         → IsGoldenRow lanes.now.circuit run.vectors t row.now → k < 64
         → SeesCycle lanes.now.circuit points.now run (in_lane lanes.now.in_force word k) t k kept.old kept.new }
 {

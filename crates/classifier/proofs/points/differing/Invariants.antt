@@ -8,13 +8,12 @@ use Rattle.fm_base.specs.Lists.{same_bit}
 use Rattle.fm_base.specs.Planes.{bit}
 use Rattle.classifier.specs.Load.{in_lane}
 use Rattle.golden_difference.specs.Beside.{AreBeside}
-use Rattle.golden_difference.specs.Lanes.{bank_of}
 use Rattle.classifier.proofs.points.differing.Given as goal
 
 -- the lanes in which some net so far differs
 abbrev pub invariant-loop-net : goal.invariant-loop-net
 invariant-loop-net g l =
-    (run : Run) (t k : ℕ) → t < cycles_of run → AreBeside g.W.Word.lanes g.W.Word.lane_bit (take (t + 1) run.vectors) (bank_of l.lanes) → k < 64
+    (run : Run) (t k : ℕ) → t < cycles_of run → AreBeside g.W.Word.lanes g.W.Word.lane_bit (take (t + 1) run.vectors) l.lanes → k < 64
     → bit l.differ k
     ≡ list_any (λ (net : NetId).
     not (same_bit (with_faults l.lanes.circuit (in_lane l.lanes.in_force l.word k) run t net) (golden l.lanes.circuit run t net)))

@@ -7,18 +7,17 @@ use Rattle.campaign_plan.specs.Danger.{golden, with_faults}
 use Rattle.fm_base.specs.Planes.{bit}
 use Rattle.golden_difference.specs.Beside.{IsGoldenRow, AreBeside}
 use Rattle.classifier.specs.Load.{in_lane}
-use Rattle.golden_difference.specs.Lanes.{bank_of}
 use Rattle.classifier.proofs.points.noise_in.Given as goal
 
 -- the lanes in which some alarm so far is raised, and those in which some is silenced
 abbrev pub invariant-loop-net : goal.invariant-loop-net
 invariant-loop-net g l = record {
-  raised : (run : Run) (t k : ℕ) → t < cycles_of run → AreBeside g.W.Word.lanes g.W.Word.lane_bit (take (t + 1) run.vectors) (bank_of l.lanes)
+  raised : (run : Run) (t k : ℕ) → t < cycles_of run → AreBeside g.W.Word.lanes g.W.Word.lane_bit (take (t + 1) run.vectors) l.lanes
       → IsGoldenRow l.lanes.circuit run.vectors t l.row → k < 64
       → bit l.found.raised k
       ≡ list_any (λ (net : NetId). with_faults l.lanes.circuit (in_lane l.lanes.in_force l.word k) run t net && not (golden l.lanes.circuit run t net))
       (take l.net-index l.nets);
-  silenced : (run : Run) (t k : ℕ) → t < cycles_of run → AreBeside g.W.Word.lanes g.W.Word.lane_bit (take (t + 1) run.vectors) (bank_of l.lanes)
+  silenced : (run : Run) (t k : ℕ) → t < cycles_of run → AreBeside g.W.Word.lanes g.W.Word.lane_bit (take (t + 1) run.vectors) l.lanes
       → IsGoldenRow l.lanes.circuit run.vectors t l.row → k < 64
       → bit l.found.silenced k
       ≡ list_any (λ (net : NetId). not (with_faults l.lanes.circuit (in_lane l.lanes.in_force l.word k) run t net) && golden l.lanes.circuit run t net)

@@ -71,7 +71,7 @@ returns-clause-run g c =
           ∙ sym (either_again (value_in row n) (bit_at (plane bit k c.walk-evaluated.new.nets.words.items) n))
           ∙ ap₂ either
           (c.walk-evaluated.ensures.values k x other lt pair are
-          (begun lanes bit k lt c.args.cycle.now.netlist.now order golden.sound golden.ordered c.deref.result.now places row c.args.forces.now.by_net.items c.requires.fit.forces.each x other pair are
+          (begun lanes bit k lt c.args.cycle.now.netlist.now order golden.sound golden.ordered row c.args.forces.now.by_net.items c.requires.fit.forces.each x other pair are c.deref.result.now places
           (bit_at (plane bit k c.args.latches.now.raw.items)) c.take_live.new.nets.words.items c.force_all.new.nets.words.items holds
           (λ m within free. c.take_live.ensures.shown k m lt within)
           (λ m d within none. (c.force_all.ensures.forced m within).source k d none lt))
@@ -81,5 +81,4 @@ returns-clause-run g c =
           c.take_latches.ensures.taken k l lt within
           ∙ sym (ap (λ words. bit_at (plane bit k words) (latch_at c.args.cycle.now.netlist.now.latches l).from.0) c.take_latches.ensures.words);
       latches = c.take_latches.ensures.latches;
-      nets = c.take_latches.ensures.nets;
     }

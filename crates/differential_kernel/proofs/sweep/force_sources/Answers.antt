@@ -1,60 +1,65 @@
-use Rattle.std.proofs.Common.{◌≡◌, ◌≢◌, inl, inr, ◌<◌, ◌≤◌, ℕ, length, get_or, refl, ap, sym, ◌∙◌, subst, arith}
-use Rattle.std.specs.Prelude.{None}
-use Rattle.std.proofs.lemmas.Bool.{cases_eq, cases_lt, true≢false}
+use Rattle.std.proofs.Common.{◌≡◌, ◌≢◌, inl, inr, ◌<◌, ℕ, List, length, get_or, set, ap, ap₂, sym, ◌∙◌, subst, arith}
+use Rattle.std.proofs.lemmas.Bool.{cases_eq, true≢false}
 use Rattle.circuit.specs.Value.{bit_at}
+use Rattle.lane_words.specs.declared.force.Force.{Force}
+use Rattle.lane_words.specs.Forces.{force_value}
 use Rattle.lane_words.specs.Gates.{plane}
 use Rattle.place_set.specs.Places.{has}
-use Rattle.lane_words.specs.declared.force.Force.{Force}
-use Rattle.differential_kernel.specs.Forced.{forced_in}
-use Rattle.differential_kernel.proofs.Forcing.{forced_idle, forced_same}
+use Rattle.differential_kernel.proofs.Notes.{at_set_other, at_set_same}
 use Rattle.differential_kernel.proofs.sweep.force_sources.Goals as goal
 
-pub nets-init : goal.nets-init
-nets-init g c = record {
-  ahead = λ k n lt le. refl;
-  source = λ k n d lt within below none. absurd (omega arith);
-  others = λ k n none. refl;
-}
+pub bounds-sources-at : goal.bounds-sources-at
+bounds-sources-at g c =
+    omega (arith, c.loop-at-test.true, c.requires.listed.few, c.requires.room, ap (λ (items : List ℕ). length items) c.as_slice-sources.ensures.value)
 
-pub nets-preserved : goal.nets-preserved
-nets-preserved g c =
+pub forced_at-requires : goal.forced_at-requires
+forced_at-requires g c =
+    let at = c.loop-at.at in
+    let here = ap (λ (items : List ℕ). get_or items at 0) c.as_slice-sources.ensures.value in
+    let size = ap (λ (fs : List (Force g.row.W.Denot)). length fs) c.deref.ensures.value in
+    omega (arith, here, c.requires.listed.below at c.loop-at-test.true, size, c.requires.forces)
+
+pub loop-at-preserved : goal.loop-at-preserved
+loop-at-preserved g c =
     let bit = g.W.Word.lane_bit in
-    let lanes = g.W.Word.lanes in
-    let q = c.in-Some.n in
-    let found = c.in-Some.ensures in
+    let sources = c.args.cone.now.sources.items in
     let forces = c.args.forces.now.by_net.items in
-    let row = c.args.row.now in
-    let first = c.args.words.now in
-    let size = c.force_source.auto.words in
-    let here : (k : ℕ) → k < lanes → bit_at (plane bit k c.nets.words) q ≡ bit_at (plane bit k first) q = λ k lt. c.nets.invariant.ahead k q lt found.0 in
-    let idle : (k n : ℕ) (d : Force g.row.W.Denot) → k < lanes → n < length c.nets.words → c.nets.from ≤ n → n < q → forced_in bit k row forces d first n ≡ bit_at (plane bit k first) n =
-    λ k n d lt within le less. forced_idle lanes bit k row forces d first n lt
-    (c.requires.forces.idle n (omega (arith, within, c.nets.auto.words, c.requires.forces.each)) (found.3 n le less)) in
+    let first = c.args.values.now in
+    let values = c.loop-at.values in
+    let at = c.loop-at.at in
+    let v = c.forced_at.result in
+    let n = get_or sources at 0 in
+    let slot = get_or c.as_slice-sources.result.now at 0 in
+    let here : slot ≡ n = ap (λ (items : List ℕ). get_or items at 0) c.as_slice-sources.ensures.value in
+    let within : n < length values = omega (arith, c.requires.listed.below at c.loop-at-test.true, c.loop-at.auto.values) in
+    let apart : (i : ℕ) → i < at → n ≢ get_or sources i 0 = λ i low same. omega (arith, c.requires.listed.ascending i at low c.loop-at-test.true, same) in
     record {
-      ahead = λ k n lt le. c.force_source.ensures.others k n (omega (arith, le)) ∙ c.nets.invariant.ahead k n lt (omega (arith, le, found.0));
-      source = λ k n d lt within below none. elim (cases_eq n q) [
-        | inl same ↦
-            subst (λ m. bit_at (plane bit k c.force_source.new.words) m ≡ forced_in bit k row forces d first m) (sym same)
-            (c.force_source.ensures.source k d (ap (λ m. get_or c.args.places.now m None) (sym same) ∙ none) lt
-            ∙ ap (λ each. forced_in bit k row each d c.nets.words q) c.deref.ensures.value
-            ∙ forced_same bit k row forces d c.nets.words first q (here k lt))
-        | inr other ↦ c.force_source.ensures.others k n other ∙ elim (cases_lt n c.nets.from) [
-          | inl less ↦ c.nets.invariant.source k n d lt (omega (arith, within, size)) less none
-          | inr most ↦ c.nets.invariant.ahead k n lt most ∙ sym (idle k n d lt (omega (arith, within, size)) most (omega (arith, below, other)))
-        ]
-      ];
-      others = λ k n none.
-          let other : n ≢ q = λ same. true≢false (sym found.2 ∙ ap (has c.args.forces.now.named) (sym same) ∙ none) in
-          c.force_source.ensures.others k n other ∙ c.nets.invariant.others k n none;
+      done = λ k i d lt less.
+          ap (λ j. bit_at (plane bit k (set values j v)) (get_or sources i 0)) here
+          ∙ elim (cases_eq i at) as (λ _. bit_at (plane bit k (set values n v)) (get_or sources i 0) ≡ force_value bit k (get_or forces (get_or sources i 0) d) (bit_at (plane bit k first) (get_or sources i 0))) [
+            | inl same ↦
+                subst (λ j. bit_at (plane bit k (set values n v)) (get_or sources j 0) ≡ force_value bit k (get_or forces (get_or sources j 0) d) (bit_at (plane bit k first) (get_or sources j 0))) (sym same)
+                (at_set_same bit k values n v within ∙ c.forced_at.ensures k d lt
+                ∙ ap (λ (fs : List (Force g.row.W.Denot)). force_value bit k (get_or fs slot d) (bit c.word_at.result k)) c.deref.ensures.value
+                ∙ ap₂ (λ j b. force_value bit k (get_or forces j d) b) here
+                (c.word_at.ensures k lt ∙ ap (bit_at (plane bit k values)) here ∙ c.loop-at.invariant.rest k n apart))
+            | inr other ↦
+                (let low : i < at = omega (arith, less, other) in
+                at_set_other bit k values n (get_or sources i 0) v (λ same. apart i low (sym same)) ∙ c.loop-at.invariant.done k i d lt low)
+          ];
+      rest = λ k m none.
+          ap (λ j. bit_at (plane bit k (set values j v)) m) here
+          ∙ at_set_other bit k values n m v (none at (omega arith)) ∙ c.loop-at.invariant.rest k m (λ i low. none i (omega (arith, low)));
     }
 
 pub returns-clause-forced : goal.returns-clause-forced
-returns-clause-forced g c = λ k n d lt within none.
-    elim (cases_lt n c.nets.from) [
-      | inl less ↦ c.nets.invariant.source k n d lt (omega (arith, within, c.nets.auto.words)) less none
-      | inr most ↦
-          c.nets.invariant.ahead k n lt most
-          ∙ sym
-          (forced_idle g.W.Word.lanes g.W.Word.lane_bit k c.args.row.now c.args.forces.now.by_net.items d c.args.words.now n lt
-          (c.requires.forces.idle n (omega (arith, within, c.requires.forces.each)) (c.in_default.ensures n most)))
-    ]
+returns-clause-forced g c = λ k n d lt net there.
+    let bit = g.W.Word.lane_bit in
+    let at = c.requires.listed.whole n net there in
+    subst (λ m. bit_at (plane bit k c.loop-at.values) m ≡ force_value bit k (get_or c.args.forces.now.by_net.items m d) (bit_at (plane bit k c.args.values.now) m)) at.2
+    (c.loop-at.invariant.done k at.0 d lt (omega (arith, at.1, c.loop-at-test.false)))
+
+pub returns-clause-others : goal.returns-clause-others
+returns-clause-others g c = λ k n none.
+    c.loop-at.invariant.rest k n
+    (λ i low same. true≢false (sym (c.requires.listed.each i (omega (arith, low, c.loop-at.auto.at-end))) ∙ ap (has c.args.cone.now.source) (sym same) ∙ none))

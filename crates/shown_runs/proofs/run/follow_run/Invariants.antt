@@ -1,7 +1,6 @@
 use Rattle.std.proofs.Common.{◌≡◌, ◌≤◌, ◌+◌, ◌-◌, ◌*◌, length, take}
 use Rattle.workload.specs.Runs.{cycles_of, run_at}
 use Rattle.golden_difference.specs.Beside.{AreBeside}
-use Rattle.golden_difference.specs.Lanes.{bank_of}
 use Rattle.classifier.specs.Load.{load_of}
 use Rattle.shown_runs.specs.Record.{AreRecordsFor}
 use Rattle.shown_runs.specs.Lanes.{AreFollowing}
@@ -13,7 +12,7 @@ invariant-clock g l = record {
   within : l.t ≤ cycles_of (run_at l.bench.runs l.run);
   load : load_of l.lanes ≡ load_of l.initial.lanes;
   cycles : l.lanes.cycle ≡ l.t;
-  after : AreBeside g.W.Word.lanes g.W.Word.lane_bit (take l.t (run_at l.bench.runs l.run).vectors) (bank_of l.lanes);
+  after : AreBeside g.W.Word.lanes g.W.Word.lane_bit (take l.t (run_at l.bench.runs l.run).vectors) l.lanes;
   fit : AreRecordsFor l.bench.points l.records;
   seen : AreFollowing l.bench.circuit l.bench.points (run_at l.bench.runs l.run) l.initial.lanes.loads
       (λ word k n r. g.R.LeavingRule.may_leave l.rule word (run_at l.bench.runs l.run).kind n r k) g.W.Word.words l.t l.initial.left

@@ -10,7 +10,6 @@ use Rattle.workload.specs.Runs.{run_at}
 use Rattle.alarm_points.specs.declared.Points.{Points}
 use Rattle.alarm_points.specs.PointsKept.{ArePointsFor}
 use Rattle.golden_difference.specs.Beside.{AreBeside, IsGoldenRow}
-use Rattle.golden_difference.specs.Lanes.{bank_of}
 use Rattle.classifier.specs.Load.{Load}
 use Rattle.shown_runs.specs.Record.{RunRecord}
 use Rattle.shown_runs.specs.Record.{AreRecordsFor}
@@ -45,8 +44,8 @@ returns g c =
     let joined : take t run.vectors ++ vector_at run.vectors t ∷ [] ≡ take (t + 1) run.vectors = sym (take_more run.vectors t [] lt) in
     let here : IsGoldenRow net (take t run.vectors ++ vector_at run.vectors t ∷ []) (length (take t run.vectors)) row =
     λ n within. golden n within ∙ sym (trace_taken net [] run.vectors t n lt) ∙ ap₂ (λ (vs : List (List Bool)) m. trace net [] vs m n) (sym joined) (sym size) in
-    let after : AreBeside g.W.Word.lanes g.W.Word.lane_bit (take (t + 1) run.vectors) (bank_of c.advance.new.lanes) =
-    subst (λ (vs : List (List Bool)). AreBeside g.W.Word.lanes g.W.Word.lane_bit vs (bank_of c.advance.new.lanes)) joined (c.advance.ensures.step (take t run.vectors) (vector_at run.vectors t) c.requires.after here) in
+    let after : AreBeside g.W.Word.lanes g.W.Word.lane_bit (take (t + 1) run.vectors) c.advance.new.lanes =
+    subst (λ (vs : List (List Bool)). AreBeside g.W.Word.lanes g.W.Word.lane_bit vs c.advance.new.lanes) joined (c.advance.ensures.step (take t run.vectors) (vector_at run.vectors t) c.requires.after here) in
     let may_by : Kind → ℕ → ℕ → ℕ → RunRecord → Bool = λ kind word k n r. g.R.LeavingRule.may_leave c.args.rule.now word kind n r k in
     let kind : c.kind.result ≡ run.kind = c.kind.ensures in
     record {

@@ -8,7 +8,6 @@ use Rattle.workload.specs.Runs.{cycles_of}
 use Rattle.alarm_points.specs.PointsKept.{ArePointsFor}
 use Rattle.fm_base.specs.Planes.{bit}
 use Rattle.golden_difference.specs.Beside.{AreBeside, IsGoldenRow}
-use Rattle.golden_difference.specs.Lanes.{bank_of}
 use Rattle.classifier.specs.Load.{Load, in_lane, load_of}
 use Rattle.classifier.proofs.EachWord.{each_set_one}
 use Rattle.shown_runs.specs.Record.{RunRecord}
@@ -50,7 +49,7 @@ loop-word-preserved g c =
     let old : get_or rs i c.index-records-at.result ≡ record_at rs i = get_or_default rs i c.index-records-at.result none inside in
     let t = c.args.t in
     let may_in = λ (j q n : ℕ) (r : RunRecord). g.R.LeavingRule.may_leave c.args.rule.now j c.args.kind n r q in
-    let own : (run : Run) (faults : List (List (Option Fault))) (out : List ℕ) → t < cycles_of run → AreBeside g.W.Word.lanes g.W.Word.lane_bit (take (t + 1) run.vectors) (bank_of c.args.lanes.now)
+    let own : (run : Run) (faults : List (List (Option Fault))) (out : List ℕ) → t < cycles_of run → AreBeside g.W.Word.lanes g.W.Word.lane_bit (take (t + 1) run.vectors) c.args.lanes.now
     → IsGoldenRow load.circuit run.vectors t c.args.row.now
     → AreFollowing load.circuit points run faults may_in g.W.Word.words t out c.args.lanes.now.in_force c.args.left.now c.args.records.now
     → (k : ℕ) → k < 64 → bit (slice_index out i) k ≡ false

@@ -5,7 +5,6 @@ use Rattle.workload.specs.declared.run.Run.{Run}
 use Rattle.workload.specs.Runs.{cycles_of}
 use Rattle.fm_base.specs.Planes.{bit}
 use Rattle.golden_difference.specs.Beside.{AreBeside, IsGoldenRow}
-use Rattle.golden_difference.specs.Lanes.{bank_of}
 use Rattle.classifier.specs.Load.{in_lane, load_of}
 use Rattle.shown_runs.specs.Record.{AreRecordsFor, record_at}
 use Rattle.shown_runs.specs.Lanes.{AreFollowing, StandsAt}
@@ -16,9 +15,9 @@ abbrev pub invariant-loop-word : goal.invariant-loop-word
 invariant-loop-word g l = record {
   load : load_of l.lanes ≡ load_of l.initial.lanes;
   cycles : l.lanes.cycle ≡ l.initial.lanes.cycle;
-  after : (vectors : List (List Bool)) → AreBeside g.W.Word.lanes g.W.Word.lane_bit vectors (bank_of l.initial.lanes) → AreBeside g.W.Word.lanes g.W.Word.lane_bit vectors (bank_of l.lanes);
+  after : (vectors : List (List Bool)) → AreBeside g.W.Word.lanes g.W.Word.lane_bit vectors l.initial.lanes → AreBeside g.W.Word.lanes g.W.Word.lane_bit vectors l.lanes;
   fit : AreRecordsFor l.points l.records;
-  done : (run : Run) (faults : List (List (Option Fault))) (out : List ℕ) → l.t < cycles_of run → AreBeside g.W.Word.lanes g.W.Word.lane_bit (take (l.t + 1) run.vectors) (bank_of l.initial.lanes)
+  done : (run : Run) (faults : List (List (Option Fault))) (out : List ℕ) → l.t < cycles_of run → AreBeside g.W.Word.lanes g.W.Word.lane_bit (take (l.t + 1) run.vectors) l.initial.lanes
       → IsGoldenRow l.initial.lanes.circuit run.vectors l.t l.row
       → AreFollowing l.initial.lanes.circuit l.points run faults (λ word k n r. g.R.LeavingRule.may_leave l.rule word l.kind n r k) g.W.Word.words l.t out
       l.initial.lanes.in_force l.initial.left l.initial.records

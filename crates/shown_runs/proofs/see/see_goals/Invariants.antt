@@ -3,7 +3,6 @@ use Rattle.workload.specs.declared.run.Run.{Run}
 use Rattle.workload.specs.Runs.{cycles_of}
 use Rattle.campaign_plan.specs.Danger.{differs}
 use Rattle.golden_difference.specs.Beside.{AreBeside}
-use Rattle.golden_difference.specs.Lanes.{bank_of}
 use Rattle.classifier.specs.Load.{in_lane}
 use Rattle.classifier.specs.Seen.{goal_at}
 use Rattle.shown_runs.specs.First.{first_in, first_with}
@@ -14,7 +13,7 @@ use Rattle.shown_runs.proofs.see.see_goals.Given as goal
 abbrev pub invariant-loop-g : goal.invariant-loop-g
 invariant-loop-g o l = record {
   count : length l.firsts ≡ length l.goals;
-  done : (run : Run) (h k : ℕ) → h < l.g → l.t < cycles_of run → AreBeside o.W.Word.lanes o.W.Word.lane_bit (take (l.t + 1) run.vectors) (bank_of l.lanes) → k < 64
+  done : (run : Run) (h k : ℕ) → h < l.g → l.t < cycles_of run → AreBeside o.W.Word.lanes o.W.Word.lane_bit (take (l.t + 1) run.vectors) l.lanes → k < 64
       → first_in (goal_cycles l.firsts h) k
       ≡ first_with (first_in (goal_cycles l.initial.firsts h) k) (differs l.lanes.circuit (goal_at l.goals h) (in_lane l.lanes.in_force l.word k) run l.t) l.t;
   left : (h : ℕ) → l.g ≤ h → goal_cycles l.firsts h ≡ goal_cycles l.initial.firsts h;

@@ -1,21 +1,19 @@
-use Rattle.std.proofs.Common.{◌+◌, ◌*◌, ◌<◌, refl, ap, sym, ◌∙◌, arith}
+use Rattle.std.proofs.Common.{◌+◌, ◌*◌, ◌<◌, [], length, get_or, ap, sym, subst, ◌∙◌, arith}
 use Rattle.circuit.specs.Value.{bit_at}
 use Rattle.golden_difference.specs.Lanes.{Lanes}
-use Rattle.lane_words.specs.Gates.{plane}
-use Rattle.place_set.proofs.Masks.{zero_bit}
+use Rattle.differential_kernel.proofs.Told.{at_shown}
 use Rattle.differential_kernel.proofs.lanes.DifferentialLanes.differs.Goals as goal
 
-pub returns-then-is_same : goal.returns-then-is_same
-returns-then-is_same g c = λ vectors t k beside last lt within.
-    let lane = c.args.word * 64 + k in
-    let low : lane < g.W.Word.lanes = omega (arith, c.requires, lt, g.met.W.Word.whole) in
-    zero_bit 0 k refl ∙ sym (c.is_same.ensures c.if-is_same.true lane low) ∙ (beside lane low).values t c.args.net.0 last within
+pub difference-requires : goal.difference-requires
+difference-requires g c = c.self.invariant.nets.own.touched.same
 
-pub returns-else-is_same : goal.returns-else-is_same
-returns-else-is_same g c = λ vectors t k beside last lt within.
+pub returns : goal.returns
+returns g c = λ vectors t k beside last lt within.
     let lane = c.args.word * 64 + k in
     let low : lane < g.W.Word.lanes = omega (arith, c.requires, lt, g.met.W.Word.whole) in
-    c.part.ensures k lt ∙ c.word_at.ensures lane low
-    ∙ ap (λ words. bit_at (plane g.W.Word.lane_bit lane words) c.args.net.0) c.deref.ensures.value
-    ∙ ap (λ (lanes : Lanes g.row.W.Denot). bit_at (plane g.W.Word.lane_bit lane lanes.words) c.args.net.0) c.self.view_is
+    c.part.ensures k lt ∙ c.difference.ensures lane low
+    ∙ sym
+    (at_shown g.W.Word.lanes g.W.Word.lane_bit (length c.self.inside.circuit.value.drivers) c.self.inside.nets lane c.args.net.0 low
+    (subst (λ (lanes : Lanes g.row.W.Denot). c.args.net.0 < length lanes.circuit.drivers) (sym c.self.view_is) within))
+    ∙ ap (λ (lanes : Lanes g.row.W.Denot). bit_at (get_or lanes.shown lane []) c.args.net.0) c.self.view_is
     ∙ (beside lane low).values t c.args.net.0 last within

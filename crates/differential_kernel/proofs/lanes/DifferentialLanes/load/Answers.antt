@@ -29,8 +29,13 @@ invariant_of-self g c =
       latches = kept.latches;
       nets = kept.nets;
       cone = kept.cone;
-      values = kept.values;
     }
+
+pub returns-clause-loads : goal.returns-clause-loads
+returns-clause-loads g c = λ k lt.
+    let s = c.self.inside in
+    let loads : (with_items s.loads c.place.new.loads).items ≡ c.place.new.loads = grind (arith, common_steps) in
+    ap (λ (ls : List (List (Option Fault))). loaded_faults ls (c.args.word * 64 + k)) loads ∙ ap somes (c.place.ensures.placed k [] (omega (arith, lt)))
 
 pub returns-clause-others : goal.returns-clause-others
 returns-clause-others g c = λ j off.

@@ -1,4 +1,4 @@
-use Rattle.std.proofs.Common.{◌≡◌, List, length, ap, sym, ◌∙◌, subst, arith}
+use Rattle.std.proofs.Common.{◌≡◌, ◌+◌, ◌/◌, List, length, ap, sym, ◌∙◌, subst, arith}
 use Rattle.std.proofs.lemmas.Bool.{false≢true}
 use Rattle.circuit.specs.declared.parts.Latch.{Latch}
 use Rattle.circuit.specs.declared.parts.NetId.{NetId}
@@ -6,7 +6,8 @@ use Rattle.circuit.specs.Circuit.{Circuit}
 use Rattle.circuit.specs.Order.{IsOrder}
 use Rattle.circuit.specs.Sound.{IsNetlist}
 use Rattle.circuit.proofs.FewTables.{few_tables}
-use Rattle.differential_kernel.specs.Cone.{IsNewCone}
+use Rattle.differential_kernel.specs.declared.cone.Cone.{Cone}
+use Rattle.differential_kernel.specs.Cone.{IsConeOf, IsNewCone}
 use Rattle.differential_kernel.specs.Parts.{IsProgramOf}
 use Rattle.differential_kernel.proofs.Cones.{new_cone}
 use Rattle.differential_kernel.proofs.Stepped.{ordered}
@@ -47,13 +48,17 @@ invariant_of-result g c =
       };
       latches = record { raw = c.in_ok-latches.ensures.raw ∙ latches; live = c.in_ok-latches.ensures.live };
       nets = record {
-        words = c.in_ok-nets.ensures.words ∙ nets;
-        touched = c.in_ok-nets.ensures.touched;
-        marks = omega (arith, c.in_ok-nets.ensures.marks, tables, latches);
+        own = record {
+          words = c.in_ok-nets.ensures.words ∙ nets;
+          touched = c.in_ok-nets.ensures.touched;
+          marks = omega (arith, c.in_ok-nets.ensures.marks, tables, latches);
+        };
+        values = c.in_ok-nets.ensures.values ∙ nets;
+        row = c.in_ok-nets.ensures.row ∙ ap (λ n. n / 64 + 1) nets;
       };
-      cone = new_cone (ordered c.of.result.value c.of-2.result.value) c.in_ok-cone.cone
+      cone = subst (λ (cone : Cone). IsConeOf (ordered c.of.result.value c.of-2.result.value) cone) (sym c.new-7.ensures)
+          (new_cone (ordered c.of.result.value c.of-2.result.value) c.in_ok-cone.cone
           (subst (λ n. IsNewCone n (length c.of-2.result.value) (length c.of.result.value.latches) c.in_ok-cone.cone) nets
           (subst (λ n. IsNewCone c.nets-net_count.result n (length c.of.result.value.latches) c.in_ok-cone.cone) tables
-          (subst (λ n. IsNewCone c.nets-net_count.result (length c.nets-table_count.result.now) n c.in_ok-cone.cone) latches c.in_ok-cone.ensures)));
-      values = c.in_ok-values.ensures.count ∙ nets;
+          (subst (λ n. IsNewCone c.nets-net_count.result (length c.nets-table_count.result.now) n c.in_ok-cone.cone) latches c.in_ok-cone.ensures))));
     }
