@@ -9,7 +9,7 @@ ghost use Rattle.differential_kernel.specs.Noted.{AreNoted, StayNoted};
 ghost use Rattle.differential_kernel.specs.Parts.{AreForcesOf, AreLatchesOf, AreNetsOf};
 ghost use Rattle.differential_kernel.specs.Places.{AreTablePlaces};
 
-use crate::difference::{forced_difference, store, value_word};
+use crate::difference::{forced_difference, golden_word, store, value_word};
 use crate::force::Forces;
 use crate::golden_cycle::GoldenCycle;
 use crate::latches::LatchDifferences;
@@ -59,8 +59,8 @@ pub fn take_live<W: Word>(
     }
 }
 
-// A net that no table drives differs in what its force leaves. A table's place is marked where its net is forced away from what
-// the net would have.
+// A net that no table drives differs in what its force leaves. A table's place is marked where its net is forced away from its
+// golden value.
 fn force_net<W: Word>(
     cycle: &GoldenCycle<'_>,
     net: u32,
@@ -76,12 +76,15 @@ fn force_net<W: Word>(
     ensures forced { IsForcedAt W.lanes W.lane_bit cycle.now.row.now forces.now.by_net.items place net nets.old.words.items nets.new.words.items nets.new.marks }
     ensures others { (k n : ℕ) → k < W.lanes → n ≢ net → bit_at (plane W.lane_bit k nets.new.words.items) n ≡ bit_at (plane W.lane_bit k nets.old.words.items) n }
 {
-    let own = value_word(cycle.row, &nets.words, net);
-    let word = forced_difference(cycle.row, &forces.by_net, net, own);
     match place {
-        None => store(NetId(net), word, cycle.fanout, nets),
+        None => {
+            let own = value_word(cycle.row, &nets.words, net);
+            let word = forced_difference(cycle.row, &forces.by_net, net, own);
+            store(NetId(net), word, cycle.fanout, nets);
+        }
         Some(place) => {
-            if !word.is_none() {
+            let golden: W = golden_word(cycle.row, net);
+            if !forced_difference(cycle.row, &forces.by_net, net, golden).is_none() {
                 nets.marks.put(place as usize);
             }
         }

@@ -1,6 +1,7 @@
 use Rattle.std.proofs.Common.{◌≡◌, get_or, refl, ap, ap₂, sym, ◌∙◌, arith}
 use Rattle.std.proofs.lemmas.Bool.{true≢false}
 use Rattle.circuit.specs.Value.{bit_at}
+use Rattle.golden_difference.proofs.Exclusive.{either_none}
 use Rattle.lane_words.specs.Bits.{either}
 use Rattle.lane_words.specs.Gates.{plane}
 use Rattle.place_set.specs.Places.{has, value_in}
@@ -15,7 +16,7 @@ returns-in-None-clause-forced g c = record {
       ap (λ words. bit_at (plane g.W.Word.lane_bit k words) c.args.net) c.store.ensures.word
       ∙ at_set_same g.W.Word.lane_bit k c.args.nets.now.words.items c.args.net c.forced_difference-word.result (omega (arith, c.requires.net, c.requires.nets.words))
       ∙ c.forced_difference-word.ensures k d lt
-      ∙ ap₂ (λ forces own. either (force_value g.W.Word.lane_bit k (get_or forces c.args.net d) own) (value_in c.args.cycle.now.row.now c.args.net)) c.deref-2.ensures.value
+      ∙ ap₂ (λ forces own. either (force_value g.W.Word.lane_bit k (get_or forces c.args.net d) own) (value_in c.args.cycle.now.row.now c.args.net)) c.deref-in-None.ensures.value
       (c.value_word-own.ensures k lt ∙ ap (λ words. read_in g.W.Word.lane_bit k c.args.cycle.now.row.now words c.args.net) c.deref.ensures.value);
   table = λ k p is lt. absurd (cc);
   marked = λ k p d is none lt same. absurd (cc);
@@ -53,9 +54,10 @@ returns-else-not-is_none-clause-forced g c = record {
   source = λ k d none lt. absurd (cc);
   table = λ k p is lt. refl;
   marked = λ k p d is none lt before.
-      sym
-      (c.forced_difference-word.ensures k d lt
-      ∙ ap₂ (λ forces own. either (force_value g.W.Word.lane_bit k (get_or forces c.args.net d) own) (value_in c.args.cycle.now.row.now c.args.net)) c.deref-2.ensures.value
-      (c.value_word-own.ensures k lt ∙ ap (λ words. read_in g.W.Word.lane_bit k c.args.cycle.now.row.now words c.args.net) c.deref.ensures.value))
+      ap (λ own. either (force_value g.W.Word.lane_bit k (get_or c.args.forces.now.by_net.items c.args.net d) own) (value_in c.args.cycle.now.row.now c.args.net))
+      (ap (either (value_in c.args.cycle.now.row.now c.args.net)) (before k lt) ∙ either_none (value_in c.args.cycle.now.row.now c.args.net) ∙ sym (c.golden_word-golden.ensures k lt))
+      ∙ sym
+      (c.forced_difference.ensures k d lt
+      ∙ ap (λ forces. either (force_value g.W.Word.lane_bit k (get_or forces c.args.net d) (g.W.Word.lane_bit c.golden_word-golden.result k)) (value_in c.args.cycle.now.row.now c.args.net)) c.deref-in-Some.ensures.value)
       ∙ c.is_none.ensures.none c.if-not-is_none.false k lt;
 }
