@@ -111,8 +111,8 @@ module _ (o : Ordered) where
     reads = record {
       bound = new.read_bound;
       found = λ n lt none. record {
-          outside = λ out place reads. new.none (driven_at o place);
-          inside = λ there i is. true≢false (sym there ∙ new.none n);
+        outside = λ out place reads. new.none (driven_at o place);
+        inside = λ there i is. true≢false (sym there ∙ new.none n);
       };
       room = new.read_room;
       listed = record {

@@ -101,14 +101,7 @@ fn run_cone<W: Word, L: Ledger>(
     ensures nets { AreShownNetsOf W.lanes W.lane_bit cycle.now.fanout.now nets.new }
     ensures cost { steps.new ≤ steps.old + length cycle.now.order.now }
 {
-    sweep_cone(
-        cycle,
-        forces,
-        cone,
-        &latches.raw,
-        &mut nets.values,
-        steps,
-    );
+    sweep_cone(cycle, forces, cone, &latches.raw, &mut nets.values, steps);
     take_ends(
         cycle.netlist,
         cone,
