@@ -9,7 +9,8 @@ use Rattle.std.proofs.Math.Nat.{add-mod_right}
 use Rattle.fm_base.specs.Lists.{some_below}
 use Rattle.fm_base.specs.Planes.{bit}
 use Rattle.alarm_points.specs.Watch.{IsAfterPairs, IsWatch, Pair, Watch, differs_in, is_settled, pair_at, raised_in}
-use Rattle.alarm_points.proofs.Planes.{bit_of_or, bit_of_none}
+use Rattle.fm_base.proofs.Bits.{bit_of_or}
+use Rattle.alarm_points.proofs.Planes.{bit_of_none}
 use Rattle.alarm_points.proofs.Settled.{is_settled-same, settled_due, settled_early, settled_none, some_below-same, some_below-suc, some_below-zero}
 use Rattle.std.proofs.Math.Bool.{or-false}
 

@@ -1,5 +1,5 @@
 -- What the bits of a difference say of a point.
-use Rattle.std.proofs.Common.{◌≡◌, ◌&&◌, Bool, true, false, not, refl}
+use Rattle.std.proofs.Common.{◌≡◌, ◌&&◌, ◌||◌, Bool, true, false, not, refl}
 use Rattle.fm_base.specs.Lists.{same_bit}
 use Rattle.lane_words.specs.Bits.{either}
 
@@ -21,3 +21,13 @@ silenced_where true true = refl
 silenced_where true false = refl
 silenced_where false true = refl
 silenced_where false false = refl
+
+-- exactly one of two bits, or both
+pub or_where : (a b : Bool) → either (either a b) (a && b) ≡ (a || b)
+or_where true true = refl
+or_where true false = refl
+or_where false b = xor_none b
+  where
+    xor_none : (b : Bool) → either b false ≡ b
+    xor_none true = refl
+    xor_none false = refl

@@ -1,5 +1,5 @@
 -- Lanes in a run, as they are followed.
-use Rattle.std.specs.Prelude.{◌≡◌, ◌≢◌, ℕ, ◌<◌, ◌+◌, Bool, List, take}
+use Rattle.std.specs.Prelude.{◌≡◌, ℕ, ◌<◌, ◌+◌, Bool, List, take}
 use Rattle.circuit.specs.declared.parts.Fault.{Fault}
 use Rattle.workload.specs.declared.run.Kind.{Kind}
 use Rattle.workload.specs.declared.run.Run.{Run}
@@ -36,11 +36,6 @@ pub record KeepPlace (old new : LanesInRun) : Type 0 where
   pub load : new.load ≡ old.load
   pub cycle : new.cycle ≡ old.cycle
   pub after : (vectors : List (List Bool)) → old.IsAfter vectors → new.IsAfter vectors
-
--- and only in one word
-pub record KeepOthers (words word : ℕ) (old new : LanesInRun) : Type 0 where
-  pub place : KeepPlace old new
-  pub others : (other k : ℕ) → other < words → k < 64 → other ≢ word → new.faults other k ≡ old.faults other k
 
 -- the last cycle is cycle t of a run of this kind, and the row has its golden values
 pub record IsLastCycle (kind : Kind) (run : Run) (t : ℕ) (row : List ℕ) (lanes : LanesInRun) : Type 0 where

@@ -1,5 +1,5 @@
 -- Alarms that are raised and silenced in a cycle.
-use Rattle.std.specs.Prelude.{◌≡◌, ℕ, ◌<◌, ◌&&◌, not, List}
+use Rattle.std.specs.Prelude.{◌≡◌, ℕ, ◌<◌, ◌&&◌, not, List, slice_index_or}
 use Rattle.std.specs.List.{list_any}
 use Rattle.circuit.specs.declared.parts.Fault.{Fault}
 use Rattle.circuit.specs.declared.parts.NetId.{NetId}
@@ -14,3 +14,7 @@ use Rattle.classifier.specs.declared.noise.Noise.{Noise}
 pub record IsNoiseOf (c : Circuit) (faults : ℕ → List Fault) (run : Run) (t : ℕ) (nets : List NetId) (noise : Noise) : Type 0 where
   pub raised : (k : ℕ) → k < 64 → bit noise.raised k ≡ list_any (λ net. with_faults c (faults k) run t net && not (golden c run t net)) nets
   pub silenced : (k : ℕ) → k < 64 → bit noise.silenced k ≡ list_any (λ net. not (with_faults c (faults k) run t net) && golden c run t net) nets
+
+-- the alarms of a word
+abbrev pub noise_at : List Noise → ℕ → Noise
+noise_at noise word = slice_index_or noise word (record { raised = 0; silenced = 0 })

@@ -1,5 +1,5 @@
 // Lanes that are followed through a run.
-ghost use Rattle.std.specs.Prelude.{◌≡◌, ◌≢◌, ◌<◌, ◌≤◌, ◌+◌, ◌⊎◌, ◌++◌, ◌∷◌, [], ℕ, All, Bool, List, false, true, length, not, take};
+ghost use Rattle.std.specs.Prelude.{◌≡◌, ◌≢◌, ◌<◌, ◌≤◌, ◌+◌, ◌⊎◌, ◌++◌, ◌∷◌, [], ℕ, All, Bool, List, false, true, length, not, slice_index_or, take};
 ghost use Rattle.std.specs.List.{list_any};
 ghost use Rattle.circuit.specs.Sound.{IsNet};
 ghost use Rattle.workload.specs.declared.run.Run.{Run};
@@ -9,10 +9,10 @@ ghost use Rattle.fm_base.specs.Lists.{same_bit};
 ghost use Rattle.fm_base.specs.Planes.{bit};
 ghost use Rattle.golden_difference.specs.Beside.{IsGoldenRow};
 ghost use Rattle.classifier.specs.InRun.{AreAllOver, IsForBench, KeepPlace, LanesInRun, in_run};
-ghost use Rattle.classifier.specs.Noise.{IsNoiseOf};
+ghost use Rattle.classifier.specs.Noise.{IsNoiseOf, noise_at};
 
 use crate::noise::Noise;
-use crate::points::{differing, noise_in};
+use crate::points::{differ_in, hear, noise_of, parts_of};
 use crate::testbench::Testbench;
 use circuit::parts::NetId;
 use differential_kernel::DifferentialLanes;
@@ -28,24 +28,23 @@ pub trait Followed {
 
     /// The number of words.
     fn words() -> u32
-        ensures { result ≡ words };
+        ensures count { result ≡ words }
+        ensures few { words ≤ 4 };
 
-    /// The lanes of a word in which some of these nets differs from the golden run in the last cycle.
-    fn differing(&self, word: u32, nets: &[NetId]) -> u64
-        requires word { word < words }
-        requires nets { All (IsNet (in_run self.now).load.circuit) nets.now }
-        ensures { (run : Run) (t k : ℕ) → t < cycles_of run → (in_run self.now).IsAfter (take (t + 1) run.vectors) → k < 64
-            → bit result k ≡ list_any (λ net. not (same_bit (with_faults (in_run self.now).load.circuit ((in_run self.now).faults word k) run t net)
+    /// The lanes of each word in which some of these nets differs from the golden run in the last cycle.
+    fn differing(&self, nets: &[NetId]) -> [u64; 4]
+        requires { All (IsNet (in_run self.now).load.circuit) nets.now }
+        ensures { (run : Run) (t word k : ℕ) → t < cycles_of run → (in_run self.now).IsAfter (take (t + 1) run.vectors) → word < words → k < 64
+            → bit (slice_index_or result word 0) k ≡ list_any (λ net. not (same_bit (with_faults (in_run self.now).load.circuit ((in_run self.now).faults word k) run t net)
             (golden_value (in_run self.now).load.circuit run t net))) nets.now };
 
-    /// The lanes of a word in which some of these alarms is raised in the last cycle, and those in which some is silenced. `row`
+    /// The lanes of each word in which some of these alarms is raised in the last cycle, and those in which some is silenced. `row`
     /// has the golden values of this cycle.
-    fn noise_in(&self, word: u32, row: &[u64], nets: &[NetId]) -> Noise
-        requires word { word < words }
-        requires nets { All (IsNet (in_run self.now).load.circuit) nets.now }
-        ensures { (run : Run) (t : ℕ) → t < cycles_of run → (in_run self.now).IsAfter (take (t + 1) run.vectors)
-            → IsGoldenRow (in_run self.now).load.circuit run.vectors t row.now
-            → IsNoiseOf (in_run self.now).load.circuit ((in_run self.now).faults word) run t nets.now result };
+    fn noise_in(&self, row: &[u64], nets: &[NetId]) -> [Noise; 4]
+        requires { All (IsNet (in_run self.now).load.circuit) nets.now }
+        ensures { (run : Run) (t word : ℕ) → t < cycles_of run → (in_run self.now).IsAfter (take (t + 1) run.vectors)
+            → IsGoldenRow (in_run self.now).load.circuit run.vectors t row.now → word < words
+            → IsNoiseOf (in_run self.now).load.circuit ((in_run self.now).faults word) run t nets.now (noise_at result word) };
 
     /// Drops the lanes of a word whose bit is set.
     fn drop_lanes(&mut self, word: u32, out: u64)
@@ -80,12 +79,12 @@ impl<W: Word> Followed for DifferentialLanes<W> {
         W::words()
     }
 
-    fn differing(&self, word: u32, nets: &[NetId]) -> u64 {
-        differing(self, word, nets)
+    fn differing(&self, nets: &[NetId]) -> [u64; 4] {
+        parts_of(differ_in(self, nets))
     }
 
-    fn noise_in(&self, word: u32, row: &[u64], nets: &[NetId]) -> Noise {
-        noise_in(self, word, row, nets)
+    fn noise_in(&self, row: &[u64], nets: &[NetId]) -> [Noise; 4] {
+        noise_of(&hear(self, row, nets))
     }
 
     fn drop_lanes(&mut self, word: u32, out: u64) {

@@ -1,13 +1,16 @@
 // The last lanes of four words, simulated in one.
-ghost use Rattle.std.specs.Prelude.{◌≡◌, IfOk, true};
+ghost use Rattle.std.specs.Prelude.{◌≡◌, ◌<◌, ◌+◌, ◌*◌, ℕ, IfOk, slice_index_or, true};
 ghost use Rattle.circuit.specs.Order.{IsOrder};
+ghost use Rattle.fm_base.specs.Planes.{bit};
+ghost use Rattle.differential_kernel.specs.Picked.{ArePicks, bit_at_place, place_in};
 ghost use Rattle.golden_difference.specs.Lanes.{IsMadeFor};
 ghost use Rattle.classifier.specs.InRun.{in_run};
 ghost use Rattle.classifier.specs.Narrowed.{GoOnIn, narrow_in_run};
+ghost use Rattle.classifier.specs.Noise.{noise_at};
 
 use crate::followed::Followed;
-use crate::noise::Noise;
-use crate::points::{differing, noise_in};
+use crate::noise::{Heard, Noise, SILENT};
+use crate::points::{differ_in, hear};
 use crate::testbench::Testbench;
 use circuit::netlist::Netlist;
 use circuit::parts::NetId;
@@ -17,6 +20,36 @@ use lane_words::Word;
 use netlist_levels::Order;
 use std::alloc::{AllocError, Global};
 use std::sync::ledger::Ledger;
+
+// The planes of four words of lanes, of which the bits stand at their places.
+fn spread_bits(picks: &Picks, bits: u64) -> [u64; 4]
+    ensures bits { (word k : ℕ) → word < 4 → k < 64 → bit (slice_index_or result word 0) k ≡ bit_at_place bits (place_in picks.now (word * 64 + k)) }
+    ensures sound { ArePicks picks.now }
+{
+    let _few = picks.count();
+    let mut planes = [0; 4];
+    for word in 0..4 {
+        planes[word as usize] = picks.spread(word, bits);
+    }
+    planes
+}
+
+// The alarms of four words of lanes, of which the bits stand at their places.
+fn spread_noise(picks: &Picks, heard: &Heard<u64>) -> [Noise; 4]
+    ensures raised { (word k : ℕ) → word < 4 → k < 64 → bit (noise_at result word).raised k ≡ bit_at_place heard.now.raised (place_in picks.now (word * 64 + k)) }
+    ensures silenced { (word k : ℕ) → word < 4 → k < 64 → bit (noise_at result word).silenced k ≡ bit_at_place heard.now.silenced (place_in picks.now (word * 64 + k)) }
+    ensures sound { ArePicks picks.now }
+{
+    let _few = picks.count();
+    let mut noise = [SILENT; 4];
+    for word in 0..4 {
+        noise[word as usize] = Noise {
+            raised: picks.spread(word, heard.raised),
+            silenced: picks.spread(word, heard.silenced),
+        };
+    }
+    noise
+}
 
 /// What goes on with the last lanes of four words in one word, where each has its place. No call but `new` takes memory.
 #[derive(Drop)]
@@ -62,16 +95,12 @@ impl Followed for Narrow {
         4
     }
 
-    fn differing(&self, word: u32, nets: &[NetId]) -> u64 {
-        self.picks.spread(word, differing(&self.lanes, 0, nets))
+    fn differing(&self, nets: &[NetId]) -> [u64; 4] {
+        spread_bits(&self.picks, differ_in(&self.lanes, nets))
     }
 
-    fn noise_in(&self, word: u32, row: &[u64], nets: &[NetId]) -> Noise {
-        let noise = noise_in(&self.lanes, 0, row, nets);
-        Noise {
-            raised: self.picks.spread(word, noise.raised),
-            silenced: self.picks.spread(word, noise.silenced),
-        }
+    fn noise_in(&self, row: &[u64], nets: &[NetId]) -> [Noise; 4] {
+        spread_noise(&self.picks, &hear(&self.lanes, row, nets))
     }
 
     fn drop_lanes(&mut self, word: u32, out: u64) {

@@ -12,3 +12,10 @@ pub const SILENT: Noise = Noise {
     raised: 0,
     silenced: 0,
 };
+
+/// The same of all lanes of some words at once.
+#[derive(Clone, Copy)]
+pub struct Heard<W> {
+    pub raised: W,
+    pub silenced: W,
+}

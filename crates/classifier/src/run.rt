@@ -4,17 +4,16 @@ ghost use Rattle.circuit.specs.declared.parts.Fault.{Fault};
 ghost use Rattle.circuit.specs.Circuit.{Circuit};
 ghost use Rattle.workload.specs.declared.run.Run.{Run};
 ghost use Rattle.workload.specs.Runs.{cycles_of, run_at};
-ghost use Rattle.alarm_points.specs.FourWatches.{AreAllMadeFor};
+ghost use Rattle.alarm_points.specs.FourWatches.{AreAllMadeFor, windows_at};
 ghost use Rattle.alarm_points.specs.PointsKept.{ArePointsFor};
-ghost use Rattle.alarm_points.specs.Watch.{KeepsIntervals};
 ghost use Rattle.fm_base.specs.Planes.{bit};
-ghost use Rattle.classifier.specs.InRun.{AreAllOver, IsLastCycle, KeepOthers, KeepPlace, in_run};
+ghost use Rattle.classifier.specs.InRun.{AreAllOver, IsLastCycle, KeepPlace, in_run};
 ghost use Rattle.classifier.specs.Load.{load_of};
 ghost use Rattle.classifier.specs.Narrowed.{AreNarrowFor, GoOnIn, narrow_in_run};
 ghost use Rattle.classifier.specs.declared.narrow.Narrow.{Narrow as NarrowValue};
 ghost use Rattle.classifier.specs.OutOfReach.{decided_at};
 ghost use Rattle.classifier.specs.declared.decided.Decided.{Decided as DecidedValue};
-ghost use Rattle.classifier.specs.Seen.{AllKeepIntervals, Begins, HasBeenRun, HaveAllSeen, IsWatched, is_decided, is_dropped};
+ghost use Rattle.classifier.specs.Seen.{AllKeepIntervals, Begins, HasBeenRun, HaveAllSeen, is_decided, is_dropped, known_at, left_at};
 ghost use Rattle.classifier.specs.Stretch.{AreAllWatched, AreForWords, AreMadeForBench, IsStretch, IsUnderWay, under_way};
 
 use crate::decided::Decided;
@@ -69,32 +68,28 @@ fn all_left(decided: Decided, windows: &Windows, left: u64) -> u64
     either_lanes(left, decided.notice & windows.settled())
 }
 
-// Shows the last cycle of a run of this kind to the windows of a word, and drops its lanes in which nothing more decides. `row` has
-// the golden values of the cycle.
-fn see_word<F: Followed>(
-    points: &Points,
-    kind: Kind,
-    row: &[u64],
-    decided: Decided,
-    word: u32,
+// Drops the lanes of each word in which nothing more decides, where `seen` are those that had left or are noticed. Those that have
+// left are then in `left`.
+fn leave_words<F: Followed>(
+    decided: &[Decided],
+    seen: &[u64; 4],
+    windows: &[Windows],
     lanes: &mut F,
-    windows: &mut Windows,
-    left: &mut u64,
+    left: &mut [u64],
 )
-    requires word { word < F.words }
-    requires points { ArePointsFor (F.in_run lanes.old).load.circuit points.now }
-    requires windows { length windows.old.windows ≡ length points.now.goals }
-    ensures others { KeepOthers F.words word (F.in_run lanes.old) (F.in_run lanes.new) }
-    ensures intervals { KeepsIntervals windows.old windows.new }
-    ensures seen { (run : Run) (faults : ℕ → List Fault) (t : ℕ) → IsLastCycle kind run t row.now (F.in_run lanes.old)
-        → IsWatched (F.in_run lanes.old).load.circuit points.now run faults decided.notice t ((F.in_run lanes.old).faults word) windows.old left.old
-        → IsWatched (F.in_run lanes.old).load.circuit points.now run faults decided.notice (t + 1) ((F.in_run lanes.new).faults word) windows.new left.new }
+    requires { (length decided.now ≡ F.words) × (length windows.now ≡ F.words) × (length left.old ≡ F.words) }
+    ensures place { KeepPlace (F.in_run lanes.old) (F.in_run lanes.new) }
+    ensures left { (word k : ℕ) → word < F.words
+        → bit (left_at left.new word) k ≡ is_dropped (known_at decided.now word) (windows_at windows.now word) (left_at seen.now word) k }
+    ensures dropped { (word k : ℕ) → word < F.words → k < 64 → ((F.in_run lanes.new).faults word k ≡ (F.in_run lanes.old).faults word k)
+        ⊎ ((bit (left_at left.new word) k ≡ true) × ((F.in_run lanes.new).faults word k ≡ [])) }
 {
-    let before = *left;
-    see_cycle(lanes, word, points, kind, row, windows, left);
-    let out = all_left(decided, windows, *left);
-    drop_more(lanes, word, before, out);
-    *left = out;
+    for word in 0..F::words() {
+        let at = word as usize;
+        let out = all_left(decided[at], &windows[at], seen[at]);
+        drop_more(lanes, word, left[at], out);
+        left[at] = out;
+    }
 }
 
 // Shows the last cycle of a run of this kind to the windows of each word, and drops the lanes in which nothing more decides. `row`
@@ -116,19 +111,8 @@ fn see_words<F: Followed>(
         → AreAllWatched points.now run F.words faults decided.now t (under_way (F.in_run lanes.old) windows.old left.old)
         → AreAllWatched points.now run F.words faults decided.now (t + 1) (under_way (F.in_run lanes.new) windows.new left.new) }
 {
-    for word in 0..F::words() {
-        let at = word as usize;
-        see_word(
-            points,
-            kind,
-            row,
-            decided[at],
-            word,
-            lanes,
-            &mut windows[at],
-            &mut left[at],
-        );
-    }
+    let seen = see_cycle(lanes, points, kind, row, windows, left);
+    leave_words(decided, &seen, windows, lanes, left);
 }
 
 // Simulates the next cycle of a run, and shows it to the windows of each word.

@@ -1,6 +1,5 @@
 -- What holds before the first table of a cycle, in one lane.
 use Rattle.std.proofs.Common.{◌≡◌, inl, inr, ℕ, ◌+◌, ◌<◌, Bool, false, List, [], ◌∷◌, length, map, get_or, refl, ap, ap₂, sym, subst, ◌∙◌, arith}
-use Rattle.std.specs.Prelude.{Option, None, Some}
 use Rattle.std.specs.List.{Contains}
 use Rattle.std.proofs.lemmas.Bool.{cases_lt}
 use Rattle.std.proofs.lemmas.List.{get_or_past, length-append, length-map}
@@ -23,7 +22,6 @@ use Rattle.place_set.specs.Places.{value_in}
 use Rattle.lane_words.specs.declared.force.Force.{Force}
 use Rattle.differential_kernel.specs.Differences.{read_in}
 use Rattle.lane_words.specs.Forces.{force_value, AreForces}
-use Rattle.differential_kernel.specs.Places.{AreTablePlaces}
 use Rattle.differential_kernel.specs.Walk.{IsPair}
 use Rattle.differential_kernel.specs.Forced.{forced_in}
 use Rattle.differential_kernel.proofs.Walking.{some_force}
@@ -43,20 +41,6 @@ read_within o n place there =
 
     nobody : Contains {X = NetId} [] (record { 0 = n }) → ⊥
     nobody (k, lt, at) = omega arith
-
-none_or_some : (place : Option ℕ) → ((q : ℕ) → place ≡ Some q → ⊥) → place ≡ None
-none_or_some None never = refl
-none_or_some (Some q) never = absurd (never q refl)
-
--- a net that no table drives has no place
-pub no_place : (c : Circuit) (order : List NetId) (places : List (Option ℕ)) (n : ℕ) → IsOrder c order → AreTablePlaces c order places
-    → ((k : ℕ) → driver_at c n ≡ FromTable k → ⊥) → get_or places n None ≡ None
-no_place c order places n ordered are none =
-    none_or_some (get_or places n None)
-    (λ q is.
-    let at = are.each n q is in
-    let table = ordered.tables q at.0 in
-    none table.0 (ap (driver_at c) (sym at.1) ∙ table.1))
 
 module _ {W : Type 0} (lanes : ℕ) (bit : W → ℕ → Bool) (k : ℕ) (lt_k : k < lanes) (c : Circuit) (order : List NetId) (sound : IsNetlist c) (ordered : IsOrder c order)
     (row : List ℕ) (forces : List (Force W)) (size : length forces ≡ length c.drivers)
@@ -100,14 +84,14 @@ module _ {W : Type 0} (lanes : ℕ) (bit : W → ℕ → Bool) (k : ℕ) (lt_k :
               (λ l lt. holds l (subst (λ (e : Circuit). l < length e.latches) pair.circuit lt)) m.0 net none)
 
   -- where words tell what they differ in
-  pub begun : (places : List (Option ℕ)) → AreTablePlaces c order places → (held : ℕ → Bool) (words next : List W)
+  pub begun : (held : ℕ → Bool) (words next : List W)
       → ((l : ℕ) → l < length c.latches → held l ≡ either (bit_at x.state l) (bit_at golden.state l))
       → ((n : ℕ) → n < length c.drivers → ((i : ℕ) → driver_at c n ≡ FromTable i → ⊥) → bit_at (plane bit k words) n ≡ latched held (driver_at c n))
-      → ((n : ℕ) (d : Force W) → n < length c.drivers → get_or places n None ≡ None → bit_at (plane bit k next) n ≡ forced_in bit k row forces d words n)
+      → ((n : ℕ) (d : Force W) → n < length c.drivers → bit_at (plane bit k next) n ≡ forced_in bit k row forces d words n)
       → Walked x (read_in bit k row next) [] 0
-  begun places are_places held words next holds values forced =
+  begun held words next holds values forced =
       begun_by held (read_in bit k row next) holds
       (λ n d within free.
-      ap (either (value_in row n)) (forced n d within (no_place c order places n ordered are_places free))
+      ap (either (value_in row n)) (forced n d within)
       ∙ either_back (value_in row n) (force_value bit k (get_or forces n d) (read_in bit k row words n))
       ∙ ap (λ b. force_value bit k (get_or forces n d) (either (value_in row n) b)) (values n within free))

@@ -16,3 +16,4 @@ pub mod Ends
 pub mod Told
 pub mod Valued
 pub mod Swept
+pub mod Sends

@@ -2,7 +2,7 @@
 use Rattle.std.proofs.Common.{◌≡◌, ◌≢◌, inl, inr, ℕ, ◌+◌, ◌<◌, ◌≤◌, ltb, cond, Bool, true, false, List, length, get_or, set, refl, ap, sym, subst, ◌∙◌, arith}
 use Rattle.std.proofs.lemmas.Bool.{cases_eq, cases_lt, false_from_ne_true, le-ltb, lt-ltb, true≢false}
 use Rattle.std.proofs.lemmas.List.{get_or-set_same, get_or-set_other}
-use Rattle.differential_kernel.specs.Cone.{AreThose}
+use Rattle.differential_kernel.specs.Places.{AreThose}
 
 -- the number at a place of the list, or behind the last one the bound
 abbrev pub next_in : List ℕ → ℕ → ℕ → ℕ → ℕ
@@ -25,17 +25,27 @@ module _ (is : ℕ → Bool) where
     whole = λ p lt there. absurd (omega arith);
   }
 
-  -- one more, of which it isn't true
-  pub those_past : (list : List ℕ) (count q : ℕ) → is q ≡ false → AreThose is q list count → AreThose is (q + 1) list count
-  those_past list count q none those = record {
+  -- some more, of which it isn't true
+  pub those_until : (list : List ℕ) (count q to : ℕ) → q ≤ to → ((p : ℕ) → q ≤ p → p < to → is p ≡ false) → AreThose is q list count → AreThose is to list count
+  those_until list count q to le none those = record {
     few = omega (arith, those.few);
     below = λ i lt. omega (arith, those.below i lt);
     each = those.each;
     ascending = those.ascending;
-    whole = λ p lt there.
-        let other : p ≢ q = λ same. true≢false (sym there ∙ ap is same ∙ none) in
-        those.whole p (omega (arith, lt, other)) there;
+    whole = λ p lt there. elim (cases_lt p q) as (λ _. (i : ℕ) × (i < count) × (get_or list i 0 ≡ p)) [
+      | inl less ↦ those.whole p less there
+      | inr most ↦ absurd (true≢false (sym there ∙ none p most lt))
+    ];
   }
+
+  -- one more
+  pub those_past : (list : List ℕ) (count q : ℕ) → is q ≡ false → AreThose is q list count → AreThose is (q + 1) list count
+  those_past list count q none those =
+      those_until list count q (q + 1) (omega arith)
+      (λ p most less.
+      let same : p ≡ q = omega arith in
+      ap is same ∙ none)
+      those
 
   -- one more, of which it is
   pub those_more : (list : List ℕ) (count q : ℕ) → is q ≡ true → count < length list → AreThose is q list count → AreThose is (q + 1) (set list count q) (count + 1)

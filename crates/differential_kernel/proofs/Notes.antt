@@ -77,6 +77,15 @@ module _ {W : Type 0} (lanes : ℕ) (bit : W → ℕ → Bool) where
       at_set_other bit k words n p v before.0 ∙ same p before.1 k lt
 
   -- nothing is stored, and its place taken out of the set
+  -- a word in which nothing differs, in place of another
+  pub same_set : (words : List W) (n p : ℕ) (v : W) → n < length words → ((k : ℕ) → k < lanes → bit v k ≡ false)
+      → ((p ≡ n → ⊥) → IsSame lanes bit words p) → IsSame lanes bit (set words n v) p
+  same_set words n p v within none_in same k lt =
+      elim (cases_eq p n) [
+        | inl here ↦ ap (bit_at (plane bit k (set words n v))) here ∙ at_set_same bit k words n v within ∙ none_in k lt
+        | inr other ↦ at_set_other bit k words n p v other ∙ same other k lt
+      ]
+
   pub same_taken : (old new : Places) (words : List W) (n : ℕ) (v : W) → n < length words → ((p : ℕ) → has new p ≡ cond (p == n) false (has old p))
       → ((k : ℕ) → k < lanes → bit v k ≡ false) → AreSameOff lanes bit old words → AreSameOff lanes bit new (set words n v)
   same_taken old new words n v within is none_in same p none k lt =

@@ -1,5 +1,5 @@
 -- Places outside of a cone, in one lane.
-use Rattle.std.proofs.Common.{◌≡◌, inl, inr, ℕ, zero, suc, ◌+◌, ◌<◌, ◌≤◌, Bool, false, List, length, take, ap, subst, ◌∙◌, arith}
+use Rattle.std.proofs.Common.{◌≡◌, inl, inr, ℕ, zero, suc, ◌+◌, ◌<◌, ◌≤◌, Bool, false, List, length, take, ap, sym, subst, ◌∙◌, arith}
 use Rattle.std.proofs.lemmas.Bool.{cases_eq}
 use Rattle.circuit.specs.declared.parts.NetId.{NetId}
 use Rattle.circuit.specs.Circuit.{Circuit}
@@ -30,10 +30,12 @@ module _ {W : Type 0} (lanes : ℕ) (bit : W → ℕ → Bool) (k : ℕ) (lt_k :
       → Walked x (λ n. either (value_in row n) (differs n)) (take j order) j → Walked x (λ n. either (value_in row n) (differs n)) (take (j + 1) order) (j + 1)
   quiet_out differs nets j lt closed same idle none =
       let inside : (net_at order j).0 < length forces = omega (arith, ordered.nets j (record { 0 = 0 }) lt, size) in
-      quiet_by lanes bit k lt_k c order sound ordered row forces size x golden pair are differs j lt (λ m reads. same m (table_out ordered_of nets closed j m lt none reads)) (same (net_at order j).0 none)
+      quiet_by lanes bit k lt_k c order sound ordered row forces size x golden pair are differs j lt (λ m reads. same m (table_out ordered_of nets closed j m lt none reads))
       (λ d.
-      ap (λ b. either b (value_in row (net_at order j).0)) (idle (net_at order j).0 inside none k d (value_in row (net_at order j).0) lt_k)
-      ∙ either_same (value_in row (net_at order j).0))
+      same (net_at order j).0 none
+      ∙ sym
+      (ap (λ b. either b (value_in row (net_at order j).0)) (idle (net_at order j).0 inside none k d (value_in row (net_at order j).0) lt_k)
+      ∙ either_same (value_in row (net_at order j).0)))
 
   -- such places, one after the other
   pub quiet_outs : (differs : ℕ → Bool) (nets : Places) (from to : ℕ) → from ≤ to → to ≤ length order → IsClosed ordered_of nets → ((n : ℕ) → has nets n ≡ false → differs n ≡ false)

@@ -70,11 +70,11 @@ module _ {W : Type 0} (lanes : ℕ) (bit : W → ℕ → Bool) (k : ℕ) (lt_k :
   ordered_of = record { circuit = c; order = order }
 
   -- A PLACE THAT ISN'T EVALUATED
-  -- it reads nothing that differs, and its net doesn't differ and isn't forced away from its golden value
-  pub quiet_by : (differs : ℕ → Bool) (j : ℕ) → j < length order → ((m : ℕ) → IsReadAt ordered_of m j → differs m ≡ false) → differs (net_at order j).0 ≡ false
-      → ((d : Force W) → either (force_value bit k (get_or forces (net_at order j).0 d) (value_in row (net_at order j).0)) (value_in row (net_at order j).0) ≡ false)
+  -- it reads nothing that differs, and its net differs in what its force makes of its golden value
+  pub quiet_by : (differs : ℕ → Bool) (j : ℕ) → j < length order → ((m : ℕ) → IsReadAt ordered_of m j → differs m ≡ false)
+      → ((d : Force W) → differs (net_at order j).0 ≡ either (force_value bit k (get_or forces (net_at order j).0 d) (value_in row (net_at order j).0)) (value_in row (net_at order j).0))
       → Walked x (λ n. either (value_in row n) (differs n)) (take j order) j → Walked x (λ n. either (value_in row n) (differs n)) (take (j + 1) order) (j + 1)
-  quiet_by differs j lt reads own free walked =
+  quiet_by differs j lt reads own walked =
       let back : c ≡ x.circuit = sym pair.circuit in
       let inside : (net_at order j).0 < length forces = omega (arith, ordered.nets j (record { 0 = 0 }) lt, size) in
       let d : Force W = some_force forces (net_at order j).0 inside in
@@ -85,21 +85,15 @@ module _ {W : Type 0} (lanes : ℕ) (bit : W → ℕ → Bool) (k : ℕ) (lt_k :
       (pair.golden_circuit ∙ back) pair.none (λ m within. pair.values m (subst (λ (e : Circuit). m < length e.drivers) pair.circuit within))
       (λ i m driver there. reads m.0
       (table_read ordered_of j i m lt (ap (λ (e : Circuit). driver_at e (net_at order j).0) back ∙ driver) (subst (λ (e : Circuit). Contains (table_at e.tables i).ins m) pair.circuit there)))
-      own
-      (ap (λ b. either b (value_in row (net_at order j).0)) (sym (are (net_at order j).0 d (value_in row (net_at order j).0) inside)) ∙ free d))
+      (own d ∙ ap (λ b. either b (value_in row (net_at order j).0)) (are (net_at order j).0 d (value_in row (net_at order j).0) inside)))
       walked
-
-  quiet_here : (words : List W) (j : ℕ) → j < length order → ((m : ℕ) → IsReadAt ordered_of m j → IsSame lanes bit words m) → IsSame lanes bit words (net_at order j).0
-      → ((d : Force W) → either (force_value bit k (get_or forces (net_at order j).0 d) (value_in row (net_at order j).0)) (value_in row (net_at order j).0) ≡ false)
-      → Walked x (read_in bit k row words) (take j order) j → Walked x (read_in bit k row words) (take (j + 1) order) (j + 1)
-  quiet_here words j lt reads own free walked = quiet_by (bit_at (plane bit k words)) j lt (λ m is. reads m is k lt_k) (own k lt_k) free walked
 
   -- one that isn't marked
   quiet : (words : List W) (marks : Places) (from j : ℕ) → from ≤ j → j < length order → AreMarked lanes bit ordered_of from words marks
       → IsAhead lanes bit order row forces from words marks → has marks j ≡ false
       → Walked x (read_in bit k row words) (take j order) j → Walked x (read_in bit k row words) (take (j + 1) order) (j + 1)
-  quiet words marks from j le lt marked ahead none =
-      quiet_here words j lt (λ m reads. marked j m le reads none) (ahead.same j le lt) (λ d. ahead.free k j d lt_k le lt none)
+  quiet words marks from j le lt marked ahead none walked =
+      quiet_by (bit_at (plane bit k words)) j lt (λ m reads. marked j m le reads none k lt_k) (λ d. ahead k j d lt_k le lt none) walked
 
   -- places that aren't marked, one after the other
   pub quiet_run : (words : List W) (marks : Places) (from n : ℕ) → from + n ≤ length order → AreMarked lanes bit ordered_of from words marks

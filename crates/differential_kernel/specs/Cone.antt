@@ -14,6 +14,7 @@ use Rattle.differential_kernel.specs.declared.force.Forces.{Forces}
 use Rattle.differential_kernel.specs.declared.latches.LatchDifferences.{LatchDifferences}
 use Rattle.differential_kernel.specs.declared.nets.NetDifferences.{NetDifferences}
 use Rattle.differential_kernel.specs.Differences.{Grows, IsEmptySet}
+use Rattle.differential_kernel.specs.Places.{AreThose}
 
 -- the net that is driven at a place: by a table of the order, or behind them all by a latch
 abbrev pub driven_at : Ordered → ℕ → ℕ
@@ -38,14 +39,6 @@ pub record Spreads (nets left more waiting : Places) : Type 0 where
   pub kept : Grows nets more
   pub left_kept : Grows left waiting
   pub own : (n : ℕ) → has more n ≡ true → has waiting n ≡ false → has nets n ≡ true
-
--- the first numbers of a list, so many, are those below a bound of which something is true, ascending
-pub record AreThose (is : ℕ → Bool) (bound : ℕ) (list : List ℕ) (count : ℕ) : Type 0 where
-  pub few : count ≤ bound
-  pub below : (i : ℕ) → i < count → slice_index list i < bound
-  pub each : (i : ℕ) → i < count → is (slice_index list i) ≡ true
-  pub ascending : (i j : ℕ) → i < j → j < count → slice_index list i < slice_index list j
-  pub whole : (p : ℕ) → p < bound → is p ≡ true → (i : ℕ) × (i < count) × (slice_index list i ≡ p)
 
 -- the latches that drive nets of the cone, as a set and as a list
 pub record AreEnds (c : Circuit) (cone : Cone) : Type 0 where

@@ -16,6 +16,7 @@ use Rattle.differential_kernel.specs.declared.latches.LatchDifferences.{LatchDif
 use Rattle.differential_kernel.specs.declared.program.Program.{Program}
 use Rattle.differential_kernel.specs.Cone.{IsConeOf}
 use Rattle.differential_kernel.specs.Differences.{Grows}
+use Rattle.differential_kernel.specs.Forces.{ChangeOnly}
 use Rattle.differential_kernel.specs.Parts.{AreForcesOf, AreLatchesOf, IsProgramOf}
 use Rattle.differential_kernel.specs.Walk.{IsPair}
 
@@ -25,11 +26,12 @@ pub record IsGoldenCycle (cycle : GoldenCycle) : Type 0 where
   pub ordered : IsOrder cycle.netlist.now cycle.order.now
   pub fanout : cycle.fanout.now ≡ record { circuit = cycle.netlist.now; order = cycle.order.now }
 
--- the program is of this netlist and this order, and each net has its force
+-- the program is of this netlist and this order, each net has its force, and these change values on nets of two sets alone
 pub record FitTogether {W : Type 0} (lanes : ℕ) (bit : W → ℕ → Bool) (cycle : GoldenCycle) (tables : Program W) (acting : Forces W) : Type 0 where
   pub golden : IsGoldenCycle cycle
   pub program : IsProgramOf lanes bit cycle.netlist.now cycle.order.now tables
   pub forces : AreForcesOf lanes bit (length cycle.netlist.now.drivers) acting
+  pub changed : ChangeOnly lanes bit acting.zeros acting.ones acting.by_net.items
 
 -- the net of each latch differs in what the latch holds, and no other net differs
 abbrev pub ShowLatches : {W : Type 0} → ℕ → (W → ℕ → Bool) → Circuit → List W → List W → Type 0

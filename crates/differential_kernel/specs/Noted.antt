@@ -7,7 +7,7 @@ use Rattle.place_set.specs.Places.{Places}
 use Rattle.differential_kernel.specs.declared.force.Forces.{Forces}
 use Rattle.differential_kernel.specs.declared.nets.NetDifferences.{NetDifferences}
 use Rattle.differential_kernel.specs.Differences.{AreMarked, Grows}
-use Rattle.differential_kernel.specs.Forces.{AreActs, AreNamed}
+use Rattle.differential_kernel.specs.Forces.{AreActs, AreNamed, ChangeOnly}
 use Rattle.differential_kernel.specs.Parts.{AreNetsOf}
 
 -- the nets of a kernel, where the places from here on that read one that differs are marked
@@ -22,10 +22,11 @@ pub record StayNoted {W : Type 0} (lanes : ℕ) (bit : W → ℕ → Bool) (o : 
   pub marked : (from : ℕ) → AreMarked lanes bit o from old.words.items old.marks → AreMarked lanes bit o from new.words.items new.marks
 
 -- of the faults that are in force the nets are named, and the cycles of flips and pulses are in a set; all other nets are left as
--- they are, and forces that are not stale are those of each cycle without a pulse
+-- they are, and forces that are not stale are those of each cycle without a pulse, and change values on nets of two sets alone
 pub record AreFaultsNoted {W : Type 0} (lanes : ℕ) (bit : W → ℕ → Bool) (loads : List (List (Option Fault))) (stale : Bool) (cycles : Places) (forces : Forces W) : Type 0 where
   pub bound : cycles.bound ≡ 65536
   pub acts : AreActs loads cycles
   pub named : AreNamed loads (length forces.by_net.items) forces.named
   pub idle : AreIdle lanes bit loads forces.by_net.items
   pub steady : stale ≡ false → AreSteady lanes bit loads forces.by_net.items
+  pub changed : stale ≡ false → ChangeOnly lanes bit forces.zeros forces.ones forces.by_net.items

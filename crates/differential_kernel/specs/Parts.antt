@@ -10,11 +10,9 @@ use Rattle.differential_kernel.specs.declared.nets.NetDifferences.{NetDifference
 use Rattle.differential_kernel.specs.declared.program.Program.{Program}
 use Rattle.differential_kernel.specs.Differences.{DifferOnlyIn}
 use Rattle.differential_kernel.specs.Forces.{AreIdleOff}
-use Rattle.differential_kernel.specs.Places.{AreTablePlaces}
 
--- each net has the place of its table, each place its table, and each operation its masks
+-- each place has its table, and each operation its masks
 pub record IsProgramOf {W : Type 0} (lanes : ℕ) (bit : W → ℕ → Bool) (c : Circuit) (order : List NetId) (program : Program W) : Type 0 where
-  pub places : AreTablePlaces c order program.places.items
   pub gates : IsProgram c order program.gates.items
   pub ops : AreOps lanes bit program.ops.items
 
@@ -23,6 +21,8 @@ pub record AreForcesOf {W : Type 0} (lanes : ℕ) (bit : W → ℕ → Bool) (ne
   pub named : forces.named.bound ≡ nets
   pub each : length forces.by_net.items ≡ nets
   pub idle : AreIdleOff lanes bit forces.named forces.by_net.items
+  pub zeros : forces.zeros.bound ≡ nets
+  pub ones : forces.ones.bound ≡ nets
 
 -- each latch has its word, and those that differ are live
 pub record AreLatchesOf {W : Type 0} (lanes : ℕ) (bit : W → ℕ → Bool) (c : Circuit) (latches : LatchDifferences W) : Type 0 where

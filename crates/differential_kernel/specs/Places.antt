@@ -1,11 +1,10 @@
--- The place of each net's table in an order.
-use Rattle.std.specs.Prelude.{◌≡◌, ℕ, ◌<◌, List, length, Option, None, Some, slice_index_or}
-use Rattle.circuit.specs.declared.parts.NetId.{NetId}
-use Rattle.circuit.specs.Circuit.{Circuit}
-use Rattle.circuit.specs.Order.{net_at}
+-- Places of which something is true, in a list.
+use Rattle.std.specs.Prelude.{◌≡◌, ℕ, ◌<◌, ◌≤◌, Bool, true, List, slice_index}
 
--- the place of the table that drives each net; nets that no table drives have none
-pub record AreTablePlaces (c : Circuit) (order : List NetId) (places : List (Option ℕ)) : Type 0 where
-  pub count : length places ≡ length c.drivers
-  pub table : (q : ℕ) → q < length order → slice_index_or places (net_at order q).0 None ≡ Some q
-  pub each : (n q : ℕ) → slice_index_or places n None ≡ Some q → (q < length order) × ((net_at order q).0 ≡ n)
+-- the first numbers of a list, so many, are those below a bound of which something is true, ascending
+pub record AreThose (is : ℕ → Bool) (bound : ℕ) (list : List ℕ) (count : ℕ) : Type 0 where
+  pub few : count ≤ bound
+  pub below : (i : ℕ) → i < count → slice_index list i < bound
+  pub each : (i : ℕ) → i < count → is (slice_index list i) ≡ true
+  pub ascending : (i j : ℕ) → i < j → j < count → slice_index list i < slice_index list j
+  pub whole : (p : ℕ) → p < bound → is p ≡ true → (i : ℕ) × (i < count) × (slice_index list i ≡ p)

@@ -3,11 +3,11 @@ use Rattle.std.specs.Prelude.{◌≡◌, ℕ, ◌<◌, ◌≤◌, Bool, false, L
 use Rattle.circuit.specs.declared.parts.NetId.{NetId}
 use Rattle.circuit.specs.Circuit.{Circuit}
 use Rattle.circuit.specs.Order.{net_at}
-use Rattle.circuit.specs.Value.{Cycle, driven, driver_at, net_value, table_gives}
+use Rattle.circuit.specs.Value.{Cycle, bit_at, driven, driver_at, net_value, table_gives}
 use Rattle.lane_words.specs.Bits.{either}
+use Rattle.lane_words.specs.Gates.{plane}
 use Rattle.place_set.specs.Places.{Places, has, value_in}
 use Rattle.lane_words.specs.declared.force.Force.{Force}
-use Rattle.differential_kernel.specs.Differences.{IsSame}
 use Rattle.lane_words.specs.Forces.{force_value}
 
 -- a cycle with faults and the golden one, of the same circuit and inputs, and the golden values in a row
@@ -22,8 +22,9 @@ pub record IsPair (c : Circuit) (row : List ℕ) (x golden : Cycle) : Type 0 whe
 abbrev pub IsGivenAt : Circuit → List ℕ → ℕ → Type 0
 IsGivenAt c row n = (state inputs : List Bool) → driven state inputs (table_gives c (value_in row)) (driver_at c n) ≡ value_in row n
 
--- the nets of the places from here on don't differ yet, and where a place isn't marked the force leaves its net's golden value
-pub record IsAhead {W : Type 0} (lanes : ℕ) (bit : W → ℕ → Bool) (order : List NetId) (row : List ℕ) (forces : List (Force W)) (from : ℕ) (words : List W) (marks : Places) : Type 0 where
-  pub same : (q : ℕ) → from ≤ q → q < length order → IsSame lanes bit words (net_at order q).0
-  pub free : (k q : ℕ) (d : Force W) → k < lanes → from ≤ q → q < length order → has marks q ≡ false
-      → either (force_value bit k (slice_index_or forces (net_at order q).0 d) (value_in row (net_at order q).0)) (value_in row (net_at order q).0) ≡ false
+-- where a place from here on isn't marked, its net differs in what the force on it makes of its golden value
+abbrev pub IsAhead : {W : Type 0} → ℕ → (W → ℕ → Bool) → List NetId → List ℕ → List (Force W) → ℕ → List W → Places → Type 0
+IsAhead {W} lanes bit order row forces from words marks =
+    (k q : ℕ) (d : Force W) → k < lanes → from ≤ q → q < length order → has marks q ≡ false
+    → bit_at (plane bit k words) (net_at order q).0
+    ≡ either (force_value bit k (slice_index_or forces (net_at order q).0 d) (value_in row (net_at order q).0)) (value_in row (net_at order q).0)

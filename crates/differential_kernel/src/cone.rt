@@ -6,15 +6,16 @@ ghost use Rattle.circuit.specs.Sound.{IsNet};
 ghost use Rattle.circuit.specs.Value.{driver_at};
 ghost use Rattle.lane_words.specs.Gates.{IsProgram, gate_at, latch_at};
 ghost use Rattle.place_set.specs.Places.{has};
-ghost use Rattle.differential_kernel.specs.Cone.{AreThose, Holds, IsClosed, IsClosedBut, IsConeOf, IsNewCone, IsUnread, Spreads, cone_table, driven_at, is_source};
+ghost use Rattle.differential_kernel.specs.Cone.{Holds, IsClosed, IsClosedBut, IsConeOf, IsNewCone, IsUnread, Spreads, cone_table, driven_at, is_source};
+ghost use Rattle.differential_kernel.specs.Places.{AreThose};
 ghost use Rattle.differential_kernel.specs.Cycle.{IsGoldenCycle};
 ghost use Rattle.differential_kernel.specs.Differences.{Grows, IsEmptySet};
 
 use crate::force::Forces;
 use crate::golden_cycle::GoldenCycle;
 use crate::latches::LatchDifferences;
+use crate::list::{list_all, list_if};
 use crate::nets::NetDifferences;
-use crate::note::forget;
 use circuit::netlist::Netlist;
 use circuit::parts::{Driver, Fault, Latch, NetId};
 use lane_words::Word;
@@ -238,25 +239,12 @@ fn reach(
     ensures left { left.new.bound ≡ left.old.bound }
     ensures closed { IsClosed cycle.now.fanout.now nets.new }
 {
-    forget(nets);
+    nets.clear();
     put_all(named, nets, left);
     put_all(touched, nets, left);
     put_all_flips(cycle.netlist, loads, nets, left);
     if !close(cycle, nets, left) {
-        forget(nets);
-    }
-}
-
-// Puts a place behind those in a list, of which there are so many, if it is one of them, and answers how many there are then.
-fn list_if(is: bool, place: u32, list: &mut [u32], count: usize) -> usize
-    requires { count < length list.old }
-    ensures { (those : ℕ → Bool) → those place ≡ is → AreThose those place list.old count → AreThose those (place + 1) list.new result }
-{
-    if is {
-        list[count] = place;
-        count + 1
-    } else {
-        count
+        nets.clear();
     }
 }
 
@@ -269,18 +257,6 @@ fn list_tables(order: &[NetId], nets: &PlaceSet, tables: &mut [u32]) -> usize
     let mut count = 0;
     for (place, net) in order.iter().enumerate() {
         count = list_if(nets.has(net.0 as usize), place as u32, tables, count);
-    }
-    count
-}
-
-// Lists the places of a set, and answers how many there are.
-fn list_all(set: &PlaceSet, list: &mut [u32]) -> usize
-    requires { length list.old ≡ set.now.bound }
-    ensures { AreThose (has set.now) set.now.bound list.new result }
-{
-    let mut count = 0;
-    for place in 0..set.bound() {
-        count = list_if(set.has(place as usize), place, list, count);
     }
     count
 }
@@ -369,7 +345,7 @@ fn keep_named(named: &PlaceSet, nets: &PlaceSet, own: &mut PlaceSet)
 {
     own.copy_from(named);
     if !own.is_inside(nets) {
-        forget(own);
+        own.clear();
     }
 }
 

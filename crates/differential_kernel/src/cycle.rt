@@ -45,10 +45,10 @@ fn run<W: Word, L: Ledger>(
 {
     clear(&mut nets.touched, &mut nets.words);
     take_live(cycle, latches, nets);
-    force_all(cycle, &program.places, forces, nets);
+    let forced = force_all(cycle, forces, nets);
     let evaluated = walk(cycle, program, forces, nets, steps);
     take_latches(cycle, latches, nets);
-    evaluated
+    forced + evaluated
 }
 
 // Evaluates the nets of a cone, in which all is that is forced or differs.
@@ -113,11 +113,14 @@ fn run_cone<W: Word, L: Ledger>(
     tell_by_values(cycle.row, cone, nets);
 }
 
-// Whether so many tables were evaluated that all are evaluated as soon in their turn. To find a table that reads what differs takes
-// some five times as long, and forced nets are looked at beside. A cone has fewer tables, but with a threshold by these more cycles
-// are run by it in which little differs any more.
-fn is_much(evaluated: usize, tables: usize) -> bool {
-    evaluated > tables / 6
+// Whether so many tables were evaluated, or forced nets told, that those of the cone are evaluated as soon in their turn: to find a table
+// that reads what differs takes some four times as long. A cone that isn't made yet is taken to have a third of all tables.
+fn is_much(evaluated: usize, tables: usize, pace: &Pace) -> bool {
+    if pace.made {
+        evaluated > pace.cone.table_count / 4
+    } else {
+        evaluated > tables / 12
+    }
 }
 
 // After a cycle in which so many tables were evaluated, says how the next ones are run, and makes the cone of this run where it is
@@ -138,7 +141,7 @@ fn look_ahead(
     requires cone { IsConeOf cycle.now.fanout.now pace.old.cone }
     ensures { IsConeOf cycle.now.fanout.now pace.new.cone }
 {
-    let much = is_much(evaluated, cycle.order.len());
+    let much = is_much(evaluated, cycle.order.len(), pace);
     if much && !pace.made {
         make(cycle, gates, loads, named, touched, &mut pace.cone);
         pace.made = true;

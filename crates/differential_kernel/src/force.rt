@@ -7,11 +7,14 @@ use lane_words::force::{Force, idle_forces};
 use place_set::PlaceSet;
 use std::alloc::{AllocError, Global};
 
-/// The force on each net. Those that aren't in `named` leave their nets as they are.
+/// The force on each net. Those that aren't in `named` leave their nets as they are; those that aren't in `zeros` leave a 0 as it is, and
+/// those that aren't in `ones` a 1.
 #[derive(Drop)]
 pub struct Forces<W> {
     pub named: PlaceSet,
     pub by_net: Vec<Force<W>>,
+    pub zeros: PlaceSet,
+    pub ones: PlaceSet,
 }
 
 impl<W: Word> Forces<W> {
@@ -21,9 +24,18 @@ impl<W: Word> Forces<W> {
         ensures named { IfOk result (λ forces. forces.named.bound ≡ nets) }
         ensures each { IfOk result (λ forces. length forces.by_net.items ≡ nets) }
         ensures idle { IfOk result (λ forces. AreAllIdle W.lanes W.lane_bit forces.by_net.items) }
+        ensures zeros { IfOk result (λ forces. forces.zeros.bound ≡ nets) }
+        ensures ones { IfOk result (λ forces. forces.ones.bound ≡ nets) }
     {
         let named = PlaceSet::new(alloc, nets as u32)?;
         let by_net = idle_forces(alloc, nets)?;
-        Ok(Forces { named, by_net })
+        let zeros = PlaceSet::new(alloc, nets as u32)?;
+        let ones = PlaceSet::new(alloc, nets as u32)?;
+        Ok(Forces {
+            named,
+            by_net,
+            zeros,
+            ones,
+        })
     }
 }

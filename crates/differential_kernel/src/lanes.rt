@@ -322,6 +322,15 @@ impl<W: Word> DifferentialLanes<W> {
         golden.xor(self.nets.difference(net.0 as usize)).part(word)
     }
 
+    /// The lanes, in all words, in which a net has another value than in the golden run, in the cycle that was simulated last.
+    pub fn difference(&self, net: NetId) -> W
+        ensures { (vectors : List (List Bool)) (t k : ℕ) → AreBeside W.lanes W.lane_bit vectors self.now → t + 1 ≡ length vectors → k < W.lanes
+            → net.0 < length self.now.circuit.drivers
+            → W.lane_bit result k ≡ trace_differs self.now.circuit (loaded_faults self.now.in_force k) vectors t net.0 }
+    {
+        self.nets.difference(net.0 as usize)
+    }
+
     /// The lanes of a word in which a net has another value than in the golden run, in the cycle that was simulated last.
     pub fn differs(&self, net: NetId, word: u32) -> u64
         requires { word < W.words }
@@ -329,6 +338,6 @@ impl<W: Word> DifferentialLanes<W> {
             → net.0 < length self.now.circuit.drivers
             → bit result k ≡ trace_differs self.now.circuit (loaded_faults self.now.in_force (word * 64 + k)) vectors t net.0 }
     {
-        self.nets.difference(net.0 as usize).part(word)
+        self.difference(net).part(word)
     }
 }

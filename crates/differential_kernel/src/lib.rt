@@ -10,6 +10,7 @@ mod force;
 mod golden_cycle;
 mod lanes;
 mod latches;
+mod list;
 mod nets;
 mod note;
 mod pace;

@@ -2,19 +2,19 @@
 ghost use Rattle.std.specs.Prelude.{◌≡◌, ◌<◌, ◌≤◌, ◌||◌, ◌==◌, ◌^◌, ℕ, Bool, true, false, length, if◌then◌else◌};
 ghost use Rattle.std.specs.List.{list_any};
 ghost use Rattle.circuit.specs.Effects.{has_flip, is_permanent};
-ghost use Rattle.lane_words.specs.Loads.{some_names, names, somes};
+ghost use Rattle.lane_words.specs.Loads.{has_pulses, some_names, names, somes};
 ghost use Rattle.place_set.specs.Places.{has};
 ghost use Rattle.differential_kernel.specs.Differences.{Grows, IsEmptySet};
-ghost use Rattle.differential_kernel.specs.Forces.{AreActs, AreIdleOff, AreNamed, acts, has_acts, has_stuck};
+ghost use Rattle.differential_kernel.specs.Forces.{AreActs, AreIdleOff, AreNamed, ChangeOnly, LeaveOff, acts, has_acts, has_stuck};
 ghost use Rattle.differential_kernel.specs.Noted.{AreFaultsNoted};
 ghost use Rattle.differential_kernel.specs.Parts.{AreForcesOf};
-ghost use Rattle.lane_words.specs.Forces.{AreAllIdle, AreArmed};
+ghost use Rattle.lane_words.specs.Forces.{AreAllIdle, AreArmed, AreIdle, AreSteady, force_value};
 
 use crate::force::Forces;
 use circuit::parts::Fault;
 use lane_words::Word;
 use lane_words::arm::arm_for;
-use lane_words::force::idle;
+use lane_words::force::{Force, forced_word, idle};
 use place_set::PlaceSet;
 
 /// Leaves all nets as they are, where only those that are named were changed, and names none.
@@ -23,6 +23,8 @@ pub fn forget_all<W: Word>(forces: &mut Forces<W>)
     requires idle { AreIdleOff W.lanes W.lane_bit forces.old.named forces.old.by_net.items }
     ensures bound { forces.new.named.bound ≡ forces.old.named.bound }
     ensures each { length forces.new.by_net.items ≡ length forces.old.by_net.items }
+    ensures zeros { forces.new.zeros ≡ forces.old.zeros }
+    ensures ones { forces.new.ones ≡ forces.old.ones }
     ensures none { IsEmptySet forces.new.named }
     ensures idle { AreAllIdle W.lanes W.lane_bit forces.new.by_net.items }
 {
@@ -75,19 +77,6 @@ pub fn note_all(loads: &[[Option<Fault>; 2]], set: &mut PlaceSet)
     note_lanes(loads, set);
 }
 
-/// Takes all places out of a set.
-pub fn forget(set: &mut PlaceSet)
-    requires { set.old.bound < 2 ^ 32 }
-    ensures bound { set.new.bound ≡ set.old.bound }
-    ensures none { IsEmptySet set.new }
-{
-    let mut from = 0;
-    'places: while let Some(place) = set.next_from(from) {
-        set.remove(place);
-        from = place + 1;
-    }
-}
-
 fn note_acts_of(faults: &[Option<Fault>], set: &mut PlaceSet)
     ensures bound { set.new.bound ≡ set.old.bound }
     ensures has { (t : ℕ) → t < set.old.bound → has set.new t ≡ (acts faults.now t || has set.old t) }
@@ -116,7 +105,7 @@ pub fn note_cycles(loads: &[[Option<Fault>; 2]], set: &mut PlaceSet)
     ensures bound { set.new.bound ≡ set.old.bound }
     ensures acts { AreActs loads.now set.new }
 {
-    forget(set);
+    set.clear();
     note_acts(loads, set);
 }
 
@@ -183,6 +172,70 @@ fn renew<W: Word>(
     }
 }
 
+// Whether a force changes a value in some lane.
+fn changes<W: Word>(force: &Force<W>, value: bool) -> bool
+    ensures { (k : ℕ) → k < W.lanes → result ≡ false → force_value W.lane_bit k force.now value ≡ value }
+{
+    let own: W = W::all(value);
+    !forced_word(force, own).xor(own).is_none()
+}
+
+// Puts a place into a set, if it is to be there.
+fn put_if(is: bool, place: usize, set: &mut PlaceSet)
+    requires { place < set.old.bound }
+    ensures bound { set.new.bound ≡ set.old.bound }
+    ensures kept { Grows set.old set.new }
+    ensures there { is ≡ true → has set.new place ≡ true }
+{
+    if is {
+        set.put(place);
+    }
+}
+
+// Finds the nets on which forces change a value, where those that aren't named are left as they are.
+fn find_changes<W: Word>(named: &PlaceSet, forces: &[Force<W>], value: bool, set: &mut PlaceSet)
+    requires named { named.now.bound ≡ length forces.now }
+    requires set { set.old.bound ≡ length forces.now }
+    requires idle { AreIdleOff W.lanes W.lane_bit named.now forces.now }
+    ensures bound { set.new.bound ≡ set.old.bound }
+    ensures found { LeaveOff W.lanes W.lane_bit value set.new forces.now }
+{
+    set.clear();
+    let mut from = 0;
+    'nets: while let Some(n) = named.next_from(from) {
+        put_if(changes(&forces[n], value), n, set);
+        from = n + 1;
+    }
+}
+
+// Sets the forces to those of a cycle, and finds what they change. Answers whether they are of no use in the next one.
+fn arm_anew<W: Word>(
+    loads: &[[Option<Fault>; 2]],
+    may_pulse: bool,
+    stale: bool,
+    cycle: u32,
+    forces: &mut Forces<W>,
+) -> bool
+    requires lanes { length loads.now ≡ W.lanes }
+    requires calm { may_pulse ≡ false → has_pulses loads.now cycle ≡ false }
+    requires forces { AreForcesOf W.lanes W.lane_bit (length forces.old.by_net.items) forces.old }
+    requires named { AreNamed loads.now (length forces.old.by_net.items) forces.old.named }
+    requires idle { AreIdle W.lanes W.lane_bit loads.now forces.old.by_net.items }
+    requires steady { stale ≡ false → AreSteady W.lanes W.lane_bit loads.now forces.old.by_net.items }
+    ensures each { length forces.new.by_net.items ≡ length forces.old.by_net.items }
+    ensures named { forces.new.named ≡ forces.old.named }
+    ensures forces { AreForcesOf W.lanes W.lane_bit (length forces.old.by_net.items) forces.new }
+    ensures idle { AreIdle W.lanes W.lane_bit loads.now forces.new.by_net.items }
+    ensures steady { result ≡ false → AreSteady W.lanes W.lane_bit loads.now forces.new.by_net.items }
+    ensures armed { AreArmed W.lanes W.lane_bit loads.now cycle forces.new.by_net.items }
+    ensures changed { ChangeOnly W.lanes W.lane_bit forces.new.zeros forces.new.ones forces.new.by_net.items }
+{
+    let stale = arm_for(loads, may_pulse, stale, cycle, &mut forces.by_net);
+    find_changes(&forces.named, &forces.by_net, false, &mut forces.zeros);
+    find_changes(&forces.named, &forces.by_net, true, &mut forces.ones);
+    stale
+}
+
 #[tactic(auto, using(crate::proofs::Acting::no_pulses_now))]
 /// Sets the forces to those of a cycle, after a load from anew, and answers whether they are of no use in the next one.
 pub fn prepare<W: Word>(
@@ -201,13 +254,13 @@ pub fn prepare<W: Word>(
     ensures forces { AreForcesOf W.lanes W.lane_bit (length forces.old.by_net.items) forces.new }
     ensures noted { AreFaultsNoted W.lanes W.lane_bit loads.now result cycles.new forces.new }
     ensures armed { AreArmed W.lanes W.lane_bit loads.now cycle forces.new.by_net.items }
+    ensures changed { ChangeOnly W.lanes W.lane_bit forces.new.zeros forces.new.ones forces.new.by_net.items }
 {
     let stale = renew(loads, noted, stale, cycles, forces);
-    arm_for(
-        loads,
-        cycles.has(cycle as usize),
-        stale,
-        cycle,
-        &mut forces.by_net,
-    )
+    let acting = cycles.has(cycle as usize);
+    if acting || stale {
+        arm_anew(loads, acting, stale, cycle, forces)
+    } else {
+        false
+    }
 }

@@ -4,7 +4,7 @@ ghost use Rattle.std.specs.Prelude.{◌≡◌};
 use crate::cone::Cone;
 
 // After so many cycles that were run by a cone, one shows again how much differs.
-const SWEEPS: u32 = 31;
+const SWEEPS: u32 = 63;
 
 /// How the cycles of a run are run. It changes how long they take, and nothing that they show.
 #[derive(Drop)]

@@ -77,6 +77,7 @@ pub fn walk<W: Word, L: Ledger>(
         → Walked x (read_in W.lane_bit k cycle.now.row.now nets.old.words.items) [] 0
         → (n : ℕ) → n < length cycle.now.netlist.now.drivers → read_in W.lane_bit k cycle.now.row.now nets.new.words.items n ≡ net_value x n }
     ensures noted { AreNoted W.lanes W.lane_bit cycle.now.fanout.now (length cycle.now.order.now) nets.new }
+    ensures few { result ≤ length cycle.now.order.now }
     ensures cost { steps.new ≤ steps.old + length cycle.now.order.now }
 {
     let gates = program.gates.as_slice();

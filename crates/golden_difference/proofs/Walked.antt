@@ -1,5 +1,5 @@
 -- A walk over the tables where a net's value is read as its golden value and what differs. A place whose table reads nothing that
--- differs, and whose net no fault changes, has its golden value without being evaluated.
+-- differs has its golden value, but for what faults make of it, without being evaluated.
 use Rattle.std.proofs.Common.{◌≡◌, ◌≢◌, inl, inr, ℕ, ◌+◌, ◌<◌, Bool, false, List, [], length, map, set, take, get_or, refl, ap, sym, subst, ◌∙◌, arith}
 use Rattle.std.specs.List.{All, Contains, range_with_len}
 use Rattle.std.proofs.lemmas.Bool.{cases_eq}
@@ -16,7 +16,7 @@ use Rattle.circuit.specs.Table.{table_value}
 use Rattle.circuit.specs.Value.{Cycle, bit_at, driven, driver_at, net_value, shown, table_at, table_gives}
 use Rattle.circuit.proofs.Walks.{Holds, driven_same, holds_end, holds_sources, holds_step, map_same}
 use Rattle.lane_words.specs.Bits.{either}
-use Rattle.golden_difference.proofs.Exclusive.{either_none, same_of_none}
+use Rattle.golden_difference.proofs.Exclusive.{either_back, either_none}
 use Rattle.circuit.proofs.ValuesAgain.{value_again}
 
 -- the values of all nets as a list
@@ -95,18 +95,16 @@ pub walked_all : (y : Cycle) (read : ℕ → Bool) (order : List NetId) → IsOr
     → (m : ℕ) → m < length y.circuit.drivers → read m ≡ net_value y m
 walked_all y read order ordered walked m net = sym (at_listed y.circuit read m net) ∙ holds_end y (listed y.circuit read) order ordered walked m net
 
--- A PLACE THAT NEEDN'T BE EVALUATED: `g` are the golden values, and the value of a net is its golden one and what it differs in
+-- A PLACE THAT NEEDN'T BE EVALUATED, since its table reads nothing that differs: its net differs in what faults make of its golden
+-- value. `g` are the golden values, and the value of a net is its golden one and what it differs in
 pub quiet_place : (x golden : Cycle) (g differs : ℕ → Bool) (order : List NetId) (j : ℕ)
     → IsNetlist x.circuit → IsOrder x.circuit order → j < length order
     → golden.circuit ≡ x.circuit → golden.faults ≡ [] → ((m : ℕ) → m < length x.circuit.drivers → g m ≡ net_value golden m)
     → ((k : ℕ) (m : NetId) → driver_at x.circuit (net_at order j).0 ≡ FromTable k → Contains (table_at x.circuit.tables k).ins m → differs m.0 ≡ false)
-    → differs (net_at order j).0 ≡ false
-    → either (affected x.faults x.number (net_at order j).0 (g (net_at order j).0)) (g (net_at order j).0) ≡ false
+    → differs (net_at order j).0 ≡ either (affected x.faults x.number (net_at order j).0 (g (net_at order j).0)) (g (net_at order j).0)
     → either (g (net_at order j).0) (differs (net_at order j).0) ≡ shown x (table_gives x.circuit (λ m. either (g m) (differs m))) (net_at order j).0
-quiet_place x golden g differs order j sound ordered lt circuit none values reads own free =
-    ap (either (g n)) own ∙ either_none (g n)
-    ∙ sym (same_of_none (affected x.faults x.number n (g n)) (g n) free)
-    ∙ sym (ap (affected x.faults x.number n) gives)
+quiet_place x golden g differs order j sound ordered lt circuit none values reads own =
+    ap (either (g n)) own ∙ either_back (g n) (affected x.faults x.number n (g n)) ∙ sym (ap (affected x.faults x.number n) gives)
   where
     n : ℕ
     n = (net_at order j).0

@@ -1,10 +1,10 @@
 // The set, with a word of summary for each 64 words.
-ghost use Rattle.place_set.specs.Places.{has};
+ghost use Rattle.place_set.specs.Places.{has, is_chosen};
 ghost use Rattle.std.specs.Prelude.{◌≡◌, ◌<◌, ◌≤◌, ◌==◌, ℕ, false, true, IfOk, MatchOption, if◌then◌else◌};
 
 use crate::words::{
-    are_values_inside, clear_value, fill_values, first_from, first_in, is_empty_word, set_value,
-    value_in_words,
+    are_values_inside, clear_value, fill_values, first_chosen, first_from, first_in, is_empty_word,
+    set_value, value_in_words,
 };
 use std::alloc::{AllocError, Global};
 use std::marker::Model;
@@ -89,6 +89,15 @@ impl PlaceSet {
         fill_values(&mut self.summary, (places + 63) / 64);
     }
 
+    /// Takes all places out of the set, a word of them at a time.
+    pub fn clear(&mut self)
+        ensures bound { self.new.bound ≡ self.old.bound }
+        ensures none { (p : ℕ) → has self.new p ≡ false }
+    {
+        fill_values(&mut self.words, 0);
+        fill_values(&mut self.summary, 0);
+    }
+
     /// Takes the places of another set with the same bound in place of its own, a word of them at a time.
     pub fn copy_from(&mut self, other: &PlaceSet)
         requires { other.now.bound ≡ self.old.bound }
@@ -121,5 +130,33 @@ impl PlaceSet {
                 None => None,
             },
         }
+    }
+
+    /// The first place from one on that is in `ones` where its value in a row is true, or in `zeros` where it is false; or that is in both
+    /// of two more sets. They are looked at a word at a time.
+    pub fn next_chosen(
+        row: &[u64],
+        zeros: &PlaceSet,
+        ones: &PlaceSet,
+        some: &PlaceSet,
+        others: &PlaceSet,
+        from: usize,
+    ) -> Option<usize>
+        requires ones { ones.now.bound ≡ zeros.now.bound }
+        requires some { some.now.bound ≡ zeros.now.bound }
+        requires others { others.now.bound ≡ zeros.now.bound }
+        ensures { MatchOption result
+            ((p : ℕ) → from ≤ p → is_chosen row.now zeros.now.words ones.now.words some.now.words others.now.words p ≡ false)
+            (λ q. (from ≤ q) × (q < zeros.now.bound) × (is_chosen row.now zeros.now.words ones.now.words some.now.words others.now.words q ≡ true)
+            × ((p : ℕ) → from ≤ p → p < q → is_chosen row.now zeros.now.words ones.now.words some.now.words others.now.words p ≡ false)) }
+    {
+        first_chosen(
+            row,
+            &zeros.words,
+            &ones.words,
+            &some.words,
+            &others.words,
+            from,
+        )
     }
 }

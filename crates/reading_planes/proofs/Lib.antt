@@ -4,4 +4,3 @@ pub mod Laws
 pub mod Shows
 pub mod Bits
 pub mod Adding
-pub mod Sends

@@ -12,7 +12,8 @@ use Rattle.workload.specs.declared.run.Kind.TheVariants.{Mission, Test}
 use Rattle.workload.specs.declared.run.Run.{Run}
 use Rattle.workload.specs.Runs.{cycles_of, is_mission, is_test}
 use Rattle.alarm_points.specs.declared.Points.{Points}
-use Rattle.alarm_points.proofs.Planes.{bit_of_none, bit_of_not, bit_of_or}
+use Rattle.fm_base.proofs.Bits.{bit_of_not, bit_of_or}
+use Rattle.alarm_points.proofs.Planes.{bit_of_none}
 use Rattle.campaign_plan.specs.Danger.{differs}
 use Rattle.fm_base.specs.Planes.{bit}
 use Rattle.fm_base.proofs.Below.{some_below-false}

@@ -4,12 +4,11 @@ use Rattle.std.specs.Prelude.{if◌then◌else◌}
 use Rattle.std.proofs.lemmas.Bool.{cases_eq, cases_lt, true≢false}
 use Rattle.std.proofs.lemmas.Nat.{and_le_l}
 use Rattle.std.proofs.lemmas.List.Folds.{find-append}
-use Rattle.alarm_points.proofs.Planes.{bit_of_not}
 use Rattle.alarm_points.proofs.Settled.{some_below-suc}
 use Rattle.fm_base.specs.Firsts.{given}
 use Rattle.fm_base.specs.Lists.{below, some_below}
 use Rattle.fm_base.specs.Planes.{bit}
-use Rattle.fm_base.proofs.Bits.{bit_of_and}
+use Rattle.fm_base.proofs.Bits.{bit_of_and, bit_of_not}
 use Rattle.fm_base.proofs.Below.{below_push}
 use Rattle.fm_base.proofs.Tests.{clash}
 use Rattle.place_set.proofs.Masks.{clear_bit, clear_bit_other}

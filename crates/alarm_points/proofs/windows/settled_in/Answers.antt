@@ -2,7 +2,8 @@ use Rattle.std.proofs.Common.{◌≡◌, ◌||◌, ◌+◌, ℕ, suc, length, ge
 use Rattle.fm_base.specs.Lists.{some_below}
 use Rattle.fm_base.specs.Planes.{bit}
 use Rattle.alarm_points.specs.Watch.{Watch}
-use Rattle.alarm_points.proofs.Planes.{bit_of_none, bit_of_or}
+use Rattle.fm_base.proofs.Bits.{bit_of_or}
+use Rattle.alarm_points.proofs.Planes.{bit_of_none}
 use Rattle.alarm_points.proofs.Settled.{some_below-suc, some_below-zero}
 use Rattle.std.proofs.lemmas.List.{get_or_default}
 use Rattle.alarm_points.proofs.windows.settled_in.Goals as goal

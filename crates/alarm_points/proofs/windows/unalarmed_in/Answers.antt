@@ -1,7 +1,8 @@
 use Rattle.std.proofs.Common.{◌≡◌, ◌||◌, ◌+◌, ℕ, suc, length, get_or, ap, ap₂, sym, ◌∙◌, subst, arith}
 use Rattle.fm_base.specs.Lists.{some_below}
 use Rattle.alarm_points.specs.Watch.{IsAfterPairs, Watch, lane_goes_unalarmed}
-use Rattle.alarm_points.proofs.Planes.{bit_of_none, bit_of_or}
+use Rattle.fm_base.proofs.Bits.{bit_of_or}
+use Rattle.alarm_points.proofs.Planes.{bit_of_none}
 use Rattle.alarm_points.proofs.Settled.{some_below-suc, some_below-zero}
 use Rattle.std.proofs.lemmas.List.{get_or_default}
 use Rattle.alarm_points.proofs.windows.unalarmed_in.Goals as goal

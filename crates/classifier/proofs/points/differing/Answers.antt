@@ -1,32 +1,7 @@
-use Rattle.std.proofs.Common.{◌<◌, ◌≤◌, ◌||◌, List, length, not, get_or, ap, ap₂, sym, ◌∙◌, arith, take_all}
-use Rattle.std.specs.List.{list_any}
-use Rattle.std.proofs.lemmas.List.Folds.{list_any_more}
-use Rattle.circuit.specs.declared.parts.NetId.{NetId}
-use Rattle.campaign_plan.specs.Danger.{golden, with_faults}
-use Rattle.fm_base.specs.Lists.{same_bit}
-use Rattle.classifier.specs.Load.{in_lane}
-use Rattle.classifier.proofs.PointBits.{differs_where}
+use Rattle.std.proofs.Common.{◌+◌, ◌*◌, ◌<◌, ◌∙◌, arith}
 use Rattle.classifier.proofs.points.differing.Goals as goal
-
-pub loop-net-preserved : goal.loop-net-preserved
-loop-net-preserved g c = λ run t k lt after lane.
-    let circuit = c.args.lanes.now.circuit in
-    let faults = in_lane c.args.lanes.now.in_force c.args.word k in
-    let nets = c.args.nets.now in
-    let i = c.loop-net.net-index in
-    let none : NetId = record { 0 = 0 } in
-    let within : i < length nets = omega arith in
-    c.either_lanes-differ.ensures k
-    ∙ ap₂ (λ a b. a || b) (c.loop-net.invariant run t k lt after lane)
-    (c.differs_at.ensures run t k lt after lane (c.requires.nets i none within)
-    ∙ differs_where (with_faults circuit faults run t (get_or nets i none)) (golden circuit run t (get_or nets i none)))
-    ∙ sym (list_any_more (λ (net : NetId). not (same_bit (with_faults circuit faults run t net) (golden circuit run t net))) nets i none within)
 
 pub returns : goal.returns
 returns g c = λ run t k lt after lane.
-    let circuit = c.args.lanes.now.circuit in
-    let faults = in_lane c.args.lanes.now.in_force c.args.word k in
-    let done : length c.args.nets.now ≤ c.loop-net.net-index = c.loop-net-test.false in
-    c.loop-net.invariant run t k lt after lane
-    ∙ ap (λ (nets : List NetId). list_any (λ (net : NetId). not (same_bit (with_faults circuit faults run t net) (golden circuit run t net))) nets)
-    (take_all c.loop-net.net-index c.args.nets.now done)
+    let low : c.args.word * 64 + k < g.W.Word.lanes = omega (arith, c.requires.word, lane, g.met.W.Word.whole) in
+    c.part.ensures k lane ∙ c.differ_in.ensures run t (c.args.word * 64 + k) lt after low

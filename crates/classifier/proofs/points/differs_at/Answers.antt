@@ -1,14 +1,7 @@
-use Rattle.std.proofs.Common.{◌≡◌, ◌+◌, [], take, length, ap₂, sym, ◌∙◌, arith}
-use Rattle.std.proofs.lemmas.List.{length-take-le}
-use Rattle.circuit.proofs.Cycles.{trace_taken}
-use Rattle.lane_words.specs.Bits.{either}
-use Rattle.classifier.specs.Load.{in_lane}
+use Rattle.std.proofs.Common.{◌+◌, ◌*◌, ◌<◌, ◌∙◌, arith}
 use Rattle.classifier.proofs.points.differs_at.Goals as goal
 
 pub returns : goal.returns
 returns g c = λ run t k lt after lane inside.
-    let circuit = c.args.lanes.now.circuit in
-    let faults = in_lane c.args.lanes.now.in_force c.args.word k in
-    let size : t + 1 ≡ length (take (t + 1) run.vectors) = sym (length-take-le (t + 1) run.vectors (omega (arith, lt))) in
-    c.differs.ensures (take (t + 1) run.vectors) t k after size lane inside
-    ∙ ap₂ either (trace_taken circuit faults run.vectors t c.args.net.0 lt) (trace_taken circuit [] run.vectors t c.args.net.0 lt)
+    let low : c.args.word * 64 + k < g.W.Word.lanes = omega (arith, c.requires, lane, g.met.W.Word.whole) in
+    c.part.ensures k lane ∙ c.difference_at.ensures run t (c.args.word * 64 + k) lt after low inside

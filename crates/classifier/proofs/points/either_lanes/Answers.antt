@@ -1,4 +1,4 @@
-use Rattle.alarm_points.proofs.Planes.{bit_of_or}
+use Rattle.fm_base.proofs.Bits.{bit_of_or}
 use Rattle.classifier.proofs.points.either_lanes.Goals as goal
 
 pub returns : goal.returns

@@ -1,7 +1,6 @@
 use Rattle.std.proofs.Common.{◌-◌, ◌&&◌, ap, ◌∙◌}
 use Rattle.fm_base.specs.Planes.{bit}
-use Rattle.fm_base.proofs.Bits.{bit_of_and}
-use Rattle.alarm_points.proofs.Planes.{bit_of_not}
+use Rattle.fm_base.proofs.Bits.{bit_of_and, bit_of_not}
 use Rattle.classifier.proofs.points.lanes_without.Goals as goal
 
 pub returns : goal.returns

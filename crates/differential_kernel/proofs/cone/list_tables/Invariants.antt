@@ -1,6 +1,6 @@
 use Rattle.circuit.specs.Order.{net_at}
 use Rattle.place_set.specs.Places.{has}
-use Rattle.differential_kernel.specs.Cone.{AreThose}
+use Rattle.differential_kernel.specs.Places.{AreThose}
 use Rattle.differential_kernel.proofs.cone.list_tables.Given as goal
 
 abbrev pub invariant-loop-place : goal.invariant-loop-place

@@ -8,7 +8,8 @@ use Rattle.fanout.specs.Readers.{Ordered}
 use Rattle.lane_words.specs.declared.gate.Gate.{Gate}
 use Rattle.lane_words.specs.Gates.{IsGate, gate_at, latch_at}
 use Rattle.place_set.specs.Places.{has}
-use Rattle.differential_kernel.specs.Cone.{AreThose, IsClosed, IsConeOf, IsUnread, cone_table}
+use Rattle.differential_kernel.specs.Cone.{IsClosed, IsConeOf, IsUnread, cone_table}
+use Rattle.differential_kernel.specs.Places.{AreThose}
 use Rattle.differential_kernel.specs.declared.cone.Cone.{Cone}
 use Rattle.differential_kernel.specs.declared.cone.ConeTable.{ConeTable}
 use Rattle.differential_kernel.proofs.cone.make.Goals as goal

@@ -6,7 +6,8 @@ use Rattle.golden_difference.proofs.Exclusive.{either_again}
 use Rattle.lane_words.specs.Bits.{either}
 use Rattle.lane_words.specs.Gates.{plane}
 use Rattle.place_set.specs.Places.{has, value_in}
-use Rattle.differential_kernel.specs.Cone.{AreEnds, AreThose, IsConeOf, is_source}
+use Rattle.differential_kernel.specs.Cone.{AreEnds, IsConeOf, is_source}
+use Rattle.differential_kernel.specs.Places.{AreThose}
 use Rattle.differential_kernel.specs.Shown.{told_in, valued_in}
 use Rattle.differential_kernel.proofs.Begun.{begun_by}
 use Rattle.differential_kernel.proofs.Notes.{grows_none}

@@ -10,6 +10,8 @@ abbrev pub invariant-nets : goal.invariant-nets
 invariant-nets g l = record {
   bound : l.forces.named.bound ≡ l.initial.forces.named.bound;
   each : length l.forces.by_net.items ≡ length l.initial.forces.by_net.items;
+  zeros : l.forces.zeros ≡ l.initial.forces.zeros;
+  ones : l.forces.ones ≡ l.initial.forces.ones;
   none : (n : ℕ) → n < l.from → has l.forces.named n ≡ false;
   idle : AreIdleOff g.W.Word.lanes g.W.Word.lane_bit l.forces.named l.forces.by_net.items;
 }

@@ -1,74 +1,84 @@
-use Rattle.std.proofs.Common.{inl, inr, length, get_or, refl, ap, sym, ◌∙◌, subst, arith}
-use Rattle.std.specs.Prelude.{None}
+use Rattle.std.proofs.Common.{◌≡◌, ◌≢◌, inl, inr, ◌<◌, ◌≤◌, ℕ, false, length, ap, refl, sym, ◌∙◌, subst, arith}
 use Rattle.std.proofs.lemmas.Bool.{cases_eq, cases_lt}
+use Rattle.circuit.specs.Value.{bit_at}
 use Rattle.fanout.specs.Readers.{Ordered}
-use Rattle.differential_kernel.specs.Forced.{IsForcedAt}
+use Rattle.lane_words.specs.Gates.{plane}
+use Rattle.place_set.specs.Places.{is_chosen}
+use Rattle.differential_kernel.specs.Forced.{forced_in}
 use Rattle.differential_kernel.specs.Parts.{AreForcesOf}
-use Rattle.differential_kernel.proofs.Forcing.{forced_at_here, forced_at_idle, forced_at_stays}
+use Rattle.differential_kernel.proofs.Forcing.{forced_same, forced_unchosen}
 use Rattle.differential_kernel.proofs.sources.force_all.Goals as goal
 
 pub nets-init : goal.nets-init
 nets-init g c = record {
+  within = omega arith;
+  few = omega arith;
   noted = c.requires.noted;
-  forced = λ n below within. absurd (omega arith);
-  ahead = λ k n lt le. refl;
+  done = λ k n d lt below within. absurd (omega arith);
+  ahead = λ k n le. refl;
 }
 
+pub next_forced-requires : goal.next_forced-requires
+next_forced-requires g c =
+    let size = c.nets.invariant.noted.nets.touched.bound ∙ c.nets.invariant.noted.nets.words ∙ ap (λ (o : Ordered). length o.circuit.drivers) c.requires.golden.fanout in
+    record { forces = subst (λ n. AreForcesOf g.W.Word.lanes g.W.Word.lane_bit n c.args.forces.now) (sym size) c.requires.forces }
+
 pub force_net-requires-clause-net : goal.force_net-requires-clause-net
-force_net-requires-clause-net g c = omega (arith, c.in-Some.ensures.1, c.requires.forces.named, ap (λ (o : Ordered). length o.circuit.drivers) c.requires.golden.fanout)
+force_net-requires-clause-net g c = omega (arith, c.in-Some.ensures.1, c.nets.invariant.noted.nets.touched.bound ∙ c.nets.invariant.noted.nets.words)
 
 pub force_net-requires-clause-forces : goal.force_net-requires-clause-forces
 force_net-requires-clause-forces g c =
     subst (λ n. AreForcesOf g.W.Word.lanes g.W.Word.lane_bit n c.args.forces.now) (sym (ap (λ (o : Ordered). length o.circuit.drivers) c.requires.golden.fanout)) c.requires.forces
 
-pub force_net-requires-clause-place : goal.force_net-requires-clause-place
-force_net-requires-clause-place g c = λ p is.
-    let at = c.requires.places.each c.in-Some.n p is in
-    omega (arith, at.0, c.nets.invariant.noted.nets.marks, ap (λ (o : Ordered). length o.order) c.requires.golden.fanout)
-
 pub nets-preserved : goal.nets-preserved
 nets-preserved g c =
-    let bit = g.W.Word.lane_bit in
     let lanes = g.W.Word.lanes in
+    let bit = g.W.Word.lane_bit in
+    let row = c.args.cycle.now.row.now in
+    let own = c.args.forces.now in
+    let forces = own.by_net.items in
+    let first = c.args.nets.now.words.items in
+    let now = c.nets.nets in
+    let next = c.force_net.new.nets.words.items in
     let q = c.in-Some.n in
     let found = c.in-Some.ensures in
-    let forces = c.args.forces.now.by_net.items in
-    let row = c.args.cycle.now.row.now in
-    let first = c.args.nets.now.words.items in
-    let now = c.nets.nets.words.items in
-    let next = c.force_net.new.nets.words.items in
-    let marks = c.force_net.new.nets.marks in
+    let inv = c.nets.invariant in
+    let size = inv.noted.nets.touched.bound ∙ inv.noted.nets.words ∙ ap (λ (o : Ordered). length o.circuit.drivers) c.requires.golden.fanout in
     record {
-      noted = record { nets = c.force_net.ensures.noted.nets; marked = c.force_net.ensures.noted.marked 0 c.nets.invariant.noted.marked };
-      forced = λ n below within. elim (cases_eq n q) as (λ _. IsForcedAt lanes bit row forces (get_or c.args.places.now n None) n first next marks) [
+      within = omega (arith, found.1, size);
+      few = omega (arith, inv.few, found.0);
+      noted = record { nets = c.force_net.ensures.noted.nets; marked = c.force_net.ensures.noted.marked 0 inv.noted.marked };
+      done = λ k n d lt below within. elim (cases_eq n q) as (λ _. bit_at (plane bit k next) n ≡ forced_in bit k row forces d first n) [
         | inl same ↦
-            subst (λ m. IsForcedAt lanes bit row forces (get_or c.args.places.now m None) m first next marks) (sym same)
-            (forced_at_here lanes bit row forces (get_or c.args.places.now q None) q first now next marks (λ k lt. c.nets.invariant.ahead k q lt found.0) c.force_net.ensures.forced)
-        | inr other ↦ elim (cases_lt n c.nets.from) as (λ _. IsForcedAt lanes bit row forces (get_or c.args.places.now n None) n first next marks) [
-          | inl less ↦
-              forced_at_stays lanes bit row forces (get_or c.args.places.now n None) n first now next c.nets.nets.marks marks c.force_net.ensures.noted.kept
-              (λ k lt. c.force_net.ensures.others k n lt other) (c.nets.invariant.forced n less within)
+            subst (λ m. bit_at (plane bit k next) m ≡ forced_in bit k row forces d first m) (sym same)
+            (c.force_net.ensures.forced k d lt ∙ forced_same bit k row forces d now.words.items first q (inv.ahead k q found.0))
+        | inr other ↦ elim (cases_lt n c.nets.from) as (λ _. bit_at (plane bit k next) n ≡ forced_in bit k row forces d first n) [
+          | inl less ↦ c.force_net.ensures.others k n other ∙ inv.done k n d lt less within
           | inr most ↦
-              forced_at_idle lanes bit row forces (get_or c.args.places.now n None) n first next marks
-              (c.requires.forces.idle n (omega (arith, within, c.requires.forces.each)) (found.3 n most (omega (arith, below, other))))
-              (λ k lt. c.force_net.ensures.others k n lt other ∙ c.nets.invariant.ahead k n lt most)
+              c.force_net.ensures.others k n other ∙ inv.ahead k n most
+              ∙ sym
+              (forced_unchosen lanes bit k row forces d first n own.zeros own.ones own.named now.touched lt (omega (arith, within, c.requires.forces.each)) c.requires.changed
+              c.requires.forces.idle (λ free. sym (inv.ahead k n most) ∙ inv.noted.nets.touched.same n free k lt) (found.2 n most (omega (arith, below, other))))
         ]
       ];
-      ahead = λ k n lt le. c.force_net.ensures.others k n lt (omega (arith, le)) ∙ c.nets.invariant.ahead k n lt (omega (arith, le, found.0));
+      ahead = λ k n le. c.force_net.ensures.others k n (omega (arith, le)) ∙ inv.ahead k n (omega (arith, le, found.0));
     }
 
 pub returns-clause-forced : goal.returns-clause-forced
-returns-clause-forced g c = λ n within.
+returns-clause-forced g c = λ k n d lt within.
     let lanes = g.W.Word.lanes in
     let bit = g.W.Word.lane_bit in
     let row = c.args.cycle.now.row.now in
-    let forces = c.args.forces.now.by_net.items in
-    let place = get_or c.args.places.now n None in
+    let own = c.args.forces.now in
+    let forces = own.by_net.items in
     let first = c.args.nets.now.words.items in
-    elim (cases_lt n c.nets.from) as (λ _. IsForcedAt lanes bit row forces place n first c.nets.nets.words.items c.nets.nets.marks) [
-      | inl less ↦ c.nets.invariant.forced n less within
+    let now = c.nets.nets in
+    let inv = c.nets.invariant in
+    elim (cases_lt n c.nets.from) as (λ _. bit_at (plane bit k now.words.items) n ≡ forced_in bit k row forces d first n) [
+      | inl less ↦ inv.done k n d lt less within
       | inr most ↦
-          forced_at_idle lanes bit row forces place n first c.nets.nets.words.items c.nets.nets.marks
-          (c.requires.forces.idle n (omega (arith, within, c.requires.forces.each)) (c.in_default.ensures n most))
-          (λ k lt. c.nets.invariant.ahead k n lt most)
+          inv.ahead k n most
+          ∙ sym
+          (forced_unchosen lanes bit k row forces d first n own.zeros own.ones own.named now.touched lt (omega (arith, within, c.requires.forces.each)) c.requires.changed
+          c.requires.forces.idle (λ free. sym (inv.ahead k n most) ∙ inv.noted.nets.touched.same n free k lt) (c.in_default.ensures n most))
     ]

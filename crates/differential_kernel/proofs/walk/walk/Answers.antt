@@ -53,14 +53,10 @@ places-preserved g c =
             c.places.invariant.noted.marked place n (omega (arith, le, found.0)) reads
             (sym (taken_other c.places.nets.marks c.remove.new.self p place c.remove.ensures.has (omega (arith, le))) ∙ none));
       };
-      ahead = record {
-        same = λ q le lt k lt_k.
-            c.evaluate.ensures.settled.others k (net_at order q).0 (order_apart circuit order c.requires.fit.golden.sound c.requires.fit.golden.ordered q p lt found.1 (omega (arith, le)))
-            ∙ c.places.invariant.ahead.same q (omega (arith, le, found.0)) lt k lt_k;
-        free = λ k q d lt_k le lt none.
-            c.places.invariant.ahead.free k q d lt_k (omega (arith, le, found.0)) lt
-            (sym (taken_other c.places.nets.marks c.remove.new.self p q c.remove.ensures.has (omega (arith, le))) ∙ grows_none c.remove.new.self c.evaluate.new.nets.marks q c.evaluate.ensures.noted.kept none);
-      };
+      ahead = λ k q d lt_k le lt none.
+          c.evaluate.ensures.settled.others k (net_at order q).0 (order_apart circuit order c.requires.fit.golden.sound c.requires.fit.golden.ordered q p lt found.1 (omega (arith, le)))
+          ∙ c.places.invariant.ahead k q d lt_k (omega (arith, le, found.0)) lt
+          (sym (taken_other c.places.nets.marks c.remove.new.self p q c.remove.ensures.has (omega (arith, le))) ∙ grows_none c.remove.new.self c.evaluate.new.nets.marks q c.evaluate.ensures.noted.kept none);
       values = λ k x golden lt pair are first.
           let d : Force g.row.W.Denot = some_force forces (net_at order p).0 inside in
           evaluated lanes bit k lt circuit order c.requires.fit.golden.sound c.requires.fit.golden.ordered row forces c.requires.fit.forces.each x golden pair are d c.places.nets.words.items c.evaluate.new.nets.words.items p found.1

@@ -1,5 +1,5 @@
 use Rattle.std.proofs.Common.{◌≡◌, ◌+◌, ◌-◌, ◌*◌, ◌/◌, ◌%◌, ◌<◌, ◌||◌, ℕ, List, length, get_or, not, ap, ap₂, ◌∙◌, arith}
-use Rattle.alarm_points.proofs.Planes.{bit_of_not, bit_of_or}
+use Rattle.fm_base.proofs.Bits.{bit_of_not, bit_of_or}
 use Rattle.fm_base.specs.Planes.{bit}
 use Rattle.place_set.specs.Places.{value_in}
 use Rattle.latency_table.proofs.Exciting.{word_left, word_more}

@@ -3,7 +3,7 @@ use Rattle.std.proofs.Crossing.{crosses}
 use Rattle.metric_sums.proofs.Sums.TheSendSync as sums
 use Rattle.place_set.proofs.set.PlaceSet.TheSendSync as places
 use Rattle.shown_runs.proofs.record.RunRecord.TheSendSync as seen
-use Rattle.reading_planes.proofs.Sends.{lanes_send}
+use Rattle.differential_kernel.proofs.Sends.{lanes_send}
 use Rattle.metric_breakdown.specs.contracts.worker.Worker.{the_row as worker_row}
 use Rattle.metric_breakdown.proofs.fan_out.work_all.Goals as goal
 

@@ -1,5 +1,5 @@
 use Rattle.std.proofs.Common.{◌≡◌, ℕ, None, sym, ◌∙◌, below_more}
-use Rattle.alarm_points.proofs.Planes.{bit_of_or}
+use Rattle.fm_base.proofs.Bits.{bit_of_or}
 use Rattle.shown_runs.specs.First.{first_in}
 use Rattle.shown_runs.specs.Record.{goal_cycles}
 use Rattle.reading_planes.proofs.Bits.{neither, none_of}

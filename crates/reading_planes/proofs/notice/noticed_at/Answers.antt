@@ -1,5 +1,5 @@
 use Rattle.std.proofs.Common.{◌||◌, ◌&&◌, is_some, ap, ap₂, sym, ◌∙◌}
-use Rattle.alarm_points.proofs.Planes.{bit_of_or}
+use Rattle.fm_base.proofs.Bits.{bit_of_or}
 use Rattle.fm_base.specs.Planes.{bit}
 use Rattle.workload.specs.Runs.{is_test}
 use Rattle.shown_runs.specs.First.{first_in}

@@ -1,4 +1,4 @@
-use Rattle.alarm_points.proofs.Planes.{bit_of_or}
+use Rattle.fm_base.proofs.Bits.{bit_of_or}
 use Rattle.reading_planes.proofs.notice.with_notice.Goals as goal
 
 pub returns-clause-noticed : goal.returns-clause-noticed

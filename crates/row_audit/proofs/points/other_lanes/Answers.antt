@@ -1,7 +1,7 @@
 use Rattle.std.proofs.Common.{◌≡◌, Bool, true, false, not, refl, ◌∙◌}
 use Rattle.fm_base.specs.Lists.{same_bit}
 use Rattle.fm_base.specs.Planes.{bit}
-use Rattle.alarm_points.proofs.Planes.{bit_of_not}
+use Rattle.fm_base.proofs.Bits.{bit_of_not}
 use Rattle.row_audit.proofs.points.other_lanes.Goals as goal
 
 other_bit : (b g : Bool) → g ≡ true → not b ≡ (not (same_bit b g))

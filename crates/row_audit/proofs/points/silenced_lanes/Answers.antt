@@ -1,6 +1,6 @@
 use Rattle.std.proofs.Common.{◌≡◌, ◌&&◌, Bool, true, false, not, refl, ◌∙◌}
 use Rattle.fm_base.specs.Planes.{bit}
-use Rattle.alarm_points.proofs.Planes.{bit_of_not}
+use Rattle.fm_base.proofs.Bits.{bit_of_not}
 use Rattle.row_audit.proofs.points.silenced_lanes.Goals as goal
 
 silent_bit : (b g : Bool) → g ≡ true → not b ≡ (not b && g)

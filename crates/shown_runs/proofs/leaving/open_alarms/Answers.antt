@@ -1,5 +1,6 @@
 use Rattle.std.proofs.Common.{◌-◌, ◌^◌, ◌<◌, ◌||◌, not, is_some, slice_index_or, bit_or, ap, ap₂, sym, ◌∙◌, arith}
-use Rattle.alarm_points.proofs.Planes.{bit_of_none, bit_of_or}
+use Rattle.fm_base.proofs.Bits.{bit_of_or}
+use Rattle.alarm_points.proofs.Planes.{bit_of_none}
 use Rattle.alarm_points.proofs.Settled.{some_below-zero}
 use Rattle.fm_base.specs.Planes.{bit}
 use Rattle.shown_runs.specs.First.{first_in}

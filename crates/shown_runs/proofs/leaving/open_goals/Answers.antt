@@ -1,6 +1,6 @@
 use Rattle.std.proofs.Common.{◌-◌, ◌^◌, ◌<◌, ◌||◌, not, is_some, bit_or, ap, ap₂, sym, ◌∙◌, arith}
 use Rattle.std.proofs.lemmas.List.Folds.{list_any_more}
-use Rattle.alarm_points.proofs.Planes.{bit_of_or}
+use Rattle.fm_base.proofs.Bits.{bit_of_or}
 use Rattle.fm_base.specs.Planes.{bit}
 use Rattle.shown_runs.specs.First.{first_in}
 use Rattle.shown_runs.specs.declared.first.FirstCycles.{FirstCycles}

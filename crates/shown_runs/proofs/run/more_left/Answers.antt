@@ -1,6 +1,6 @@
 use Rattle.std.proofs.Common.{◌∙◌, sym, ap, ◌||◌}
 use Rattle.std.proofs.lemmas.Bool.{or_left}
-use Rattle.alarm_points.proofs.Planes.{bit_of_or}
+use Rattle.fm_base.proofs.Bits.{bit_of_or}
 use Rattle.fm_base.specs.Planes.{bit}
 use Rattle.shown_runs.proofs.run.more_left.Goals as goal
 

@@ -57,6 +57,7 @@ advance-requires-clause-fit g c =
       };
       program = subst (λ (m : Circuit). IsProgramOf lanes bit m c.nets.result.now s.program) circuit (subst (λ (o : List NetId). IsProgramOf lanes bit s.circuit.value o s.program) order kept.program);
       forces = subst (λ n. AreForcesOf lanes bit n prepared.new.forces) (kept.forces.each ∙ ap (λ (m : Circuit). length m.drivers) circuit) prepared.ensures.forces;
+      changed = prepared.ensures.changed;
     }
 
 pub advance-requires-clause-latches : goal.advance-requires-clause-latches

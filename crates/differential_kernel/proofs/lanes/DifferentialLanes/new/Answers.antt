@@ -45,6 +45,8 @@ invariant_of-result g c =
         named = c.in_ok-forces.ensures.named ∙ nets;
         each = c.in_ok-forces.ensures.each ∙ nets;
         idle = λ n lt none. c.in_ok-forces.ensures.idle n lt;
+        zeros = c.in_ok-forces.ensures.zeros ∙ nets;
+        ones = c.in_ok-forces.ensures.ones ∙ nets;
       };
       latches = record { raw = c.in_ok-latches.ensures.raw ∙ latches; live = c.in_ok-latches.ensures.live };
       nets = record {

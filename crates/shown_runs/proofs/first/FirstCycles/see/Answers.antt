@@ -2,7 +2,7 @@ use Rattle.std.proofs.Common.{◌-◌, ◌<◌, ◌^◌, ◌∙◌, ap, sym, ◌
 use Rattle.std.specs.Prelude.{if◌then◌else◌}
 use Rattle.fm_base.specs.Firsts.{given}
 use Rattle.fm_base.specs.Planes.{bit}
-use Rattle.alarm_points.proofs.Planes.{bit_of_or}
+use Rattle.fm_base.proofs.Bits.{bit_of_or}
 use Rattle.place_set.proofs.Masks.{zero_bit}
 use Rattle.shown_runs.proofs.Marks.{fresh_bit, marked, unmarked}
 use Rattle.shown_runs.proofs.first.FirstCycles.see.Goals as goal

@@ -1,5 +1,5 @@
 use Rattle.std.proofs.Common.{◌≡◌, ◌&&◌, ◌||◌, ◌∙◌, Bool, true, false, refl, ap, sym}
-use Rattle.alarm_points.proofs.Planes.{bit_of_or}
+use Rattle.fm_base.proofs.Bits.{bit_of_or}
 use Rattle.fm_base.specs.Planes.{bit}
 use Rattle.shown_runs.proofs.record.AlarmCycles.see.Goals as goal
 

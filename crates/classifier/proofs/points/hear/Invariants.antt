@@ -1,0 +1,24 @@
+use Rattle.std.proofs.Common.{◌≡◌, ◌+◌, ◌<◌, ◌&&◌, ℕ, not, take}
+use Rattle.std.specs.List.{list_any}
+use Rattle.circuit.specs.declared.parts.NetId.{NetId}
+use Rattle.workload.specs.declared.run.Run.{Run}
+use Rattle.workload.specs.Runs.{cycles_of}
+use Rattle.campaign_plan.specs.Danger.{golden, with_faults}
+use Rattle.golden_difference.specs.Beside.{IsGoldenRow, AreBeside}
+use Rattle.lane_words.specs.Loads.{loaded_faults}
+use Rattle.classifier.proofs.points.hear.Given as goal
+
+-- the lanes in which some alarm so far is raised, and those in which some is silenced
+abbrev pub invariant-loop-net : goal.invariant-loop-net
+invariant-loop-net g l = record {
+  raised : (run : Run) (t k : ℕ) → t < cycles_of run → AreBeside g.W.Word.lanes g.W.Word.lane_bit (take (t + 1) run.vectors) l.lanes
+      → IsGoldenRow l.lanes.circuit run.vectors t l.row → k < g.W.Word.lanes
+      → g.W.Word.lane_bit l.found.raised k
+      ≡ list_any (λ (net : NetId). with_faults l.lanes.circuit (loaded_faults l.lanes.in_force k) run t net && not (golden l.lanes.circuit run t net))
+      (take l.net-index l.nets);
+  silenced : (run : Run) (t k : ℕ) → t < cycles_of run → AreBeside g.W.Word.lanes g.W.Word.lane_bit (take (t + 1) run.vectors) l.lanes
+      → IsGoldenRow l.lanes.circuit run.vectors t l.row → k < g.W.Word.lanes
+      → g.W.Word.lane_bit l.found.silenced k
+      ≡ list_any (λ (net : NetId). not (with_faults l.lanes.circuit (loaded_faults l.lanes.in_force k) run t net) && golden l.lanes.circuit run t net)
+      (take l.net-index l.nets);
+}
