@@ -10,4 +10,4 @@ use Rattle.alarm_points.specs.PointsFile.{all_outputs}
 abbrev pub AnswersOutputs : Circuit → Result Points OutputsRefusal → Type 0
 AnswersOutputs c (Ok points) = (length c.outputs ≤ 1024) × (points ≡ all_outputs c)
 AnswersOutputs c (Err TooMany) = 1024 < length c.outputs
-AnswersOutputs c (Err Memory) = Unit {0}
+AnswersOutputs c (Err (Memory no_room)) = Unit {0}

@@ -17,14 +17,15 @@ use circuit::parts::{NetId, NetIds};
 use csv_rows::Row;
 use fm_base::field::is_label;
 use fm_base::{NameIndex, Refusal, Seq};
-use std::alloc::{AllocError, Global};
+use room::{NoRoom, from_slice};
+use std::alloc::Global;
 
 const MOST_POINTS: usize = 1024;
 
 const MOST_GOALS: usize = 4;
 
 // The names of the nets, in order of their numbers.
-fn names_of(alloc: Global, net: &Netlist) -> Result<NetNames<'_>, AllocError>
+fn names_of(alloc: Global, net: &Netlist) -> Result<NetNames<'_>, NoRoom>
     ensures names { IfOk result (λ index. index ≡ net.now.names) }
     ensures few { IfOk result (λ index. length index ≤ 2 ^ 18) }
     ensures sound { IsNetlist net.now }
@@ -72,7 +73,7 @@ fn keeps_interval(header: Header, rows: &[Row], row: &Row) -> bool
 }
 
 // Whether a row is the first that observes for its goal, whose name is then added to the others.
-fn begins_goal(header: Header, goals: &mut NameIndex, row: &Row) -> Result<bool, AllocError>
+fn begins_goal(header: Header, goals: &mut NameIndex, row: &Row) -> Result<bool, NoRoom>
     ensures goals { OnOk result (goals.new ≡ goals_with header goals.old row.now) }
     ensures begins { IfOk result (λ begins. begins ≡ begins_goal_of header goals.old row.now) }
 {
@@ -137,7 +138,7 @@ fn goal_from(
     nets: &NetNames<'_>,
     rows: &[Row],
     first: &Row,
-) -> Result<Goal, AllocError>
+) -> Result<Goal, NoRoom>
     requires { length nets.now ≤ 2 ^ 18 }
     ensures { (c : Circuit) → nets.now ≡ c.names → IfOk result (λ goal. goal ≡ goal_of c header rows.now first.now) }
 {
@@ -148,7 +149,7 @@ fn goal_from(
         }
     }
     Ok(Goal {
-        name: Seq::from_vec(Vec::from_slice(alloc, header.goal(first))?),
+        name: Seq::from_vec(from_slice(alloc, header.goal(first))?),
         ftti: interval_of(header.interval(first)).unwrap_or(None),
         observe,
     })
@@ -159,7 +160,7 @@ fn goals_of(
     header: Header,
     nets: &NetNames<'_>,
     rows: &[Row],
-) -> Result<GoalList, AllocError>
+) -> Result<GoalList, NoRoom>
     requires { length nets.now ≤ 2 ^ 18 }
     ensures { (c : Circuit) → nets.now ≡ c.names
         → IfOk result (λ goals. goals ≡ map (goal_of c header rows.now) (firsts (same_goal_under header) (observing_under header rows.now))) }
@@ -179,7 +180,7 @@ fn alarms_of(
     header: Header,
     nets: &NetNames<'_>,
     rows: &[Row],
-) -> Result<NetIds, AllocError>
+) -> Result<NetIds, NoRoom>
     requires { length nets.now ≤ 2 ^ 18 }
     ensures { (c : Circuit) → nets.now ≡ c.names → IfOk result (λ alarm. alarm ≡ map (point_of c header) (filter (is_alarm header) rows.now)) }
 {
@@ -206,7 +207,7 @@ pub(crate) struct Listed<'n> {
 
 impl<'n> Listed<'n> {
     /// No rows yet.
-    pub(crate) fn new(alloc: Global, net: &'n Netlist, header: Header) -> Result<Self, AllocError>
+    pub(crate) fn new(alloc: Global, net: &'n Netlist, header: Header) -> Result<Self, NoRoom>
         ensures lists { IfOk result (Lists net.now header []) }
         ensures sound { IsNetlist net.now }
     {
@@ -253,7 +254,7 @@ impl<'n> Listed<'n> {
     }
 
     /// Takes in a row that has no fault.
-    pub(crate) fn add(&mut self, row: Row) -> Result<(), AllocError>
+    pub(crate) fn add(&mut self, row: Row) -> Result<(), NoRoom>
         ensures { OnOk result (IsAdded self.old self.new row) }
     {
         begins_goal(self.header, &mut self.goals, &row)?;

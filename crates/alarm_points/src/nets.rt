@@ -4,7 +4,8 @@ ghost use Rattle.std.specs.Str.{bytes_eq};
 ghost use Rattle.fm_base.specs.Index.{with_name};
 
 use indexmap::IndexSet;
-use std::alloc::{AllocError, Global};
+use room::{NoRoom, insert};
+use std::alloc::Global;
 use std::marker::Model;
 
 /// Names, each once, in order of first appearance, none of which is copied. The number of a name is its place.
@@ -41,10 +42,10 @@ impl<'n> NetNames<'n> {
     }
 
     /// Adds a name at the end where it isn't there yet.
-    pub(crate) fn insert(&mut self, name: &'n [u8]) -> Result<(), AllocError>
+    pub(crate) fn insert(&mut self, name: &'n [u8]) -> Result<(), NoRoom>
         ensures { OnOk result (self.new ≡ with_name self.old name.now) }
     {
-        self.names.insert(name)?;
+        insert(&mut self.names, name)?;
         Ok(())
     }
 }

@@ -8,7 +8,8 @@ use crate::{Goal, Points};
 use circuit::netlist::Netlist;
 use circuit::parts::NetId;
 use fm_base::{Name, Seq};
-use std::alloc::{AllocError, Global};
+use room::{NoRoom, from_array, from_slice};
+use std::alloc::Global;
 
 const MOST_POINTS: usize = 1024;
 
@@ -18,28 +19,28 @@ pub enum OutputsRefusal {
     /// There are more than 1,024 outputs.
     TooMany,
     /// Memory ran out.
-    Memory,
+    Memory(NoRoom),
 }
 
-impl From<AllocError> for OutputsRefusal {
-    ghost from_gives = { λ _ e. e ≡ Memory };
+impl From<NoRoom> for OutputsRefusal {
+    ghost from_gives = { λ no_room e. e ≡ Memory no_room };
 
-    fn from(_: AllocError) -> Self {
-        OutputsRefusal::Memory
+    fn from(e: NoRoom) -> Self {
+        OutputsRefusal::Memory(e)
     }
 }
 
 // One goal without a name and without an interval of its own, which observes these nets, and no alarm.
-fn observing(alloc: Global, nets: &[NetId]) -> Result<Points, AllocError>
+fn observing(alloc: Global, nets: &[NetId]) -> Result<Points, NoRoom>
     ensures { IfOk result (λ points. points ≡ record { goals = record { name = []; ftti = None; observe = nets.now } ∷ []; alarm = [] }) }
 {
     let goal = Goal {
         name: Name::new(alloc),
         ftti: None,
-        observe: Seq::from_vec(Vec::from_slice(alloc, nets)?),
+        observe: Seq::from_vec(from_slice(alloc, nets)?),
     };
     Ok(Points {
-        goals: Seq::from_vec(Vec::from_array(alloc, [goal])?),
+        goals: Seq::from_vec(from_array(alloc, [goal])?),
         alarm: Seq::new(alloc),
     })
 }

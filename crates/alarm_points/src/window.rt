@@ -3,7 +3,8 @@ ghost use Rattle.std.specs.Prelude.{length, ◌≡◌, ◌<◌, ◌≤◌, ◌+�
 ghost use Rattle.fm_base.specs.Planes.{bit};
 ghost use Rattle.alarm_points.specs.Watch.{IsAfterPairs, Pair, lane_goes_unalarmed};
 
-use std::alloc::{AllocError, Global};
+use room::{NoRoom, filled};
+use std::alloc::Global;
 use std::marker::Model;
 
 // The place after this one in a ring.
@@ -83,13 +84,13 @@ impl Model for Window {
 
 impl Window {
     /// A window for an interval, which has seen nothing yet. It takes one word for each cycle of the interval, and one more.
-    pub fn new(alloc: Global, ftti: u32) -> Result<Self, AllocError>
+    pub fn new(alloc: Global, ftti: u32) -> Result<Self, NoRoom>
         ensures interval { IfOk result (λ window. window.ftti ≡ ftti) }
         ensures start { IfOk result (λ window. IsAfterPairs [] window) }
     {
         Ok(Window {
             ftti,
-            recent: vec![in alloc; 0; ftti as usize + 1]?,
+            recent: filled(alloc, 0, ftti as usize + 1)?,
             place: 0,
             count: 0,
             differed: 0,

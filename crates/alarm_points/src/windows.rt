@@ -7,7 +7,8 @@ ghost use Rattle.alarm_points.specs.Watch.{AreMadeFor, IsAfterPairs, KeepsInterv
 
 use crate::window::Window;
 use crate::{Goal, Points};
-use std::alloc::{AllocError, Global};
+use room::{NoRoom, push};
+use std::alloc::Global;
 use std::marker::Model;
 
 // The interval of a goal: its own, or else that of the settings.
@@ -17,13 +18,13 @@ fn interval(goal: &Goal, ftti: u32) -> u32
     goal.ftti.unwrap_or(ftti)
 }
 
-fn windows_for(alloc: Global, goals: &[Goal], ftti: u32) -> Result<Vec<Window>, AllocError>
+fn windows_for(alloc: Global, goals: &[Goal], ftti: u32) -> Result<Vec<Window>, NoRoom>
     ensures intervals { IfOk result (λ windows. map (λ (w : Watch). w.ftti) windows.items ≡ map (interval_of ftti) goals.now) }
     ensures start { IfOk result (λ windows. All (IsAfterPairs []) windows.items) }
 {
     let mut windows = Vec::new(alloc);
     for goal in goals {
-        windows.push(Window::new(alloc, interval(goal, ftti))?)?;
+        push(&mut windows, Window::new(alloc, interval(goal, ftti))?)?;
     }
     Ok(windows)
 }
@@ -76,7 +77,7 @@ impl Model for Windows {
 
 impl Windows {
     /// Windows for the goals of these points. The interval, in clock cycles, is that of each goal without one of its own.
-    pub fn new(alloc: Global, points: &Points, ftti: u32) -> Result<Self, AllocError>
+    pub fn new(alloc: Global, points: &Points, ftti: u32) -> Result<Self, NoRoom>
         ensures made { IfOk result (λ windows. AreMadeFor points.now windows) }
         ensures ftti { IfOk result (λ windows. windows.ftti ≡ ftti) }
         ensures start { IfOk result (λ windows. All (IsAfterPairs []) windows.windows) }

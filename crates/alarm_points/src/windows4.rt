@@ -4,7 +4,8 @@ ghost use Rattle.alarm_points.specs.FourWatches.{AreFourMadeFor};
 
 use crate::Points;
 use crate::windows::Windows;
-use std::alloc::{AllocError, Global};
+use room::{NoRoom, from_array};
+use std::alloc::Global;
 use std::marker::Model;
 
 /// Windows for each safety goal and each of four words of 64 lanes. No call but `new` takes memory.
@@ -28,7 +29,7 @@ impl Windows4 {
 
     /// Windows for the goals of these points in each word. The interval, in clock cycles, is that of each goal without one of
     /// its own.
-    pub fn new(alloc: Global, points: &Points, ftti: u32) -> Result<Self, AllocError>
+    pub fn new(alloc: Global, points: &Points, ftti: u32) -> Result<Self, NoRoom>
         ensures made { IfOk result (λ four. AreFourMadeFor points.now four) }
         ensures ftti { IfOk result (λ four. four.ftti ≡ ftti) }
     {
@@ -36,7 +37,7 @@ impl Windows4 {
         let second = Windows::new(alloc, points, ftti)?;
         let third = Windows::new(alloc, points, ftti)?;
         let fourth = Windows::new(alloc, points, ftti)?;
-        let words = Vec::from_array(alloc, [first, second, third, fourth])?;
+        let words = from_array(alloc, [first, second, third, fourth])?;
         Ok(Windows4 { ftti, words })
     }
 

@@ -195,7 +195,7 @@ fault_only None lines fault e = cc
 fault_only (Some found) lines fault e = let same : found ≡ fault = cc in ap (λ (x : BenchFault). Some x) same
 
 refused_by : (bytes : Bytes) (why : Refusal BenchFault) → Gives (gathered_of bytes) (Err why) → Gives (bench_of bytes) (Err why)
-refused_by bytes Memory gives = tt
+refused_by bytes (Memory no_room) gives = tt
 refused_by bytes (Fault fault) gives =
     let found = fault_only (line_fault (numbered_lines bytes)) (numbered_lines bytes) fault gives in
     bench_told bytes ∙ ap (λ (o : Option BenchFault). bench_unless (option_or o (net_fault (numbered_lines bytes))) (numbered_lines bytes)) found

@@ -78,7 +78,7 @@ said_first number text n e h = by_cases (cases_lt n (length text) h)
 -- a line that is refused refuses the file
 refused_by : (before now : Gathered) (number : ℕ) (rest bytes : List ℕ) (n : ℕ) (why : Refusal BenchFault) → n ≡ position_or_len is_feed rest → n ≤ length rest
     → line_fault (said_from number rest) ≡ line_fault (numbered_lines bytes) → LineGives before now number (take n rest) (Err why) → Gives (gathered_of bytes) (Err why)
-refused_by before now number rest bytes n Memory e h told gives = tt
+refused_by before now number rest bytes n (Memory no_room) e h told gives = tt
 refused_by before now number rest bytes n (Fault fault) e h told gives =
     let first = said_first number rest n e h in
     let found : line_fault (numbered_lines bytes) ≡ Some fault = sym told ∙ ap line_fault first.1 ∙ fault_here (said_at number (take n rest)) first.0 fault gives in

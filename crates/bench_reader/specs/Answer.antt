@@ -59,4 +59,4 @@ gathered_of bytes = gathered_unless (line_fault (numbered_lines bytes)) (numbere
 abbrev pub LineGives : Gathered → Gathered → ℕ → Bytes → Result (Unit {0}) (Refusal BenchFault) → Type 0
 LineGives before now number text (Ok _) = (kind_of (said (number, text)) ≡ None) × (now ≡ add_said before (said (number, text)))
 LineGives before now number text (Err (Fault fault)) = fault_of (said (number, text)) ≡ Some fault
-LineGives before now number text (Err Memory) = Unit {0}
+LineGives before now number text (Err (Memory no_room)) = Unit {0}

@@ -7,13 +7,14 @@ ghost use Rattle.bench_reader.specs.Steps.{gate_rows, is_odd_row};
 use crate::gate::Gate;
 use circuit::parts::{Lit, Row, Rows};
 use fm_base::Seq;
-use std::alloc::{AllocError, Global};
+use room::{NoRoom, filled};
+use std::alloc::Global;
 
 /// A row of the same cells.
-fn even_row(alloc: Global, lit: Lit, inputs: usize) -> Result<Row, AllocError>
+fn even_row(alloc: Global, lit: Lit, inputs: usize) -> Result<Row, NoRoom>
     ensures { IfOk result (λ row. row ≡ replicate inputs lit) }
 {
-    Ok(Seq::from_vec(vec![in alloc; lit; inputs]?))
+    Ok(Seq::from_vec(filled(alloc, lit, inputs)?))
 }
 
 /// The cell of a bit of a number.
@@ -29,7 +30,7 @@ fn cell_of(number: usize, bit: u32) -> Lit
 }
 
 /// A number in binary, in so many cells, the highest first.
-fn binary_row(alloc: Global, inputs: u32, number: usize) -> Result<Row, AllocError>
+fn binary_row(alloc: Global, inputs: u32, number: usize) -> Result<Row, NoRoom>
     requires { inputs ≤ 8 }
     ensures { IfOk result (λ row. row ≡ cells_of inputs number) }
 {
@@ -59,7 +60,7 @@ fn is_a_one(cell: Lit) -> bool
 }
 
 /// The rows of so many cells with an odd number of ones, as rising binary numbers.
-fn parity_rows(alloc: Global, inputs: u32) -> Result<Rows, AllocError>
+fn parity_rows(alloc: Global, inputs: u32) -> Result<Rows, NoRoom>
     requires { inputs ≤ 8 }
     ensures { IfOk result (λ rows. rows ≡ parity_rows true inputs) }
 {
@@ -75,7 +76,7 @@ fn parity_rows(alloc: Global, inputs: u32) -> Result<Rows, AllocError>
 }
 
 /// One row.
-fn only(alloc: Global, row: Row) -> Result<Rows, AllocError>
+fn only(alloc: Global, row: Row) -> Result<Rows, NoRoom>
     ensures { IfOk result (λ rows. rows ≡ row ∷ []) }
 {
     let mut rows = Seq::new(alloc);
@@ -84,7 +85,7 @@ fn only(alloc: Global, row: Row) -> Result<Rows, AllocError>
 }
 
 /// The rows of the table of a gate with so many inputs.
-pub fn rows_of(alloc: Global, gate: Gate, inputs: usize) -> Result<Rows, AllocError>
+pub fn rows_of(alloc: Global, gate: Gate, inputs: usize) -> Result<Rows, NoRoom>
     requires { takes_inputs gate inputs ≡ true }
     ensures rows { IfOk result (λ rows. rows ≡ gate_rows gate inputs) }
     ensures few { IfOk result (λ rows. length rows ≤ 256) }

@@ -14,7 +14,8 @@ use crate::parts::Parts;
 use crate::says::Says;
 use circuit::parts::{Latch, NetId, NetIds, Table};
 use fm_base::Seq;
-use std::alloc::{AllocError, Global};
+use room::NoRoom;
+use std::alloc::Global;
 
 /// More nets than this are too many.
 const MOST_NETS: usize = 1 << 18;
@@ -38,7 +39,7 @@ fn mention_names<'a>(
     nets: &mut Nets<'a>,
     line: u32,
     ins: &'a [u8],
-) -> Result<NetIds, AllocError>
+) -> Result<NetIds, NoRoom>
     requires { length nets.old.names + length (listed (tokens_of ins.now)) < 2 ^ 32 - 1 }
     ensures nets { OnOk result (nets.new ≡ mention_all line nets.old (listed (tokens_of ins.now))) }
     ensures ids { IfOk result (λ ids. ids ≡ ids_from line nets.old (listed (tokens_of ins.now))) }
@@ -63,7 +64,7 @@ fn drive(gathered: &mut Gathered<'_>, line: u32, net: NetId) -> bool
     gathered.second.is_none()
 }
 
-fn put_input<'a>(gathered: &mut Gathered<'a>, line: u32, net: &'a [u8]) -> Result<(), AllocError>
+fn put_input<'a>(gathered: &mut Gathered<'a>, line: u32, net: &'a [u8]) -> Result<(), NoRoom>
     requires { length gathered.old.nets.names ≤ 2 ^ 18 }
     ensures { OnOk result (gathered.new ≡ add_input gathered.old line net.now) }
 {
@@ -74,7 +75,7 @@ fn put_input<'a>(gathered: &mut Gathered<'a>, line: u32, net: &'a [u8]) -> Resul
     Ok(())
 }
 
-fn put_output<'a>(gathered: &mut Gathered<'a>, line: u32, net: &'a [u8]) -> Result<(), AllocError>
+fn put_output<'a>(gathered: &mut Gathered<'a>, line: u32, net: &'a [u8]) -> Result<(), NoRoom>
     requires { length gathered.old.nets.names ≤ 2 ^ 18 }
     ensures { OnOk result (gathered.new ≡ add_output gathered.old line net.now) }
 {
@@ -90,7 +91,7 @@ fn put_latch<'a>(
     line: u32,
     out: &'a [u8],
     from: &'a [u8],
-) -> Result<(), AllocError>
+) -> Result<(), NoRoom>
     requires { length gathered.old.nets.names ≤ 2 ^ 18 }
     ensures { OnOk result (gathered.new ≡ add_latch gathered.old line out.now from.now) }
 {
@@ -108,7 +109,7 @@ fn put_latch<'a>(
 }
 
 /// The table of a gate.
-fn table_of(alloc: Global, gate: Gate, ins: NetIds) -> Result<Table, AllocError>
+fn table_of(alloc: Global, gate: Gate, ins: NetIds) -> Result<Table, NoRoom>
     requires { takes_inputs gate (length ins) ≡ true }
     ensures table { IfOk result (λ t. t ≡ gate_table (gate_rule gate) ins) }
     ensures rows { IfOk result (λ t. length t.rows ≤ 256) }
@@ -129,7 +130,7 @@ fn put_table<'a>(
     out: &'a [u8],
     gate: Gate,
     ins: &'a [u8],
-) -> Result<(), AllocError>
+) -> Result<(), NoRoom>
     requires few { length gathered.old.nets.names ≤ 2 ^ 18 }
     requires small { gathered.old.cells ≤ 2 ^ 24 }
     requires fits { takes_inputs gate (length (listed (tokens_of ins.now))) ≡ true }
@@ -167,7 +168,7 @@ impl<'a> Gathered<'a> {
     }
 
     /// One more line.
-    pub fn add(&mut self, alloc: Global, line: u32, says: Says<'a>) -> Result<(), AllocError>
+    pub fn add(&mut self, alloc: Global, line: u32, says: Says<'a>) -> Result<(), NoRoom>
         requires { StatementFits (meant says) }
         ensures { OnOk result ((wide : Bool) → self.new ≡ add_said self.old (record { number = line; says = meant says.entry; wide = wide })) }
     {

@@ -10,10 +10,11 @@ use circuit::netlist::Netlist;
 use circuit::parts::{Drivers, Names};
 use fm_base::Refusal;
 use net_names::drivers::drivers_of;
-use std::alloc::{AllocError, Global};
+use room::NoRoom;
+use std::alloc::Global;
 
 /// The first fault of all lines together: the kinds from `TooLarge` to `Undriven`.
-fn fault_of(alloc: Global, gathered: &Gathered<'_>) -> Result<Option<BenchFault>, AllocError>
+fn fault_of(alloc: Global, gathered: &Gathered<'_>) -> Result<Option<BenchFault>, NoRoom>
     ensures { IfOk result (λ o. o ≡ fault_in gathered.now) }
 {
     if gathered.is_full() {

@@ -7,7 +7,8 @@ use crate::copies::{name_at, own_names};
 use crate::{BenchFault, BenchKind};
 use circuit::parts::{Names, NetId};
 use indexmap::IndexSet;
-use std::alloc::{AllocError, Global};
+use room::{NoRoom, insert_full, push};
+use std::alloc::Global;
 use std::marker::Model;
 
 /// What is known of a net: the line of its first appearance, whether it is driven, and whether it is an output.
@@ -97,18 +98,21 @@ impl<'a> Nets<'a> {
     }
 
     /// A line names a net: a new name is a new net.
-    pub fn mention(&mut self, line: u32, name: &'a [u8]) -> Result<NetId, AllocError>
+    pub fn mention(&mut self, line: u32, name: &'a [u8]) -> Result<NetId, NoRoom>
         requires { length self.old.names < 2 ^ 32 - 1 }
         ensures nets { OnOk result (self.new ≡ mention line self.old name.now) }
         ensures id { IfOk result (λ id. id ≡ net_id self.new.names name.now) }
     {
-        let (place, is_new) = self.names.insert_full(name)?;
+        let (place, is_new) = insert_full(&mut self.names, name)?;
         if is_new {
-            self.marks.push(Mark {
-                line,
-                driven: false,
-                output: false,
-            })?;
+            push(
+                &mut self.marks,
+                Mark {
+                    line,
+                    driven: false,
+                    output: false,
+                },
+            )?;
         }
         Ok(NetId(place as u32))
     }
@@ -130,14 +134,14 @@ impl<'a> Nets<'a> {
     }
 
     /// The names of the nets, in their order.
-    pub fn names(&self, alloc: Global) -> Result<Names, AllocError>
+    pub fn names(&self, alloc: Global) -> Result<Names, NoRoom>
         ensures { IfOk result (λ ns. ns ≡ self.now.names) }
     {
         own_names(alloc, self.names.as_slice())
     }
 
     /// The first net that isn't driven, at the line of its first appearance.
-    pub fn undriven(&self, alloc: Global) -> Result<Option<BenchFault>, AllocError>
+    pub fn undriven(&self, alloc: Global) -> Result<Option<BenchFault>, NoRoom>
         ensures { IfOk result (λ o. o ≡ first_loose self.now) }
     {
         match undriven_place(self.marks.as_slice()) {

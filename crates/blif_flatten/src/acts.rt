@@ -20,7 +20,7 @@ use blif_model::read_line::ReadLine;
 use blif_model::says::{Clocked, LatchSays, Says};
 use blif_text::token::Token;
 use fm_base::Seq;
-use std::alloc::AllocError;
+use room::NoRoom;
 
 /// The sorts of port lines.
 #[derive(Clone, Copy)]
@@ -47,7 +47,7 @@ fn port_act<'m, 'a>(
     place: &Place<'_>,
     kind: Port,
     tokens: &[Token<'_>],
-) -> Result<NumberedAct<'m, 'a>, AllocError>
+) -> Result<NumberedAct<'m, 'a>, NoRoom>
     ensures { IfOk result (IsNumberedAs names.old.index names.new.index (port (own_act kind) (texts_of tokens.now) (scope_at place.now))) }
 {
     let ids = names.number_all(place, Mention::Whole, tokens)?;
@@ -62,7 +62,7 @@ fn actual_nets<'m, 'a>(
     names: &mut NetNames,
     place: &Place<'_>,
     bindings: &[Token<'_>],
-) -> Result<NumberedAct<'m, 'a>, AllocError>
+) -> Result<NumberedAct<'m, 'a>, NoRoom>
     ensures { IfOk result (IsNumberedAs names.old.index names.new.index (visits (map (λ b. net_of (scope_at place.now) b.actual) (bindings_of (texts_of bindings.now))))) }
 {
     let ids = names.number_all(place, Mention::Actual, bindings)?;
@@ -75,7 +75,7 @@ fn table_act<'m, 'a>(
     ins: &[Token<'_>],
     out: &[u8],
     below: &'m [ReadLine<'a>],
-) -> Result<NumberedAct<'m, 'a>, AllocError>
+) -> Result<NumberedAct<'m, 'a>, NoRoom>
     ensures { IfOk result (IsNumberedAs names.old.index names.new.index (flat_table (map (net_of (scope_at place.now)) (texts_of ins.now)) (net_of (scope_at place.now) out.now) (rows_below below.entry.now))) }
 {
     let ins = names.number_all(place, Mention::Whole, ins)?;
@@ -89,7 +89,7 @@ fn control_number(
     names: &mut NetNames,
     place: &Place<'_>,
     clocking: Option<Clocked<'_>>,
-) -> Result<Option<NameId>, AllocError>
+) -> Result<Option<NameId>, NoRoom>
     ensures { IfOk result (λ o. HaveNumbers names.old.index names.new.index (option_to_list (option_map (net_of (scope_at place.now)) (control_said clocking.entry))) (option_to_list o)) }
 {
     match clocking {
@@ -116,7 +116,7 @@ fn latch_act<'m, 'a>(
     names: &mut NetNames,
     place: &Place<'_>,
     line: LatchSays<'a>,
-) -> Result<NumberedAct<'m, 'a>, AllocError>
+) -> Result<NumberedAct<'m, 'a>, NoRoom>
     ensures { IfOk result (IsNumberedAs names.old.index names.new.index (flat_latch (flat_latch_of (scope_at place.now) (latch_line_of line.entry)))) }
 {
     let from = names.number(place, line.from)?;
@@ -139,7 +139,7 @@ pub fn act_of<'m, 'a>(
     place: &Place<'_>,
     says: Says<'m, 'a>,
     below: &'m [ReadLine<'a>],
-) -> Result<Option<NumberedAct<'m, 'a>>, AllocError>
+) -> Result<Option<NumberedAct<'m, 'a>>, NoRoom>
     ensures act { IfOk result (λ o. acts_of (scope_at place.now) (meant says.entry) (rows_below below.entry.now) ≡ map (act_by (name_at names.new.index)) (option_to_list o)) }
     ensures numbered { IfOk result (IsLineNumbered names.old.index names.new.index) }
 {

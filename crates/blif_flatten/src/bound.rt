@@ -6,7 +6,8 @@ ghost use Rattle.fm_base.specs.Names.{Name};
 use crate::places::{add_place, place_of};
 use fm_base::Name;
 use indexmap::IndexMap;
-use std::alloc::{AllocError, Global};
+use room::{NoRoom, push};
+use std::alloc::Global;
 use std::marker::Model;
 
 /// A formal, and the net that is bound to it.
@@ -47,12 +48,12 @@ impl<'a> BoundNets<'a> {
     }
 
     /// Binds a formal; of two with one name the first is found.
-    pub fn push(&mut self, formal: &'a [u8], net: Name) -> Result<(), AllocError>
+    pub fn push(&mut self, formal: &'a [u8], net: Name) -> Result<(), NoRoom>
         ensures ok { OnOk result (self.new ≡ self.old ++ record { formal = formal.now; actual = net } ∷ []) }
         ensures err { OnErr result (self.new ≡ self.old) }
     {
         let place = self.nets.len();
-        self.nets.push(BoundNet { formal, net })?;
+        push(&mut self.nets, BoundNet { formal, net })?;
         match add_place(&mut self.places, formal, place) {
             Ok(()) => Ok(()),
             Err(e) => {

@@ -6,7 +6,7 @@ use fm_base::{NameIndex, Seq};
 
 /// The number of a name: its place in the order of first mention.
 #[derive(Clone, Copy, Debug, PartialEq, Eq)]
-pub struct NameId(pub u32);
+pub struct NameId(pub usize);
 
 /// A latch with the numbers of its names. It has no control where that is `NIL`.
 #[derive(Drop)]

@@ -12,13 +12,14 @@ use crate::table::ModelTable;
 use crate::walk::walk_lines;
 use crate::walked::Walked;
 use fm_base::NameIndex;
-use std::alloc::{AllocError, Global};
+use room::NoRoom;
+use std::alloc::Global;
 
 /// The walk of the main model, in which at most 32 instances stand one in the other.
 fn walk_main<'m, 'a>(
     models: &ModelTable<'m, 'a>,
     walked: Walked<'m, 'a>,
-) -> Result<Option<Walked<'m, 'a>>, AllocError>
+) -> Result<Option<Walked<'m, 'a>>, NoRoom>
     ensures { IfOk result (IsWalkedOn walked.entry (walk models.now)) }
 {
     match models.main() {
@@ -33,7 +34,7 @@ pub fn flatten<'m, 'a>(
     alloc: Global,
     models: &ModelTable<'m, 'a>,
     most: usize,
-) -> Result<Option<FlatModel<'m, 'a>>, AllocError>
+) -> Result<Option<FlatModel<'m, 'a>>, NoRoom>
     ensures steps { IfOk result (λ o. MatchOption o (most < length (all_names (walk models.now))) (λ f. flat_steps f ≡ walk models.now)) }
     ensures fits { IfOk result (λ o. IfSome o (λ f. length f.names ≤ most)) }
 {

@@ -7,14 +7,15 @@ ghost use Rattle.blif_flatten.specs.Sorts.{ids_of};
 
 use crate::flat::{FlatModel, NameId};
 use crate::sorts::{Mentions, Sort, mentions_in};
-use std::alloc::{AllocError, Global};
+use room::{NoRoom, filled};
+use std::alloc::Global;
 
 fn mark_list(marks: &mut [bool], ids: &[NameId])
     requires { AreBelow (length marks.old) ids.now }
     ensures { marks.new ≡ marked marks.old ids.now }
 {
     for id in ids {
-        marks[id.0 as usize] = true;
+        marks[id.0] = true;
     }
 }
 
@@ -23,7 +24,7 @@ fn mark_one(marks: &mut [bool], id: Option<NameId>)
     ensures { marks.new ≡ marked marks.old (option_to_list id) }
 {
     if let Some(id) = id {
-        marks[id.0 as usize] = true;
+        marks[id.0] = true;
     }
 }
 
@@ -38,14 +39,10 @@ fn mark(marks: &mut [bool], names: Mentions<'_>)
 }
 
 /// Which names of the flattened model are of a sort, in order of their numbers.
-pub fn marks_of(
-    alloc: Global,
-    flat: &FlatModel<'_, '_>,
-    sort: Sort,
-) -> Result<Vec<bool>, AllocError>
+pub fn marks_of(alloc: Global, flat: &FlatModel<'_, '_>, sort: Sort) -> Result<Vec<bool>, NoRoom>
     ensures { IfOk result (λ marks. AreMarksOf flat.now sort marks.items) }
 {
-    let mut marks = Vec::from_elem(alloc, false, flat.names.len())?;
+    let mut marks = filled(alloc, false, flat.names.len())?;
     for step in flat.steps.as_slice() {
         mark(marks.as_mut_slice(), mentions_in(&step.act, sort));
     }

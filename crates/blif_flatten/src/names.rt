@@ -10,7 +10,8 @@ use crate::place::{Place, net_in};
 use blif_model::bindings::pair_of;
 use blif_text::token::Token;
 use fm_base::{NameIndex, Seq};
-use std::alloc::{AllocError, Global};
+use room::NoRoom;
+use std::alloc::Global;
 
 /// How a token mentions a name: it is the name, or the name stands behind its first `=`.
 #[derive(Clone, Copy)]
@@ -38,16 +39,13 @@ pub struct NetNames {
 }
 
 impl NetNames {
-    /// The number of the net of a name. There is no room for more than 2^32 names.
-    pub fn number(&mut self, place: &Place<'_>, name: &[u8]) -> Result<NameId, AllocError>
+    /// The number of the net of a name.
+    pub fn number(&mut self, place: &Place<'_>, name: &[u8]) -> Result<NameId, NoRoom>
         ensures { IfOk result (λ id. HaveNumbers self.old.index self.new.index (net_of (scope_at place.now) name.now ∷ []) (id ∷ [])) }
     {
         let net = net_in(&mut self.buffer, place, name)?;
         let number = self.index.enter(net)?;
-        if number > u32::MAX as usize {
-            return Err(AllocError);
-        }
-        Ok(NameId(number as u32))
+        Ok(NameId(number))
     }
 
     /// The numbers of the nets of names.
@@ -57,7 +55,7 @@ impl NetNames {
         place: &Place<'_>,
         how: Mention,
         tokens: &[Token<'_>],
-    ) -> Result<Seq<NameId>, AllocError>
+    ) -> Result<Seq<NameId>, NoRoom>
         ensures { IfOk result (λ ids. HaveNumbers self.old.index self.new.index (map (λ t. net_of (scope_at place.now) (mentioned_name how t)) (texts_of tokens.now)) ids) }
     {
         let mut ids = Seq::new(self.alloc);

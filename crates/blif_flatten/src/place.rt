@@ -12,7 +12,8 @@ use blif_text::token::Token;
 use fm_base::{Name, Seq};
 use itoa::Buffer;
 use net_names::copies::own_name;
-use std::alloc::{AllocError, Global};
+use room::{NoRoom, extend};
+use std::alloc::Global;
 
 /// Where a name stands: in the main model, or in an instance with this path.
 #[derive(Drop)]
@@ -22,13 +23,13 @@ pub enum Place<'a> {
 }
 
 /// A buffer gets three texts in place of its own.
-fn join(buffer: &mut Vec<u8>, path: &[u8], middle: &[u8], text: &[u8]) -> Result<(), AllocError>
+fn join(buffer: &mut Vec<u8>, path: &[u8], middle: &[u8], text: &[u8]) -> Result<(), NoRoom>
     ensures { OnOk result (buffer.new.items ≡ path.now ++ middle.now ++ text.now) }
 {
     buffer.clear();
-    buffer.extend_from_slice(path)?;
-    buffer.extend_from_slice(middle)?;
-    buffer.extend_from_slice(text)?;
+    extend(buffer, path)?;
+    extend(buffer, middle)?;
+    extend(buffer, text)?;
     Ok(())
 }
 
@@ -38,7 +39,7 @@ pub fn net_in<'n>(
     buffer: &'n mut Vec<u8>,
     place: &'n Place<'_>,
     name: &'n [u8],
-) -> Result<&'n [u8], AllocError>
+) -> Result<&'n [u8], NoRoom>
     ensures { IfOk result (λ net. net.now ≡ net_of (scope_at place.now) name.now) }
 {
     match place {
@@ -54,7 +55,7 @@ pub fn net_in<'n>(
 }
 
 /// The path of an instance.
-fn inner_path(alloc: Global, place: &Place<'_>, instance: u64) -> Result<Name, AllocError>
+fn inner_path(alloc: Global, place: &Place<'_>, instance: u64) -> Result<Name, NoRoom>
     ensures { IfOk result (λ n. n ≡ path_of instance (scope_at place.now)) }
 {
     let mut buffer = Buffer::new();
@@ -72,7 +73,7 @@ fn bound_to<'a>(
     alloc: Global,
     place: &Place<'_>,
     bindings: &[Token<'a>],
-) -> Result<BoundNets<'a>, AllocError>
+) -> Result<BoundNets<'a>, NoRoom>
     ensures { IfOk result (λ v. v ≡ map (λ b. record { formal = b.formal; actual = net_of (scope_at place.now) b.actual }) (bindings_of (texts_of bindings.now))) }
 {
     let mut bound = BoundNets::new(alloc);
@@ -91,7 +92,7 @@ pub fn inner_place<'a>(
     place: &Place<'_>,
     instance: u64,
     bindings: &[Token<'a>],
-) -> Result<Place<'a>, AllocError>
+) -> Result<Place<'a>, NoRoom>
     ensures { IfOk result (λ p. scope_at p ≡ scope_of (scope_at place.now) instance (bindings_of (texts_of bindings.now))) }
 {
     let path = inner_path(alloc, place, instance)?;

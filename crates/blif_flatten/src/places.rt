@@ -4,7 +4,7 @@ ghost use Rattle.std.specs.Option.{option_or};
 ghost use Rattle.blif_flatten.specs.Places.{place_in};
 
 use indexmap::IndexMap;
-use std::alloc::AllocError;
+use room::{NoRoom, index_map};
 
 /// The place of a name.
 pub fn place_of(places: &IndexMap<&[u8], usize>, name: &[u8]) -> Option<usize>
@@ -18,13 +18,13 @@ pub fn add_place<'a>(
     places: &mut IndexMap<&'a [u8], usize>,
     name: &'a [u8],
     place: usize,
-) -> Result<(), AllocError>
+) -> Result<(), NoRoom>
     ensures added { OnOk result ((q : List ℕ) → place_in places.new.entries q ≡ option_or (place_in places.old.entries q) (if bytes_eq name.now q then Some place else None)) }
     ensures err { OnErr result (places.new.entries ≡ places.old.entries) }
 {
     if place_of(places, name).is_some() {
         return Ok(());
     }
-    places.insert(name, place)?;
+    index_map::insert(places, name, place)?;
     Ok(())
 }

@@ -8,7 +8,8 @@ ghost use Rattle.blif_flatten.specs.Places.{AreNamePlaces};
 use crate::places::{add_place, place_of};
 use blif_model::models::ModelLines;
 use indexmap::IndexMap;
-use std::alloc::{AllocError, Global};
+use room::NoRoom;
+use std::alloc::Global;
 use std::marker::Model;
 
 /// The models of a file.
@@ -35,7 +36,7 @@ impl<'m, 'a> Model for ModelTable<'m, 'a> {
 fn places_of<'a>(
     alloc: Global,
     models: &[ModelLines<'_, 'a>],
-) -> Result<IndexMap<&'a [u8], usize>, AllocError>
+) -> Result<IndexMap<&'a [u8], usize>, NoRoom>
     ensures { IfOk result (λ p. AreNamePlaces (λ m. m.name) (models_seen models.now) p.entries) }
 {
     let mut places = IndexMap::new(alloc);
@@ -47,7 +48,7 @@ fn places_of<'a>(
 
 impl<'m, 'a> ModelTable<'m, 'a> {
     /// A table of these models; of two with one name the first is found.
-    pub fn new(alloc: Global, models: Vec<ModelLines<'m, 'a>>) -> Result<Self, AllocError>
+    pub fn new(alloc: Global, models: Vec<ModelLines<'m, 'a>>) -> Result<Self, NoRoom>
         ensures { IfOk result (λ t. t ≡ models_seen models.entry.items) }
     {
         let places = places_of(alloc, models.as_slice())?;

@@ -15,18 +15,18 @@ use crate::table::ModelTable;
 use crate::walked::Walked;
 use blif_model::read_line::ReadLine;
 use blif_model::says::Says;
-use std::alloc::AllocError;
+use room::{NoRoom, push};
 
 /// The step of a line, where it does something.
 fn put_step<'m, 'a>(
     steps: &mut Vec<NumberedStep<'m, 'a>>,
     line: u32,
     act: Option<NumberedAct<'m, 'a>>,
-) -> Result<(), AllocError>
+) -> Result<(), NoRoom>
     ensures { OnOk result (steps.new.items ≡ steps.old.items ++ own_step line act.entry) }
 {
     if let Some(act) = act {
-        steps.push(NumberedStep { line, act })?;
+        push(steps, NumberedStep { line, act })?;
     }
     Ok(())
 }
@@ -38,7 +38,7 @@ fn walk_line<'m, 'a>(
     line: u32,
     says: Says<'m, 'a>,
     below: &'m [ReadLine<'a>],
-) -> Result<Option<Walked<'m, 'a>>, AllocError>
+) -> Result<Option<Walked<'m, 'a>>, NoRoom>
     ensures { IfOk result (IsWalkedOn walked.entry (map (λ act. record { line = line; act = act }) (acts_of (scope_at place.now) (meant says.entry) (rows_below below.entry.now)))) }
 {
     let Walked {
@@ -63,7 +63,7 @@ fn walk_instance<'m, 'a>(
     depth: u32,
     instance: u64,
     says: Says<'m, 'a>,
-) -> Result<Option<Walked<'m, 'a>>, AllocError>
+) -> Result<Option<Walked<'m, 'a>>, NoRoom>
     ensures { IfOk result (IsWalkedOn walked.entry (inner_steps (enter models.now depth) (scope_at place.now) instance (meant says.entry))) }
 {
     match says {
@@ -93,7 +93,7 @@ fn walk_item<'m, 'a>(
     instance: u64,
     line: &'m ReadLine<'a>,
     below: &'m [ReadLine<'a>],
-) -> Result<Option<Walked<'m, 'a>>, AllocError>
+) -> Result<Option<Walked<'m, 'a>>, NoRoom>
     ensures { IfOk result (IsWalkedOn walked.entry (steps_of (enter models.now depth) (scope_at place.now) instance (record { line = line.now.number; says = line.now.says; rows = rows_below below.now }))) }
 {
     let says = line.says();
@@ -124,7 +124,7 @@ pub fn walk_lines<'m, 'a>(
     place: &Place<'_>,
     depth: u32,
     lines: &'m [ReadLine<'a>],
-) -> Result<Option<Walked<'m, 'a>>, AllocError>
+) -> Result<Option<Walked<'m, 'a>>, NoRoom>
     ensures { IfOk result (IsWalkedOn walked.entry (steps_from (enter models.now depth) (scope_at place.now) 0 (items_of lines.now))) }
 {
     let mut instance = 0;

@@ -7,7 +7,8 @@ ghost use Rattle.blif_hierarchy.specs.Lines.{instance_answer};
 use blif_flatten::table::ModelTable;
 use blif_model::read_line::ReadLine;
 use blif_model::says::Says;
-use std::alloc::{AllocError, Global};
+use room::{NoRoom, push};
+use std::alloc::Global;
 
 /// The place of the model that a line instances goes behind the others, where there is one.
 #[tactic(auto, using(crate::proofs::FirstLines::line_steps))]
@@ -15,7 +16,7 @@ fn put_callee(
     models: &ModelTable<'_, '_>,
     places: &mut Vec<usize>,
     line: &ReadLine<'_>,
-) -> Result<(), AllocError>
+) -> Result<(), NoRoom>
     ensures within { OnOk result (All (λ k. k < length models.now) places.old.items → All (λ k. k < length models.now) places.new.items) }
     ensures models { OnOk result (models_at models.now places.new.items ≡ models_at models.now places.old.items ++ cons_option (instance_answer (callee_of models.now) line.now) []) }
 {
@@ -23,7 +24,7 @@ fn put_callee(
         return Ok(());
     };
     if let Some(place) = models.place(name) {
-        places.push(place)?;
+        push(places, place)?;
     }
     Ok(())
 }
@@ -34,7 +35,7 @@ fn callees_of(
     alloc: Global,
     models: &ModelTable<'_, '_>,
     lines: &[ReadLine<'_>],
-) -> Result<Vec<usize>, AllocError>
+) -> Result<Vec<usize>, NoRoom>
     ensures within { IfOk result (λ v. All (λ k. k < length models.now) v.items) }
     ensures models { IfOk result (λ v. models_at models.now v.items ≡ filter_map (instance_answer (callee_of models.now)) lines.now) }
 {
@@ -47,16 +48,13 @@ fn callees_of(
 
 /// Those of each model.
 #[tactic(auto, using(crate::proofs::Called::callee_steps))]
-pub fn all_callees(
-    alloc: Global,
-    models: &ModelTable<'_, '_>,
-) -> Result<Vec<Vec<usize>>, AllocError>
+pub fn all_callees(alloc: Global, models: &ModelTable<'_, '_>) -> Result<Vec<Vec<usize>>, NoRoom>
     ensures within { IfOk result (λ v. All (λ c. All (λ k. k < length models.now) c.items) v.items) }
     ensures sums { IfOk result (λ v. AllCallees models.now models.now v.items) }
 {
     let mut all = Vec::new(alloc);
     for model in models.lines() {
-        all.push(callees_of(alloc, models, model.items)?)?;
+        push(&mut all, callees_of(alloc, models, model.items)?)?;
     }
     Ok(all)
 }

@@ -5,7 +5,8 @@ ghost use Rattle.blif_hierarchy.specs.NodeNumbers.{node_number};
 
 use crate::scan::Mark;
 use crate::search::Search;
-use std::alloc::{AllocError, Global};
+use room::{NoRoom, collect};
+use std::alloc::Global;
 
 fn number_of(mark: Mark) -> usize
     ensures { result ≡ node_number mark }
@@ -16,15 +17,15 @@ fn number_of(mark: Mark) -> usize
     }
 }
 
-fn numbers_of(alloc: Global, marks: &[Mark]) -> Result<Vec<usize>, AllocError>
+fn numbers_of(alloc: Global, marks: &[Mark]) -> Result<Vec<usize>, NoRoom>
     ensures { IfOk result (λ v. v.items ≡ map node_number marks.now) }
 {
-    marks.iter().map(|mark| number_of(*mark)).collect(alloc)
+    collect(marks.iter().map(|mark| number_of(*mark)), alloc)
 }
 
 /// The number of each node's strongly connected component. `edges` has for each node the nodes to which it has an edge. No edge
 /// leads to a component of a greater number.
-pub fn components(alloc: Global, edges: &[Vec<usize>]) -> Result<Vec<usize>, AllocError>
+pub fn components(alloc: Global, edges: &[Vec<usize>]) -> Result<Vec<usize>, NoRoom>
     requires { AreEdges edges.now }
     ensures { IfOk result (λ v. AreComponents edges.now v.items) }
 {

@@ -9,7 +9,8 @@ use crate::nest_faults::{deep_fault, ring_fault};
 use crate::rounds::after_rounds;
 use blif_flatten::table::ModelTable;
 use blif_text::NetlistFault;
-use std::alloc::{AllocError, Global};
+use room::NoRoom;
+use std::alloc::Global;
 use std::marker::Model;
 
 /// The models of a file, and for each the places of those that it instances, which are looked up once.
@@ -34,7 +35,7 @@ impl<'t, 'm, 'a> Model for ModelGraph<'t, 'm, 'a> {
 
 impl<'t, 'm, 'a> ModelGraph<'t, 'm, 'a> {
     /// The graph of these models.
-    pub fn new(alloc: Global, models: &'t ModelTable<'m, 'a>) -> Result<Self, AllocError>
+    pub fn new(alloc: Global, models: &'t ModelTable<'m, 'a>) -> Result<Self, NoRoom>
         ensures { IfOk result (λ g. g ≡ models.now) }
     {
         let callees = all_callees(alloc, models)?;
@@ -42,20 +43,14 @@ impl<'t, 'm, 'a> ModelGraph<'t, 'm, 'a> {
     }
 
     /// The numbers of all models, summed over all instances in them down to depth 32, up to the cap.
-    pub fn capped_totals(
-        &self,
-        alloc: Global,
-        own: &[u64],
-        cap: u64,
-    ) -> Result<Vec<u64>, AllocError>
-        requires { cap < 2 ^ 32 }
+    pub fn capped_totals(&self, alloc: Global, own: &[u64], cap: u64) -> Result<Vec<u64>, NoRoom>
         ensures { IfOk result (λ v. (f : Model → ℕ) → own.now ≡ map (λ m. min cap (f m)) self.now → v.items ≡ map (λ m. min cap (sum_over_instances f self.now 32 m)) self.now) }
     {
         after_rounds(alloc, 32, own, self.callees.as_slice(), own, cap)
     }
 
     /// The fault of the nests of models, if there is one: Recursive, then TooDeep.
-    pub fn nest_fault(&self, alloc: Global) -> Result<Option<NetlistFault>, AllocError>
+    pub fn nest_fault(&self, alloc: Global) -> Result<Option<NetlistFault>, NoRoom>
         requires { two_models self.now ≡ None }
         ensures { IfOk result (λ o. o ≡ option_or (recursive self.now) (too_deep self.now)) }
     {

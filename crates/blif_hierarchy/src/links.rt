@@ -19,7 +19,8 @@ use blif_model::read_line::ReadLine;
 use blif_model::says::Says;
 use blif_text::token::Token;
 use blif_text::{NetlistFault, NetlistKind};
-use std::alloc::{AllocError, Global};
+use room::NoRoom;
+use std::alloc::Global;
 
 /// For each fault of a `.subckt` line by itself the number of the first line that has it.
 #[derive(Clone, Copy)]
@@ -112,7 +113,7 @@ fn own_links(
     line: u32,
     name: &[u8],
     bindings: &[Token<'_>],
-) -> Result<LinkLines, AllocError>
+) -> Result<LinkLines, NoRoom>
     requires { ports.now ≡ map ports_of models.now }
     ensures { IfOk result (λ own. own ≡ links_at (model_named models.now name.now) (record { line = line; name = name.now; bindings = bindings_of (texts_of bindings.now) })) }
 {
@@ -132,7 +133,7 @@ fn with_line(
     ports: &[Ports<'_>],
     first: LinkLines,
     line: &ReadLine<'_>,
-) -> Result<LinkLines, AllocError>
+) -> Result<LinkLines, NoRoom>
     requires { ports.now ≡ map ports_of models.now }
     ensures { IfOk result (λ links. links ≡ with_instances models.now first (filter_map instance_at (line.now ∷ []))) }
 {
@@ -153,7 +154,7 @@ fn with_lines(
     ports: &[Ports<'_>],
     first: LinkLines,
     lines: &[ReadLine<'_>],
-) -> Result<LinkLines, AllocError>
+) -> Result<LinkLines, NoRoom>
     requires { ports.now ≡ map ports_of models.now }
     ensures { IfOk result (λ links. links ≡ with_instances models.now first (filter_map instance_at lines.now)) }
 {
@@ -170,7 +171,7 @@ pub fn file_links(
     alloc: Global,
     models: &ModelTable<'_, '_>,
     ports: &[Ports<'_>],
-) -> Result<LinkLines, AllocError>
+) -> Result<LinkLines, NoRoom>
     requires { ports.now ≡ map ports_of models.now }
     ensures { IfOk result (λ links. links ≡ file_links models.now) }
 {

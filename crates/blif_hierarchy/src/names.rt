@@ -4,7 +4,8 @@ ghost use Rattle.fm_base.specs.Names.{is_one_of};
 ghost use Rattle.fm_base.specs.Index.{with_name};
 
 use indexmap::IndexSet;
-use std::alloc::{AllocError, Global};
+use room::{NoRoom, insert};
+use std::alloc::Global;
 use std::marker::Model;
 
 /// Names of a file, each once, in order of first appearance. No byte is copied.
@@ -48,7 +49,7 @@ impl<'a> NameSet<'a> {
     }
 
     /// Adds a name at the end where it isn't there yet, and answers whether it was added.
-    pub fn insert(&mut self, name: &'a [u8]) -> Result<bool, AllocError>
+    pub fn insert(&mut self, name: &'a [u8]) -> Result<bool, NoRoom>
         ensures names { OnOk result (self.new ≡ with_name self.old name.now) }
         ensures added { IfOk result (λ added. added ≡ not (is_one_of self.old name.now)) }
         ensures err { OnErr result (self.new ≡ self.old) }
@@ -56,7 +57,7 @@ impl<'a> NameSet<'a> {
         if self.contains(name) {
             return Ok(false);
         }
-        self.names.insert(name)?;
+        insert(&mut self.names, name)?;
         Ok(true)
     }
 }

@@ -15,15 +15,16 @@ use crate::rounds::after_rounds;
 use blif_flatten::table::ModelTable;
 use blif_model::models::ModelLines;
 use blif_text::{NetlistFault, NetlistKind};
-use std::alloc::{AllocError, Global};
+use room::{NoRoom, collect};
+use std::alloc::Global;
 
 /// The number of each model's component.
-fn ring_numbers(alloc: Global, callees: &[Vec<usize>]) -> Result<Vec<u64>, AllocError>
+fn ring_numbers(alloc: Global, callees: &[Vec<usize>]) -> Result<Vec<u64>, NoRoom>
     requires { AreEdges callees.now }
     ensures { IfOk result (λ v. AreComponents callees.now v.items) }
 {
     let numbers = components(alloc, callees)?;
-    numbers.iter().map(|number| *number as u64).collect(alloc)
+    collect(numbers.iter().map(|number| *number as u64), alloc)
 }
 
 /// The fault of the first line of the file on a way back to its own model.
@@ -31,7 +32,7 @@ pub fn ring_fault(
     alloc: Global,
     models: &ModelTable<'_, '_>,
     callees: &[Vec<usize>],
-) -> Result<Option<NetlistFault>, AllocError>
+) -> Result<Option<NetlistFault>, NoRoom>
     requires callees { AllCallees models.now models.now callees.now }
     requires within { AreEdges callees.now }
     requires apart { two_models models.now ≡ None }
@@ -45,14 +46,10 @@ pub fn ring_fault(
 }
 
 /// One number for all models.
-fn all_alike(
-    alloc: Global,
-    models: &[ModelLines<'_, '_>],
-    number: u64,
-) -> Result<Vec<u64>, AllocError>
+fn all_alike(alloc: Global, models: &[ModelLines<'_, '_>], number: u64) -> Result<Vec<u64>, NoRoom>
     ensures { IfOk result (λ v. v.items ≡ map (λ m. number) models.now) }
 {
-    models.iter().map(|_| number).collect(alloc)
+    collect(models.iter().map(|_| number), alloc)
 }
 
 /// 1 for each model with 32 instances in it, one in the other, and 0 for the others.
@@ -60,7 +57,7 @@ fn nest_numbers(
     alloc: Global,
     models: &ModelTable<'_, '_>,
     callees: &[Vec<usize>],
-) -> Result<Vec<u64>, AllocError>
+) -> Result<Vec<u64>, NoRoom>
     requires { AllCallees models.now models.now callees.now }
     ensures { IfOk result (λ v. v.items ≡ map (λ m. one_if (has_nest models.now 32 m)) models.now) }
 {
@@ -74,7 +71,7 @@ pub fn deep_fault(
     alloc: Global,
     models: &ModelTable<'_, '_>,
     callees: &[Vec<usize>],
-) -> Result<Option<NetlistFault>, AllocError>
+) -> Result<Option<NetlistFault>, NoRoom>
     requires { AllCallees models.now models.now callees.now }
     ensures { IfOk result (λ o. o ≡ too_deep models.now) }
 {
@@ -89,7 +86,7 @@ pub fn deep_fault(
 pub fn nest_fault(
     alloc: Global,
     models: &ModelTable<'_, '_>,
-) -> Result<Option<NetlistFault>, AllocError>
+) -> Result<Option<NetlistFault>, NoRoom>
     requires { two_models models.now ≡ None }
     ensures { IfOk result (λ o. o ≡ option_or (recursive models.now) (too_deep models.now)) }
 {

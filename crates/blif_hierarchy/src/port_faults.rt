@@ -8,13 +8,11 @@ use crate::names::NameSet;
 use crate::ports::all_ports;
 use blif_flatten::table::ModelTable;
 use blif_text::{NetlistFault, NetlistKind};
-use std::alloc::{AllocError, Global};
+use room::NoRoom;
+use std::alloc::Global;
 
 /// The first `.model` line that has the name of an earlier one.
-fn two_models(
-    alloc: Global,
-    models: &ModelTable<'_, '_>,
-) -> Result<Option<NetlistFault>, AllocError>
+fn two_models(alloc: Global, models: &ModelTable<'_, '_>) -> Result<Option<NetlistFault>, NoRoom>
     ensures { IfOk result (λ o. o ≡ two_models models.now) }
 {
     let mut names = NameSet::new(alloc);
@@ -30,10 +28,7 @@ fn two_models(
 }
 
 /// The fault of the bindings, if there is one: the kinds from UnknownModel to Unbound.
-fn link_fault(
-    alloc: Global,
-    models: &ModelTable<'_, '_>,
-) -> Result<Option<NetlistFault>, AllocError>
+fn link_fault(alloc: Global, models: &ModelTable<'_, '_>) -> Result<Option<NetlistFault>, NoRoom>
     ensures { IfOk result (λ o. o ≡ first_answer (unknown_model models.now ∷ bad_formal models.now ∷ unbound models.now ∷ [])) }
 {
     let ports = all_ports(alloc, models.lines())?;
@@ -45,7 +40,7 @@ fn link_fault(
 pub fn port_fault(
     alloc: Global,
     models: &ModelTable<'_, '_>,
-) -> Result<Option<NetlistFault>, AllocError>
+) -> Result<Option<NetlistFault>, NoRoom>
     ensures { IfOk result (λ o. o ≡ first_answer (two_models models.now ∷ unknown_model models.now ∷ bad_formal models.now ∷ unbound models.now ∷ [])) }
 {
     let second = two_models(alloc, models)?;

@@ -15,7 +15,8 @@ use blif_model::models::ModelLines;
 use blif_model::read_line::ReadLine;
 use blif_model::says::Says;
 use blif_text::token::Token;
-use std::alloc::{AllocError, Global};
+use room::{NoRoom, push};
+use std::alloc::Global;
 
 /// The formals of a model, and those of them that each instance binds.
 #[derive(Drop)]
@@ -24,7 +25,7 @@ pub struct Ports<'a> {
     pub inputs: NameSet<'a>,
 }
 
-fn add_names<'a>(set: &mut NameSet<'a>, names: &[Token<'a>]) -> Result<(), AllocError>
+fn add_names<'a>(set: &mut NameSet<'a>, names: &[Token<'a>]) -> Result<(), NoRoom>
     ensures { OnOk result (set.new ≡ fold with_name set.old (texts_of names.now)) }
 {
     for name in names {
@@ -33,7 +34,7 @@ fn add_names<'a>(set: &mut NameSet<'a>, names: &[Token<'a>]) -> Result<(), Alloc
     Ok(())
 }
 
-fn add_inputs<'a>(ports: &mut Ports<'a>, names: &[Token<'a>]) -> Result<(), AllocError>
+fn add_inputs<'a>(ports: &mut Ports<'a>, names: &[Token<'a>]) -> Result<(), NoRoom>
     ensures formals { OnOk result (ports.new.formals ≡ fold with_name ports.old.formals (texts_of names.now)) }
     ensures inputs { OnOk result (ports.new.inputs ≡ fold with_name ports.old.inputs (texts_of names.now)) }
 {
@@ -42,7 +43,7 @@ fn add_inputs<'a>(ports: &mut Ports<'a>, names: &[Token<'a>]) -> Result<(), Allo
 }
 
 /// The formals that a line brings.
-fn add_line<'a>(ports: &mut Ports<'a>, says: Says<'_, 'a>) -> Result<(), AllocError>
+fn add_line<'a>(ports: &mut Ports<'a>, says: Says<'_, 'a>) -> Result<(), NoRoom>
     ensures formals { OnOk result (ports.new.formals ≡ fold with_name ports.old.formals (port_names (meant says.entry))) }
     ensures inputs { OnOk result (ports.new.inputs ≡ fold with_name ports.old.inputs (formal_names (meant says.entry))) }
 {
@@ -55,7 +56,7 @@ fn add_line<'a>(ports: &mut Ports<'a>, says: Says<'_, 'a>) -> Result<(), AllocEr
 }
 
 /// The formals of a model's lines.
-fn ports_of<'a>(alloc: Global, lines: &[ReadLine<'a>]) -> Result<Ports<'a>, AllocError>
+fn ports_of<'a>(alloc: Global, lines: &[ReadLine<'a>]) -> Result<Ports<'a>, NoRoom>
     ensures { IfOk result (λ p. p ≡ ports_among lines.now) }
 {
     let mut ports = Ports {
@@ -70,15 +71,12 @@ fn ports_of<'a>(alloc: Global, lines: &[ReadLine<'a>]) -> Result<Ports<'a>, Allo
 
 /// The formals of each model.
 #[tactic(auto, using(crate::proofs::Bindings::port_steps))]
-pub fn all_ports<'a>(
-    alloc: Global,
-    models: &[ModelLines<'_, 'a>],
-) -> Result<Vec<Ports<'a>>, AllocError>
+pub fn all_ports<'a>(alloc: Global, models: &[ModelLines<'_, 'a>]) -> Result<Vec<Ports<'a>>, NoRoom>
     ensures { IfOk result (λ v. v.items ≡ map ports_of (models_seen models.now)) }
 {
     let mut all = Vec::new(alloc);
     for model in models {
-        all.push(ports_of(alloc, model.items)?)?;
+        push(&mut all, ports_of(alloc, model.items)?)?;
     }
     Ok(all)
 }
@@ -90,7 +88,7 @@ pub struct BoundNames<'a> {
     pub is_twice: bool,
 }
 
-fn add_bound<'a>(bound: &mut BoundNames<'a>, formal: &'a [u8]) -> Result<(), AllocError>
+fn add_bound<'a>(bound: &mut BoundNames<'a>, formal: &'a [u8]) -> Result<(), NoRoom>
     ensures formals { OnOk result (bound.new.formals ≡ with_name bound.old.formals formal.now) }
     ensures twice { OnOk result (bound.new.is_twice ≡ (bound.old.is_twice || is_one_of bound.old.formals formal.now)) }
 {
@@ -107,7 +105,7 @@ fn formal_of<'a>(binding: &Token<'a>) -> &'a [u8]
 }
 
 /// The formals of bindings.
-pub fn bound_names<'a>(alloc: Global, bindings: &[Token<'a>]) -> Result<BoundNames<'a>, AllocError>
+pub fn bound_names<'a>(alloc: Global, bindings: &[Token<'a>]) -> Result<BoundNames<'a>, NoRoom>
     ensures { IfOk result (λ b. b ≡ bound_in (map (λ binding. binding.formal) (bindings_of (texts_of bindings.now)))) }
 {
     let mut bound = BoundNames {

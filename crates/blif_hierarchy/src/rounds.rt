@@ -5,11 +5,11 @@ ghost use Rattle.blif_hierarchy.specs.Rounds.{next_round, rounds};
 
 use crate::graph::ModelGraph;
 use blif_flatten::table::ModelTable;
-use std::alloc::{AllocError, Global};
+use room::{NoRoom, collect, from_slice};
+use std::alloc::Global;
 
 /// A number and those of the callees, summed up to the cap.
 fn capped_sum(own: u64, callees: &[usize], before: &[u64], cap: u64) -> u64
-    requires { cap < 2 ^ 32 }
     ensures { result ≡ min cap (own + sum_by (λ k. slice_index before.now k) callees.now) }
 {
     let mut total = own.min(cap);
@@ -27,14 +27,18 @@ fn round(
     callees: &[Vec<usize>],
     before: &[u64],
     cap: u64,
-) -> Result<Vec<u64>, AllocError>
-    requires { cap < 2 ^ 32 }
+) -> Result<Vec<u64>, NoRoom>
     ensures { IfOk result (λ v. v.items ≡ next_round cap own.now callees.now before.now) }
 {
-    own.iter()
-        .zip(callees)
-        .map(|(number, list)| capped_sum(*number, list.as_slice(), before, cap))
-        .collect(alloc)
+    collect(
+        own.iter().zip(callees).map(|(number, list)| capped_sum(
+            *number,
+            list.as_slice(),
+            before,
+            cap,
+        )),
+        alloc,
+    )
 }
 
 /// The numbers so many levels deeper than these first ones.
@@ -45,11 +49,10 @@ pub fn after_rounds(
     callees: &[Vec<usize>],
     first: &[u64],
     cap: u64,
-) -> Result<Vec<u64>, AllocError>
-    requires { cap < 2 ^ 32 }
+) -> Result<Vec<u64>, NoRoom>
     ensures { IfOk result (λ v. v.items ≡ rounds cap own.now callees.now first.now depth) }
 {
-    let mut numbers = Vec::from_slice(alloc, first)?;
+    let mut numbers = from_slice(alloc, first)?;
     'rounds: for _depth in 0..depth {
         numbers = round(alloc, own, callees, numbers.as_slice(), cap)?;
     }
@@ -63,8 +66,7 @@ pub fn capped_totals(
     models: &ModelTable<'_, '_>,
     own: &[u64],
     cap: u64,
-) -> Result<Vec<u64>, AllocError>
-    requires { cap < 2 ^ 32 }
+) -> Result<Vec<u64>, NoRoom>
     ensures { IfOk result (λ v. (f : Model → ℕ) → own.now ≡ map (λ m. min cap (f m)) models.now → v.items ≡ map (λ m. min cap (sum_over_instances f models.now 32 m)) models.now) }
 {
     let graph = ModelGraph::new(alloc, models)?;

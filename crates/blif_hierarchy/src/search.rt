@@ -5,7 +5,8 @@ ghost use Rattle.blif_hierarchy.specs.Searching.{ComponentSearches, EndsPart, Is
 ghost use Rattle.blif_hierarchy.specs.declared.scan.Mark.TheVariants.{New};
 
 use crate::scan::{Frame, Mark, mark_of, targets_of};
-use std::alloc::{AllocError, Global};
+use room::{NoRoom, filled, push};
+use std::alloc::Global;
 
 /// The marks of the nodes, the open nodes, the frames of their parts, and a node of each component so far.
 #[derive(Drop)]
@@ -35,14 +36,14 @@ fn number_nodes(marks: &mut Vec<Mark>, nodes: &mut Vec<usize>, place: usize, num
 
 impl Search {
     /// A search of so many nodes that has opened none.
-    pub fn new(alloc: Global, count: usize) -> Result<Search, AllocError>
+    pub fn new(alloc: Global, count: usize) -> Result<Search, NoRoom>
         ensures marks { IfOk result (λ s. s.marks.items ≡ replicate count New) }
         ensures nodes { IfOk result (λ s. s.nodes.items ≡ []) }
         ensures path { IfOk result (λ s. s.path.items ≡ []) }
         ensures roots { IfOk result (λ s. s.roots.items ≡ []) }
     {
         Ok(Search {
-            marks: vec![in alloc; Mark::New; count]?,
+            marks: filled(alloc, Mark::New, count)?,
             nodes: Vec::new(alloc),
             path: Vec::new(alloc),
             roots: Vec::new(alloc),
@@ -50,7 +51,7 @@ impl Search {
     }
 
     /// Opens a new node, in a part of its own.
-    fn open(&mut self, node: usize) -> Result<(), AllocError>
+    fn open(&mut self, node: usize) -> Result<(), NoRoom>
         requires new { node_mark self.old.marks.items node ≡ New }
         requires fits { node < length self.old.marks.items }
         ensures search { OnOk result (OpensNode self.old node self.new) }
@@ -59,35 +60,41 @@ impl Search {
         ensures seen { OnOk result (node_mark self.new.marks.items node ≢ New) }
     {
         let place = self.nodes.len();
-        self.nodes.push(node)?;
-        self.path.push(Frame {
-            node,
-            place,
-            low: place,
-            next: 0,
-        })?;
+        push(&mut self.nodes, node)?;
+        push(
+            &mut self.path,
+            Frame {
+                node,
+                place,
+                low: place,
+                next: 0,
+            },
+        )?;
         self.marks[node] = Mark::Open(place);
         Ok(())
     }
 
     /// The topmost part reaches below its place, and becomes one with the part there.
-    fn join(&mut self, frame: Frame) -> Result<(), AllocError>
+    fn join(&mut self, frame: Frame) -> Result<(), NoRoom>
         requires { frame.low < frame.place }
         ensures search { OnOk result (EndsPart self.old frame self.new) }
         ensures less { OnOk result (search_work_left self.new ≤ search_work_left self.old) }
         ensures none_new { OnOk result (NoneNew self.old self.new) }
     {
         if let Some(below) = self.path.pop() {
-            self.path.push(Frame {
-                low: below.low.min(frame.low),
-                ..below
-            })?;
+            push(
+                &mut self.path,
+                Frame {
+                    low: below.low.min(frame.low),
+                    ..below
+                },
+            )?;
         }
         Ok(())
     }
 
     /// The topmost part reaches none below its place, and is a component.
-    fn close(&mut self, frame: Frame) -> Result<(), AllocError>
+    fn close(&mut self, frame: Frame) -> Result<(), NoRoom>
         requires low { frame.place ≤ frame.low }
         requires place { frame.place ≤ length self.old.nodes.items }
         requires stack { IsStack self.old.marks.items self.old.nodes.items }
@@ -97,7 +104,7 @@ impl Search {
     {
         let number = self.roots.len();
         number_nodes(&mut self.marks, &mut self.nodes, frame.place, number);
-        self.roots.push(frame.node)?;
+        push(&mut self.roots, frame.node)?;
         Ok(())
     }
 
@@ -121,7 +128,7 @@ impl Search {
     }
 
     /// A step of the topmost part: its frame's edges lead to a new node, or are all done.
-    fn step(&mut self, edges: &[Vec<usize>], frame: Frame) -> Result<(), AllocError>
+    fn step(&mut self, edges: &[Vec<usize>], frame: Frame) -> Result<(), NoRoom>
         requires edges { AreEdges edges.now }
         requires search { SearchesAt edges.now self.old (frame ∷ reverse self.old.path.items) }
         ensures search { OnOk result (ComponentSearches edges.now self.new) }
@@ -131,7 +138,7 @@ impl Search {
         let frame = self.look_ahead(edges, frame);
         let targets = targets_of(edges, frame.node);
         if frame.next < targets.len() {
-            self.path.push(frame)?;
+            push(&mut self.path, frame)?;
             self.open(targets[frame.next])?;
         } else if frame.low < frame.place {
             self.join(frame)?;
@@ -142,7 +149,7 @@ impl Search {
     }
 
     /// Steps until no node is open.
-    fn finish(&mut self, edges: &[Vec<usize>]) -> Result<(), AllocError>
+    fn finish(&mut self, edges: &[Vec<usize>]) -> Result<(), NoRoom>
         requires edges { AreEdges edges.now }
         requires search { ComponentSearches edges.now self.old }
         ensures search { OnOk result (ComponentSearches edges.now self.new) }
@@ -156,7 +163,7 @@ impl Search {
     }
 
     /// The component of a node, and those that it reaches.
-    pub fn visit(&mut self, edges: &[Vec<usize>], root: usize) -> Result<(), AllocError>
+    pub fn visit(&mut self, edges: &[Vec<usize>], root: usize) -> Result<(), NoRoom>
         requires edges { AreEdges edges.now }
         requires search { ComponentSearches edges.now self.old }
         requires idle { length self.old.nodes.items ≡ 0 }

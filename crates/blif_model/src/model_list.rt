@@ -9,7 +9,8 @@ use crate::models::{ModelLines, models_in};
 use crate::read_line::{ReadLine, read_lines};
 use blif_text::NetlistFault;
 use fm_base::Refusal;
-use std::alloc::{AllocError, Global};
+use room::NoRoom;
+use std::alloc::Global;
 use std::marker::Model;
 
 /// The models of a file without a faulty line, in the file's order; the first is the main one. It holds the lines of the file.
@@ -29,7 +30,7 @@ impl<'a> Model for ModelList<'a> {
 
 impl<'a> ModelList<'a> {
     /// The models as parts of the list of lines.
-    pub fn models<'m>(&'m self, alloc: Global) -> Result<Vec<ModelLines<'m, 'a>>, AllocError>
+    pub fn models<'m>(&'m self, alloc: Global) -> Result<Vec<ModelLines<'m, 'a>>, NoRoom>
         ensures { IfOk result (λ v. models_seen v.items ≡ self.now) }
     {
         models_in(alloc, self.lines.as_slice())
@@ -46,9 +47,7 @@ pub fn read_models<'a>(
     requires { length bytes.now < 2 ^ 31 }
     ensures { Gives (models_read bytes.now) result }
 {
-    let Ok(lines) = read_lines(alloc, bytes) else {
-        return Err(Refusal::Memory);
-    };
+    let lines = read_lines(alloc, bytes)?;
     match fault_in(lines.as_slice()) {
         Some(fault) => Err(Refusal::Fault(fault)),
         None => Ok(ModelList { lines }),

@@ -9,7 +9,8 @@ ghost use Rattle.blif_model.specs.Meant.{meant};
 
 use crate::read_line::ReadLine;
 use crate::says::Says;
-use std::alloc::{AllocError, Global};
+use room::{NoRoom, push};
+use std::alloc::Global;
 
 /// A model: its name, the number of its `.model` line, and the lines after it up to its end, rows among them. The rows of a
 /// table are the rows that stand directly below its line, lines that are read past aside.
@@ -70,12 +71,12 @@ fn put_model<'m, 'a>(
     models: &mut Vec<ModelLines<'m, 'a>>,
     line: &'m ReadLine<'a>,
     below: &'m [ReadLine<'a>],
-) -> Result<(), AllocError>
+) -> Result<(), NoRoom>
     ensures { OnOk result (models_seen models.new.items ++ models_of below.now ≡ models_seen models.old.items ++ models_of (line.now ∷ below.now)) }
 {
     match model_at(line.number(), line.says(), below) {
         Some(model) => {
-            models.push(model)?;
+            push(models, model)?;
             Ok(())
         }
         None => Ok(()),
@@ -86,7 +87,7 @@ fn put_model<'m, 'a>(
 pub fn models_in<'m, 'a>(
     alloc: Global,
     lines: &'m [ReadLine<'a>],
-) -> Result<Vec<ModelLines<'m, 'a>>, AllocError>
+) -> Result<Vec<ModelLines<'m, 'a>>, NoRoom>
     ensures { IfOk result (λ v. models_seen v.items ≡ models_of lines.now) }
 {
     let mut models = Vec::new(alloc);

@@ -12,7 +12,8 @@ use crate::says::Says;
 use crate::statement::line_directive;
 use blif_text::lines::{TextLine, all_lines, is_wide_line};
 use blif_text::token::Token;
-use std::alloc::{AllocError, Global};
+use room::{NoRoom, collect};
+use std::alloc::Global;
 use std::marker::Model;
 
 /// A line of a netlist file that was read once: its number, and its statement. Of a line that is read past no tokens are kept.
@@ -96,18 +97,15 @@ fn read_line<'a>(alloc: Global, line: TextLine<'a>) -> ReadLine<'a>
 }
 
 /// Lines, each read once.
-fn read_all<'a>(alloc: Global, lines: Vec<TextLine<'a>>) -> Result<Vec<ReadLine<'a>>, AllocError>
+fn read_all<'a>(alloc: Global, lines: Vec<TextLine<'a>>) -> Result<Vec<ReadLine<'a>>, NoRoom>
     ensures { IfOk result (λ v. v.items ≡ map (λ l. said (line_of l)) lines.entry.items) }
 {
-    lines
-        .into_iter()
-        .map(|line| read_line(alloc, line))
-        .collect(alloc)
+    collect(lines.into_iter().map(|line| read_line(alloc, line)), alloc)
 }
 
 /// The lines of a file.
 #[tactic(auto, using(crate::proofs::Forms::lines_said))]
-pub fn read_lines<'a>(alloc: Global, bytes: &'a [u8]) -> Result<Vec<ReadLine<'a>>, AllocError>
+pub fn read_lines<'a>(alloc: Global, bytes: &'a [u8]) -> Result<Vec<ReadLine<'a>>, NoRoom>
     requires { length bytes.now < 2 ^ 31 }
     ensures { IfOk result (λ v. v.items ≡ said_lines bytes.now) }
 {

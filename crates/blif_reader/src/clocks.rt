@@ -64,7 +64,7 @@ impl<'f> FirstMarks<'f> {
         ensures kept { result ≡ false → self.new ≡ fold firsts_with self.old (map control (map (name_at names.now) ids.now)) }
     {
         for id in ids {
-            if self.is_second_clock(names.name(id.0 as usize)) {
+            if self.is_second_clock(names.name(id.0)) {
                 return true;
             }
         }

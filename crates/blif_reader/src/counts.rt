@@ -47,7 +47,6 @@ fn row_count(below: &[ReadLine<'_>]) -> usize
 
 /// Rows times inputs, up to the cap, where none count as one.
 fn capped_product(rows: usize, inputs: usize, cap: u64) -> u64
-    requires { cap < 2 ^ 32 }
     ensures { result ≡ min cap (max 1 rows * max 1 inputs) }
 {
     (rows.max(1) as u64)
@@ -57,7 +56,6 @@ fn capped_product(rows: usize, inputs: usize, cap: u64) -> u64
 
 /// The cells of a line, up to the cap.
 fn line_cells(says: Says<'_, '_>, below: &[ReadLine<'_>], cap: u64) -> u64
-    requires { cap < 2 ^ 32 }
     ensures { result ≡ min cap (cells_from (rows_below below.now) (meant says.entry)) }
 {
     match says {
@@ -95,7 +93,6 @@ fn line_mentions(says: Says<'_, '_>) -> usize
 
 /// What is counted of a line, up to the cap.
 fn line_count(count: Count, says: Says<'_, '_>, below: &[ReadLine<'_>], cap: u64) -> u64
-    requires { cap < 2 ^ 32 }
     ensures { result ≡ min cap (count_on count (meant says.entry) (rows_below below.now)) }
 {
     match count {
@@ -106,7 +103,6 @@ fn line_count(count: Count, says: Says<'_, '_>, below: &[ReadLine<'_>], cap: u64
 }
 
 fn capped_add(total: u64, more: u64, cap: u64) -> u64
-    requires { cap < 2 ^ 32 }
     ensures { result ≡ min cap (total + more) }
 {
     total.saturating_add(more).min(cap)
@@ -114,7 +110,6 @@ fn capped_add(total: u64, more: u64, cap: u64) -> u64
 
 /// What is counted of lines, summed up to the cap.
 fn capped_lines(count: Count, lines: &[ReadLine<'_>], cap: u64) -> u64
-    requires { cap < 2 ^ 32 }
     ensures { result ≡ min cap (sum_by (λ item. count_on count item.says item.rows) (items_of lines.now)) }
 {
     let mut total: u64 = 0;
@@ -127,7 +122,6 @@ fn capped_lines(count: Count, lines: &[ReadLine<'_>], cap: u64) -> u64
 
 /// What is counted of a model's own lines, up to the cap.
 pub fn capped_count(count: Count, model: &ModelLines<'_, '_>, cap: u64) -> u64
-    requires { cap < 2 ^ 32 }
     ensures { result ≡ min cap (model_count count (model_of model.now)) }
 {
     capped_lines(count, model.items, cap)

@@ -17,10 +17,10 @@ fn drive(driven: &mut Vec<bool>, id: NameId) -> bool
     ensures grown { result ≡ false → driven.new.items ≡ marked driven.old.items (id ∷ []) }
     ensures size { length driven.new.items ≡ length driven.old.items }
 {
-    if driven[id.0 as usize] {
+    if driven[id.0] {
         return true;
     }
-    driven[id.0 as usize] = true;
+    driven[id.0] = true;
     false
 }
 
@@ -33,7 +33,7 @@ fn drive_inputs(clocks: &[bool], driven: &mut Vec<bool>, ids: &[NameId]) -> bool
     ensures size { length driven.new.items ≡ length driven.old.items }
 {
     for id in ids {
-        if !clocks[id.0 as usize] {
+        if !clocks[id.0] {
             if drive(driven, *id) {
                 return true;
             }

@@ -22,7 +22,7 @@ pub struct FoundName {
 pub fn is_marked(marks: &[bool], name: NameId) -> bool
     ensures { result ≡ slice_index_or marks.now name.0 false }
 {
-    marks.get(name.0 as usize).copied().unwrap_or(false)
+    marks.get(name.0).copied().unwrap_or(false)
 }
 
 /// The number, where its mark is the wanted one.

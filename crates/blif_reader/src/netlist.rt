@@ -13,14 +13,15 @@ use crate::parts::{Cells, Part, cells_of, part_nets};
 use blif_flatten::flat::FlatModel;
 use circuit::netlist::Netlist;
 use net_names::drivers::drivers_of;
-use std::alloc::{AllocError, Global};
+use room::NoRoom;
+use std::alloc::Global;
 
 /// The netlist of a flattened model without faults. `clocks` says which of its names are clock names.
 pub fn flat_netlist(
     alloc: Global,
     flat: &FlatModel<'_, '_>,
     clocks: &[bool],
-) -> Result<Netlist, AllocError>
+) -> Result<Netlist, NoRoom>
     requires clocks { AreClockMarks flat.now clocks.now }
     requires few_names { length flat.now.names < 2 ^ 32 }
     requires few { length (nets_of (flat_steps flat.now)) ≤ 2 ^ 18 }

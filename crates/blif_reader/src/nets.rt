@@ -10,7 +10,8 @@ use blif_flatten::flat::{FlatModel, NameId};
 use circuit::parts::{Names, NetId, NetIds};
 use fm_base::{NameIndex, Seq};
 use net_names::copies::own_name;
-use std::alloc::{AllocError, Global};
+use room::{NoRoom, collect, push, with_room};
+use std::alloc::Global;
 
 /// The number of nets, where these names are clock names.
 pub fn net_count(clocks: &[bool]) -> usize
@@ -26,7 +27,7 @@ fn put_net(
     number: usize,
     is_clock: bool,
     nets: &mut Names,
-) -> Result<(), AllocError>
+) -> Result<(), NoRoom>
     requires { number < length names.now }
     ensures { OnOk result (nets.new ≡ nets.old ++ (if not is_clock then slice_index_or names.now number [] ∷ [] else [])) }
 {
@@ -36,7 +37,7 @@ fn put_net(
     nets.push(own_name(alloc, names.name(number))?)
 }
 
-fn own_names(alloc: Global, names: &NameIndex, clocks: &[bool]) -> Result<Names, AllocError>
+fn own_names(alloc: Global, names: &NameIndex, clocks: &[bool]) -> Result<Names, NoRoom>
     requires { length clocks.now ≡ length names.now }
     ensures { IfOk result (λ nets. (is_clock : Name → Bool) → clocks.now ≡ map is_clock names.now → nets ≡ filter (λ name. not (is_clock name)) names.now) }
 {
@@ -48,11 +49,7 @@ fn own_names(alloc: Global, names: &NameIndex, clocks: &[bool]) -> Result<Names,
 }
 
 /// The names of the nets, in their order: those that are no clock names.
-pub fn net_names(
-    alloc: Global,
-    flat: &FlatModel<'_, '_>,
-    clocks: &[bool],
-) -> Result<Names, AllocError>
+pub fn net_names(alloc: Global, flat: &FlatModel<'_, '_>, clocks: &[bool]) -> Result<Names, NoRoom>
     requires { AreClockMarks flat.now clocks.now }
     ensures { IfOk result (λ nets. nets ≡ nets_of (flat_steps flat.now)) }
 {
@@ -74,15 +71,15 @@ fn next_number(is_clock: bool, next: u32) -> u32
     if is_clock { next } else { next + 1 }
 }
 
-fn numbers_by(alloc: Global, clocks: &[bool]) -> Result<Vec<NetId>, AllocError>
+fn numbers_by(alloc: Global, clocks: &[bool]) -> Result<Vec<NetId>, NoRoom>
     requires { length clocks.now < 2 ^ 32 }
     ensures { IfOk result (λ numbers. numbers.items ≡ numbers_from 0 (count_by not clocks.now) clocks.now) }
 {
     let behind = net_count(clocks) as u32;
     let mut next: u32 = 0;
-    let mut numbers = Vec::with_capacity(alloc, clocks.len())?;
+    let mut numbers = with_room(alloc, clocks.len())?;
     for clock in clocks {
-        numbers.push(net_number(*clock, behind, next))?;
+        push(&mut numbers, net_number(*clock, behind, next))?;
         next = next_number(*clock, next);
     }
     Ok(numbers)
@@ -93,7 +90,7 @@ pub fn net_numbers(
     alloc: Global,
     flat: &FlatModel<'_, '_>,
     clocks: &[bool],
-) -> Result<Vec<NetId>, AllocError>
+) -> Result<Vec<NetId>, NoRoom>
     requires marks { AreClockMarks flat.now clocks.now }
     requires few { length flat.now.names < 2 ^ 32 }
     ensures { IfOk result (λ numbers. AreNetNumbers flat.now numbers.items) }
@@ -105,17 +102,17 @@ pub fn net_numbers(
 pub fn net(numbers: &[NetId], name: NameId) -> NetId
     ensures { result ≡ net_of_name numbers.now name }
 {
-    numbers.get(name.0 as usize).copied().unwrap_or(NetId(0))
+    numbers.get(name.0).copied().unwrap_or(NetId(0))
 }
 
-fn net_list(alloc: Global, numbers: &[NetId], names: &[NameId]) -> Result<Vec<NetId>, AllocError>
+fn net_list(alloc: Global, numbers: &[NetId], names: &[NameId]) -> Result<Vec<NetId>, NoRoom>
     ensures { IfOk result (λ ids. ids.items ≡ map (net_of_name numbers.now) names.now) }
 {
-    names.iter().map(|name| net(numbers, *name)).collect(alloc)
+    collect(names.iter().map(|name| net(numbers, *name)), alloc)
 }
 
 /// The numbers of the nets of names.
-pub fn nets(alloc: Global, numbers: &[NetId], names: &[NameId]) -> Result<NetIds, AllocError>
+pub fn nets(alloc: Global, numbers: &[NetId], names: &[NameId]) -> Result<NetIds, NoRoom>
     ensures { IfOk result (λ ids. ids ≡ map (net_of_name numbers.now) names.now) }
 {
     Ok(Seq::from_vec(net_list(alloc, numbers, names)?))

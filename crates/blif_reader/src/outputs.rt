@@ -14,16 +14,19 @@ use crate::nets::nets;
 use crate::parts::{Part, part_ids};
 use blif_flatten::flat::{FlatModel, NameId};
 use circuit::parts::{NetId, NetIds};
-use std::alloc::{AllocError, Global};
+use room::{NoRoom, collect, filled, push};
+use std::alloc::Global;
 
-fn unmarked(alloc: Global, clocks: &[bool], names: &[NameId]) -> Result<Vec<NameId>, AllocError>
+fn unmarked(alloc: Global, clocks: &[bool], names: &[NameId]) -> Result<Vec<NameId>, NoRoom>
     ensures { IfOk result (λ v. v.items ≡ unmarked clocks.now names.now) }
 {
-    names
-        .iter()
-        .copied()
-        .filter(|name| !is_marked(clocks, *name))
-        .collect(alloc)
+    collect(
+        names
+            .iter()
+            .copied()
+            .filter(|name| !is_marked(clocks, *name)),
+        alloc,
+    )
 }
 
 /// The nets of the inputs: those that are no clock names.
@@ -32,7 +35,7 @@ pub fn input_nets(
     flat: &FlatModel<'_, '_>,
     clocks: &[bool],
     numbers: &[NetId],
-) -> Result<NetIds, AllocError>
+) -> Result<NetIds, NoRoom>
     requires clocks { AreClockMarks flat.now clocks.now }
     requires numbers { AreNetNumbers flat.now numbers.now }
     ensures { IfOk result (λ ids. ids ≡ map (net_id (nets_of (flat_steps flat.now))) (input_names_of (flat_steps flat.now))) }
@@ -48,24 +51,20 @@ fn mark(seen: &mut Vec<bool>, name: NameId) -> bool
     ensures before { result ≡ slice_index_or seen.old.items name.0 true }
     ensures seen { seen.new.items ≡ slice_set seen.old.items name.0 true }
 {
-    let before = seen[name.0 as usize];
-    seen[name.0 as usize] = true;
+    let before = seen[name.0];
+    seen[name.0] = true;
     before
 }
 
 /// The numbers, each once.
-fn first_ids(
-    alloc: Global,
-    seen: &mut Vec<bool>,
-    names: &[NameId],
-) -> Result<Vec<NameId>, AllocError>
+fn first_ids(alloc: Global, seen: &mut Vec<bool>, names: &[NameId]) -> Result<Vec<NameId>, NoRoom>
     requires { AreBelow (length seen.old.items) names.now }
     ensures { IfOk result (λ v. v.items ≡ first_ids seen.old.items names.now) }
 {
     let mut firsts = Vec::new(alloc);
     for name in names {
         if !mark(seen, *name) {
-            firsts.push(*name)?;
+            push(&mut firsts, *name)?;
         }
     }
     Ok(firsts)
@@ -76,12 +75,12 @@ pub fn output_nets(
     alloc: Global,
     flat: &FlatModel<'_, '_>,
     numbers: &[NetId],
-) -> Result<NetIds, AllocError>
+) -> Result<NetIds, NoRoom>
     requires { AreNetNumbers flat.now numbers.now }
     ensures { IfOk result (λ ids. ids ≡ map (net_id (nets_of (flat_steps flat.now))) (output_names_of (flat_steps flat.now))) }
 {
     let names = part_ids(alloc, flat, Part::Outputs)?;
-    let mut seen = vec![in alloc; false; flat.names.len()]?;
+    let mut seen = filled(alloc, false, flat.names.len())?;
     let firsts = first_ids(alloc, &mut seen, names.as_slice())?;
     nets(alloc, numbers, firsts.as_slice())
 }

@@ -19,7 +19,8 @@ use blif_flatten::flat::{
 };
 use circuit::parts::{Latch, Latches, NetId, NetIds, Table, Tables};
 use fm_base::Seq;
-use std::alloc::{AllocError, Global};
+use room::{NoRoom, extend};
+use std::alloc::Global;
 use std::slice;
 
 /// Which names of a line are looked at.
@@ -88,17 +89,13 @@ fn names_in<'s>(act: &'s NumberedAct<'_, '_>, part: Part) -> &'s [NameId]
 }
 
 /// The numbers of the names that the lines have as such a part.
-pub fn part_ids(
-    alloc: Global,
-    flat: &FlatModel<'_, '_>,
-    part: Part,
-) -> Result<Vec<NameId>, AllocError>
+pub fn part_ids(alloc: Global, flat: &FlatModel<'_, '_>, part: Part) -> Result<Vec<NameId>, NoRoom>
     ensures names { IfOk result (λ ids. map (name_at flat.now.names) ids.items ≡ flat_map (λ s. names_of_part part s.act) (flat_steps flat.now)) }
     ensures within { IfOk result (λ ids. AreBelow (length flat.now.names) ids.items) }
 {
     let mut ids = Vec::new(alloc);
     for place in 0..flat.steps.len() {
-        ids.extend_from_slice(names_in(&step_at(flat, place).act, part))?;
+        extend(&mut ids, names_in(&step_at(flat, place).act, part))?;
     }
     Ok(ids)
 }
@@ -109,7 +106,7 @@ pub fn part_nets(
     flat: &FlatModel<'_, '_>,
     numbers: &[NetId],
     part: Part,
-) -> Result<NetIds, AllocError>
+) -> Result<NetIds, NoRoom>
     requires { AreNetNumbers flat.now numbers.now }
     ensures { IfOk result (λ ids. ids ≡ map (net_id (nets_of (flat_steps flat.now))) (flat_map (λ s. names_of_part part s.act) (flat_steps flat.now))) }
 {
@@ -124,11 +121,7 @@ pub struct Cells {
     pub latches: Latches,
 }
 
-fn table(
-    alloc: Global,
-    numbers: &[NetId],
-    table: &NumberedTable<'_, '_>,
-) -> Result<Table, AllocError>
+fn table(alloc: Global, numbers: &[NetId], table: &NumberedTable<'_, '_>) -> Result<Table, NoRoom>
     ensures { IfOk result (λ t. t ≡ net_table numbers.now table.now) }
 {
     let ins = nets(alloc, numbers, table.ins.as_slice())?;
@@ -156,7 +149,7 @@ fn put_cell(
     numbers: &[NetId],
     cells: &mut Cells,
     act: &NumberedAct<'_, '_>,
-) -> Result<(), AllocError>
+) -> Result<(), NoRoom>
     ensures tables { OnOk result (cells.new.tables ≡ cells.old.tables ++ option_to_list (table_in numbers.now act.now)) }
     ensures latches { OnOk result (cells.new.latches ≡ cells.old.latches ++ option_to_list (latch_in numbers.now act.now)) }
 {
@@ -172,7 +165,7 @@ fn take_cells(
     alloc: Global,
     steps: &[NumberedStep<'_, '_>],
     numbers: &[NetId],
-) -> Result<Cells, AllocError>
+) -> Result<Cells, NoRoom>
     ensures tables { IfOk result (λ c. c.tables ≡ filter_map (λ s. table_in numbers.now s.act) steps.now) }
     ensures latches { IfOk result (λ c. c.latches ≡ filter_map (λ s. latch_in numbers.now s.act) steps.now) }
 {
@@ -187,11 +180,7 @@ fn take_cells(
 }
 
 /// The tables and the latches of the flattened model.
-pub fn cells_of(
-    alloc: Global,
-    flat: &FlatModel<'_, '_>,
-    numbers: &[NetId],
-) -> Result<Cells, AllocError>
+pub fn cells_of(alloc: Global, flat: &FlatModel<'_, '_>, numbers: &[NetId]) -> Result<Cells, NoRoom>
     requires { AreNetNumbers flat.now numbers.now }
     ensures tables { IfOk result (λ c. c.tables ≡ filter_map (λ s. table_of (nets_of (flat_steps flat.now)) s.act) (flat_steps flat.now)) }
     ensures latches { IfOk result (λ c. c.latches ≡ filter_map (λ s. latch_of (nets_of (flat_steps flat.now)) s.act) (flat_steps flat.now)) }

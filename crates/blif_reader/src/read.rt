@@ -25,7 +25,8 @@ use blif_model::model_list::read_models;
 use blif_text::{NetlistFault, NetlistKind};
 use circuit::netlist::Netlist;
 use fm_base::Refusal;
-use std::alloc::{AllocError, Global};
+use room::NoRoom;
+use std::alloc::Global;
 
 /// TooLarge at a line.
 fn too_large(line: u32) -> NetlistFault
@@ -39,7 +40,7 @@ fn too_large(line: u32) -> NetlistFault
 
 /// Which names are clock names.
 #[tactic(auto, unfolding(blif_flatten::specs::Sorts::names_by, blif_model::specs::Walk::clock_names))]
-fn clock_marks(alloc: Global, flat: &FlatModel<'_, '_>) -> Result<Vec<bool>, AllocError>
+fn clock_marks(alloc: Global, flat: &FlatModel<'_, '_>) -> Result<Vec<bool>, NoRoom>
     ensures { IfOk result (λ marks. AreClockMarks flat.now marks.items) }
 {
     marks_of(alloc, flat, Sort::Clock)
@@ -90,7 +91,7 @@ fn file_fault(
     models: &ModelTable<'_, '_>,
     graph: &ModelGraph<'_, '_, '_>,
     line: u32,
-) -> Result<Option<NetlistFault>, AllocError>
+) -> Result<Option<NetlistFault>, NoRoom>
     requires graph { graph.now ≡ models.now }
     requires line { line ≡ (main_of models.now).line }
     ensures { IfOk result (λ o. o ≡ unwalked_fault models.now) }

@@ -11,7 +11,8 @@ use blif_model::says::Says;
 use blif_text::token::Token;
 use circuit::parts::{Lit, Row, Rows};
 use fm_base::Seq;
-use std::alloc::{AllocError, Global};
+use room::{NoRoom, collect};
+use std::alloc::Global;
 
 /// The lines below a line, from which the rows that stand directly there are taken one by one.
 #[derive(Drop)]
@@ -53,14 +54,14 @@ fn lit(cell: u8) -> Lit
     }
 }
 
-fn lits(alloc: Global, cells: &[u8]) -> Result<Vec<Lit>, AllocError>
+fn lits(alloc: Global, cells: &[u8]) -> Result<Vec<Lit>, NoRoom>
     ensures { IfOk result (λ row. row.items ≡ map lit_of cells.now) }
 {
-    cells.iter().map(|cell| lit(*cell)).collect(alloc)
+    collect(cells.iter().map(|cell| lit(*cell)), alloc)
 }
 
 /// The literals of a row's tokens.
-fn row_of(alloc: Global, tokens: &[Token<'_>]) -> Result<Row, AllocError>
+fn row_of(alloc: Global, tokens: &[Token<'_>]) -> Result<Row, NoRoom>
     ensures { IfOk result (λ row. row ≡ lits_of (texts_of tokens.now)) }
 {
     match tokens {
@@ -70,7 +71,7 @@ fn row_of(alloc: Global, tokens: &[Token<'_>]) -> Result<Row, AllocError>
 }
 
 /// The rows that stand directly below a line.
-pub fn rows_of(alloc: Global, below: &[ReadLine<'_>]) -> Result<Rows, AllocError>
+pub fn rows_of(alloc: Global, below: &[ReadLine<'_>]) -> Result<Rows, NoRoom>
     ensures { IfOk result (λ rows. rows ≡ map lits_of (rows_below below.now)) }
 {
     let mut rows = Seq::new(alloc);

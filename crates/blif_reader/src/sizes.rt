@@ -9,7 +9,8 @@ use crate::counts::{Count, capped_count};
 use blif_flatten::table::ModelTable;
 use blif_hierarchy::graph::ModelGraph;
 use blif_model::models::ModelLines;
-use std::alloc::{AllocError, Global};
+use room::{NoRoom, collect};
+use std::alloc::Global;
 
 /// More instances than this are too many.
 const MOST_INSTANCES: u64 = 1 << 18;
@@ -20,22 +21,18 @@ const MOST_CELLS: u64 = 1 << 24;
 /// More nets than this are too many.
 pub const MOST_NETS: usize = 1 << 18;
 
-/// As many clock names as this aren't looked at.
-const MOST_MENTIONS: u64 = 1 << 31;
-
 fn own_counts(
     alloc: Global,
     models: &[ModelLines<'_, '_>],
     count: Count,
     cap: u64,
-) -> Result<Vec<u64>, AllocError>
-    requires { cap < 2 ^ 32 }
+) -> Result<Vec<u64>, NoRoom>
     ensures { IfOk result (λ v. v.items ≡ map (λ m. min cap (model_count count (model_of m))) models.now) }
 {
-    models
-        .iter()
-        .map(|model| capped_count(count, model, cap))
-        .collect(alloc)
+    collect(
+        models.iter().map(|model| capped_count(count, model, cap)),
+        alloc,
+    )
 }
 
 /// What is counted in the flattened main model, up to the cap.
@@ -45,9 +42,8 @@ fn main_count(
     graph: &ModelGraph<'_, '_, '_>,
     count: Count,
     cap: u64,
-) -> Result<u64, AllocError>
+) -> Result<u64, NoRoom>
     requires graph { graph.now ≡ models.now }
-    requires cap { cap < 2 ^ 32 }
     ensures { IfOk result (λ n. n ≡ min cap (main_count count models.now)) }
 {
     let own = own_counts(alloc, models.lines(), count, cap)?;
@@ -60,7 +56,7 @@ pub fn is_large(
     alloc: Global,
     models: &ModelTable<'_, '_>,
     graph: &ModelGraph<'_, '_, '_>,
-) -> Result<bool, AllocError>
+) -> Result<bool, NoRoom>
     requires { graph.now ≡ models.now }
     ensures { IfOk result (λ b. b ≡ (nat_lt (2 ^ 18) (count_of_instances models.now) || nat_lt (2 ^ 24) (count_of_cells models.now))) }
 {
@@ -70,19 +66,15 @@ pub fn is_large(
 }
 
 /// No flattened main model with at most 2^18 nets has more names than this: its nets, and a clock name wherever one may
-/// stand. Where these may be 2^31 or more, they are taken for more than there is memory for.
+/// stand.
 pub fn most_names(
     alloc: Global,
     models: &ModelTable<'_, '_>,
     graph: &ModelGraph<'_, '_, '_>,
-) -> Result<usize, AllocError>
+) -> Result<usize, NoRoom>
     requires { graph.now ≡ models.now }
-    ensures fits { IfOk result (λ n. n < 2 ^ 32) }
-    ensures counted { IfOk result (λ n. n ≡ 2 ^ 18 + count_of_mentions models.now) }
+    ensures counted { IfOk result (λ n. n ≡ min (2 ^ 64 - 1) (2 ^ 18 + count_of_mentions models.now)) }
 {
-    let mentions = main_count(alloc, models, graph, Count::Mentions, MOST_MENTIONS)?;
-    if mentions >= MOST_MENTIONS {
-        return Err(AllocError);
-    }
-    Ok(MOST_NETS + mentions as usize)
+    let mentions = main_count(alloc, models, graph, Count::Mentions, u64::MAX)?;
+    Ok(MOST_NETS.saturating_add(mentions as usize))
 }

@@ -19,7 +19,8 @@ use blif_flatten::marks::marks_of;
 use blif_flatten::sorts::Sort;
 use blif_text::{NetlistFault, NetlistKind};
 use net_names::copies::own_name;
-use std::alloc::{AllocError, Global};
+use room::{NoRoom, from_slice};
+use std::alloc::Global;
 
 /// The first line with a name of this sort whose mark is the wanted one, as a fault of this kind.
 fn line_fault(
@@ -41,7 +42,7 @@ fn line_fault(
 }
 
 /// BadClock: the first latch whose control isn't among the main model's inputs.
-fn bad_clock(alloc: Global, flat: &FlatModel<'_, '_>) -> Result<Option<NetlistFault>, AllocError>
+fn bad_clock(alloc: Global, flat: &FlatModel<'_, '_>) -> Result<Option<NetlistFault>, NoRoom>
     ensures { IfOk result (λ o. o ≡ bad_clock (flat_steps flat.now)) }
 {
     let inputs = marks_of(alloc, flat, Sort::Input)?;
@@ -67,13 +68,13 @@ fn undriven(
     alloc: Global,
     flat: &FlatModel<'_, '_>,
     driven: &[bool],
-) -> Result<Option<NetlistFault>, AllocError>
+) -> Result<Option<NetlistFault>, NoRoom>
     requires { AreSettledMarks flat.now driven.now }
     ensures { IfOk result (λ o. o ≡ undriven (flat_steps flat.now)) }
 {
     match first_found(flat, Sort::Visited, driven, false) {
         Some(found) => {
-            let name = own_name(alloc, flat.names.name(found.name.0 as usize))?;
+            let name = own_name(alloc, flat.names.name(found.name.0))?;
             Ok(Some(NetlistFault {
                 line: found.line,
                 kind: NetlistKind::Undriven(name),
@@ -90,7 +91,7 @@ pub fn walk_fault(
     alloc: Global,
     flat: &FlatModel<'_, '_>,
     clocks: &[bool],
-) -> Result<Option<NetlistFault>, AllocError>
+) -> Result<Option<NetlistFault>, NoRoom>
     requires { AreClockMarks flat.now clocks.now }
     ensures { IfOk result (λ o. o ≡ walk_fault (flat_steps flat.now)) }
 {
@@ -106,7 +107,7 @@ pub fn walk_fault(
         Some(fault) => return Ok(Some(fault)),
         None => {}
     }
-    let mut driven = Vec::from_slice(alloc, clocks)?;
+    let mut driven = from_slice(alloc, clocks)?;
     match two_drivers(flat, clocks, &mut driven) {
         Some(fault) => return Ok(Some(fault)),
         None => {}

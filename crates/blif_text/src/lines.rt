@@ -9,7 +9,8 @@ use crate::ink::ink_of;
 use crate::places::{behind, feed_place};
 use crate::token::Token;
 use crate::tokens::put_tokens;
-use std::alloc::{AllocError, Global};
+use room::{NoRoom, push};
+use std::alloc::Global;
 
 /// A logical line: the number of its first physical line, and its tokens.
 #[derive(Drop)]
@@ -29,13 +30,13 @@ fn new_line<'a>(alloc: Global, number: u32) -> TextLine<'a>
 }
 
 /// A line counts where it has a token.
-fn put_line<'a>(done: &mut Vec<TextLine<'a>>, line: TextLine<'a>) -> Result<(), AllocError>
+fn put_line<'a>(done: &mut Vec<TextLine<'a>>, line: TextLine<'a>) -> Result<(), NoRoom>
     ensures { OnOk result ((more : List PlacedLine) → lines_seen done.new.items ++ filter has_tokens more ≡ lines_seen done.old.items ++ filter has_tokens (line_of line.entry ∷ more)) }
 {
     if line.tokens.is_empty() {
         return Ok(());
     }
-    done.push(line)?;
+    push(done, line)?;
     Ok(())
 }
 
@@ -47,7 +48,7 @@ fn take_line<'a>(
     number: u32,
     place: usize,
     text: &'a [u8],
-) -> Result<TextLine<'a>, AllocError>
+) -> Result<TextLine<'a>, NoRoom>
     requires room { place + length text.now < 2 ^ 31 }
     requires counted { number ≤ 2 ^ 31 }
     ensures { IfOk result (λ next. (ps : List Piece) → lines_left (lines_seen done.old.items) (line_of line.entry) (enumerate_from number (record { start = place; text = text.now } ∷ ps)) ≡ lines_left (lines_seen done.new.items) (line_of next) (enumerate_from (number + 1) ps)) }
@@ -64,7 +65,7 @@ fn take_line<'a>(
 
 /// The logical lines that have tokens, whatever their width.
 #[tactic(auto, using(crate::proofs::Cuts::pieces_first))]
-pub fn all_lines<'a>(alloc: Global, bytes: &'a [u8]) -> Result<Vec<TextLine<'a>>, AllocError>
+pub fn all_lines<'a>(alloc: Global, bytes: &'a [u8]) -> Result<Vec<TextLine<'a>>, NoRoom>
     requires { length bytes.now < 2 ^ 31 }
     ensures { IfOk result (λ v. lines_seen v.items ≡ placed_lines bytes.now) }
 {

@@ -6,21 +6,17 @@ ghost use Rattle.blif_text.specs.Read.{pieces_of};
 
 use crate::places::{behind, white_place};
 use crate::token::Token;
-use std::alloc::AllocError;
+use room::{NoRoom, push};
 
 /// A piece is a token where it has a byte.
-fn put_token<'a>(
-    tokens: &mut Vec<Token<'a>>,
-    start: usize,
-    text: &'a [u8],
-) -> Result<(), AllocError>
+fn put_token<'a>(tokens: &mut Vec<Token<'a>>, start: usize, text: &'a [u8]) -> Result<(), NoRoom>
     requires { start + length text.now < 2 ^ 31 }
     ensures { OnOk result ((more : List Piece) → pieces_of tokens.new.items ++ filter has_bytes more ≡ pieces_of tokens.old.items ++ filter has_bytes (record { start = start; text = text.now } ∷ more)) }
 {
     if text.is_empty() {
         return Ok(());
     }
-    tokens.push(Token { start, text })?;
+    push(tokens, Token { start, text })?;
     Ok(())
 }
 
@@ -30,7 +26,7 @@ pub fn put_tokens<'a>(
     tokens: &mut Vec<Token<'a>>,
     place: usize,
     text: &'a [u8],
-) -> Result<(), AllocError>
+) -> Result<(), NoRoom>
     requires { place + length text.now < 2 ^ 31 }
     ensures { OnOk result (pieces_of tokens.new.items ≡ pieces_of tokens.old.items ++ filter has_bytes (pieces is_white place text.now)) }
 {

@@ -12,7 +12,8 @@ use fm_shelf::shelf::{Failed, Shelf};
 use fm_shelf::whole::append_all;
 use metric_sums::Sums;
 use result_file::{Row, RowList, row_line};
-use std::alloc::{AllocError, Global};
+use room::{NoRoom, from_str, reserve};
+use std::alloc::Global;
 use std::marker::{Brand, Model, PhantomData};
 
 /// What a board began with. It exists in contracts alone.
@@ -58,6 +59,7 @@ impl<F: Shelf + Drop, N: Origin> Model for Board<F, N> {
 #[derive(Drop)]
 pub struct NoBoard<F: Shelf + Drop> {
     pub shelf: F,
+    pub no_room: NoRoom,
 }
 
 impl<F: Shelf + Drop, N: Origin> Board<F, N> {
@@ -73,12 +75,14 @@ impl<F: Shelf + Drop, N: Origin> Board<F, N> {
         ensures ok { IfOk result (λ b. (b.rows ≡ rows) × (b.failed ≡ false) × (b.written ≡ false) × (b.shelf ≡ shelf)) }
         ensures err { IfErr result (λ e. e.shelf ≡ shelf) }
     {
-        let Ok(name) = String::from_str(alloc, name) else {
-            return Err(NoBoard { shelf });
+        let name = match from_str(alloc, name) {
+            Ok(name) => name,
+            Err(no_room) => return Err(NoBoard { shelf, no_room }),
         };
         let sums = last_sums(rows.as_slice());
-        let Ok(rows) = with_room(rows, batches as usize) else {
-            return Err(NoBoard { shelf });
+        let rows = match with_room_for(rows, batches as usize) {
+            Ok(rows) => rows,
+            Err(no_room) => return Err(NoBoard { shelf, no_room }),
         };
         Ok(Board {
             shelf,
@@ -176,13 +180,14 @@ impl<F: Shelf + Drop, N: Origin> Board<F, N> {
 }
 
 // The rows, with room for one for each batch.
-fn with_room(rows: RowList, batches: usize) -> Result<Vec<Row>, AllocError>
+fn with_room_for(rows: RowList, batches: usize) -> Result<Vec<Row>, NoRoom>
     requires { length rows ≤ batches }
     ensures rows { IfOk result (λ v. v.items ≡ rows) }
     ensures room { IfOk result (λ v. batches ≤ vec_capacity v) }
 {
     let mut rows = rows.into_vec();
-    rows.reserve(batches - rows.len())?;
+    let more = batches - rows.len();
+    reserve(&mut rows, more)?;
     Ok(rows)
 }
 

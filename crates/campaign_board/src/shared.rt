@@ -11,7 +11,8 @@ use crate::headed::Headed;
 use crate::missing::BatchList;
 use claim_counter::{Claims, Turn};
 use fm_shelf::shelf::Shelf;
-use std::alloc::{AllocError, Global};
+use room::NoRoom;
+use std::alloc::Global;
 use std::marker::Model;
 
 /// A thread's part in a `Shared`.
@@ -51,7 +52,7 @@ impl<F: Shelf + Drop, N: Origin> Shared<F, N> {
         alloc: Global,
         board: &Board<F, N>,
         todo: BatchList,
-    ) -> Result<(Self, Seat<F, N>), AllocError>
+    ) -> Result<(Self, Seat<F, N>), NoRoom>
         requires rows { board.now.rows ≡ N.start.rows }
         requires todo { todo ≡ batches_missing N.start }
         ensures { IfOk result (λ r. (r.0.todo ≡ length (batches_missing N.start)) × (r.1.table ≡ r.0.table) × (r.1.view ≡ starting_view r.0.todo)) }

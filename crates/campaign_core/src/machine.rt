@@ -3,6 +3,7 @@ ghost use Rattle.campaign_core.specs.Machines.{fresh, is_claimed, is_posted, is_
 ghost use Rattle.campaign_core.specs.Refusals.{Refuses};
 
 use crate::event::Event;
+use room::push;
 use std::alloc::Global;
 use std::marker::Model;
 
@@ -103,14 +104,14 @@ impl Core {
         match event {
             Event::Draw(worker) => {
                 if self.next < self.limit {
-                    if self.claims.push((worker, self.next)).is_err() {
+                    if push(&mut self.claims, (worker, self.next)).is_err() {
                         return false;
                     }
                     self.next += 1;
                 }
             }
             Event::Post(_, number) => {
-                if self.history.push(number).is_err() {
+                if push(&mut self.history, number).is_err() {
                     return false;
                 }
             }

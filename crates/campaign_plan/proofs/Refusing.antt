@@ -32,7 +32,7 @@ pub cause_missing : (p : Analysis) (r : PlanRefusal) → fault_count p ≤ 2 ^ 2
 cause_missing p TooManyFaults le cause = rate_missing p TooManyFaults le cause
 cause_missing p (MissingRate net name) le cause = rate_missing p (MissingRate net name) le cause
 cause_missing p (IdleRate part permanent) le cause = rate_missing p (IdleRate part permanent) le cause
-cause_missing p Memory le cause = tt
+cause_missing p (Memory no_room) le cause = tt
 
 pub cause_idle : (p : Analysis) (r : PlanRefusal) → fault_count p ≤ 2 ^ 20 → missing_rate p ≡ None → HasCause (idle_rate p) r → HasCause (plan_refusal p) r
 cause_idle p r le none cause = subst (λ o. HasCause o r) (sym (rates_whole p le none)) cause

@@ -16,7 +16,7 @@ abbrev pub HasCause : Option PlanRefusal → PlanRefusal → Type 0
 HasCause cause TooManyFaults = cause ≡ Some TooManyFaults
 HasCause cause (MissingRate net name) = cause ≡ Some (MissingRate net name)
 HasCause cause (IdleRate part permanent) = cause ≡ Some (IdleRate part permanent)
-HasCause cause Memory = Unit {0}
+HasCause cause (Memory no_room) = Unit {0}
 
 -- the plan of all this, where nothing refuses it
 abbrev pub AnswersPlan : Analysis → Result Analysis PlanRefusal → Type 0

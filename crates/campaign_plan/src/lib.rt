@@ -26,7 +26,8 @@ pub use law::{faults_are_alone, sums_are_consistent, weights_sum_to_rates};
 use metric_sums::Asil;
 use numbers::{Inputs, kept};
 use rate_table::{Part, Rates};
-use std::alloc::{AllocError, Global};
+use room::NoRoom;
+use std::alloc::Global;
 use std::marker::Model;
 use tables::{FaultTables, fault_tables};
 use workload::run::Workload;
@@ -246,13 +247,13 @@ pub enum PlanRefusal {
     /// The part has a rate of this kind above 0, and no fault of it: the first such part, permanent before transient.
     IdleRate { part: Name, permanent: bool },
     /// Memory ran out.
-    Memory,
+    Memory(NoRoom),
 }
 
-impl From<AllocError> for PlanRefusal {
-    ghost from_gives = { λ _ e. e ≡ Memory };
+impl From<NoRoom> for PlanRefusal {
+    ghost from_gives = { λ no_room e. e ≡ Memory no_room };
 
-    fn from(_: AllocError) -> Self {
-        PlanRefusal::Memory
+    fn from(e: NoRoom) -> Self {
+        PlanRefusal::Memory(e)
     }
 }

@@ -14,7 +14,8 @@ use circuit::parts::NetId;
 use fault_list::{FaultList, FaultRefusal, net_of};
 use fm_base::{Name, Seq};
 use rate_table::Rates;
-use std::alloc::{AllocError, Global};
+use room::{NoRoom, from_slice, push};
+use std::alloc::Global;
 use workload::run::Workload;
 
 /// What a plan is made of.
@@ -28,10 +29,10 @@ pub(crate) struct Inputs {
 }
 
 // A copy of a name.
-pub(crate) fn name_of(alloc: Global, text: &[u8]) -> Result<Name, AllocError>
+pub(crate) fn name_of(alloc: Global, text: &[u8]) -> Result<Name, NoRoom>
     ensures { IfOk result (λ name. name ≡ text.now) }
 {
-    Ok(Seq::from_vec(Vec::from_slice(alloc, text)?))
+    Ok(Seq::from_vec(from_slice(alloc, text)?))
 }
 
 // The number of each net's part, or the first net without one.
@@ -55,7 +56,7 @@ pub(crate) fn parts_of_faults(
     p: &Inputs,
     faults: &FaultList,
     parts: &[u32],
-) -> Result<Vec<u32>, AllocError>
+) -> Result<Vec<u32>, NoRoom>
     requires sound { IsNetlist p.now.net }
     requires listed { faults.now ≡ all_faults (analysis p.now) }
     requires parts { AreNetParts (analysis p.now) parts.now }
@@ -65,7 +66,7 @@ pub(crate) fn parts_of_faults(
     let mut numbers = Vec::new(alloc);
     for i in 0..faults.len() {
         let net = net_of(&p.net, faults.fault(i));
-        numbers.push(parts[net.0 as usize])?;
+        push(&mut numbers, parts[net.0 as usize])?;
     }
     Ok(numbers)
 }
@@ -79,7 +80,7 @@ pub(crate) fn list_faults(alloc: Global, p: &Inputs) -> Result<FaultList, PlanRe
     match FaultList::new(alloc, &p.net, flips, p.set.pulses.as_slice()) {
         Ok(faults) => Ok(faults),
         Err(FaultRefusal::TooMany) => Err(PlanRefusal::TooManyFaults),
-        Err(FaultRefusal::Memory) => Err(PlanRefusal::Memory),
+        Err(FaultRefusal::Memory(e)) => Err(PlanRefusal::Memory(e)),
     }
 }
 

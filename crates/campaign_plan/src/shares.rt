@@ -11,7 +11,8 @@ use crate::PlanRefusal;
 use crate::numbers::{Inputs, name_of};
 use fault_list::FaultList;
 use rate_table::Part;
-use std::alloc::{AllocError, Global};
+use room::{NoRoom, filled, push};
+use std::alloc::Global;
 
 // What each further fault of a part and kind gets of its rate, and how many of them get one unit more.
 #[derive(Clone, Copy, Debug, PartialEq, Eq)]
@@ -43,11 +44,11 @@ fn counts(
     faults: &FaultList,
     numbers: &[u32],
     permanent: bool,
-) -> Result<Vec<u32>, AllocError>
+) -> Result<Vec<u32>, NoRoom>
     requires { HavePartNumbers (analysis p.now) faults.now numbers.now }
     ensures { IfOk result (λ counts. ArePartCounts (analysis p.now) permanent (all_faults (analysis p.now)) counts.items) }
 {
-    let mut counts = vec![in alloc; 0; p.rates.parts().len()]?;
+    let mut counts = filled(alloc, 0, p.rates.parts().len())?;
     for i in 0..faults.len() {
         if faults.fault(i).permanent() == permanent {
             counts[numbers[i as usize] as usize] += 1;
@@ -68,18 +69,16 @@ fn rate_of(part: &Part, permanent: bool) -> u64
 }
 
 // Each part's share for its faults of a kind.
-fn shares(
-    alloc: Global,
-    p: &Inputs,
-    counts: &[u32],
-    permanent: bool,
-) -> Result<Vec<Share>, AllocError>
+fn shares(alloc: Global, p: &Inputs, counts: &[u32], permanent: bool) -> Result<Vec<Share>, NoRoom>
     requires { ArePartCounts (analysis p.now) permanent (all_faults (analysis p.now)) counts.now }
     ensures { IfOk result (λ shares. AreShares (analysis p.now) permanent 0 shares.items) }
 {
     let mut shares = Vec::new(alloc);
     for (k, part) in p.rates.parts().iter().enumerate() {
-        shares.push(Share::of_rate(rate_of(part, permanent), counts[k]))?;
+        push(
+            &mut shares,
+            Share::of_rate(rate_of(part, permanent), counts[k]),
+        )?;
     }
     Ok(shares)
 }
@@ -111,7 +110,7 @@ fn weights(
     numbers: &[u32],
     permanent: &mut [Share],
     transient: &mut [Share],
-) -> Result<Vec<u64>, AllocError>
+) -> Result<Vec<u64>, NoRoom>
     requires numbers { HavePartNumbers (analysis p.now) faults.now numbers.now }
     requires table { IsRateTable p.now.rates }
     requires permanent { AreShares (analysis p.now) true 0 permanent.old }
@@ -126,7 +125,7 @@ fn weights(
         } else {
             take_share(transient, part)
         };
-        weights.push(weight)?;
+        push(&mut weights, weight)?;
     }
     Ok(weights)
 }

@@ -52,14 +52,16 @@ fn prepare<'a, F: Shelf + Drop, N: Origin>(
     ensures board { IfOk result (λ r. IsNewBoard N.start shelf r.crew.board) }
     ensures err { IfErr result (λ e. e.shelf ≡ shelf) }
 {
-    let Ok(space) = ReportSpace::new(alloc, plan) else {
-        return Err(NoBoard { shelf });
+    let space = match ReportSpace::new(alloc, plan) {
+        Ok(space) => space,
+        Err(no_room) => return Err(NoBoard { shelf, no_room }),
     };
     let board = Board::new(alloc, shelf, name, batches, rows)?;
     match Crew::new(alloc, plan, order, board, workers) {
         Ok(crew) => Ok(Prepared { space, crew }),
-        Err(NoCrew { board }) => Err(NoBoard {
+        Err(NoCrew { board, no_room }) => Err(NoBoard {
             shelf: board.into_shelf(),
+            no_room,
         }),
     }
 }
@@ -118,7 +120,7 @@ pub(crate) fn run_over<
     requires kept { StartsFrom campaign.own campaign.p ((F.seen shelf).content campaign.name) campaign.k }
     requires origin { N.start ≡ origin_of campaign (F.seen shelf) }
     ensures run { HasRun result.end campaign.entry (record { shelf = F.seen shelf; out = O.seen out.old }) (record { shelf = F.seen result.shelf; out = O.seen out.new }) }
-    ensures untouched { result.end ≡ End.NoMemory → (result.shelf ≡ shelf) × (out.new ≡ out.old) }
+    ensures untouched { (no_room : NoRoom) → result.end ≡ End.NoMemory no_room → (result.shelf ≡ shelf) × (out.new ≡ out.old) }
 {
     let Campaign {
         plan,
@@ -132,10 +134,10 @@ pub(crate) fn run_over<
     let prepared = prepare::<F, N>(alloc, plan, order, batches, rows, workers, shelf, name);
     let Prepared { mut space, crew } = match prepared {
         Ok(prepared) => prepared,
-        Err(NoBoard { shelf }) => {
+        Err(NoBoard { shelf, no_room }) => {
             return Ran {
                 shelf,
-                end: End::NoMemory,
+                end: End::NoMemory(no_room),
             };
         }
     };

@@ -6,6 +6,7 @@ use crate::campaign::Campaign;
 use crate::over::run_over;
 use claim_counter::Turn;
 use fm_shelf::shelf::{Shelf, Sink};
+use room::NoRoom;
 use std::alloc::Global;
 use std::marker::Brand;
 use std::thread::Threads;
@@ -26,7 +27,7 @@ pub enum End {
     /// Each batch has its row in the result file, and the text was written.
     Done,
     /// There was no memory. All of it is taken before the result file is first changed.
-    NoMemory,
+    NoMemory(NoRoom),
     /// The result file couldn't be cut, or a line couldn't be appended to it.
     ResultFault,
     /// Each batch has its row in the result file, and the text couldn't be written whole.
@@ -63,7 +64,7 @@ pub fn run_campaign<
     requires workers { (0 < workers) × (workers ≤ 32) }
     requires kept { StartsFrom campaign.own campaign.p ((F.seen shelf).content campaign.name) campaign.k }
     ensures run { HasRun result.end campaign.entry (record { shelf = F.seen shelf; out = O.seen out.old }) (record { shelf = F.seen result.shelf; out = O.seen out.new }) }
-    ensures untouched { result.end ≡ End.NoMemory → (result.shelf ≡ shelf) × (out.new ≡ out.old) }
+    ensures untouched { (no_room : NoRoom) → result.end ≡ End.NoMemory no_room → (result.shelf ≡ shelf) × (out.new ≡ out.old) }
 {
     run_over::<R, F, Brand, O, G, T>(rt, turn, alloc, campaign, workers, shelf, out, gate)
 }

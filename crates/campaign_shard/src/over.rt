@@ -22,7 +22,8 @@ use fm_base::{Line, Seq};
 use fm_shelf::shelf::{Failed, Shelf, Sink};
 use netlist_levels::Order;
 use refusals::share_text::write_shard;
-use std::alloc::{AllocError, Global};
+use room::NoRoom;
+use std::alloc::Global;
 
 // All that a part needs but its board: what simulates its batches, the shared table, and the one seat at it.
 #[derive(Drop)]
@@ -44,7 +45,7 @@ fn batches_to_do<F: Shelf + Drop, N: Origin>(
     alloc: Global,
     plan: &Plan,
     board: &Board<F, N>,
-) -> Result<BatchList, AllocError>
+) -> Result<BatchList, NoRoom>
     requires entries { length N.start.entries ≡ batch_count plan.now }
     requires rows { board.now.rows ≡ N.start.rows }
     ensures { IfOk result (λ todo. todo ≡ batches_missing N.start) }
@@ -59,7 +60,7 @@ fn make_workplace<'a, F: Shelf + Drop, N: Origin>(
     order: &'a Order,
     parts: u32,
     board: &Board<F, N>,
-) -> Result<Workplace<'a, F, N>, AllocError>
+) -> Result<Workplace<'a, F, N>, NoRoom>
     requires order { IsOrder plan.now.circuit order.now }
     requires entries { length N.start.entries ≡ batch_count plan.now }
     requires rows { board.now.rows ≡ N.start.rows }
@@ -102,8 +103,9 @@ fn prepare<'a, F: Shelf + Drop, N: Origin>(
     let board = Board::new(alloc, shelf, name, batches, Seq::new(alloc))?;
     match make_workplace(alloc, plan, order, parts, &board) {
         Ok(place) => Ok(Prepared { board, place }),
-        Err(AllocError) => Err(NoBoard {
+        Err(no_room) => Err(NoBoard {
             shelf: board.into_shelf(),
+            no_room,
         }),
     }
 }
@@ -177,7 +179,7 @@ pub(crate) fn run_over<F: Shelf + Drop, N: Origin, O: Sink>(
 ) -> Ran<F>
     requires origin { N.start ≡ part_origin campaign.name campaign.own campaign.p (F.seen shelf) }
     ensures run { HasRunPart result.end campaign.entry (record { shelf = F.seen shelf; out = O.seen out.old }) (record { shelf = F.seen result.shelf; out = O.seen out.new }) }
-    ensures untouched { result.end ≡ End.NoMemory → (result.shelf ≡ shelf) × (out.new ≡ out.old) }
+    ensures untouched { (no_room : NoRoom) → result.end ≡ End.NoMemory no_room → (result.shelf ≡ shelf) × (out.new ≡ out.old) }
 {
     let PartCampaign {
         plan,
@@ -192,9 +194,9 @@ pub(crate) fn run_over<F: Shelf + Drop, N: Origin, O: Sink>(
             let board = worked(plan, own, shard, prepared);
             tell(shard, board, out)
         }
-        Err(NoBoard { shelf }) => Ran {
+        Err(NoBoard { shelf, no_room }) => Ran {
             shelf,
-            end: End::NoMemory,
+            end: End::NoMemory(no_room),
         },
     }
 }

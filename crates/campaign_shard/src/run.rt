@@ -19,7 +19,7 @@ pub fn run_part<F: Shelf + Drop, O: Sink>(
     out: &mut O,
 ) -> Ran<F>
     ensures run { HasRunPart result.end campaign.entry (record { shelf = F.seen shelf; out = O.seen out.old }) (record { shelf = F.seen result.shelf; out = O.seen out.new }) }
-    ensures untouched { result.end ≡ End.NoMemory → (result.shelf ≡ shelf) × (out.new ≡ out.old) }
+    ensures untouched { (no_room : NoRoom) → result.end ≡ End.NoMemory no_room → (result.shelf ≡ shelf) × (out.new ≡ out.old) }
 {
     run_over::<F, Brand, O>(alloc, campaign, shelf, out)
 }

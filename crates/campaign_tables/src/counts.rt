@@ -3,19 +3,16 @@ ghost use Rattle.std.specs.Prelude.{◌≡◌, ◌≤◌, ◌<◌, ◌^◌, IfOk
 ghost use Rattle.fm_base.specs.Lists.{below};
 ghost use Rattle.campaign_tables.specs.Counted.{row_in_list, AreRowCounts, AreFirsts, AreRowsBelow};
 
-use std::alloc::{AllocError, Global};
+use room::{NoRoom, filled};
+use std::alloc::Global;
 
 /// How many of these rows are each of the first `n`.
-pub(crate) fn counts_of(
-    alloc: Global,
-    rows: &[Option<usize>],
-    n: usize,
-) -> Result<Vec<u32>, AllocError>
+pub(crate) fn counts_of(alloc: Global, rows: &[Option<usize>], n: usize) -> Result<Vec<u32>, NoRoom>
     requires below { AreRowsBelow n rows.now }
     requires few { length rows.now ≤ 2 ^ 18 }
     ensures { IfOk result (λ counts. AreRowCounts n rows.now counts.items) }
 {
-    let mut counts = vec![in alloc; 0; n]?;
+    let mut counts = filled(alloc, 0, n)?;
     for row in rows {
         if let Some(k) = *row {
             counts[k] += 1;
@@ -39,12 +36,12 @@ pub(crate) fn firsts_of(
     alloc: Global,
     rows: &[Option<usize>],
     n: usize,
-) -> Result<Vec<Option<u32>>, AllocError>
+) -> Result<Vec<Option<u32>>, NoRoom>
     requires below { AreRowsBelow n rows.now }
     requires few { length rows.now ≤ 2 ^ 18 }
     ensures { IfOk result (λ firsts. AreFirsts n (length rows.now) rows.now firsts.items) }
 {
-    let mut firsts = vec![in alloc; None; n]?;
+    let mut firsts = filled(alloc, None, n)?;
     for (i, row) in rows.iter().enumerate() {
         if let Some(k) = *row {
             note_first(&mut firsts, k, i as u32);

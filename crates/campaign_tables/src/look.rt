@@ -7,7 +7,8 @@ ghost use Rattle.campaign_tables.specs.Counted.{latch_rows, net_rows};
 use circuit::netlist::Netlist;
 use circuit::parts::NetId;
 use rate_table::{Pattern, Rates};
-use std::alloc::{AllocError, Global};
+use room::{NoRoom, push};
+use std::alloc::Global;
 
 // The number of the first pattern that matches a name.
 fn row_of(patterns: &[Pattern], name: &[u8]) -> Option<usize>
@@ -21,13 +22,13 @@ pub(crate) fn rows_of_nets(
     alloc: Global,
     net: &Netlist,
     rates: &Rates,
-) -> Result<Vec<Option<usize>>, AllocError>
+) -> Result<Vec<Option<usize>>, NoRoom>
     ensures rows { IfOk result (λ rows. rows.items ≡ net_rows net.now rates.now) }
     ensures netlist { IsNetlist net.now }
 {
     let mut rows = Vec::new(alloc);
     for n in 0..net.nets() as u32 {
-        rows.push(row_of(rates.patterns(), net.name(NetId(n))))?;
+        push(&mut rows, row_of(rates.patterns(), net.name(NetId(n))))?;
     }
     Ok(rows)
 }
@@ -38,13 +39,13 @@ pub(crate) fn rows_of_latches(
     net: &Netlist,
     rates: &Rates,
     rows: &[Option<usize>],
-) -> Result<Vec<Option<usize>>, AllocError>
+) -> Result<Vec<Option<usize>>, NoRoom>
     requires { rows.now ≡ net_rows net.now rates.now }
     ensures { IfOk result (λ latches. latches.items ≡ latch_rows net.now rates.now) }
 {
     let mut latches = Vec::new(alloc);
     for latch in net.latches() {
-        latches.push(rows[latch.to.0 as usize])?;
+        push(&mut latches, rows[latch.to.0 as usize])?;
     }
     Ok(latches)
 }

@@ -17,7 +17,8 @@ use fm_shelf::shelf::{Failed, Sink};
 use fm_shelf::whole::write_pieces;
 use metric_sums::words::role_word;
 use rate_table::{Part, Pattern, Rates};
-use std::alloc::{AllocError, Global};
+use room::NoRoom;
+use std::alloc::Global;
 use std::marker::Model;
 
 /// A netlist and rates, with the row that takes each net and what each row takes. All memory is taken when it is made.
@@ -68,11 +69,7 @@ fn name_or_dash(net: &Netlist, place: Option<u32>) -> &[u8]
 impl<'a> PartTable<'a> {
     /// Looks up each net, in the time of the nets and the rows; what each row takes is then counted in one pass over the nets
     /// and one over the latches.
-    pub fn new(
-        alloc: Global,
-        net: &'a Netlist,
-        rates: &'a Rates,
-    ) -> Result<PartTable<'a>, AllocError>
+    pub fn new(alloc: Global, net: &'a Netlist, rates: &'a Rates) -> Result<PartTable<'a>, NoRoom>
         ensures { IfOk result (λ table. table ≡ record { circuit = net.now; rates = rates.now }) }
     {
         let n = rates.patterns().len();

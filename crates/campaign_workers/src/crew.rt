@@ -11,7 +11,8 @@ use campaign_plan::Plan;
 use classifier::{Simulator, Testbench};
 use fm_shelf::shelf::Shelf;
 use netlist_levels::Order;
-use std::alloc::{AllocError, Global};
+use room::{NoRoom, push};
+use std::alloc::Global;
 use std::marker::Model;
 use std::snapshot::Snapshot;
 
@@ -49,6 +50,7 @@ pub struct Crew<'a, F: Shelf + Drop, N: Origin> {
 #[derive(Drop)]
 pub struct NoCrew<F: Shelf + Drop, N: Origin> {
     pub board: Board<F, N>,
+    pub no_room: NoRoom,
 }
 
 impl<'a, F: Shelf + Drop, N: Origin> Crew<'a, F, N> {
@@ -71,10 +73,10 @@ impl<'a, F: Shelf + Drop, N: Origin> Crew<'a, F, N> {
         ensures ok { IfOk result (λ crew. (crew.board ≡ board) × (crew.workshop ≡ plan.now)) }
         ensures err { IfErr result (λ e. e.board ≡ board) }
     {
-        let Ok(workshop) = Workshop::new(alloc, plan, order, &board, workers) else {
-            return Err(NoCrew { board });
-        };
-        Ok(Crew { board, workshop })
+        match Workshop::new(alloc, plan, order, &board, workers) {
+            Ok(workshop) => Ok(Crew { board, workshop }),
+            Err(no_room) => Err(NoCrew { board, no_room }),
+        }
     }
 
     /// The board, whose header is to be written before the campaign.
@@ -101,7 +103,7 @@ impl<'a, F: Shelf + Drop, N: Origin> Workshop<'a, F, N> {
         order: &'a Order,
         board: &Board<F, N>,
         workers: u32,
-    ) -> Result<Self, AllocError>
+    ) -> Result<Self, NoRoom>
         requires workers { (0 < workers) × (workers ≤ 32) }
         requires order { IsOrder plan.now.circuit order.now }
         requires entries { length N.start.entries ≡ batch_count plan.now }
@@ -129,7 +131,7 @@ fn worker_at<F: Shelf + Drop, N: Origin>(
     bench: &Testbench<'_>,
     number: u32,
     seat: Seat<F, N>,
-) -> Result<Worker<F, N>, AllocError>
+) -> Result<Worker<F, N>, NoRoom>
     ensures seat { IfOk result (λ w. w.seat ≡ seat) }
     ensures simulator { IfOk result (λ w. w.simulator ≡ simulator_of bench.now plan.now.settings.ftti) }
 {
@@ -149,7 +151,7 @@ fn hired<F: Shelf + Drop, N: Origin>(
     shared: &Shared<F, N>,
     first: &mut Seat<F, N>,
     count: u32,
-) -> Result<Vec<Worker<F, N>>, AllocError>
+) -> Result<Vec<Worker<F, N>>, NoRoom>
     requires count { count ≤ 32 }
     requires first { IsCrew shared.now first.old [] × (first.old.view.share ≡ 2 ^ 32) }
     ensures crew { IfOk result (λ workers. IsCrew shared.now first.new (seats_of workers.items)) }
@@ -160,7 +162,7 @@ fn hired<F: Shelf + Drop, N: Origin>(
     let mut workers = Vec::new(alloc);
     for number in 0..count {
         let seat = shared.split(first);
-        workers.push(worker_at(alloc, plan, bench, number, seat)?)?;
+        push(&mut workers, worker_at(alloc, plan, bench, number, seat)?)?;
     }
     Ok(workers)
 }

@@ -6,7 +6,8 @@ ghost use Rattle.circuit.specs.Sound.{IsNet};
 use crate::meaning::{bit, value_of_table, value_under};
 use crate::netlist::Netlist;
 use crate::parts::{Driver, Fault, NetId};
-use std::alloc::{AllocError, Global};
+use room::{NoRoom, push};
+use std::alloc::Global;
 
 /// The value of a net in a cycle, asked back through at most `depth` tables; where this is one more than there are tables,
 /// it is the net's value. The time grows with the number of ways back, of which there may be exponentially many.
@@ -19,7 +20,7 @@ pub fn value_within(
     inputs: &[bool],
     depth: usize,
     net: NetId,
-) -> Result<bool, AllocError>
+) -> Result<bool, NoRoom>
     requires { IsNet netlist.now net }
     ensures { IfOk result (λ value. value ≡ val depth (cycle_of netlist.now faults.now cycle state.now inputs.now) net.0) }
 {
@@ -33,16 +34,19 @@ pub fn value_within(
                 let table = netlist.table(k);
                 let mut bits = Vec::new(alloc);
                 for read in table.ins.as_slice() {
-                    bits.push(value_within(
-                        alloc,
-                        netlist,
-                        faults,
-                        cycle,
-                        state,
-                        inputs,
-                        depth - 1,
-                        *read,
-                    )?)?;
+                    push(
+                        &mut bits,
+                        value_within(
+                            alloc,
+                            netlist,
+                            faults,
+                            cycle,
+                            state,
+                            inputs,
+                            depth - 1,
+                            *read,
+                        )?,
+                    )?;
                 }
                 value_of_table(table, bits.as_slice())
             }

@@ -8,7 +8,8 @@ use crate::rule::{Draw, Give, Law, Learn, Note, OneShare, Open, Take, TakeAlone}
 use crate::seat::Seat;
 use crate::view::View;
 use atomic_table::Table;
-use std::alloc::{AllocError, Global};
+use room::{NoRoom, filled, vacant};
+use std::alloc::Global;
 use std::marker::Model;
 use std::sync::Wait;
 use std::thread;
@@ -66,12 +67,12 @@ impl<V: Kept> Claims<V> {
     }
 
     /// A counter at 0 for at most 2^20 numbers. The seat has all shares and holds the turn, with no value behind it yet: `give` puts the first one.
-    pub fn new(alloc: Global, todo: u64) -> Result<(Claims<V>, Seat<V>), AllocError>
+    pub fn new(alloc: Global, todo: u64) -> Result<(Claims<V>, Seat<V>), NoRoom>
         requires { todo ≤ 2 ^ 20 }
         ensures { IfOk result (λ r. (r.0.todo ≡ todo) × (r.1.table ≡ r.0.table) × (r.1.view ≡ starting_view todo)) }
     {
-        let words = vec![in alloc; 0u64; todo as usize + 2]?;
-        let (table, mut token) = Table::vacant(alloc, words.as_slice(), 1, &todo)?;
+        let words = filled(alloc, 0u64, todo as usize + 2)?;
+        let (table, mut token) = vacant(alloc, words.as_slice(), 1, &todo)?;
         table.shared.compare_exchange::<Open>(&mut token, 1, 0, 1);
         Ok((Claims { table, todo }, Seat { token, next: 0 }))
     }

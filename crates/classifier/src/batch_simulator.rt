@@ -11,7 +11,8 @@ use campaign_plan::{Outcome, Plan};
 use circuit::netlist::Netlist;
 use fault_list::FaultList;
 use netlist_levels::Order;
-use std::alloc::{AllocError, Global};
+use room::NoRoom;
+use std::alloc::Global;
 use std::marker::Model;
 
 /// What simulates batches of faults that are asked for one after the other: where one isn't at hand, it is simulated together with
@@ -71,7 +72,7 @@ impl<'a> BatchSimulator<'a> {
         faults: &'a FaultList,
         ftti: u32,
         apart: u32,
-    ) -> Result<Self, AllocError>
+    ) -> Result<Self, NoRoom>
         ensures { IfOk result (λ s. s ≡ record { circuit = bench.entry.circuit; faults = faults.now; runs = bench.entry.runs; points = bench.entry.points; ftti = ftti }) }
     {
         let simulator = Simulator::new(alloc, &bench, ftti)?;
@@ -91,7 +92,7 @@ impl<'a> BatchSimulator<'a> {
         plan: &'a Plan,
         order: &'a Order,
         apart: u32,
-    ) -> Result<Self, AllocError>
+    ) -> Result<Self, NoRoom>
         requires { IsOrder plan.now.circuit order.now }
         ensures { IfOk result (λ s. s ≡ simulated_of plan.now) }
     {

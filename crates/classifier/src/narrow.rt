@@ -18,7 +18,8 @@ use differential_kernel::{DifferentialLanes, Picks};
 use fm_base::Steps;
 use lane_words::Word;
 use netlist_levels::Order;
-use std::alloc::{AllocError, Global};
+use room::NoRoom;
+use std::alloc::Global;
 use std::sync::ledger::Ledger;
 
 // The planes of four words of lanes, of which the bits stand at their places.
@@ -60,7 +61,7 @@ pub struct Narrow {
 
 impl Narrow {
     /// One word for a netlist and an order of its tables, which goes on with no lane yet.
-    pub fn new(alloc: Global, netlist: &Netlist, order: &Order) -> Result<Self, AllocError>
+    pub fn new(alloc: Global, netlist: &Netlist, order: &Order) -> Result<Self, NoRoom>
         requires { IsOrder netlist.now order.now }
         ensures { IfOk result (λ s. IsMadeFor netlist.now order.now s.lanes) }
     {

@@ -20,7 +20,8 @@ use circuit::parts::Fault;
 use differential_kernel::DifferentialLanes4;
 use fault_list::FaultList;
 use fm_base::Steps;
-use std::alloc::{AllocError, Global};
+use room::NoRoom;
+use std::alloc::Global;
 use std::marker::{Brand, Model};
 use std::slice::from_mut;
 use std::snapshot::Snapshot;
@@ -54,7 +55,7 @@ impl Model for Simulator {
 
 impl Simulator {
     /// A simulator of a testbench. `ftti` is the fault tolerant time interval in cycles, for the goals without one of their own.
-    pub fn new(alloc: Global, bench: &Testbench<'_>, ftti: u32) -> Result<Self, AllocError>
+    pub fn new(alloc: Global, bench: &Testbench<'_>, ftti: u32) -> Result<Self, NoRoom>
         ensures { IfOk result (λ simulator. simulator ≡ simulator_of bench.now ftti) }
     {
         // What has least to give up comes first, and the lanes last.
@@ -162,10 +163,7 @@ impl Simulator {
 }
 
 // The one word in which the last lanes of a run go on, and the four words of lanes.
-fn lanes_for(
-    alloc: Global,
-    bench: &Testbench<'_>,
-) -> Result<(Narrow, DifferentialLanes4), AllocError>
+fn lanes_for(alloc: Global, bench: &Testbench<'_>) -> Result<(Narrow, DifferentialLanes4), NoRoom>
     ensures narrow { IfOk result (λ made. IsMadeFor bench.now.circuit bench.now.order made.0.lanes) }
     ensures lanes { IfOk result (λ made. IsMadeFor bench.now.circuit bench.now.order made.1) }
 {

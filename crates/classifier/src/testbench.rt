@@ -18,7 +18,8 @@ use golden_run::Golden;
 use lane_words::Word;
 use netlist_levels::Order;
 use reach::Reach;
-use std::alloc::{AllocError, Global};
+use room::NoRoom;
+use std::alloc::Global;
 use std::marker::Model;
 use std::sync::ledger::Ledger;
 use workload::run::{Kind, Workload};
@@ -57,7 +58,7 @@ impl<'a> Testbench<'a> {
         order: &'a Order,
         work: &'a Workload,
         points: &'a Points,
-    ) -> Result<Self, AllocError>
+    ) -> Result<Self, NoRoom>
         requires order { IsOrder net.now order.now }
         requires points { ArePointsFor net.now points.now }
         ensures { IfOk result (λ bench. bench ≡ record { circuit = net.now; order = order.now; runs = work.now; points = points.now }) }
@@ -75,7 +76,7 @@ impl<'a> Testbench<'a> {
     }
 
     /// The testbench of a plan, by an order of its tables.
-    pub fn of_plan(alloc: Global, plan: &'a Plan, order: &'a Order) -> Result<Self, AllocError>
+    pub fn of_plan(alloc: Global, plan: &'a Plan, order: &'a Order) -> Result<Self, NoRoom>
         requires { IsOrder plan.now.circuit order.now }
         ensures { IfOk result (λ bench. bench ≡ testbench_of plan.now order.now) }
     {

@@ -19,7 +19,8 @@ use circuit::netlist::Netlist;
 use fault_list::FaultList;
 use fm_base::Seq;
 use netlist_levels::Order;
-use std::alloc::{AllocError, Global};
+use room::NoRoom;
+use std::alloc::Global;
 use std::marker::Model;
 use std::snapshot::Snapshot;
 
@@ -50,7 +51,7 @@ fn representatives(
     order: &Order,
     faults: &FaultList,
     points: &Points,
-) -> Result<Vec<u32>, AllocError>
+) -> Result<Vec<u32>, NoRoom>
     requires order { IsOrder net.now order.now }
     requires faults { AreFaultsOf net.now faults.now }
     requires points { ArePointsFor net.now points.now }
@@ -72,7 +73,7 @@ impl Collapse {
         order: &Order,
         faults: &FaultList,
         points: &Points,
-    ) -> Result<Collapse, AllocError>
+    ) -> Result<Collapse, NoRoom>
         requires order { IsOrder net.now order.now }
         requires faults { AreFaultsOf net.now faults.now }
         requires points { ArePointsFor net.now points.now }

@@ -5,7 +5,8 @@ ghost use Rattle.collapse_map.specs.Fixed.{lit_at, is_against, is_dash_literal, 
 ghost use Rattle.collapse_map.specs.Wants.{wants};
 
 use circuit::parts::{Lit, Row, Table};
-use std::alloc::{AllocError, Global};
+use room::{NoRoom, collect};
+use std::alloc::Global;
 
 // Whether a literal wants the other value.
 fn is_against(v: bool, lit: Lit) -> bool
@@ -45,15 +46,10 @@ fn wants_in(row: &Row) -> usize
 }
 
 /// How many places of each row of a table want something. It takes time linear in the table's cells.
-pub(crate) fn wants_of(alloc: Global, table: &Table) -> Result<Vec<usize>, AllocError>
+pub(crate) fn wants_of(alloc: Global, table: &Table) -> Result<Vec<usize>, NoRoom>
     ensures { IfOk result (λ counts. counts.items ≡ map wants table.now.rows) }
 {
-    table
-        .rows
-        .as_slice()
-        .iter()
-        .map(|row| wants_in(row))
-        .collect(alloc)
+    collect(table.rows.as_slice().iter().map(|row| wants_in(row)), alloc)
 }
 
 // Whether the value at the place keeps all rows from matching.

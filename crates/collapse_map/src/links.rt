@@ -12,7 +12,8 @@ use crate::looks::{Looks, is_one};
 use circuit::netlist::Netlist;
 use circuit::parts::{Driver, NetId, Table};
 use netlist_levels::Order;
-use std::alloc::{AllocError, Global};
+use room::NoRoom;
+use std::alloc::Global;
 
 // The number of a stuck-at fault.
 fn stuck_number(net: NetId, v: bool) -> usize
@@ -43,7 +44,7 @@ fn link_table(
     to: NetId,
     looks: &[Looks],
     reps: &mut [u32],
-) -> Result<(), AllocError>
+) -> Result<(), NoRoom>
     requires to { IsNet net.now to }
     requires looks { length looks.now ≡ length net.now.drivers }
     requires reps { 2 * length net.now.drivers ≤ length reps.old }
@@ -73,7 +74,7 @@ pub(crate) fn link_all(
     order: &Order,
     looks: &[Looks],
     reps: &mut [u32],
-) -> Result<(), AllocError>
+) -> Result<(), NoRoom>
     requires order { IsOrder net.now order.now }
     requires looks { length looks.now ≡ length net.now.drivers }
     requires reps { 2 * length net.now.drivers ≤ length reps.old }

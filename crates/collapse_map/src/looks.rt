@@ -10,7 +10,8 @@ ghost use Rattle.collapse_map.specs.Looks.{AreLooks, is_one_look, looked_at, one
 use alarm_points::Points;
 use circuit::netlist::Netlist;
 use circuit::parts::NetId;
-use std::alloc::{AllocError, Global};
+use room::{NoRoom, filled};
+use std::alloc::Global;
 
 /// How many look at a net.
 #[derive(Clone, Copy)]
@@ -106,17 +107,13 @@ fn look_by_all(looks: &mut [Looks], net: &Netlist, points: &Points)
 }
 
 /// How many look at each net of a netlist whose points these are.
-pub(crate) fn looks_of(
-    alloc: Global,
-    net: &Netlist,
-    points: &Points,
-) -> Result<Vec<Looks>, AllocError>
+pub(crate) fn looks_of(alloc: Global, net: &Netlist, points: &Points) -> Result<Vec<Looks>, NoRoom>
     requires { ArePointsFor net.now points.now }
     ensures sized { IfOk result (λ looks. length looks.items ≡ length net.now.drivers) }
     ensures looks { IfOk result (λ looks. AreLooks (looked_at net.now (watched points.now)) looks.items) }
     ensures sound { IsNetlist net.now }
 {
-    let mut looks = vec![in alloc; Looks::Nobody; net.nets()]?;
+    let mut looks = filled(alloc, Looks::Nobody, net.nets())?;
     look_by_all(&mut looks, net, points);
     Ok(looks)
 }

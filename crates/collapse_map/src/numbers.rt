@@ -10,7 +10,8 @@ ghost use Rattle.collapse_map.specs.Settled.{own_numbers};
 
 use circuit::parts::Fault;
 use fault_list::FaultList;
-use std::alloc::{AllocError, Global};
+use room::{NoRoom, push, with_room};
+use std::alloc::Global;
 
 // Whether two faults are the same.
 fn is_same(a: Fault, b: Fault) -> bool
@@ -56,14 +57,14 @@ fn first_like(faults: &FaultList, i: u32) -> u32
 }
 
 /// The number of each fault.
-pub(crate) fn own_numbers(alloc: Global, faults: &FaultList) -> Result<Vec<u32>, AllocError>
+pub(crate) fn own_numbers(alloc: Global, faults: &FaultList) -> Result<Vec<u32>, NoRoom>
     ensures numbers { IfOk result (λ numbers. (c : Circuit) → AreFaultsOf c faults.now → numbers.items ≡ own_numbers faults.now) }
     ensures sized { IfOk result (λ numbers. length numbers.items ≡ length faults.now) }
     ensures few { length faults.now ≤ most_faults }
 {
-    let mut numbers = Vec::with_capacity(alloc, faults.len() as usize)?;
+    let mut numbers = with_room(alloc, faults.len() as usize)?;
     for i in 0..faults.len() {
-        numbers.push(first_like(faults, i))?;
+        push(&mut numbers, first_like(faults, i))?;
     }
     Ok(numbers)
 }

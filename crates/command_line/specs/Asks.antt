@@ -8,4 +8,4 @@ use Rattle.command_line.specs.Words.{IsNoCommand}
 -- Usage is the answer where the words are no command; want of memory is free
 abbrev pub IsWordsRefusal : List Text → WordsRefusal → Type 0
 IsWordsRefusal words Usage = IsNoCommand words
-IsWordsRefusal words Memory = Unit {0}
+IsWordsRefusal words (Memory no_room) = Unit {0}

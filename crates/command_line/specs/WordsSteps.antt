@@ -20,7 +20,7 @@ Finds {T} Fits found = MatchOption found ((value : T) → ¬ (Fits value)) Fits
 abbrev pub IsRead : {T : Type 0} → (T → Type 0) → Result T WordsRefusal → Type 0
 IsRead Fits (Ok read) = Fits read
 IsRead {T} Fits (Err Usage) = (read : T) → ¬ (Fits read)
-IsRead Fits (Err Memory) = Unit {0}
+IsRead Fits (Err (Memory no_room)) = Unit {0}
 
 -- the text of the argument that names each file
 abbrev pub file_texts : List Row → Which → Text
@@ -42,10 +42,10 @@ IsMet met command = (rows : List Row) × (met ≡ Some (word_of command.task, ro
 abbrev pub IsCommandOfWord : Text → List Row → Result Asked WordsRefusal → Type 0
 IsCommandOfWord word rows (Ok asked) = (word ≡ word_of asked.task) × Says rows (told_by asked)
 IsCommandOfWord word rows (Err Usage) = (command : Command) → word ≡ word_of command.task → ¬ (Says rows command)
-IsCommandOfWord word rows (Err Memory) = Unit {0}
+IsCommandOfWord word rows (Err (Memory no_room)) = Unit {0}
 
 -- the subcommand that was met is this command, or none
 abbrev pub AsksMet : Option (Text × List Row) → Result Asked WordsRefusal → Type 0
 AsksMet met (Ok asked) = IsMet met (told_by asked)
 AsksMet met (Err Usage) = (command : Command) → ¬ (IsMet met command)
-AsksMet met (Err Memory) = Unit {0}
+AsksMet met (Err (Memory no_room)) = Unit {0}

@@ -10,23 +10,23 @@ ghost use Rattle.command_line.specs.declared.read.WordsRefusal.TheVariants.{Memo
 use crate::entries::{is_apart, names_of, settings_of};
 use crate::table::{fmeda_command, task_of};
 use clap::ArgMatches;
-use clap::error::ErrorKind;
 use commands::Asked;
-use std::alloc::{AllocError, Global};
+use room::{NoRoom, try_get_matches_from};
+use std::alloc::Global;
 
 /// Why there is no command.
 #[derive(Clone, Copy, PartialEq, Eq, Debug)]
 pub enum WordsRefusal {
     /// The words are no command; words that ask for help or for the version are none either.
     Usage,
-    Memory,
+    Memory(NoRoom),
 }
 
-impl From<AllocError> for WordsRefusal {
-    ghost from_gives = { λ _ e. e ≡ Memory };
+impl From<NoRoom> for WordsRefusal {
+    ghost from_gives = { λ no_room e. e ≡ Memory no_room };
 
-    fn from(_: AllocError) -> Self {
-        WordsRefusal::Memory
+    fn from(e: NoRoom) -> Self {
+        WordsRefusal::Memory(e)
     }
 }
 
@@ -70,27 +70,15 @@ fn asked_of<'a>(alloc: Global, matches: &ArgMatches<'a>) -> Result<Asked<'a>, Wo
     }
 }
 
-fn refusal_of(kind: ErrorKind) -> WordsRefusal
-    ensures { (result ≡ WordsRefusal.Usage) → (kind ≢ ErrorKind.OutOfMemory) }
-{
-    if kind == ErrorKind::OutOfMemory {
-        WordsRefusal::Memory
-    } else {
-        WordsRefusal::Usage
-    }
-}
-
 /// The command that the words are; the first word is the program's name.
 pub fn read_words<'a>(alloc: Global, words: &'a [String]) -> Result<Asked<'a>, WordsRefusal>
     ensures reads { MatchResult result (λ a. IsCommand (map string_bytes words.entry.now) (told_by a)) (IsWordsRefusal (map string_bytes words.entry.now)) }
     ensures alone { IfOk result (λ a. IsAlone (map string_bytes words.entry.now) (told_by a)) }
     ensures fit { IfOk result (λ a. IsFit (told_by a)) }
 {
-    let Ok(command) = fmeda_command(alloc) else {
-        return Err(WordsRefusal::Memory);
-    };
-    match command.try_get_matches_from(words) {
+    let command = fmeda_command(alloc)?;
+    match try_get_matches_from(command, words)? {
         Ok(matches) => asked_of(alloc, &matches),
-        Err(error) => Err(refusal_of(error.kind())),
+        Err(_) => Err(WordsRefusal::Usage),
     }
 }

@@ -17,7 +17,8 @@ use Argument::{
 use clap::{Arg, ArgAction, ArgMatches, Command, value_parser};
 use commands::Task;
 use fm_base::{Name, Seq};
-use std::alloc::{AllocError, Global};
+use room::{NoRoom, arg, from_slice, subcommand};
+use std::alloc::Global;
 
 // An argument or an option of a command.
 #[derive(Clone, Copy)]
@@ -153,20 +154,20 @@ fn with_arguments<'a>(
     alloc: Global,
     command: Command<'a>,
     arguments: &[Argument],
-) -> Result<Command<'a>, AllocError>
+) -> Result<Command<'a>, NoRoom>
     requires { (out-Command command).has_globals ≡ false }
     ensures app { IfOk result (λ c. app_of c ≡ fold with_argument (app_of command.entry) arguments.now) }
     ensures local { IfOk result (λ c. (out-Command c).has_globals ≡ false) }
 {
     let mut command = command;
     for argument in arguments {
-        command = command.arg(arg_of(alloc, *argument))?;
+        command = arg(command, arg_of(alloc, *argument))?;
     }
     Ok(command)
 }
 
 // The command of a row.
-fn command_of<'a>(alloc: Global, row: &Row) -> Result<Command<'a>, AllocError>
+fn command_of<'a>(alloc: Global, row: &Row) -> Result<Command<'a>, NoRoom>
     ensures app { IfOk result (λ c. app_of c ≡ app_of_row row.now) }
     ensures local { IfOk result (λ c. (out-Command c).has_globals ≡ false) }
 {
@@ -178,13 +179,13 @@ fn command_of<'a>(alloc: Global, row: &Row) -> Result<Command<'a>, AllocError>
 // The program with one command more, where that was made.
 fn with_command<'a>(
     program: Command<'a>,
-    command: Result<Command<'a>, AllocError>,
-) -> Result<Command<'a>, AllocError>
+    command: Result<Command<'a>, NoRoom>,
+) -> Result<Command<'a>, NoRoom>
     requires { IfOk command (λ c. (out-Command c).has_globals ≡ false) }
     ensures { IfOk result (HasCommandToo program.entry command.entry) }
 {
     match command {
-        Ok(command) => program.subcommand(command),
+        Ok(command) => subcommand(program, command),
         Err(error) => {
             drop(program);
             Err(error)
@@ -193,7 +194,7 @@ fn with_command<'a>(
 }
 
 /// The program with all its commands.
-pub(crate) fn fmeda_command<'a>(alloc: Global) -> Result<Command<'a>, AllocError>
+pub(crate) fn fmeda_command<'a>(alloc: Global) -> Result<Command<'a>, NoRoom>
     ensures { IfOk result (λ c. app_of c ≡ fmeda_app) }
 {
     let rows = command_rows();
@@ -288,10 +289,10 @@ fn breakdown_of(alloc: Global, matches: &ArgMatches) -> Result<Task, WordsRefusa
 }
 
 // The bytes of a text.
-fn name_of(alloc: Global, text: &str) -> Result<Name, AllocError>
+fn name_of(alloc: Global, text: &str) -> Result<Name, NoRoom>
     ensures { IfOk result (λ name. name ≡ text.now) }
 {
-    Ok(Seq::from_vec(Vec::from_slice(alloc, text.as_bytes())?))
+    Ok(Seq::from_vec(from_slice(alloc, text.as_bytes())?))
 }
 
 fn trace_of(alloc: Global, matches: &ArgMatches) -> Result<Task, WordsRefusal>

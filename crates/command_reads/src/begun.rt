@@ -40,7 +40,7 @@ pub(crate) fn rows_of(
     match read_result(alloc, reads.whole(which)?, &planned.plan, &planned.own) {
         Ok(kept) => Ok(kept),
         Err(Refusal::Fault(fault)) => Err(Status::Result(fault)),
-        Err(Refusal::Memory) => Err(Status::Memory),
+        Err(Refusal::Memory(no_room)) => Err(Status::Memory(no_room)),
     }
 }
 

@@ -14,7 +14,8 @@ use fm_base::Bytes;
 use fm_shelf::shelf::Shelf;
 use fm_shelf::whole::{ReadRefusal, read_all};
 use refusals::status::Status;
-use std::alloc::{AllocError, Global};
+use room::NoRoom;
+use std::alloc::Global;
 
 /// What was read of a file.
 #[derive(Drop)]
@@ -99,7 +100,7 @@ impl Reads {
 }
 
 // Reads a file.
-fn read_file<F: Shelf>(alloc: Global, shelf: &mut F, name: &str) -> Result<FileRead, AllocError>
+fn read_file<F: Shelf>(alloc: Global, shelf: &mut F, name: &str) -> Result<FileRead, NoRoom>
     ensures read { IfOk result (WasRead (F.seen shelf.old) (F.seen shelf.new) name.now) }
     ensures rest { OnlyReads (F.seen shelf.old) (F.seen shelf.new) name.now }
 {
@@ -107,7 +108,7 @@ fn read_file<F: Shelf>(alloc: Global, shelf: &mut F, name: &str) -> Result<FileR
         Ok(bytes) => Ok(FileRead::Whole(bytes)),
         Err(ReadRefusal::TooLong) => Ok(FileRead::TooLong),
         Err(ReadRefusal::Failed) => Ok(FileRead::Failed),
-        Err(ReadRefusal::Memory) => Err(AllocError),
+        Err(ReadRefusal::Memory(no_room)) => Err(no_room),
     }
 }
 
@@ -117,7 +118,7 @@ fn read_each<F: Shelf>(
     shelf: &mut F,
     names: &FileNames<'_>,
     files: &[Which],
-) -> Result<Reads, AllocError>
+) -> Result<Reads, NoRoom>
     ensures read { IfOk result (λ reads. ForEach (λ file. WasRead (F.seen shelf.old) (F.seen shelf.new) (name_by names.now file) (reads_by reads file)) files.now) }
     ensures short { IfOk result (λ reads. AreShort (reads_by reads)) }
     ensures rest { OnlyReadsAny (F.seen shelf.old) (F.seen shelf.new) }
@@ -136,7 +137,7 @@ pub fn read_files<F: Shelf>(
     shelf: &mut F,
     names: &FileNames<'_>,
     kind: Kind,
-) -> Result<Reads, AllocError>
+) -> Result<Reads, NoRoom>
     requires { IsFitKind kind }
     ensures read { IfOk result (λ reads. WereRead (F.seen shelf.old) (F.seen shelf.new) (name_by names.now) (reads_by reads) kind) }
     ensures short { IfOk result (λ reads. AreShort (reads_by reads)) }

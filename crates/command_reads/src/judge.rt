@@ -19,7 +19,8 @@ use commands::Kind;
 use fm_base::Seq;
 use metric_sums::Asil;
 use refusals::refused::Refused;
-use std::alloc::{AllocError, Global};
+use room::{NoRoom, from_array};
+use std::alloc::Global;
 
 /// What the files of a command stand for.
 #[derive(Drop)]
@@ -33,10 +34,10 @@ pub enum Judged {
 }
 
 // The settings of the generated campaign: flips in cycle 1, and no pulses.
-fn sample_settings(alloc: Global) -> Result<Settings, AllocError>
+fn sample_settings(alloc: Global) -> Result<Settings, NoRoom>
     ensures { IfOk result (λ set. set ≡ generated_settings) }
 {
-    let flips = Seq::from_vec(Vec::from_array(alloc, [1])?);
+    let flips = Seq::from_vec(from_array(alloc, [1])?);
     Ok(Settings {
         ftti: 0,
         flips,

@@ -41,7 +41,7 @@ fn rows_of_both(
     match merge_rows(alloc, plan, first.rows.as_slice(), second.rows.as_slice()) {
         Ok(rows) => Ok(rows),
         Err(Refusal::Fault(differ)) => Err(Status::Merge(differ)),
-        Err(Refusal::Memory) => Err(Status::Memory),
+        Err(Refusal::Memory(no_room)) => Err(Status::Memory(no_room)),
     }
 }
 

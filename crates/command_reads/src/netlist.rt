@@ -42,7 +42,7 @@ fn bench_from(alloc: Global, bytes: &[u8]) -> Result<Netlist, Status>
     match read_bench(alloc, bytes) {
         Ok(net) => Ok(net),
         Err(Refusal::Fault(fault)) => Err(Status::Bench(fault)),
-        Err(Refusal::Memory) => Err(Status::Memory),
+        Err(Refusal::Memory(no_room)) => Err(Status::Memory(no_room)),
     }
 }
 
@@ -54,7 +54,7 @@ fn blif_from(alloc: Global, bytes: &[u8]) -> Result<Netlist, Status>
     match read_blif(alloc, bytes) {
         Ok(net) => Ok(net),
         Err(Refusal::Fault(fault)) => Err(Status::Netlist(fault)),
-        Err(Refusal::Memory) => Err(Status::Memory),
+        Err(Refusal::Memory(no_room)) => Err(Status::Memory(no_room)),
     }
 }
 
@@ -77,7 +77,7 @@ fn order_of(alloc: Global, net: Netlist) -> Result<Ordered, Refused>
     match levels(alloc, &net) {
         Ok(order) => Ok(Ordered { net, order }),
         Err(LoopFound::Loop(walk)) => Err(Refused::Looped { walk, net }),
-        Err(LoopFound::Memory) => Err(Refused::By(Status::Memory)),
+        Err(LoopFound::Memory(no_room)) => Err(Refused::By(Status::Memory(no_room))),
     }
 }
 

@@ -34,7 +34,7 @@ fn observe_outputs(alloc: Global, net: &Netlist) -> Result<Points, Status>
     match all_outputs(alloc, net) {
         Ok(points) => Ok(points),
         Err(OutputsRefusal::TooMany) => Err(Status::ManyOutputs),
-        Err(OutputsRefusal::Memory) => Err(Status::Memory),
+        Err(OutputsRefusal::Memory(no_room)) => Err(Status::Memory(no_room)),
     }
 }
 

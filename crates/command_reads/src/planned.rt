@@ -50,7 +50,7 @@ fn plan_from(
 {
     match Plan::new(alloc, net, work, rates, points, set) {
         Ok(plan) => Ok(plan),
-        Err(PlanRefusal::Memory) => Err(Status::Memory),
+        Err(PlanRefusal::Memory(no_room)) => Err(Status::Memory(no_room)),
         Err(refusal) => Err(Status::Plan(refusal)),
     }
 }

@@ -9,8 +9,9 @@ ghost use Rattle.fm_shelf.specs.Shelf.{ShelfState};
 use crate::files::{FileRead, Reads};
 use commands::Which;
 use fm_base::{Bytes, Seq};
+use room::{NoRoom, from_slice};
 use sample_gen::{netlist_text, points_text, rates_text, workload_text};
-use std::alloc::{AllocError, Global};
+use std::alloc::Global;
 
 // The greatest length of a file that is read, in bytes.
 const GREATEST: usize = 1 << 26;
@@ -27,14 +28,14 @@ fn given_read(bytes: Bytes) -> FileRead
 }
 
 // A copy of these bytes, likewise.
-fn copied_read(alloc: Global, text: &[u8]) -> Result<FileRead, AllocError>
+fn copied_read(alloc: Global, text: &[u8]) -> Result<FileRead, NoRoom>
     ensures { IfOk result (λ read. read ≡ given text.now) }
 {
-    Ok(given_read(Seq::from_vec(Vec::from_slice(alloc, text)?)))
+    Ok(given_read(Seq::from_vec(from_slice(alloc, text)?)))
 }
 
 /// The texts of 1 to 1,000 stages, as files that were read.
-pub(crate) fn generated_reads(alloc: Global, stages: u32) -> Result<Reads, AllocError>
+pub(crate) fn generated_reads(alloc: Global, stages: u32) -> Result<Reads, NoRoom>
     requires { (1 ≤ stages) × (stages ≤ 1000) }
     ensures read { IfOk result (λ reads. (before after : ShelfState) (names : File → Text) → WereRead before after names (reads_by reads) (Generated stages)) }
     ensures short { IfOk result (λ reads. AreShort (reads_by reads)) }

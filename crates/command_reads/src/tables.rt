@@ -40,7 +40,7 @@ pub(crate) fn workload_of(alloc: Global, reads: &Reads, net: &Netlist) -> Result
     match read_workload(alloc, reads.whole(Which::Workload)?, net) {
         Ok(work) => Ok(work),
         Err(Refusal::Fault(fault)) => Err(Status::Workload(fault)),
-        Err(Refusal::Memory) => Err(Status::Memory),
+        Err(Refusal::Memory(no_room)) => Err(Status::Memory(no_room)),
     }
 }
 
@@ -52,7 +52,7 @@ pub(crate) fn rates_of(alloc: Global, reads: &Reads) -> Result<Rates, Status>
     match read_rates(alloc, reads.whole(Which::Rates)?) {
         Ok(rates) => Ok(rates),
         Err(Refusal::Fault(fault)) => Err(Status::Rates(fault)),
-        Err(Refusal::Memory) => Err(Status::Memory),
+        Err(Refusal::Memory(no_room)) => Err(Status::Memory(no_room)),
     }
 }
 
@@ -65,7 +65,7 @@ fn points_of(alloc: Global, reads: &Reads, net: &Netlist) -> Result<Points, Stat
     match read_points(alloc, reads.whole(Which::Points)?, net) {
         Ok(points) => Ok(points),
         Err(Refusal::Fault(fault)) => Err(Status::Points(fault)),
-        Err(Refusal::Memory) => Err(Status::Memory),
+        Err(Refusal::Memory(no_room)) => Err(Status::Memory(no_room)),
     }
 }
 

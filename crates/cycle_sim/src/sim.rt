@@ -13,7 +13,8 @@ use circuit::meaning::{bit, is_flipped, turned};
 use circuit::netlist::Netlist;
 use circuit::parts::{Fault, Latch, NetId};
 use netlist_levels::Order;
-use std::alloc::{AllocError, Global};
+use room::{NoRoom, collect, filled};
+use std::alloc::Global;
 use std::marker::Model;
 use std::snapshot::Snapshot;
 
@@ -59,10 +60,10 @@ fn run(
     take_next(latches, values, raw);
 }
 
-fn first_state_of(alloc: Global, latches: &[Latch]) -> Result<Vec<bool>, AllocError>
+fn first_state_of(alloc: Global, latches: &[Latch]) -> Result<Vec<bool>, NoRoom>
     ensures { IfOk result (λ starts. starts.items ≡ map (λ latch. latch.start) latches.now) }
 {
-    latches.iter().map(|latch| latch.start).collect(alloc)
+    collect(latches.iter().map(|latch| latch.start), alloc)
 }
 
 /// A simulation of one netlist, which stands between two cycles.
@@ -93,7 +94,7 @@ impl Model for Sim {
 
 impl Sim {
     /// A simulation for a netlist and an order of its tables, not yet started.
-    pub fn new(alloc: Global, netlist: &Netlist, order: &Order) -> Result<Self, AllocError>
+    pub fn new(alloc: Global, netlist: &Netlist, order: &Order) -> Result<Self, NoRoom>
         requires { IsOrder netlist.now order.now }
         ensures { IfOk result (λ sim. IsSimulationFor netlist.now order.now sim) }
     {
@@ -103,8 +104,8 @@ impl Sim {
             order: Snapshot::of(order),
             starts: first_state_of(alloc, latches)?,
             cycle: 0,
-            raw: vec![in alloc; false; latches.len()]?,
-            values: vec![in alloc; false; netlist.nets()]?,
+            raw: filled(alloc, false, latches.len())?,
+            values: filled(alloc, false, netlist.nets())?,
         })
     }
 

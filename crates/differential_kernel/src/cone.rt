@@ -21,7 +21,8 @@ use circuit::parts::{Driver, Fault, Latch, NetId};
 use lane_words::Word;
 use lane_words::gate::Gate;
 use place_set::PlaceSet;
-use std::alloc::{AllocError, Global};
+use room::{NoRoom, filled};
+use std::alloc::Global;
 
 /// A cone: nets out of which no path through tables and latches leads, with the tables and latches that drive them.
 #[derive(Drop)]
@@ -73,12 +74,7 @@ fn no_table() -> ConeTable {
 
 impl Cone {
     /// A cone without nets, where there are so many nets, tables and latches.
-    pub fn new(
-        alloc: Global,
-        nets: usize,
-        tables: usize,
-        latches: usize,
-    ) -> Result<Self, AllocError>
+    pub fn new(alloc: Global, nets: usize, tables: usize, latches: usize) -> Result<Self, NoRoom>
         requires nets { nets < 2 ^ 32 }
         requires latches { latches < 2 ^ 32 }
         ensures { IfOk result (IsNewCone nets tables latches) }
@@ -86,19 +82,19 @@ impl Cone {
         Ok(Cone {
             nets: PlaceSet::new(alloc, nets as u32)?,
             left: PlaceSet::new(alloc, nets as u32)?,
-            tables: vec![in alloc; 0; tables]?,
+            tables: filled(alloc, 0, tables)?,
             table_count: 0,
             latches: PlaceSet::new(alloc, latches as u32)?,
-            ends: vec![in alloc; 0; latches]?,
+            ends: filled(alloc, 0, latches)?,
             end_count: 0,
             read: PlaceSet::new(alloc, nets as u32)?,
-            reads: vec![in alloc; 0; nets]?,
+            reads: filled(alloc, 0, nets)?,
             read_count: 0,
             named: PlaceSet::new(alloc, nets as u32)?,
             source: PlaceSet::new(alloc, nets as u32)?,
-            sources: vec![in alloc; 0; nets]?,
+            sources: filled(alloc, 0, nets)?,
             source_count: 0,
-            gates: vec![in alloc; no_table(); tables]?,
+            gates: filled(alloc, no_table(), tables)?,
         })
     }
 }

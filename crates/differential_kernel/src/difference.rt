@@ -16,16 +16,17 @@ use fanout::Fanout;
 use lane_words::force::{Force, forced_word};
 use lane_words::{Word, word_at};
 use place_set::{PlaceSet, value_in_words};
-use std::alloc::{AllocError, Global};
+use room::{NoRoom, push, with_room};
+use std::alloc::Global;
 
 /// Words in which nothing differs.
-pub fn same_words<W: Word>(alloc: Global, count: usize) -> Result<Vec<W>, AllocError>
+pub fn same_words<W: Word>(alloc: Global, count: usize) -> Result<Vec<W>, NoRoom>
     ensures count { IfOk result (λ words. length words.items ≡ count) }
     ensures same { IfOk result (λ words. (n : ℕ) → IsSame W.lanes W.lane_bit words.items n) }
 {
-    let mut words = Vec::with_capacity(alloc, count)?;
+    let mut words = with_room(alloc, count)?;
     for n in 0..count {
-        words.push(W::all(false))?;
+        push(&mut words, W::all(false))?;
     }
     Ok(words)
 }

@@ -5,7 +5,8 @@ ghost use Rattle.lane_words.specs.Forces.{AreAllIdle};
 use lane_words::Word;
 use lane_words::force::{Force, idle_forces};
 use place_set::PlaceSet;
-use std::alloc::{AllocError, Global};
+use room::NoRoom;
+use std::alloc::Global;
 
 /// The force on each net. Those that aren't in `named` leave their nets as they are; those that aren't in `zeros` leave a 0 as it is, and
 /// those that aren't in `ones` a 1.
@@ -19,7 +20,7 @@ pub struct Forces<W> {
 
 impl<W: Word> Forces<W> {
     /// The forces on so many nets, which leave all of them as they are.
-    pub fn new(alloc: Global, nets: usize) -> Result<Self, AllocError>
+    pub fn new(alloc: Global, nets: usize) -> Result<Self, NoRoom>
         requires { nets < 2 ^ 32 }
         ensures named { IfOk result (λ forces. forces.named.bound ≡ nets) }
         ensures each { IfOk result (λ forces. length forces.by_net.items ≡ nets) }

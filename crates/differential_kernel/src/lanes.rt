@@ -32,7 +32,8 @@ use lane_words::arm::{no_faults, place};
 use lane_words::{Quad, Word};
 use netlist_levels::Order;
 use place_set::PlaceSet;
-use std::alloc::{AllocError, Global};
+use room::NoRoom;
+use std::alloc::Global;
 use std::marker::Model;
 use std::snapshot::Snapshot;
 use std::sync::ledger::Ledger;
@@ -93,7 +94,7 @@ fn is_empty_from(set: &PlaceSet, from: usize) -> bool
 
 impl<W: Word> DifferentialLanes<W> {
     /// Lanes for a netlist and an order of its tables, without faults and not yet started.
-    pub fn new(alloc: Global, netlist: &Netlist, order: &Order) -> Result<Self, AllocError>
+    pub fn new(alloc: Global, netlist: &Netlist, order: &Order) -> Result<Self, NoRoom>
         requires { IsOrder netlist.now order.now }
         ensures made { IfOk result (λ lanes. IsMadeFor netlist.now order.now lanes) }
         ensures bare { IfOk result (λ lanes. AreBare lanes) }

@@ -5,7 +5,8 @@ ghost use Rattle.differential_kernel.specs.Differences.{DifferOnlyIn};
 use crate::difference::same_words;
 use lane_words::Word;
 use place_set::PlaceSet;
-use std::alloc::{AllocError, Global};
+use room::NoRoom;
+use std::alloc::Global;
 
 /// What the latches differ in from the golden run; those that differ are in `live`.
 #[derive(Drop)]
@@ -16,7 +17,7 @@ pub struct LatchDifferences<W> {
 
 impl<W: Word> LatchDifferences<W> {
     /// So many latches that don't differ.
-    pub fn new(alloc: Global, latches: usize) -> Result<Self, AllocError>
+    pub fn new(alloc: Global, latches: usize) -> Result<Self, NoRoom>
         requires { latches < 2 ^ 32 }
         ensures raw { IfOk result (λ s. length s.raw.items ≡ latches) }
         ensures live { IfOk result (λ s. DifferOnlyIn W.lanes W.lane_bit s.live s.raw.items) }

@@ -5,7 +5,8 @@ ghost use Rattle.differential_kernel.specs.Differences.{DifferOnlyIn};
 use crate::difference::same_words;
 use lane_words::Word;
 use place_set::PlaceSet;
-use std::alloc::{AllocError, Global};
+use room::NoRoom;
+use std::alloc::Global;
 
 /// What the nets differ in from the golden run; those that differ are in `touched`. In `marks` are the places of the tables and
 /// latches that are still to be looked at.
@@ -18,7 +19,7 @@ pub struct NetDifferences<W> {
 
 impl<W: Word> NetDifferences<W> {
     /// So many nets that don't differ, read at so many places.
-    pub fn new(alloc: Global, nets: usize, places: usize) -> Result<Self, AllocError>
+    pub fn new(alloc: Global, nets: usize, places: usize) -> Result<Self, NoRoom>
         requires nets { nets < 2 ^ 32 }
         requires places { places < 2 ^ 32 }
         ensures words { IfOk result (λ s. length s.words.items ≡ nets) }

@@ -8,7 +8,8 @@ use circuit::parts::NetId;
 use lane_words::Word;
 use lane_words::gate::{Gate, Masks};
 use lane_words::program::{make_gates, make_ops};
-use std::alloc::{AllocError, Global};
+use room::NoRoom;
+use std::alloc::Global;
 
 /// What is made once of a netlist and an order of its tables.
 #[derive(Drop)]
@@ -21,7 +22,7 @@ pub struct Program<W> {
 
 impl<W: Word> Program<W> {
     /// The program of a netlist and an order of its tables.
-    pub fn new(alloc: Global, netlist: &Netlist, order: &[NetId]) -> Result<Self, AllocError>
+    pub fn new(alloc: Global, netlist: &Netlist, order: &[NetId]) -> Result<Self, NoRoom>
         requires { IsOrder netlist.now order.now }
         ensures { IfOk result (IsProgramOf W.lanes W.lane_bit netlist.now order.now) }
     {

@@ -8,7 +8,8 @@ use crate::difference::same_words;
 use crate::nets::NetDifferences;
 use lane_words::{Word, word_at};
 use place_set::value_in_words;
-use std::alloc::{AllocError, Global};
+use room::{NoRoom, filled};
+use std::alloc::Global;
 
 /// What the nets differ in after a cycle. Where it was run by a cone, only `values` has what it left: the value of each net of the
 /// cone, beside the golden values of that cycle in `row`; the cone's nets are those that are touched, and their words tell nothing.
@@ -22,7 +23,7 @@ pub struct ShownNets<W> {
 
 impl<W: Word> ShownNets<W> {
     /// So many nets that don't differ, read at so many places.
-    pub fn new(alloc: Global, nets: usize, places: usize) -> Result<Self, AllocError>
+    pub fn new(alloc: Global, nets: usize, places: usize) -> Result<Self, NoRoom>
         requires nets { nets < 2 ^ 32 }
         requires places { places < 2 ^ 32 }
         ensures words { IfOk result (λ s. length s.own.words.items ≡ nets) }
@@ -33,7 +34,7 @@ impl<W: Word> ShownNets<W> {
     {
         let own = NetDifferences::new(alloc, nets, places)?;
         let values = same_words(alloc, nets)?;
-        let row = vec![in alloc; 0; nets / 64 + 1]?;
+        let row = filled(alloc, 0, nets / 64 + 1)?;
         Ok(ShownNets {
             own,
             values,

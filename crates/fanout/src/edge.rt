@@ -8,7 +8,8 @@ ghost use Rattle.fanout.specs.Readers.{all_reads, driver_reads};
 
 use circuit::netlist::Netlist;
 use circuit::parts::{Driver, Latch, NetId};
-use std::alloc::{AllocError, Global};
+use room::{NoRoom, push};
+use std::alloc::Global;
 
 /// A net that is read at a place.
 #[derive(Clone, Copy)]
@@ -28,16 +29,16 @@ fn reads_of(netlist: &Netlist, net: NetId) -> &[NetId]
     }
 }
 
-fn push_edges(edges: &mut Vec<Edge>, nets: &[NetId], place: u32) -> Result<(), AllocError>
+fn push_edges(edges: &mut Vec<Edge>, nets: &[NetId], place: u32) -> Result<(), NoRoom>
     ensures { OnOk result (edges.new.items ≡ edges.old.items ++ edges_at place nets.now) }
 {
     for net in nets {
-        edges.push(Edge { net: net.0, place })?;
+        push(edges, Edge { net: net.0, place })?;
     }
     Ok(())
 }
 
-fn push_tables(edges: &mut Vec<Edge>, netlist: &Netlist, order: &[NetId]) -> Result<(), AllocError>
+fn push_tables(edges: &mut Vec<Edge>, netlist: &Netlist, order: &[NetId]) -> Result<(), NoRoom>
     requires nets { All (IsNet netlist.now) order.now }
     requires few { length order.now < 2 ^ 32 }
     requires empty { edges.old.items ≡ [] }
@@ -49,7 +50,7 @@ fn push_tables(edges: &mut Vec<Edge>, netlist: &Netlist, order: &[NetId]) -> Res
     Ok(())
 }
 
-fn push_latches(edges: &mut Vec<Edge>, latches: &[Latch], first: u32) -> Result<(), AllocError>
+fn push_latches(edges: &mut Vec<Edge>, latches: &[Latch], first: u32) -> Result<(), NoRoom>
     requires { first + length latches.now < 2 ^ 32 }
     ensures { OnOk result (edges.new.items ≡ edges.old.items ++ edges_from first (map (λ latch. latch.from ∷ []) latches.now)) }
 {
@@ -64,7 +65,7 @@ pub(crate) fn edges_of(
     alloc: Global,
     netlist: &Netlist,
     order: &[NetId],
-) -> Result<Vec<Edge>, AllocError>
+) -> Result<Vec<Edge>, NoRoom>
     requires { IsOrder netlist.now order.now }
     ensures edges { IfOk result (λ edges. edges.items ≡ edges_from 0 (all_reads (record { circuit = netlist.now; order = order.now }))) }
     ensures sound { IsNetlist netlist.now }

@@ -3,7 +3,8 @@ ghost use Rattle.std.specs.Prelude.{◌≡◌, length, IfOk};
 ghost use Rattle.fault_collapse.specs.Chosen.{AreChosen};
 
 use collapse_map::Collapse;
-use std::alloc::{AllocError, Global};
+use room::{NoRoom, filled, push, with_room};
+use std::alloc::Global;
 
 /// The numbers of the faults that are their own representatives, in rising order, and for each of these faults its place there.
 #[derive(Drop)]
@@ -13,16 +14,16 @@ pub(crate) struct Chosen {
 }
 
 /// The faults that are their own representatives, of so many faults.
-pub(crate) fn choose(alloc: Global, collapse: &Collapse, count: u32) -> Result<Chosen, AllocError>
+pub(crate) fn choose(alloc: Global, collapse: &Collapse, count: u32) -> Result<Chosen, NoRoom>
     requires { count ≡ length collapse.now.faults }
     ensures { IfOk result (λ chosen. AreChosen collapse.now chosen.numbers.items chosen.places.items) }
 {
-    let mut numbers = Vec::with_capacity(alloc, collapse.count() as usize)?;
-    let mut places = vec![in alloc; 0; count as usize]?;
+    let mut numbers = with_room(alloc, collapse.count() as usize)?;
+    let mut places = filled(alloc, 0, count as usize)?;
     for i in 0..count {
         if collapse.rep(i) == i {
             places[i as usize] = numbers.len() as u32;
-            numbers.push(i)?;
+            push(&mut numbers, i)?;
         }
     }
     Ok(Chosen { numbers, places })

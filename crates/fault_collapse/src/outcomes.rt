@@ -12,7 +12,8 @@ use campaign_plan::{Outcome, Plan};
 use classifier::{Simulator, Testbench};
 use collapse_map::Collapse;
 use fm_base::{Seq, Steps};
-use std::alloc::{AllocError, Global};
+use room::{NoRoom, filled};
+use std::alloc::Global;
 use std::sync::ledger::Ledger;
 
 const LANES: usize = 64;
@@ -36,7 +37,7 @@ pub fn collapsed_outcomes<L: Ledger>(
     collapse: &Collapse,
     simulator: &mut Simulator,
     steps: &mut Steps<L>,
-) -> Result<OutcomeList, AllocError>
+) -> Result<OutcomeList, NoRoom>
     requires bench { IsTestbenchFor plan.now bench.now }
     requires order { IsOrder plan.now.circuit bench.now.order }
     requires collapse { collapse.now ≡ collapsed_of plan.now }
@@ -48,8 +49,8 @@ pub fn collapsed_outcomes<L: Ledger>(
     let count = plan.faults().len();
     let chosen = choose(alloc, collapse, count)?;
     let rounds = chosen.numbers.len().div_ceil(LANES * WORDS);
-    let mut found = vec![in alloc; NOTHING; rounds * WORDS]?;
-    let mut list = vec![in alloc; NOTHING; plan.batches() as usize]?;
+    let mut found = filled(alloc, NOTHING, rounds * WORDS)?;
+    let mut list = filled(alloc, NOTHING, plan.batches() as usize)?;
     simulate(plan, bench, &chosen.numbers, &mut found, simulator, steps);
     spread(collapse, &chosen.places, &found, count, &mut list);
     Ok(Seq::from_vec(list))

@@ -10,7 +10,8 @@ use classifier::{Simulator, Testbench};
 use collapse_map::Collapse;
 use fm_base::Steps;
 use netlist_levels::Order;
-use std::alloc::{AllocError, Global};
+use room::NoRoom;
+use std::alloc::Global;
 use std::marker::Brand;
 use std::sync::ledger::{Blank, Ledger};
 
@@ -21,7 +22,7 @@ fn simulated_planes<L: Ledger>(
     bench: &Testbench<'_>,
     collapse: &Collapse,
     steps: &mut Steps<L>,
-) -> Result<OutcomeList, AllocError>
+) -> Result<OutcomeList, NoRoom>
     requires order { IsOrder plan.now.circuit bench.now.order }
     requires collapse { collapse.now ≡ collapsed_of plan.now }
     requires bench { bench.now ≡ testbench_of plan.now bench.now.order }
@@ -39,7 +40,7 @@ fn counted_planes<L: Ledger>(
     blank: Blank,
     plan: &Plan,
     order: &Order,
-) -> Result<OutcomeList, AllocError>
+) -> Result<OutcomeList, NoRoom>
     requires name { blank.name ≡ L.name }
     requires parts { blank.parts ≡ L.parts }
     requires some { 0 < blank.parts }
@@ -55,11 +56,7 @@ fn counted_planes<L: Ledger>(
 
 /// The planes that each batch of a plan truly has, in rising order: equal faults are collapsed, and only faults that are their own
 /// representatives are simulated, on this thread. The testbench and the simulator are made here.
-pub fn collapsed_planes(
-    alloc: Global,
-    plan: &Plan,
-    order: &Order,
-) -> Result<OutcomeList, AllocError>
+pub fn collapsed_planes(alloc: Global, plan: &Plan, order: &Order) -> Result<OutcomeList, NoRoom>
     requires { IsOrder plan.now.circuit order.now }
     ensures { IfOk result (λ list. list ≡ all_planes plan.now) }
 {

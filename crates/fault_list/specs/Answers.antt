@@ -9,4 +9,4 @@ use Rattle.fault_list.specs.Kept.{most_faults}
 abbrev pub AnswersFaults : List Fault → Result (List Fault) FaultRefusal → Type 0
 AnswersFaults expected (Ok faults) = (faults ≡ expected) × (length expected ≤ most_faults)
 AnswersFaults expected (Err TooMany) = most_faults < length expected
-AnswersFaults expected (Err Memory) = length expected ≤ most_faults
+AnswersFaults expected (Err (Memory no_room)) = length expected ≤ most_faults

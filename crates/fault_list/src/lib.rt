@@ -16,7 +16,8 @@ use circuit::parts::{Fault, NetId};
 use fm_base::Seq;
 use fm_shelf::shelf::{Failed, Sink};
 pub use name::net_of;
-use std::alloc::{AllocError, Global};
+use room::{NoRoom, from_slice};
+use std::alloc::Global;
 use std::marker::Model;
 
 const MOST_FAULTS: u32 = 1 << 20;
@@ -54,14 +55,14 @@ pub enum FaultRefusal {
     /// There would be more than 1,048,576 faults.
     TooMany,
     /// Memory ran out.
-    Memory,
+    Memory(NoRoom),
 }
 
-impl From<AllocError> for FaultRefusal {
-    ghost from_gives = { λ _ e. e ≡ Memory };
+impl From<NoRoom> for FaultRefusal {
+    ghost from_gives = { λ no_room e. e ≡ Memory no_room };
 
-    fn from(_: AllocError) -> Self {
-        FaultRefusal::Memory
+    fn from(e: NoRoom) -> Self {
+        FaultRefusal::Memory(e)
     }
 }
 
@@ -115,15 +116,15 @@ impl FaultList {
         latches: u32,
         flips: &[u32],
         pulses: &[u32],
-    ) -> Result<FaultList, AllocError>
+    ) -> Result<FaultList, NoRoom>
         requires { IsShort nets latches flips.now pulses.now }
         ensures { IfOk result (λ list. list ≡ faults_for nets latches flips.now pulses.now) }
     {
         Ok(FaultList {
             nets,
             latches,
-            flips: Seq::from_vec(Vec::from_slice(alloc, flips)?),
-            pulses: Seq::from_vec(Vec::from_slice(alloc, pulses)?),
+            flips: Seq::from_vec(from_slice(alloc, flips)?),
+            pulses: Seq::from_vec(from_slice(alloc, pulses)?),
         })
     }
 

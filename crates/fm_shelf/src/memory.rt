@@ -11,7 +11,8 @@ use crate::files::{Calls, File, Files};
 use crate::past::{Note, Past};
 use crate::shelf::{Failed, Shelf, Sink};
 use fm_base::Seq;
-use std::alloc::{AllocError, Global};
+use room::{NoRoom, extend, push, with_room};
+use std::alloc::Global;
 
 // Whether a call is to fail.
 fn is_listed(numbers: &[u64], number: u64) -> bool {
@@ -31,12 +32,12 @@ pub struct MemorySink {
 impl MemorySink {
     /// A sink with room for `capacity` bytes. The calls of the given numbers, from 1, fail, and so does a write past the room.
     /// No later call takes memory.
-    pub fn new(alloc: Global, capacity: u64, failing: Calls) -> Result<Self, AllocError>
+    pub fn new(alloc: Global, capacity: u64, failing: Calls) -> Result<Self, NoRoom>
         ensures seen { IfOk result (λ s. ⟦<MemorySink as Sink>⟧.seen s ≡ record { written = Some []; faults = 0 }) }
         ensures made { IfOk result (λ s. (s.capacity ≡ capacity) × (s.failing ≡ failing) × (s.calls ≡ 0)) }
     {
         Ok(MemorySink {
-            bytes: Vec::with_capacity(alloc, capacity as usize)?,
+            bytes: with_room(alloc, capacity as usize)?,
             capacity,
             failing,
             calls: 0,
@@ -69,7 +70,7 @@ impl Sink for MemorySink {
             self.failures = self.failures.saturating_add(1);
             return Err(Failed);
         }
-        match self.bytes.extend_from_slice(piece) {
+        match extend(&mut self.bytes, piece) {
             Ok(()) => Ok(piece.len()),
             Err(_) => {
                 self.failures = self.failures.saturating_add(1);
@@ -298,13 +299,13 @@ fn new_entry(
     bytes: &[u8],
     name_room: usize,
     room: u64,
-) -> Result<Entry, AllocError>
+) -> Result<Entry, NoRoom>
     ensures { IfOk result (λ e. (e.name.items ≡ name.now) × (e.bytes.items ≡ bytes.now) × (e.reads ≡ 0) × (e.writes ≡ 0)) }
 {
-    let mut own_name = Vec::with_capacity(alloc, name_room)?;
-    own_name.extend_from_slice(name)?;
-    let mut own_bytes = Vec::with_capacity(alloc, room as usize)?;
-    own_bytes.extend_from_slice(bytes)?;
+    let mut own_name = with_room(alloc, name_room)?;
+    extend(&mut own_name, name)?;
+    let mut own_bytes = with_room(alloc, room as usize)?;
+    extend(&mut own_bytes, bytes)?;
     Ok(Entry {
         name: own_name,
         bytes: own_bytes,
@@ -343,12 +344,7 @@ impl MemoryShelf {
     /// An append may bring a file to `capacity` bytes, and fails past that. Calls may make four files more, with names of at
     /// most 255 bytes; a cut or an append that would make another fails. The room for all of this is taken here, and no later
     /// call takes memory.
-    pub fn new(
-        alloc: Global,
-        files: Files,
-        capacity: u64,
-        failing: Calls,
-    ) -> Result<Self, AllocError>
+    pub fn new(alloc: Global, files: Files, capacity: u64, failing: Calls) -> Result<Self, NoRoom>
         ensures seen { IfOk result (λ m. ⟦<MemoryShelf as Shelf>⟧.seen m ≡ only_files (given_files files)) }
         ensures made { IfOk result (λ m. IsFresh capacity failing 0 m) }
     {
@@ -363,14 +359,17 @@ impl MemoryShelf {
         capacity: u64,
         failing: Calls,
         taken: u64,
-    ) -> Result<Self, AllocError>
+    ) -> Result<Self, NoRoom>
         ensures seen { IfOk result (λ m. ⟦<MemoryShelf as Shelf>⟧.seen m ≡ only_files (given_files files)) }
         ensures made { IfOk result (λ m. IsFresh capacity failing taken m) }
     {
         let entries = entries_of(alloc, files.as_slice(), capacity)?;
-        let mut spares = Vec::with_capacity(alloc, SPARES)?;
+        let mut spares = with_room(alloc, SPARES)?;
         for _ in 0..SPARES {
-            spares.push(new_entry(alloc, b"", b"", LONGEST_NAME, capacity)?)?;
+            push(
+                &mut spares,
+                new_entry(alloc, b"", b"", LONGEST_NAME, capacity)?,
+            )?;
         }
         Ok(MemoryShelf {
             entries,
@@ -402,17 +401,16 @@ impl MemoryShelf {
 }
 
 // The files that a shelf begins with.
-pub(crate) fn entries_of(
-    alloc: Global,
-    files: &[File],
-    capacity: u64,
-) -> Result<Vec<Entry>, AllocError>
+pub(crate) fn entries_of(alloc: Global, files: &[File], capacity: u64) -> Result<Vec<Entry>, NoRoom>
     ensures { IfOk result (λ v. (files_of v.items ≡ given_files files.now) × IsUncounted v.items) }
 {
-    let mut entries = Vec::with_capacity(alloc, files.len().saturating_add(SPARES))?;
+    let mut entries = with_room(alloc, files.len().saturating_add(SPARES))?;
     for file in files {
         let name = file.name.as_bytes();
-        entries.push(new_entry(alloc, name, file.bytes.as_slice(), name.len(), capacity)?)?;
+        push(
+            &mut entries,
+            new_entry(alloc, name, file.bytes.as_slice(), name.len(), capacity)?,
+        )?;
     }
     Ok(entries)
 }

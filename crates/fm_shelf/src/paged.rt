@@ -4,6 +4,7 @@ ghost use Rattle.fm_shelf.specs.Shelf.{CountRose};
 ghost use Rattle.fm_shelf.specs.Sink.{Sends, Wrote, with_more};
 
 use crate::shelf::{Failed, Sink};
+use room::{extend, with_room};
 use std::alloc::Global;
 
 /// The bytes of a page: 64 KiB.
@@ -42,7 +43,7 @@ impl<O: Sink + Drop> Paged<O> {
         ensures out { result.out ≡ out }
         ensures waits { drop result.sent result.page.items ≡ [] }
     {
-        let page = match Vec::with_capacity(alloc, PAGE) {
+        let page = match with_room(alloc, PAGE) {
             Ok(page) => page,
             Err(_) => Vec::new(alloc),
         };
@@ -57,7 +58,7 @@ impl<O: Sink + Drop> Paged<O> {
         if self.sent > 0 || piece.len() > self.page.capacity().saturating_sub(self.page.len()) {
             return false;
         }
-        self.page.extend_from_slice(piece).is_ok()
+        extend(&mut self.page, piece).is_ok()
     }
 
     /// Sends on all that waits. After `Failed` a prefix of it went out, and the rest waits.

@@ -10,7 +10,8 @@ use crate::files::Files;
 use crate::memory::{Entry, entries_of, is_same, read_entry};
 use crate::past::{Note, Past};
 use crate::shelf::{Failed, Shelf, Sink};
-use std::alloc::{AllocError, Global};
+use room::NoRoom;
+use std::alloc::Global;
 
 /// A shelf that never fails. It tells the files that it was given, each until a call cuts it or appends to it, and no other
 /// name. It keeps nothing of what it is given, and a read of a file that it doesn't tell is at the end.
@@ -46,7 +47,7 @@ fn read_told(told: &[Entry], name: &str, at: u64, piece: &mut [u8]) -> usize
 
 impl SureShelf {
     /// A shelf that tells these files. No later call takes memory.
-    pub fn new(alloc: Global, files: Files) -> Result<Self, AllocError>
+    pub fn new(alloc: Global, files: Files) -> Result<Self, NoRoom>
         ensures { IfOk result (λ s. ⟦<SureShelf as Shelf>⟧.seen s ≡ known_files (given_files files)) }
     {
         Ok(SureShelf {

@@ -9,7 +9,8 @@ ghost use Rattle.fm_shelf.specs.declared.whole.ReadRefusal.TheVariants.{Memory, 
 
 use crate::shelf::{Failed, Shelf, Sink};
 use fm_base::Seq;
-use std::alloc::{AllocError, Global};
+use room::{NoRoom, extend, filled};
+use std::alloc::Global;
 
 // The greatest length of a file that is read, in bytes.
 const GREATEST: usize = 1 << 26;
@@ -25,14 +26,14 @@ pub enum ReadRefusal {
     /// The file has more than 2^26 bytes.
     TooLong,
     /// There was no memory for its bytes.
-    Memory,
+    Memory(NoRoom),
 }
 
-impl From<AllocError> for ReadRefusal {
-    ghost from_gives = { λ _ e. e ≡ Memory };
+impl From<NoRoom> for ReadRefusal {
+    ghost from_gives = { λ no_room e. e ≡ Memory no_room };
 
-    fn from(_: AllocError) -> Self {
-        ReadRefusal::Memory
+    fn from(e: NoRoom) -> Self {
+        ReadRefusal::Memory(e)
     }
 }
 
@@ -82,10 +83,10 @@ pub fn append_all<F: Shelf>(shelf: &mut F, name: &str, piece: &[u8]) -> Result<(
 }
 
 // Room for what a read gives, on the heap.
-fn room_of_a_piece(alloc: Global) -> Result<Vec<u8>, AllocError>
+fn room_of_a_piece(alloc: Global) -> Result<Vec<u8>, NoRoom>
     ensures { IfOk result (λ room. length room.items ≡ 2 ^ 16) }
 {
-    vec![in alloc; 0; PIECE]
+    filled(alloc, 0, PIECE)
 }
 
 /// Reads a whole file of at most 2^26 bytes, in at most 2^26 + 2 reads. A longer file is `TooLong`, as soon as one byte more
@@ -109,7 +110,7 @@ pub fn read_all<F: Shelf>(alloc: Global, shelf: &mut F, name: &str) -> Result<Se
         if n == 0 {
             return Ok(Seq::from_vec(bytes));
         }
-        bytes.extend_from_slice(&piece[..n])?;
+        extend(&mut bytes, &piece[..n])?;
     }
     Err(ReadRefusal::TooLong)
 }

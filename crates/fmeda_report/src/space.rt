@@ -5,7 +5,8 @@ ghost use Rattle.fmeda_report.specs.Rooms.{room_for};
 
 use crate::tally::Tally;
 use campaign_plan::{Outcome, Plan};
-use std::alloc::{AllocError, Global};
+use room::{NoRoom, filled};
+use std::alloc::Global;
 use std::marker::Model;
 
 /// Room for a tally of each part of one plan: what its report takes. Contracts see how many parts it is for; what stands in it
@@ -25,11 +26,11 @@ impl Model for Tallies {
 
 impl Tallies {
     /// Room for the report of this plan: all memory that it takes.
-    pub fn new(alloc: Global, plan: &Plan) -> Result<Tallies, AllocError>
+    pub fn new(alloc: Global, plan: &Plan) -> Result<Tallies, NoRoom>
         ensures { IfOk result (λ tallies. tallies ≡ part_count plan.now) }
     {
         Ok(Tallies {
-            parts: vec![in alloc; Tally::none(); plan.parts() as usize]?,
+            parts: filled(alloc, Tally::none(), plan.parts() as usize)?,
         })
     }
 }
@@ -53,7 +54,7 @@ impl Model for ReportSpace {
 
 impl ReportSpace {
     /// Room for the reports of this plan's rows: all memory that they take.
-    pub fn new(alloc: Global, plan: &Plan) -> Result<ReportSpace, AllocError>
+    pub fn new(alloc: Global, plan: &Plan) -> Result<ReportSpace, NoRoom>
         ensures { IfOk result (λ space. space ≡ room_for plan.now) }
     {
         let none = Outcome {
@@ -61,7 +62,7 @@ impl ReportSpace {
             noticed: 0,
         };
         Ok(ReportSpace {
-            planes: vec![in alloc; none; plan.batches() as usize]?,
+            planes: filled(alloc, none, plan.batches() as usize)?,
             tallies: Tallies::new(alloc, plan)?,
         })
     }

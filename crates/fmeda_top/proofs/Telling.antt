@@ -31,5 +31,5 @@ told_after own made before after text (Ok v) told free is sent grows torn none e
     subst (TellsAs own made before after) (sym ends) (free, grows, (text, is, inl (refl, sent)))
 told_after own made before after text (Err (Fault e)) told free is sent grows torn none ends =
     subst (TellsAs own made before after) (sym ends) (free, grows, (text, is, inr (refl, torn e refl)))
-told_after own made before after text (Err Memory) told free is sent grows torn none ends =
+told_after own made before after text (Err (Memory no_room)) told free is sent grows torn none ends =
     subst (TellsAs own made before after) (sym ends) (inl refl, tt, none refl)

@@ -136,7 +136,7 @@ ChecksAs every p k (Err (Looped walk net)) = ⊥
 abbrev pub AfterAs : Result (Unit {0}) (Refusal Failed) → Result Status Refused → Type 0
 AfterAs (Ok done) told = told ≡ Ok status.Done
 AfterAs (Err (Fault failed)) told = told ≡ Ok status.OutFault
-AfterAs (Err Memory) told = told ≡ Err (By status.Memory)
+AfterAs (Err (Memory no_room)) told = told ≡ Err (By status.Memory)
 
 -- the pairs are those by the rows that were kept, or the refusal says why there are none
 abbrev pub ChoosesAs : Analysis → KeptRows → Result Chosen Status → Type 0

@@ -15,15 +15,16 @@ use fm_shelf::shelf::{Failed, Shelf, Sink};
 use fm_shelf::whole::append_all;
 use refusals::share_text::write_merge;
 use result_file::{Row, row_line};
-use std::alloc::{AllocError, Global};
+use room::{NoRoom, extend, from_slice};
+use std::alloc::Global;
 
 // The bytes of a result file with this header and these rows.
-fn file_with(alloc: Global, own: &Line, rows: &[Row]) -> Result<Vec<u8>, AllocError>
+fn file_with(alloc: Global, own: &Line, rows: &[Row]) -> Result<Vec<u8>, NoRoom>
     ensures { IfOk result (λ file. file.items ≡ rows_file own.now rows.now) }
 {
-    let mut file = Vec::from_slice(alloc, own.bytes())?;
+    let mut file = from_slice(alloc, own.bytes())?;
     for row in rows {
-        file.extend_from_slice(row_line(row).bytes())?;
+        extend(&mut file, row_line(row).bytes())?;
     }
     Ok(file)
 }
@@ -50,8 +51,9 @@ pub(crate) fn merge<F: Shelf, O: Sink>(
         (outside (F.seen shelf.old) (O.seen out.old)) (outside (F.seen shelf.new) (O.seen out.new)) }
 {
     let (plan, rows) = (&merged.planned.plan, merged.rows.as_slice());
-    let Ok(file) = file_with(alloc, &merged.planned.own, rows) else {
-        return End::NoMemory;
+    let file = match file_with(alloc, &merged.planned.own, rows) {
+        Ok(file) => file,
+        Err(no_room) => return End::NoMemory(no_room),
     };
     if write_anew(shelf, name, file.as_slice()).is_err() {
         return End::ResultFault;

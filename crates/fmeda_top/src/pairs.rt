@@ -27,7 +27,7 @@ fn pairs_from(alloc: Global, plan: &Plan, kept: &KeptRows) -> Result<Pairs, Stat
     match Pairs::new(alloc, plan, kept.rows.as_slice()) {
         Ok(pairs) => Ok(pairs),
         Err(Refusal::Fault(refusal)) => Err(Status::Pairs(refusal)),
-        Err(Refusal::Memory) => Err(Status::Memory),
+        Err(Refusal::Memory(no_room)) => Err(Status::Memory(no_room)),
     }
 }
 

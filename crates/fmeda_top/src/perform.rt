@@ -45,7 +45,7 @@ fn say_end<O: Sink>(out: &mut O, names: &FileNames<'_>, end: End) -> Status
     match end {
         End::Done => Status::Done,
         End::OutFault => Status::OutFault,
-        End::NoMemory => say_refused(out, names, Refused::By(Status::Memory)),
+        End::NoMemory(no_room) => say_refused(out, names, Refused::By(Status::Memory(no_room))),
         End::ResultFault => {
             refuse(out, names, &[], &Status::ResultFault);
             Status::ResultFault

@@ -22,7 +22,7 @@ fn after_readings(written: Result<(), Refusal<Failed>>) -> Result<Status, Refuse
     match written {
         Ok(()) => Ok(Status::Done),
         Err(Refusal::Fault(Failed)) => Ok(Status::OutFault),
-        Err(Refusal::Memory) => Err(Refused::By(Status::Memory)),
+        Err(Refusal::Memory(no_room)) => Err(Refused::By(Status::Memory(no_room))),
     }
 }
 

@@ -52,8 +52,8 @@ pub fn fmeda<R: Threads + Wait + Sync, F: Shelf + Send + Drop, O: Sink, G: Gate 
             status: refuse_words(out, Status::Usage),
             shelf,
         },
-        Err(WordsRefusal::Memory) => Ended {
-            status: refuse_words(out, Status::Memory),
+        Err(WordsRefusal::Memory(no_room)) => Ended {
+            status: refuse_words(out, Status::Memory(no_room)),
             shelf,
         },
     }

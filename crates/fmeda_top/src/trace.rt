@@ -53,6 +53,6 @@ pub(crate) fn tell_trace<O: Sink>(
             Ok(after_text(written))
         }
         Err(Refusal::Fault(why)) => Err(Refused::By(not_there(why))),
-        Err(Refusal::Memory) => Err(Refused::By(Status::Memory)),
+        Err(Refusal::Memory(no_room)) => Err(Refused::By(Status::Memory(no_room))),
     }
 }

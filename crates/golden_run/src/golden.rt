@@ -8,7 +8,8 @@ use crate::rows::GoldenRows;
 use circuit::netlist::Netlist;
 use fanout::Fanout;
 use netlist_levels::Order;
-use std::alloc::{AllocError, Global};
+use room::NoRoom;
+use std::alloc::Global;
 use std::marker::Model;
 use workload::run::Workload;
 
@@ -32,12 +33,7 @@ impl Model for Golden {
 
 impl Golden {
     /// The golden run of a workload, where tables are evaluated in this order.
-    pub fn new(
-        alloc: Global,
-        net: &Netlist,
-        order: &Order,
-        work: &Workload,
-    ) -> Result<Self, AllocError>
+    pub fn new(alloc: Global, net: &Netlist, order: &Order, work: &Workload) -> Result<Self, NoRoom>
         requires { IsOrder net.now order.now }
         ensures { IfOk result (λ made. made ≡ record { circuit = net.now; order = order.now; runs = work.now }) }
     {

@@ -14,7 +14,8 @@ use fanout::Fanout;
 use fm_base::Seq;
 use lane_words::program::make_gates;
 use netlist_levels::Order;
-use std::alloc::{AllocError, Global};
+use room::{NoRoom, extend, push, with_room};
+use std::alloc::Global;
 use workload::run::Workload;
 
 /// Rows of words, one behind the other.
@@ -27,7 +28,7 @@ fn rows_of(
     work: &Workload,
     run: u32,
     simulation: &mut Simulation,
-) -> Result<Vec<u64>, AllocError>
+) -> Result<Vec<u64>, NoRoom>
     requires wiring { IsWiring wiring.now }
     requires made { IsSimulationOf (ordered_of wiring.now) simulation.old }
     requires run { run < length work.now }
@@ -36,11 +37,11 @@ fn rows_of(
 {
     let cycles = work.cycles(run);
     let width = simulation.values.row.len();
-    let mut words = Vec::with_capacity(alloc, (cycles as usize).saturating_mul(width))?;
+    let mut words = with_room(alloc, (cycles as usize).saturating_mul(width))?;
     simulation.start(wiring);
     for t in 0..cycles {
         simulation.cycle(wiring, work.vector(run, t));
-        words.extend_from_slice(&simulation.values.row)?;
+        extend(&mut words, &simulation.values.row)?;
     }
     Ok(words)
 }
@@ -51,7 +52,7 @@ fn rows_for(
     wiring: &Wiring<'_>,
     work: &Workload,
     simulation: &mut Simulation,
-) -> Result<Vec<Words>, AllocError>
+) -> Result<Vec<Words>, NoRoom>
     requires wiring { IsWiring wiring.now }
     requires made { IsSimulationOf (ordered_of wiring.now) simulation.old }
     ensures { IfOk result (λ rows. AreGoldenRows (record { circuit = wiring.now.netlist.now; runs = work.now }) (length wiring.now.netlist.now.drivers / 64 + 1) (length work.now) rows.items) }
@@ -59,7 +60,7 @@ fn rows_for(
     let mut rows = Vec::new(alloc);
     for run in 0..work.runs() {
         let words = rows_of(alloc, wiring, work, run, simulation)?;
-        rows.push(Words::from_vec(words))?;
+        push(&mut rows, Words::from_vec(words))?;
     }
     Ok(rows)
 }
@@ -71,7 +72,7 @@ pub(crate) fn all_rows(
     order: &Order,
     fanout: &Fanout,
     work: &Workload,
-) -> Result<Vec<Words>, AllocError>
+) -> Result<Vec<Words>, NoRoom>
     requires order { IsOrder netlist.now order.now }
     requires fanout { fanout.now ≡ record { circuit = netlist.now; order = order.now } }
     ensures { IfOk result (λ rows. AreGoldenRows (record { circuit = netlist.now; runs = work.now }) (length netlist.now.drivers / 64 + 1) (length work.now) rows.items) }

@@ -8,7 +8,8 @@ use crate::make::{Words, all_rows};
 use circuit::netlist::Netlist;
 use fanout::Fanout;
 use netlist_levels::Order;
-use std::alloc::{AllocError, Global};
+use room::NoRoom;
+use std::alloc::Global;
 use std::marker::Model;
 use std::snapshot::Snapshot;
 use workload::run::Workload;
@@ -43,7 +44,7 @@ impl GoldenRows {
         order: &Order,
         fanout: &Fanout,
         work: &Workload,
-    ) -> Result<Self, AllocError>
+    ) -> Result<Self, NoRoom>
         requires order { IsOrder netlist.now order.now }
         requires fanout { fanout.now ≡ record { circuit = netlist.now; order = order.now } }
         ensures { IfOk result (λ rows. rows ≡ record { circuit = netlist.now; runs = work.now }) }

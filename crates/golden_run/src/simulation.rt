@@ -12,7 +12,8 @@ use crate::walk::settle;
 use crate::wiring::Wiring;
 use circuit::netlist::Netlist;
 use netlist_levels::Order;
-use std::alloc::{AllocError, Global};
+use room::{NoRoom, filled};
+use std::alloc::Global;
 
 /// The values of all nets in the last cycle, and what each latch takes for the next one.
 #[derive(Drop)]
@@ -23,12 +24,12 @@ pub(crate) struct Simulation {
 
 impl Simulation {
     /// A simulation that hasn't begun.
-    pub fn new(alloc: Global, netlist: &Netlist, order: &Order) -> Result<Self, AllocError>
+    pub fn new(alloc: Global, netlist: &Netlist, order: &Order) -> Result<Self, NoRoom>
         requires { IsOrder netlist.now order.now }
         ensures { IfOk result (λ simulation. IsSimulationOf (record { circuit = netlist.now; order = order.now }) simulation) }
     {
         let values = Values::new(alloc, netlist, order)?;
-        let raw = vec![in alloc; false; netlist.latches().len()]?;
+        let raw = filled(alloc, false, netlist.latches().len())?;
         Ok(Simulation { values, raw })
     }
 

@@ -11,7 +11,8 @@ use circuit::parts::NetId;
 use lane_words::Word;
 use netlist_levels::Order;
 use place_set::{PlaceSet, value_in_words};
-use std::alloc::{AllocError, Global};
+use room::{NoRoom, filled};
+use std::alloc::Global;
 
 /// The values of all nets, and the places of the tables that are to be evaluated.
 #[derive(Drop)]
@@ -25,13 +26,13 @@ pub(crate) struct Values {
 
 impl Values {
     /// Values of which nothing is known: all tables count as marked.
-    pub fn new(alloc: Global, netlist: &Netlist, order: &Order) -> Result<Self, AllocError>
+    pub fn new(alloc: Global, netlist: &Netlist, order: &Order) -> Result<Self, NoRoom>
         requires { IsOrder netlist.now order.now }
         ensures { IfOk result (λ values. AreValuesOf (record { circuit = netlist.now; order = order.now }) values) }
     {
         let width = netlist.nets() / 64 + 1;
         Ok(Values {
-            row: vec![in alloc; 0; width]?,
+            row: filled(alloc, 0, width)?,
             marks: PlaceSet::new(alloc, order.nets().len() as u32)?,
             all: true,
         })

@@ -20,7 +20,8 @@ use lane_words::gate::{Gate, Masks};
 use lane_words::program::{make_gates, make_ops};
 use lane_words::{Word, word_at};
 use netlist_levels::Order;
-use std::alloc::{AllocError, Global};
+use room::{NoRoom, collect, filled};
+use std::alloc::Global;
 use std::snapshot::Snapshot;
 use std::sync::ledger::Ledger;
 
@@ -43,15 +44,15 @@ pub struct Kernel<W> {
     words: Vec<W>,
 }
 
-fn first_state_of(alloc: Global, latches: &[Latch]) -> Result<Vec<bool>, AllocError>
+fn first_state_of(alloc: Global, latches: &[Latch]) -> Result<Vec<bool>, NoRoom>
     ensures { IfOk result (λ starts. starts.items ≡ map (λ latch. latch.start) latches.now) }
 {
-    latches.iter().map(|latch| latch.start).collect(alloc)
+    collect(latches.iter().map(|latch| latch.start), alloc)
 }
 
 impl<W: Word> Kernel<W> {
     /// Lanes for a netlist and an order of its tables, without faults.
-    pub fn new(alloc: Global, netlist: &Netlist, order: &Order) -> Result<Self, AllocError>
+    pub fn new(alloc: Global, netlist: &Netlist, order: &Order) -> Result<Self, NoRoom>
         requires { IsOrder netlist.now order.now }
         ensures kernel { IfOk result (λ s. IsLaneKernel W.lanes W.lane_bit s) }
         ensures made { IfOk result (λ s. IsBankFor netlist.now order.now (kernel_bank s)) }
@@ -62,11 +63,11 @@ impl<W: Word> Kernel<W> {
         let masks = make_ops(alloc)?;
         let starts = first_state_of(alloc, netlist.latches())?;
         let loads = no_faults(alloc, W::count())?;
-        let mut marks = vec![in alloc; false; nets]?;
-        let mut next = vec![in alloc; 0; gates.len()]?;
+        let mut marks = filled(alloc, false, nets)?;
+        let mut next = filled(alloc, 0, gates.len())?;
         let forces = idle_forces(alloc, nets)?;
-        let raw = vec![in alloc; W::all(false); starts.len()]?;
-        let words = vec![in alloc; W::all(false); nets]?;
+        let raw = filled(alloc, W::all(false), starts.len())?;
+        let words = filled(alloc, W::all(false), nets)?;
         prepare(&gates, &loads, &mut marks, &mut next);
         let transient = is_some_transient(&loads);
         Ok(Kernel {

@@ -13,7 +13,8 @@ use circuit::parts::{Fault, NetId};
 use fm_base::Steps;
 use lane_words::Word;
 use netlist_levels::Order;
-use std::alloc::{AllocError, Global};
+use room::NoRoom;
+use std::alloc::Global;
 use std::marker::Model;
 use std::simd::prelude::*;
 use std::sync::ledger::Ledger;
@@ -39,7 +40,7 @@ impl Model for Lanes {
 
 impl Lanes {
     /// Lanes for a netlist and an order of its tables, without faults and not yet started.
-    pub fn new(alloc: Global, netlist: &Netlist, order: &Order) -> Result<Self, AllocError>
+    pub fn new(alloc: Global, netlist: &Netlist, order: &Order) -> Result<Self, NoRoom>
         requires { IsOrder netlist.now order.now }
         ensures made { IfOk result (λ lanes. IsBankFor netlist.now order.now lanes) }
         ensures unloaded { IfOk result (λ lanes. AreUnloaded lanes) }
@@ -119,7 +120,7 @@ impl Model for Lanes4 {
 
 impl Lanes4 {
     /// Lanes for a netlist and an order of its tables, without faults and not yet started.
-    pub fn new(alloc: Global, netlist: &Netlist, order: &Order) -> Result<Self, AllocError>
+    pub fn new(alloc: Global, netlist: &Netlist, order: &Order) -> Result<Self, NoRoom>
         requires { IsOrder netlist.now order.now }
         ensures made { IfOk result (λ lanes. IsBankFor netlist.now order.now lanes) }
         ensures unloaded { IfOk result (λ lanes. AreUnloaded lanes) }

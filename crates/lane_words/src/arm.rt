@@ -10,16 +10,17 @@ ghost use Rattle.lane_words.specs.Loads.{loaded_faults, has_pulses, is_pulse_in,
 use crate::force::{Force, with_lane};
 use crate::word::Word;
 use circuit::parts::{Fault, NetId};
-use std::alloc::{AllocError, Global};
+use room::{NoRoom, push};
+use std::alloc::Global;
 
 /// Lanes, so many of them, without faults.
-pub fn no_faults(alloc: Global, lanes: u32) -> Result<Vec<[Option<Fault>; 2]>, AllocError>
+pub fn no_faults(alloc: Global, lanes: u32) -> Result<Vec<[Option<Fault>; 2]>, NoRoom>
     ensures count { IfOk result (λ loads. length loads.items ≡ lanes) }
     ensures none { IfOk result (λ loads. (k : ℕ) → loaded_faults loads.items k ≡ []) }
 {
     let mut loads = Vec::new(alloc);
     for _ in 0..lanes {
-        loads.push([None, None])?;
+        push(&mut loads, [None, None])?;
     }
     Ok(loads)
 }

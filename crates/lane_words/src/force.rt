@@ -8,7 +8,8 @@ ghost use Rattle.lane_words.specs.Loads.{somes};
 use crate::word::Word;
 use circuit::meaning::turned;
 use circuit::parts::{Fault, NetId};
-use std::alloc::{AllocError, Global};
+use room::{NoRoom, push, with_room};
+use std::alloc::Global;
 
 /// What a net's own word becomes: `base`, with its own bit added without carry where `slope` is set.
 #[derive(Clone, Copy)]
@@ -28,13 +29,13 @@ pub fn idle<W: Word>() -> Force<W>
 }
 
 /// Forces that leave the words of so many nets as they are.
-pub fn idle_forces<W: Word>(alloc: Global, nets: usize) -> Result<Vec<Force<W>>, AllocError>
+pub fn idle_forces<W: Word>(alloc: Global, nets: usize) -> Result<Vec<Force<W>>, NoRoom>
     ensures count { IfOk result (λ forces. length forces.items ≡ nets) }
     ensures idle { IfOk result (λ forces. AreAllIdle W.lanes W.lane_bit forces.items) }
 {
-    let mut forces = Vec::with_capacity(alloc, nets)?;
+    let mut forces = with_room(alloc, nets)?;
     for n in 0..nets {
-        forces.push(idle())?;
+        push(&mut forces, idle())?;
     }
     Ok(forces)
 }

@@ -12,7 +12,8 @@ use crate::word::Word;
 use circuit::meaning::value_of_table;
 use circuit::netlist::Netlist;
 use circuit::parts::{Driver, NetId, Table};
-use std::alloc::{AllocError, Global};
+use room::{NoRoom, push, with_room};
+use std::alloc::Global;
 
 fn masks_of<W: Word>(op: u32) -> Masks<W>
     ensures { IsOp W.lanes W.lane_bit op result }
@@ -26,12 +27,12 @@ fn masks_of<W: Word>(op: u32) -> Masks<W>
 }
 
 /// The masks of all operations.
-pub fn make_ops<W: Word>(alloc: Global) -> Result<Vec<Masks<W>>, AllocError>
+pub fn make_ops<W: Word>(alloc: Global) -> Result<Vec<Masks<W>>, NoRoom>
     ensures { IfOk result (λ masks. AreOps W.lanes W.lane_bit masks.items) }
 {
     let mut masks = Vec::new(alloc);
     for op in 0..16 {
-        masks.push(masks_of(op))?;
+        push(&mut masks, masks_of(op))?;
     }
     Ok(masks)
 }
@@ -107,17 +108,13 @@ pub fn gate_of(netlist: &Netlist, net: NetId) -> Gate
 }
 
 /// The gates of all tables, in the order's sequence.
-pub fn make_gates(
-    alloc: Global,
-    netlist: &Netlist,
-    order: &[NetId],
-) -> Result<Vec<Gate>, AllocError>
+pub fn make_gates(alloc: Global, netlist: &Netlist, order: &[NetId]) -> Result<Vec<Gate>, NoRoom>
     requires order { IsOrder netlist.now order.now }
     ensures { IfOk result (λ gates. IsProgram netlist.now order.now gates.items) }
 {
-    let mut gates = Vec::with_capacity(alloc, netlist.tables())?;
+    let mut gates = with_room(alloc, netlist.tables())?;
     for net in order {
-        gates.push(gate_of(netlist, *net))?;
+        push(&mut gates, gate_of(netlist, *net))?;
     }
     Ok(gates)
 }

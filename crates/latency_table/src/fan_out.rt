@@ -10,7 +10,8 @@ use crate::latency::Latency;
 use crate::worker::{GROUP, LatencyWorker, work};
 use campaign_plan::Plan;
 use classifier::Testbench;
-use std::alloc::{AllocError, Global};
+use room::{NoRoom, push};
+use std::alloc::Global;
 use std::thread;
 use std::thread::Threads;
 
@@ -29,13 +30,13 @@ fn hired(
     bench: &Testbench<'_>,
     rounds: u32,
     count: u32,
-) -> Result<Vec<LatencyWorker>, AllocError>
+) -> Result<Vec<LatencyWorker>, NoRoom>
     ensures equipped { IfOk result (λ crew. All (IsEquippedFor bench.now rounds) crew.items) }
     ensures count { IfOk result (λ crew. length crew.items ≡ count) }
 {
     let mut crew = Vec::new(alloc);
     for _ in 0..count {
-        crew.push(LatencyWorker::new(alloc, bench, rounds)?)?;
+        push(&mut crew, LatencyWorker::new(alloc, bench, rounds)?)?;
     }
     Ok(crew)
 }
@@ -74,7 +75,7 @@ pub(crate) fn simulated<R: Threads + Sync>(
     plan: &Plan,
     bench: &Testbench<'_>,
     workers: u32,
-) -> Result<Vec<LatencyWorker>, AllocError>
+) -> Result<Vec<LatencyWorker>, NoRoom>
     requires bench { IsTestbenchFor plan.now bench.now }
     requires workers { (0 < workers) × (workers ≤ 32) }
     ensures { IfOk result (λ crew. HaveWorked plan.now crew.items) }

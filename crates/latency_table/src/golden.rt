@@ -18,7 +18,8 @@ use circuit::parts::{Fault, NetId};
 use classifier::Testbench;
 use place_set::value_in_words;
 use readings::{stuck_at_is_excited, transients_are_excited};
-use std::alloc::{AllocError, Global};
+use room::{NoRoom, filled};
+use std::alloc::Global;
 
 const LANES: usize = 64;
 
@@ -93,12 +94,12 @@ fn longest_run(bench: &Testbench<'_>) -> u32
 
 impl GoldenValues {
     /// Looks through all cycles of the golden run once, a word of 64 nets at a time.
-    pub(crate) fn new(alloc: Global, bench: &Testbench<'_>) -> Result<GoldenValues, AllocError>
+    pub(crate) fn new(alloc: Global, bench: &Testbench<'_>) -> Result<GoldenValues, NoRoom>
         ensures { IfOk result (HasSeenGolden bench.now.circuit bench.now.runs) }
     {
         let words = bench.net().nets().div_ceil(LANES);
-        let mut ones = vec![in alloc; 0; words]?;
-        let mut zeros = vec![in alloc; 0; words]?;
+        let mut ones = filled(alloc, 0, words)?;
+        let mut zeros = filled(alloc, 0, words)?;
         add_runs(bench, ones.as_mut_slice(), zeros.as_mut_slice());
         Ok(GoldenValues {
             ones,

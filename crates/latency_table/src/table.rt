@@ -24,7 +24,8 @@ use fm_shelf::shelf::{Failed, Sink};
 use fm_shelf::whole::write_all;
 use netlist_levels::Order;
 use readings::one_simulation_gives_all;
-use std::alloc::{AllocError, Global};
+use room::NoRoom;
+use std::alloc::Global;
 use std::thread::Threads;
 
 /// What is known of the faults of a plan.
@@ -41,7 +42,7 @@ fn simulate_on<R: Threads + Sync>(
     plan: &Plan,
     bench: &Testbench<'_>,
     workers: u32,
-) -> Result<Simulated, AllocError>
+) -> Result<Simulated, NoRoom>
     requires bench { IsTestbenchFor plan.now bench.now }
     requires workers { (0 < workers) × (workers ≤ 32) }
     ensures golden { IfOk result (λ s. HasSeenGolden plan.now.circuit plan.now.runs s.golden) }
@@ -59,7 +60,7 @@ fn simulate<R: Threads + Sync>(
     plan: &Plan,
     order: &Order,
     workers: u32,
-) -> Result<Simulated, AllocError>
+) -> Result<Simulated, NoRoom>
     requires order { IsOrder plan.now.circuit order.now }
     requires workers { (0 < workers) × (workers ≤ 32) }
     ensures golden { IfOk result (λ s. HasSeenGolden plan.now.circuit plan.now.runs s.golden) }

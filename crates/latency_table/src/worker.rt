@@ -15,9 +15,10 @@ use campaign_plan::Plan;
 use classifier::Testbench;
 use differential_kernel::DifferentialLanes4;
 use fm_base::Steps;
+use room::{NoRoom, filled, push};
 use shown_runs::record::RunRecord;
 use shown_runs::{PointReach, load_batches};
-use std::alloc::{AllocError, Global};
+use std::alloc::Global;
 use std::marker::{Brand, Model};
 use std::sync::ledger::{Blank, Ledger};
 
@@ -52,27 +53,30 @@ pub struct LatencyWorker {
 }
 
 // A record for each word.
-fn records_for(alloc: Global, points: &Points) -> Result<Vec<RunRecord>, AllocError>
+fn records_for(alloc: Global, points: &Points) -> Result<Vec<RunRecord>, NoRoom>
     ensures count { IfOk result (λ records. length records.items ≡ 4) }
     ensures fit { IfOk result (λ records. AreRecordsFor points.now records.items) }
 {
     let mut records = Vec::new(alloc);
     for _ in 0..WORDS {
-        records.push(RunRecord::new(alloc, points)?)?;
+        push(&mut records, RunRecord::new(alloc, points)?)?;
     }
     Ok(records)
 }
 
 // Room for so many groups.
-fn groups_for(alloc: Global, rounds: u32) -> Result<Vec<Group>, AllocError>
+fn groups_for(alloc: Global, rounds: u32) -> Result<Vec<Group>, NoRoom>
     ensures count { IfOk result (λ groups. length groups.items ≡ rounds) }
     ensures room { IfOk result (λ groups. (round : ℕ) → round < rounds → length (group_at groups.items round) ≡ 256) }
 {
     let mut groups = Vec::new(alloc);
     for _ in 0..rounds {
-        groups.push(Group {
-            latencies: vec![in alloc; NOTHING; GROUP]?,
-        })?;
+        push(
+            &mut groups,
+            Group {
+                latencies: filled(alloc, NOTHING, GROUP)?,
+            },
+        )?;
     }
     Ok(groups)
 }
@@ -83,7 +87,7 @@ impl LatencyWorker {
         alloc: Global,
         bench: &Testbench<'_>,
         rounds: u32,
-    ) -> Result<LatencyWorker, AllocError>
+    ) -> Result<LatencyWorker, NoRoom>
         ensures { IfOk result (IsEquippedFor bench.now rounds) }
     {
         // What has least to give up comes first, and the lanes last.

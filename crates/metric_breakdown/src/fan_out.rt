@@ -18,7 +18,8 @@ use classifier::Testbench;
 use metric_sums::Sums;
 use netlist_levels::Order;
 use reading_planes::Reading;
-use std::alloc::{AllocError, Global};
+use room::{NoRoom, push};
+use std::alloc::Global;
 use std::thread;
 use std::thread::Threads;
 
@@ -28,13 +29,13 @@ fn hired(
     bench: &Testbench<'_>,
     readings: &[Reading],
     count: u32,
-) -> Result<Vec<Worker>, AllocError>
+) -> Result<Vec<Worker>, NoRoom>
     ensures equipped { IfOk result (λ workers. (p : Analysis) → All (IsEquippedFor p bench.now readings.now) workers.items) }
     ensures count { IfOk result (λ workers. length workers.items ≡ count) }
 {
     let mut workers = Vec::new(alloc);
     for _ in 0..count {
-        workers.push(Worker::new(alloc, bench, readings)?)?;
+        push(&mut workers, Worker::new(alloc, bench, readings)?)?;
     }
     Ok(workers)
 }
@@ -116,7 +117,7 @@ pub(crate) fn reading_sums<R: Threads + Sync>(
     order: &Order,
     readings: &[Reading],
     workers: u32,
-) -> Result<Vec<Sums>, AllocError>
+) -> Result<Vec<Sums>, NoRoom>
     requires plan { IsPlan plan.now }
     requires order { IsOrder plan.now.circuit order.now }
     requires readings { AreReadingsOf plan.now.points readings.now }

@@ -11,14 +11,15 @@ use crate::share::Share;
 use campaign_plan::{Outcome, Plan, own_sums};
 use metric_sums::Sums;
 use reading_planes::Reading;
-use std::alloc::{AllocError, Global};
+use room::{NoRoom, filled};
+use std::alloc::Global;
 
 /// Nothing added up, by each of so many readings.
-pub(crate) fn no_sums(alloc: Global, readings: usize) -> Result<Vec<Sums>, AllocError>
+pub(crate) fn no_sums(alloc: Global, readings: usize) -> Result<Vec<Sums>, NoRoom>
     ensures count { IfOk result (λ sums. length sums.items ≡ readings) }
     ensures none { IfOk result (λ sums. (r : ℕ) → sums_at sums.items r ≡ no_sums) }
 {
-    Ok(vec![in alloc; Sums::none(); readings]?)
+    Ok(filled(alloc, Sums::none(), readings)?)
 }
 
 // Adds what a batch shows by each reading.

@@ -13,7 +13,8 @@ use campaign_plan::Plan;
 use classifier::Testbench;
 use metric_sums::Sums;
 use reading_planes::{Reading, ReadingSimulator};
-use std::alloc::{AllocError, Global};
+use room::NoRoom;
+use std::alloc::Global;
 
 /// What a worker simulates with, and its sums by each reading.
 #[derive(Drop)]
@@ -28,7 +29,7 @@ impl Worker {
         alloc: Global,
         bench: &Testbench<'_>,
         readings: &[Reading],
-    ) -> Result<Self, AllocError>
+    ) -> Result<Self, NoRoom>
         ensures { IfOk result (λ worker. (p : Analysis) → IsEquippedFor p bench.now readings.now worker) }
     {
         // The simulator comes last, since it has much to give up.

@@ -2,11 +2,12 @@
 ghost use Rattle.std.specs.Prelude.{◌≡◌, IfOk};
 
 use fm_base::{Name, Seq};
-use std::alloc::{AllocError, Global};
+use room::{NoRoom, from_slice};
+use std::alloc::Global;
 
 /// A name of its own.
-pub fn own_name(alloc: Global, text: &[u8]) -> Result<Name, AllocError>
+pub fn own_name(alloc: Global, text: &[u8]) -> Result<Name, NoRoom>
     ensures { IfOk result (λ n. n ≡ text.now) }
 {
-    Ok(Seq::from_vec(Vec::from_slice(alloc, text)?))
+    Ok(Seq::from_vec(from_slice(alloc, text)?))
 }

@@ -4,7 +4,8 @@ ghost use Rattle.net_names.specs.Drivers.{drivers_by, put_drivers, role_driver};
 
 use circuit::parts::{Driver, Drivers, NetId};
 use fm_base::Seq;
-use std::alloc::{AllocError, Global};
+use room::{NoRoom, filled};
+use std::alloc::Global;
 
 /// What drives a net.
 #[derive(Clone, Copy)]
@@ -50,13 +51,13 @@ pub fn drivers_of(
     tables: &[NetId],
     latches: &[NetId],
     count: usize,
-) -> Result<Drivers, AllocError>
+) -> Result<Drivers, NoRoom>
     requires inputs { length inputs.now < 2 ^ 32 }
     requires tables { length tables.now < 2 ^ 32 }
     requires latches { length latches.now < 2 ^ 32 }
     ensures { IfOk result (λ ds. ds ≡ drivers_by inputs.now tables.now latches.now count) }
 {
-    let mut drivers = vec![in alloc; Driver::Input(0); count]?;
+    let mut drivers = filled(alloc, Driver::Input(0), count)?;
     put_role(&mut drivers, inputs, Role::Input);
     put_role(&mut drivers, tables, Role::Table);
     put_role(&mut drivers, latches, Role::Latch);

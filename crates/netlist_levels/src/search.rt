@@ -12,7 +12,8 @@ use crate::order::Order;
 use crate::walk::loop_from;
 use circuit::netlist::Netlist;
 use circuit::parts::{Driver, NetId, NetIds};
-use std::alloc::{AllocError, Global};
+use room::{NoRoom, filled, push};
+use std::alloc::Global;
 
 /// How far the search has come with a table.
 #[derive(Clone, Copy)]
@@ -68,29 +69,32 @@ fn first_unready(net: &Netlist, marks: &[Mark], ins: &[NetId], from: usize) -> U
 
 impl Search {
     // A search that has opened nothing.
-    fn new(alloc: Global, net: &Netlist) -> Result<Search, AllocError>
+    fn new(alloc: Global, net: &Netlist) -> Result<Search, NoRoom>
         ensures { IfOk result (λ search. Searches net.now search × (search.stack.items ≡ [])) }
     {
         Ok(Search {
-            marks: vec![in alloc; Mark::New; net.tables()]?,
+            marks: filled(alloc, Mark::New, net.tables())?,
             stack: Vec::new(alloc),
             order: Vec::new(alloc),
         })
     }
 
     // Puts a table upon the stack.
-    fn open(&mut self, net: NetId, table: u32) -> Result<(), AllocError>
+    fn open(&mut self, net: NetId, table: u32) -> Result<(), NoRoom>
         requires { table < length self.old.marks.items }
         ensures marks { OnOk result (self.new.marks.items ≡ slice_set self.old.marks.items table (Open (length self.old.stack.items))) }
         ensures stack { OnOk result (self.new.stack.items ≡ self.old.stack.items ++ (record { net = net; table = table; next = 0 }) ∷ []) }
         ensures order { OnOk result (self.new.order.items ≡ self.old.order.items) }
     {
         let place = self.stack.len();
-        self.stack.push(Frame {
-            net,
-            table,
-            next: 0,
-        })?;
+        push(
+            &mut self.stack,
+            Frame {
+                net,
+                table,
+                next: 0,
+            },
+        )?;
         self.marks[table as usize] = Mark::Open(place);
         Ok(())
     }
@@ -108,13 +112,13 @@ impl Search {
     }
 
     // Takes the topmost table off the stack, to the end of the order.
-    fn close(&mut self, top: Frame) -> Result<(), AllocError>
+    fn close(&mut self, top: Frame) -> Result<(), NoRoom>
         requires { top.table < length self.old.marks.items }
         ensures marks { OnOk result (self.new.marks.items ≡ slice_set self.old.marks.items top.table Done) }
         ensures stack { OnOk result (self.new.stack.items ≡ take (length self.old.stack.items - 1) self.old.stack.items) }
         ensures order { OnOk result (self.new.order.items ≡ self.old.order.items ++ top.net ∷ []) }
     {
-        self.order.push(top.net)?;
+        push(&mut self.order, top.net)?;
         self.marks[top.table as usize] = Mark::Done;
         self.stack.pop();
         Ok(())

@@ -11,7 +11,8 @@ use classifier::Testbench;
 use fm_base::Seq;
 use netlist_levels::Order;
 use pair_list::Pairs;
-use std::alloc::{AllocError, Global};
+use room::{NoRoom, filled, push};
+use std::alloc::Global;
 use std::marker::Model;
 use std::snapshot::Snapshot;
 
@@ -46,7 +47,7 @@ impl<'a> PairCrew<'a> {
         order: &'a Order,
         pairs: &Pairs,
         workers: u32,
-    ) -> Result<Self, AllocError>
+    ) -> Result<Self, NoRoom>
         requires workers { (0 < workers) × (workers ≤ 32) }
         requires order { IsOrder plan.now.circuit order.now }
         requires pairs { AreFaults plan.now pairs.now }
@@ -55,7 +56,7 @@ impl<'a> PairCrew<'a> {
         let bench = Testbench::of_plan(alloc, plan, order)?;
         let planes = planes_for(pairs);
         let workers = hired(alloc, plan, &bench, planes, workers)?;
-        let room = vec![in alloc; 0; planes as usize]?;
+        let room = filled(alloc, 0, planes as usize)?;
         Ok(PairCrew {
             plan: Snapshot::of(plan),
             pairs: Snapshot::of(pairs),
@@ -73,13 +74,13 @@ fn hired(
     bench: &Testbench<'_>,
     planes: u32,
     count: u32,
-) -> Result<Vec<PairWorker>, AllocError>
+) -> Result<Vec<PairWorker>, NoRoom>
     ensures equipped { IfOk result (λ workers. All (IsEquippedFor plan.now bench.now planes) workers.items) }
     ensures count { IfOk result (λ workers. length workers.items ≡ count) }
 {
     let mut workers = Vec::new(alloc);
     for _ in 0..count {
-        workers.push(PairWorker::new(alloc, plan, bench, planes)?)?;
+        push(&mut workers, PairWorker::new(alloc, plan, bench, planes)?)?;
     }
     Ok(workers)
 }

@@ -12,7 +12,8 @@ use crate::load::{lists_of, planes_for, used_lanes};
 use campaign_plan::{Outcome, Plan};
 use classifier::{Simulator, Testbench};
 use pair_list::Pairs;
-use std::alloc::{AllocError, Global};
+use room::{NoRoom, filled};
+use std::alloc::Global;
 
 const WORDS: u32 = 4;
 
@@ -30,11 +31,11 @@ impl PairWorker {
         plan: &Plan,
         bench: &Testbench<'_>,
         planes: u32,
-    ) -> Result<PairWorker, AllocError>
+    ) -> Result<PairWorker, NoRoom>
         ensures { IfOk result (λ worker. IsEquippedFor plan.now bench.now planes worker) }
     {
         // The simulator comes last, since it has much to give up.
-        let planes = vec![in alloc; 0; planes as usize]?;
+        let planes = filled(alloc, 0, planes as usize)?;
         let simulator = Simulator::new(alloc, bench, plan.settings().ftti)?;
         Ok(PairWorker { simulator, planes })
     }

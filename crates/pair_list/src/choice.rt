@@ -10,7 +10,8 @@ use campaign_plan::{Plan, class_with, has_bit};
 use fm_base::Seq;
 use metric_sums::Class;
 use result_merge::PlanesTable;
-use std::alloc::{AllocError, Global};
+use room::NoRoom;
+use std::alloc::Global;
 
 // The number of lanes of a batch.
 const LANES: u32 = 64;
@@ -41,7 +42,7 @@ pub(crate) fn faults_in_class(
     plan: &Plan,
     table: &PlanesTable,
     class: Class,
-) -> Result<Seq<u32>, AllocError>
+) -> Result<Seq<u32>, NoRoom>
     requires { length table.now ≡ batch_count plan.now }
     ensures faults { IfOk result (λ faults. faults ≡ faults_in_class plan.now (planes_at table.now) class) }
     ensures few { IfOk result (λ faults. length faults ≤ 2 ^ 20) }

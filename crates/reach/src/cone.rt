@@ -9,14 +9,15 @@ ghost use Rattle.reach.specs.Paths.{CanChangeSome, IsCone};
 use crate::search::Search;
 use circuit::netlist::Netlist;
 use circuit::parts::{Fault, Latch, NetId};
-use std::alloc::{AllocError, Global};
+use room::NoRoom;
+use std::alloc::Global;
 
 /// A mark for each net from which a path leads to one of these nets.
 pub(crate) fn cone_of(
     alloc: Global,
     netlist: &Netlist,
     goals: &[NetId],
-) -> Result<Vec<bool>, AllocError>
+) -> Result<Vec<bool>, NoRoom>
     requires { All (IsNet netlist.now) goals.now }
     ensures { IfOk result (λ marks. IsCone netlist.now goals.now marks.items) }
 {

@@ -10,7 +10,8 @@ use crate::cone::{cone_of, is_in_cone};
 use alarm_points::Points;
 use circuit::netlist::Netlist;
 use circuit::parts::{Fault, Latch, NetId};
-use std::alloc::{AllocError, Global};
+use room::{NoRoom, extend};
+use std::alloc::Global;
 use std::marker::Model;
 use std::snapshot::Snapshot;
 
@@ -45,19 +46,19 @@ impl Model for Reach {
 }
 
 // The observation points of all goals.
-fn observed_nets(alloc: Global, points: &Points) -> Result<Vec<NetId>, AllocError>
+fn observed_nets(alloc: Global, points: &Points) -> Result<Vec<NetId>, NoRoom>
     ensures { IfOk result (λ nets. nets.items ≡ observed points.now) }
 {
     let mut nets = Vec::new(alloc);
     for goal in points.goals.as_slice() {
-        nets.extend_from_slice(goal.observe.as_slice())?;
+        extend(&mut nets, goal.observe.as_slice())?;
     }
     Ok(nets)
 }
 
 impl Reach {
     /// What leads to these points. The time is linear in the nets and in what tables and latches read.
-    pub fn new(alloc: Global, netlist: &Netlist, points: &Points) -> Result<Self, AllocError>
+    pub fn new(alloc: Global, netlist: &Netlist, points: &Points) -> Result<Self, NoRoom>
         requires { ArePointsFor netlist.now points.now }
         ensures { IfOk result (λ made. made ≡ record { circuit = netlist.now; points = points.now }) }
     {

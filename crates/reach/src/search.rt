@@ -8,7 +8,8 @@ ghost use Rattle.reach.specs.Search.{Grows, HasFound, IsSearch, work_left};
 
 use circuit::netlist::Netlist;
 use circuit::parts::{Driver, NetId};
-use std::alloc::{AllocError, Global};
+use room::{NoRoom, filled, push};
+use std::alloc::Global;
 
 /// A mark for each net that was found so far, and those nets of them whose driver has yet to be looked at.
 #[derive(Drop)]
@@ -19,18 +20,18 @@ pub(crate) struct Search {
 
 impl Search {
     /// A search of so many nets that has found none.
-    pub fn new(alloc: Global, nets: usize) -> Result<Search, AllocError>
+    pub fn new(alloc: Global, nets: usize) -> Result<Search, NoRoom>
         ensures marks { IfOk result (λ search. search.marks.items ≡ replicate nets false) }
         ensures left { IfOk result (λ search. search.left.items ≡ []) }
     {
         Ok(Search {
-            marks: vec![in alloc; false; nets]?,
+            marks: filled(alloc, false, nets)?,
             left: Vec::new(alloc),
         })
     }
 
     // Finds a net.
-    fn find(&mut self, net: NetId) -> Result<(), AllocError>
+    fn find(&mut self, net: NetId) -> Result<(), NoRoom>
         requires { net.0 < length self.old.marks.items }
         ensures found { OnOk result (HasFound self.old (net ∷ []) self.new) }
         ensures marked { OnOk result (bit_at self.new.marks.items net.0 ≡ true) }
@@ -40,13 +41,13 @@ impl Search {
         if self.marks[at] {
             return Ok(());
         }
-        self.left.push(net)?;
+        push(&mut self.left, net)?;
         self.marks[at] = true;
         Ok(())
     }
 
     /// Finds each of these nets.
-    pub fn find_all(&mut self, nets: &[NetId]) -> Result<(), AllocError>
+    pub fn find_all(&mut self, nets: &[NetId]) -> Result<(), NoRoom>
         requires { All (λ net. net.0 < length self.old.marks.items) nets.now }
         ensures found { OnOk result (HasFound self.old nets.now self.new) }
         ensures marked { OnOk result (All (λ net. bit_at self.new.marks.items net.0 ≡ true) nets.now) }
@@ -59,7 +60,7 @@ impl Search {
     }
 
     // Finds the nets that the driver of a net reads.
-    fn look_back(&mut self, netlist: &Netlist, net: NetId) -> Result<(), AllocError>
+    fn look_back(&mut self, netlist: &Netlist, net: NetId) -> Result<(), NoRoom>
         requires size { length self.old.marks.items ≡ length netlist.now.drivers }
         requires net { IsNet netlist.now net }
         ensures found { OnOk result (HasFound self.old (reads_of netlist.now (driver_at netlist.now net.0)) self.new) }
@@ -74,7 +75,7 @@ impl Search {
     }
 
     /// Looks at the driver of each net that is found, until none is left.
-    pub fn finish(&mut self, netlist: &Netlist) -> Result<(), AllocError>
+    pub fn finish(&mut self, netlist: &Netlist) -> Result<(), NoRoom>
         requires size { length self.old.marks.items ≡ length netlist.now.drivers }
         requires left { All (λ net. bit_at self.old.marks.items net.0 ≡ true) self.old.left.items }
         ensures search { OnOk result ((goals : List Net) → IsSearch netlist.now goals self.old.marks.items self.old.left.items []

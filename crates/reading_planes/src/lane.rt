@@ -7,9 +7,10 @@ ghost use Rattle.reading_planes.specs.Folded.{HasShown, IsLaneFor, IsLaneOf};
 
 use crate::late::first_of_others;
 use alarm_points::Points;
+use room::{NoRoom, push};
 use shown_runs::first::FirstCycles;
 use shown_runs::record::{AlarmCycles, RunRecord};
-use std::alloc::{AllocError, Global};
+use std::alloc::Global;
 use std::marker::Model;
 
 /// The first cycles of one lane: of each goal the first difference, of each alarm point the first alarm, and the earliest alarm. No
@@ -30,12 +31,12 @@ impl Model for LaneCycles {
 }
 
 // Room for so many cycles.
-fn no_cycles(alloc: Global, count: usize) -> Result<Vec<Option<u32>>, AllocError>
+fn no_cycles(alloc: Global, count: usize) -> Result<Vec<Option<u32>>, NoRoom>
     ensures { IfOk result (λ cycles. length cycles.items ≡ count) }
 {
     let mut cycles = Vec::new(alloc);
     for _ in 0..count {
-        cycles.push(None)?;
+        push(&mut cycles, None)?;
     }
     Ok(cycles)
 }
@@ -64,7 +65,7 @@ fn take_alarms(points: &[AlarmCycles], lane: u32, alarms: &mut [Option<u32>])
 
 impl LaneCycles {
     /// Room for the cycles of a lane.
-    pub fn new(alloc: Global, points: &Points) -> Result<Self, AllocError>
+    pub fn new(alloc: Global, points: &Points) -> Result<Self, NoRoom>
         ensures { IfOk result (IsLaneFor points.now) }
     {
         let differences = no_cycles(alloc, points.goals.as_slice().len())?;

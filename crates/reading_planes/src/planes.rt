@@ -3,7 +3,8 @@ ghost use Rattle.std.specs.Prelude.{◌≡◌, ◌<◌, ℕ, IfOk, length};
 ghost use Rattle.classifier.specs.Planes.{outcome_at};
 
 use campaign_plan::Outcome;
-use std::alloc::{AllocError, Global};
+use room::{NoRoom, push};
+use std::alloc::Global;
 use std::marker::Model;
 
 const NOTHING: Outcome = Outcome {
@@ -37,12 +38,12 @@ fn forget(outcomes: &mut [Outcome])
 
 impl ReadingPlanes {
     /// Room for the planes of so many readings.
-    pub fn new(alloc: Global, readings: usize) -> Result<Self, AllocError>
+    pub fn new(alloc: Global, readings: usize) -> Result<Self, NoRoom>
         ensures { IfOk result (λ planes. length planes ≡ readings) }
     {
         let mut outcomes = Vec::new(alloc);
         for _ in 0..readings {
-            outcomes.push(NOTHING)?;
+            push(&mut outcomes, NOTHING)?;
         }
         Ok(ReadingPlanes { outcomes })
     }

@@ -6,7 +6,8 @@ ghost use Rattle.reading_planes.specs.declared.reading.Reading.TheVariants.{Goal
 
 use alarm_points::Points;
 use circuit::parts::NetId;
-use std::alloc::{AllocError, Global};
+use room::{NoRoom, push};
+use std::alloc::Global;
 
 /// A reading of a plan: which goals and which alarm points count, and in which interval. Goals and alarm points are told by their
 /// numbers, in the order of the points.
@@ -25,41 +26,41 @@ pub enum Reading {
 }
 
 // Each goal alone.
-fn push_goals(list: &mut Vec<Reading>, count: u32) -> Result<(), AllocError>
+fn push_goals(list: &mut Vec<Reading>, count: u32) -> Result<(), NoRoom>
     ensures { IfOk result (λ _. list.new.items ≡ list.old.items ++ map (λ g. Goal g) (below count)) }
 {
     for g in 0..count {
-        list.push(Reading::Goal(g))?;
+        push(list, Reading::Goal(g))?;
     }
     Ok(())
 }
 
 // Each alarm point left out.
-fn push_without(list: &mut Vec<Reading>, count: u32) -> Result<(), AllocError>
+fn push_without(list: &mut Vec<Reading>, count: u32) -> Result<(), NoRoom>
     ensures { IfOk result (λ _. list.new.items ≡ list.old.items ++ map (λ a. Without a) (below count)) }
 {
     for a in 0..count {
-        list.push(Reading::Without(a))?;
+        push(list, Reading::Without(a))?;
     }
     Ok(())
 }
 
 // Each alarm point alone.
-fn push_only(list: &mut Vec<Reading>, count: u32) -> Result<(), AllocError>
+fn push_only(list: &mut Vec<Reading>, count: u32) -> Result<(), NoRoom>
     ensures { IfOk result (λ _. list.new.items ≡ list.old.items ++ map (λ a. Only a) (below count)) }
 {
     for a in 0..count {
-        list.push(Reading::Only(a))?;
+        push(list, Reading::Only(a))?;
     }
     Ok(())
 }
 
 // Each of these intervals.
-fn push_intervals(list: &mut Vec<Reading>, intervals: &[u32]) -> Result<(), AllocError>
+fn push_intervals(list: &mut Vec<Reading>, intervals: &[u32]) -> Result<(), NoRoom>
     ensures { IfOk result (λ _. list.new.items ≡ list.old.items ++ map (λ cycles. Interval cycles) intervals.now) }
 {
     for cycles in intervals {
-        list.push(Reading::Interval(*cycles))?;
+        push(list, Reading::Interval(*cycles))?;
     }
     Ok(())
 }
@@ -70,7 +71,7 @@ pub fn reading_list(
     alloc: Global,
     points: &Points,
     intervals: &[u32],
-) -> Result<Vec<Reading>, AllocError>
+) -> Result<Vec<Reading>, NoRoom>
     requires goals { length points.now.goals ≤ 4 }
     requires alarms { length points.now.alarm ≤ 1024 }
     ensures { IfOk result (λ list. list.items ≡ list_of points.now intervals.now) }
@@ -78,7 +79,7 @@ pub fn reading_list(
     let goals = points.goals.as_slice().len() as u32;
     let alarms = points.alarm.as_slice().len() as u32;
     let mut list = Vec::new(alloc);
-    list.push(Reading::Whole)?;
+    push(&mut list, Reading::Whole)?;
     push_goals(&mut list, goals)?;
     push_without(&mut list, alarms)?;
     push_only(&mut list, alarms)?;

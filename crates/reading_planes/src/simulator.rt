@@ -16,9 +16,10 @@ use classifier::Testbench;
 use differential_kernel::DifferentialLanes4;
 use fault_list::FaultList;
 use fm_base::Steps;
+use room::{NoRoom, push};
 use shown_runs::record::RunRecord;
 use shown_runs::{PointReach, load_batches};
-use std::alloc::{AllocError, Global};
+use std::alloc::Global;
 use std::marker::Brand;
 use std::sync::ledger::{Blank, Ledger};
 
@@ -36,36 +37,32 @@ pub struct ReadingSimulator {
 }
 
 // A record for each word.
-fn word_records(alloc: Global, points: &Points) -> Result<Vec<RunRecord>, AllocError>
+fn word_records(alloc: Global, points: &Points) -> Result<Vec<RunRecord>, NoRoom>
     ensures words { IfOk result (λ records. length records.items ≡ 4) }
     ensures fit { IfOk result (λ records. AreRecordsFor points.now records.items) }
 {
     let mut records = Vec::new(alloc);
     for _ in 0..WORDS {
-        records.push(RunRecord::new(alloc, points)?)?;
+        push(&mut records, RunRecord::new(alloc, points)?)?;
     }
     Ok(records)
 }
 
 // Planes of each reading for each word.
-fn word_planes(alloc: Global, readings: &[Reading]) -> Result<Vec<ReadingPlanes>, AllocError>
+fn word_planes(alloc: Global, readings: &[Reading]) -> Result<Vec<ReadingPlanes>, NoRoom>
     ensures words { IfOk result (λ planes. length planes.items ≡ 4) }
     ensures fit { IfOk result (λ planes. ArePlanesFor readings.now planes.items) }
 {
     let mut planes = Vec::new(alloc);
     for _ in 0..WORDS {
-        planes.push(ReadingPlanes::new(alloc, readings.len())?)?;
+        push(&mut planes, ReadingPlanes::new(alloc, readings.len())?)?;
     }
     Ok(planes)
 }
 
 impl ReadingSimulator {
     /// A simulator of a testbench, for as many readings as these.
-    pub fn new(
-        alloc: Global,
-        bench: &Testbench<'_>,
-        readings: &[Reading],
-    ) -> Result<Self, AllocError>
+    pub fn new(alloc: Global, bench: &Testbench<'_>, readings: &[Reading]) -> Result<Self, NoRoom>
         ensures { IfOk result (IsSimulatorFor bench.now readings.now) }
     {
         // What has least to give up comes first, and the lanes last.

@@ -71,7 +71,7 @@ fn refuse_plan<O: Sink>(out: &mut O, cause: &PlanRefusal)
         PlanRefusal::IdleRate { part, permanent } => {
             refuse_idle(out, part.as_slice(), rate_word(*permanent))
         }
-        PlanRefusal::Memory => say(out, &[b"refused:", b"out of memory"]),
+        PlanRefusal::Memory(_) => say(out, &[b"refused:", b"out of memory"]),
     }
 }
 
@@ -137,7 +137,7 @@ pub fn refuse<O: Sink>(out: &mut O, names: &FileNames, nets: &[Name], status: &S
             say(out, &[b"refused:", b"cannot write", file])
         }
         Status::Usage => say(out, &[b"refused:", b"usage"]),
-        Status::Memory => say(out, &[b"refused:", b"out of memory"]),
+        Status::Memory(_) => say(out, &[b"refused:", b"out of memory"]),
         Status::ManyOutputs => say(out, &[b"refused:", b"more than 1024 outputs"]),
         Status::TooLong(which) => {
             let file = file_name(names, *which);

@@ -2,7 +2,7 @@
 use crate::status::Status;
 use circuit::netlist::Netlist;
 use netlist_levels::Walk;
-use std::alloc::AllocError;
+use room::NoRoom;
 
 /// Why a command has nothing to write: the status that it ends with, and what its line needs beside the status.
 #[derive(Drop)]
@@ -23,14 +23,14 @@ impl From<Status> for Refused {
     }
 }
 
-impl From<AllocError> for Refused {
+impl From<NoRoom> for Refused {
     ghost use Rattle.std.specs.Prelude.{◌≡◌};
     ghost use Rattle.refusals.specs.declared.refused.Refused.TheVariants.{By};
     ghost use Rattle.refusals.specs.declared.status.Status.TheVariants.{Memory};
 
-    ghost from_gives = { λ _ refused. refused ≡ By Memory };
+    ghost from_gives = { λ no_room refused. refused ≡ By (Memory no_room) };
 
-    fn from(_: AllocError) -> Self {
-        Refused::By(Status::Memory)
+    fn from(e: NoRoom) -> Self {
+        Refused::By(Status::Memory(e))
     }
 }

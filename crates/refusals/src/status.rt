@@ -13,6 +13,7 @@ use pair_list::PairRefusal;
 use rate_table::RatesFault;
 use result_file::{FalseRow, ResultRefusal};
 use result_merge::MergeRefusal;
+use room::NoRoom;
 use workload::file::WorkloadFault;
 
 /// How a call ends: done, or the one refusal.
@@ -39,7 +40,7 @@ pub enum Status {
     ReadFault(Which),
     ResultFault,
     OutFault,
-    Memory,
+    Memory(NoRoom),
 }
 
 impl Status {
@@ -70,7 +71,7 @@ impl Status {
             Status::NoRun | Status::NoFault | Status::NoNet => 17,
             Status::ReadFault(_) => 20,
             Status::ResultFault | Status::OutFault => 21,
-            Status::Plan(PlanRefusal::Memory) | Status::Memory => 30,
+            Status::Plan(PlanRefusal::Memory(_)) | Status::Memory(_) => 30,
         }
     }
 }

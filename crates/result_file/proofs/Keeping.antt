@@ -48,7 +48,7 @@ pub gives_refusal : (own : List ℕ) (p : Analysis) (bytes : List ℕ) (refusal 
     → RowsGive p (whole_pieces bytes) (Err refusal) → Gives (kept own p bytes) (Err refusal)
 gives_refusal own p bytes (Fault (Foreign found mine)) h f give = absurd give
 gives_refusal own p bytes (Fault (BadRow number fault)) h f give = kept_own own p bytes h f ∙ ap (λ found. kept_unless found (whole_pieces bytes)) give
-gives_refusal own p bytes Memory h f give = tt
+gives_refusal own p bytes (Memory no_room) h f give = tt
 
 pub take_short : (xs : List ℕ) (n m : ℕ) → n ≡ min (length xs) m → take n xs ≡ take m xs
 take_short xs n m e =

@@ -15,4 +15,4 @@ abbrev pub RowsGive : Analysis → List Bytes → Result (List Row) (Refusal Res
 RowsGive p pieces (Ok rows) = (first_fault (row_fault p) pieces ≡ None) × (rows ≡ map row_read pieces)
 RowsGive p pieces (Err (Fault (BadRow number fault))) = first_fault (row_fault p) pieces ≡ Some (number, fault)
 RowsGive p pieces (Err (Fault (Foreign found own))) = ⊥
-RowsGive p pieces (Err Memory) = Unit {0}
+RowsGive p pieces (Err (Memory no_room)) = Unit {0}

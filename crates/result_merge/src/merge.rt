@@ -14,7 +14,8 @@ use campaign_plan::{Outcome, Plan, own_sums};
 use fm_base::{Refusal, Seq};
 use metric_sums::Sums;
 use result_file::{Row, RowList};
-use std::alloc::{AllocError, Global};
+use room::NoRoom;
+use std::alloc::Global;
 
 /// Why two files aren't merged: the least batch that stands in both with other planes, and these.
 #[derive(Clone, Copy, Debug, PartialEq, Eq)]
@@ -61,7 +62,7 @@ fn rows_of(
     plan: &Plan,
     firsts: &PlanesTable,
     seconds: &PlanesTable,
-) -> Result<RowList, AllocError>
+) -> Result<RowList, NoRoom>
     requires { (length firsts.now ≡ batch_count plan.now) × (length seconds.now ≡ batch_count plan.now) }
     ensures { IfOk result (λ rows. rows ≡ result_rows plan.now (rising (batch_count plan.now) (at_either firsts.now seconds.now))) }
 {

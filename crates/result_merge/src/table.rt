@@ -8,7 +8,8 @@ ghost use Rattle.result_merge.specs.Tables.{at_batch, planes_at, planes_table};
 
 use campaign_plan::{Outcome, Plan};
 use result_file::Row;
-use std::alloc::{AllocError, Global};
+use room::{NoRoom, filled};
+use std::alloc::Global;
 use std::marker::Model;
 
 /// The planes that rows give the batches of a plan, by the batch's number. A batch without a row has none.
@@ -27,11 +28,11 @@ impl Model for PlanesTable {
 
 impl PlanesTable {
     /// The table of these rows, each of another batch, in the time of the rows and of the plan's batches.
-    pub fn new(alloc: Global, plan: &Plan, rows: &[Row]) -> Result<PlanesTable, AllocError>
+    pub fn new(alloc: Global, plan: &Plan, rows: &[Row]) -> Result<PlanesTable, NoRoom>
         requires { AreDistinct plan.now (map entry_of rows.now) }
         ensures { IfOk result (λ table. table ≡ planes_table (batch_count plan.now) (map entry_of rows.now)) }
     {
-        let mut planes = vec![in alloc; None; plan.batches() as usize]?;
+        let mut planes = filled(alloc, None, plan.batches() as usize)?;
         for row in rows {
             planes[row.batch as usize] = Some(Outcome {
                 danger: row.danger,

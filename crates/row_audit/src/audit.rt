@@ -18,7 +18,8 @@ use crate::watcher::Watcher;
 use campaign_plan::{Outcome, Plan};
 use netlist_levels::Order;
 use result_file::{FalseRow, Row};
-use std::alloc::{AllocError, Global};
+use room::NoRoom;
+use std::alloc::Global;
 
 /// What an audit simulates by.
 #[derive(Clone, Copy)]
@@ -120,7 +121,7 @@ fn first_by<B: Circuits>(
     rows: &[Row],
     every: u32,
     circuits: &mut B,
-) -> Result<Option<FalseRow>, AllocError>
+) -> Result<Option<FalseRow>, NoRoom>
     requires every { 0 < every }
     requires points { ArePointsFor bench.now.net.now bench.now.points.now }
     requires made { IsLoadedFor bench.now.net.now bench.now.order.now (B.loaded circuits.old) }
@@ -142,7 +143,7 @@ pub fn first_false_row(
     rows: &[Row],
     every: u32,
     kernel: Kernel,
-) -> Result<Option<FalseRow>, AllocError>
+) -> Result<Option<FalseRow>, NoRoom>
     requires order { IsOrder plan.now.circuit order.now }
     requires every { 0 < every }
     ensures { IfOk result (λ found. found ≡ first_false plan.now every rows.now) }

@@ -15,7 +15,8 @@ use fault_list::FaultList;
 use fm_base::Steps;
 use lane_kernel::Lanes4;
 use netlist_levels::Order;
-use std::alloc::{AllocError, Global};
+use room::NoRoom;
+use std::alloc::Global;
 use std::marker::Brand;
 use std::sync::ledger::{Blank, Ledger};
 
@@ -36,7 +37,7 @@ fn loads_of(faults: &FaultList, batch: Option<u32>) -> [[Option<Fault>; 2]; 64]
 }
 
 /// Lanes for a netlist and an order of its tables, without faults and not yet started.
-pub(crate) fn lanes_for(alloc: Global, net: &Netlist, order: &Order) -> Result<Lanes4, AllocError>
+pub(crate) fn lanes_for(alloc: Global, net: &Netlist, order: &Order) -> Result<Lanes4, NoRoom>
     requires { IsOrder net.now order.now }
     ensures made { IfOk result (λ lanes. IsBankFor net.now order.now lanes) }
     ensures golden { IfOk result (λ lanes. HasGoldenWord lanes) }

@@ -20,14 +20,15 @@ use alarm_points::windows::Windows;
 use campaign_plan::Outcome;
 use fault_list::FaultList;
 use result_file::Row;
-use std::alloc::{AllocError, Global};
+use room::{NoRoom, push};
+use std::alloc::Global;
 
 /// A watcher for each of so many words, which has no batch yet.
 pub(crate) fn watchers_for(
     alloc: Global,
     bench: &Bench<'_>,
     words: usize,
-) -> Result<Vec<Watcher>, AllocError>
+) -> Result<Vec<Watcher>, NoRoom>
     ensures count { IfOk result (λ watchers. length watchers.items ≡ words) }
     ensures at_hand { IfOk result (λ watchers.
         AreAllAtHand bench.now.net.now bench.now.points.now bench.now.ftti bench.now.work.now bench.now.faults.now watchers.items) }
@@ -35,12 +36,15 @@ pub(crate) fn watchers_for(
     let mut watchers = Vec::new(alloc);
     for _ in 0..words {
         let windows = Windows::new(alloc, bench.points, bench.ftti)?;
-        watchers.push(Watcher {
-            batch: None,
-            windows,
-            alarms: QUIET,
-            planes: NOTHING,
-        })?;
+        push(
+            &mut watchers,
+            Watcher {
+                batch: None,
+                windows,
+                alarms: QUIET,
+                planes: NOTHING,
+            },
+        )?;
     }
     Ok(watchers)
 }

@@ -18,7 +18,8 @@ use circuit::parts::{Fault, NetId};
 use cycle_sim::sim::Sim;
 use fault_list::FaultList;
 use netlist_levels::Order;
-use std::alloc::{AllocError, Global};
+use room::{NoRoom, push};
+use std::alloc::Global;
 use std::slice;
 
 const LANES: usize = 64;
@@ -32,13 +33,13 @@ pub struct OneCircuit {
 }
 
 // Simulations for a netlist and an order of its tables, one for each lane.
-fn sims_for(alloc: Global, net: &Netlist, order: &Order) -> Result<Vec<Sim>, AllocError>
+fn sims_for(alloc: Global, net: &Netlist, order: &Order) -> Result<Vec<Sim>, NoRoom>
     requires { IsOrder net.now order.now }
     ensures { IfOk result (λ sims. AreSims net.now order.now sims.items) }
 {
     let mut sims = Vec::new(alloc);
     for _ in 0..LANES {
-        sims.push(Sim::new(alloc, net, order)?)?;
+        push(&mut sims, Sim::new(alloc, net, order)?)?;
     }
     Ok(sims)
 }
@@ -48,7 +49,7 @@ pub(crate) fn circuits_for(
     alloc: Global,
     net: &Netlist,
     order: &Order,
-) -> Result<OneCircuit, AllocError>
+) -> Result<OneCircuit, NoRoom>
     requires { IsOrder net.now order.now }
     ensures circuit { IfOk result (λ made. made.golden.circuit ≡ net.now) }
     ensures order { IfOk result (λ made. made.golden.order ≡ order.now) }

@@ -7,7 +7,8 @@ ghost use Rattle.sample_gen.specs.Steps.{both_stages, stage_lines, with_number a
 
 use crate::lines::put_line;
 use fm_base::{Bytes, Line, Seq};
-use std::alloc::{AllocError, Global};
+use room::NoRoom;
+use std::alloc::Global;
 
 // A letter and a number, as `m7`.
 fn numbered(letter: u8, i: u32) -> Line
@@ -34,7 +35,7 @@ fn source_of(latch: u8, i: u32) -> Line
 }
 
 // Adds stage `i` of a row: an inverter, and the latch that it feeds.
-fn put_stage(text: &mut Vec<u8>, inverter: u8, latch: u8, i: u32) -> Result<(), AllocError>
+fn put_stage(text: &mut Vec<u8>, inverter: u8, latch: u8, i: u32) -> Result<(), NoRoom>
     requires { 0 < i }
     ensures { OnOk result (text.new.items ≡ text.old.items ++ stage_lines (inverter ∷ []) (latch ∷ []) i) }
 {
@@ -56,7 +57,7 @@ fn put_stage(text: &mut Vec<u8>, inverter: u8, latch: u8, i: u32) -> Result<(), 
 }
 
 // Adds stage `i` of both rows.
-fn put_both(text: &mut Vec<u8>, i: u32) -> Result<(), AllocError>
+fn put_both(text: &mut Vec<u8>, i: u32) -> Result<(), NoRoom>
     requires { 0 < i }
     ensures { OnOk result (text.new.items ≡ text.old.items ++ both_stages i) }
 {
@@ -65,7 +66,7 @@ fn put_both(text: &mut Vec<u8>, i: u32) -> Result<(), AllocError>
 }
 
 // Adds the stages of both rows.
-fn put_stages(text: &mut Vec<u8>, stages: u32) -> Result<(), AllocError>
+fn put_stages(text: &mut Vec<u8>, stages: u32) -> Result<(), NoRoom>
     ensures { OnOk result (text.new.items ≡ text.old.items ++ flat_map (λ k. both_stages (k + 1)) (below stages)) }
 {
     for k in 0..stages {
@@ -76,7 +77,7 @@ fn put_stages(text: &mut Vec<u8>, stages: u32) -> Result<(), AllocError>
 
 /// The netlist of the generated campaign: two rows of so many inverters and latches from one input, the second the shadow
 /// of the first, and a comparator of their ends.
-pub fn netlist_text(alloc: Global, stages: u32) -> Result<Bytes, AllocError>
+pub fn netlist_text(alloc: Global, stages: u32) -> Result<Bytes, NoRoom>
     requires { (1 ≤ stages) × (stages ≤ 1000) }
     ensures { IfOk result (λ text. text ≡ netlist_of stages) }
 {

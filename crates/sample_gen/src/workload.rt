@@ -7,10 +7,11 @@ ghost use Rattle.sample_gen.specs.Steps.{vector_line};
 
 use crate::lines::put_line;
 use fm_base::{Bytes, Seq};
-use std::alloc::{AllocError, Global};
+use room::NoRoom;
+use std::alloc::Global;
 
 // Adds the row of cycle `t`.
-fn put_vector(text: &mut Vec<u8>, t: u32) -> Result<(), AllocError>
+fn put_vector(text: &mut Vec<u8>, t: u32) -> Result<(), NoRoom>
     ensures { OnOk result (text.new.items ≡ text.old.items ++ vector_line t) }
 {
     if t % 3 == 0 {
@@ -21,7 +22,7 @@ fn put_vector(text: &mut Vec<u8>, t: u32) -> Result<(), AllocError>
 }
 
 // Adds the rows of the first cycles.
-fn put_vectors(text: &mut Vec<u8>, cycles: u32) -> Result<(), AllocError>
+fn put_vectors(text: &mut Vec<u8>, cycles: u32) -> Result<(), NoRoom>
     ensures { OnOk result (text.new.items ≡ text.old.items ++ flat_map vector_line (below cycles)) }
 {
     for t in 0..cycles {
@@ -31,7 +32,7 @@ fn put_vectors(text: &mut Vec<u8>, cycles: u32) -> Result<(), AllocError>
 }
 
 /// The workload of the generated campaign: `stages` + 8 cycles, in which the input is 1 in each third.
-pub fn workload_text(alloc: Global, stages: u32) -> Result<Bytes, AllocError>
+pub fn workload_text(alloc: Global, stages: u32) -> Result<Bytes, NoRoom>
     requires { (1 ≤ stages) × (stages ≤ 1000) }
     ensures { IfOk result (λ text. text ≡ workload_of stages) }
 {

@@ -18,7 +18,8 @@ use fault_list::FaultList;
 use fm_base::Seq;
 use lane_words::Word;
 use reach::{Reach, Sort};
-use std::alloc::{AllocError, Global};
+use room::{NoRoom, filled, from_array, push};
+use std::alloc::Global;
 use std::marker::Model;
 
 const LANES: u32 = 64;
@@ -60,17 +61,17 @@ impl Model for PointReach {
 }
 
 // An alarm point alone.
-fn alarm_alone(alloc: Global, net: NetId) -> Result<Points, AllocError>
+fn alarm_alone(alloc: Global, net: NetId) -> Result<Points, NoRoom>
     ensures { IfOk result (λ points. points ≡ alone net) }
 {
     Ok(Points {
         goals: Seq::new(alloc),
-        alarm: Seq::from_vec(Vec::from_array(alloc, [net])?),
+        alarm: Seq::from_vec(from_array(alloc, [net])?),
     })
 }
 
 // From where paths lead to an alarm point.
-fn paths_to(alloc: Global, netlist: &Netlist, net: NetId) -> Result<Reach, AllocError>
+fn paths_to(alloc: Global, netlist: &Netlist, net: NetId) -> Result<Reach, NoRoom>
     requires { IsNet netlist.now net }
     ensures { IfOk result (λ reach. reach ≡ record { circuit = netlist.now; points = alone net }) }
 {
@@ -79,7 +80,7 @@ fn paths_to(alloc: Global, netlist: &Netlist, net: NetId) -> Result<Reach, Alloc
 }
 
 // The same of each of these.
-fn paths_to_each(alloc: Global, netlist: &Netlist, nets: &[NetId]) -> Result<Vec<Reach>, AllocError>
+fn paths_to_each(alloc: Global, netlist: &Netlist, nets: &[NetId]) -> Result<Vec<Reach>, NoRoom>
     requires { All (IsNet netlist.now) nets.now }
     ensures count { IfOk result (λ paths. length paths.items ≡ length nets.now) }
     ensures each { IfOk result (λ paths. (a : ℕ) (d : Reached) → a < length paths.items
@@ -87,7 +88,7 @@ fn paths_to_each(alloc: Global, netlist: &Netlist, nets: &[NetId]) -> Result<Vec
 {
     let mut paths = Vec::new(alloc);
     for net in nets {
-        paths.push(paths_to(alloc, netlist, *net)?)?;
+        push(&mut paths, paths_to(alloc, netlist, *net)?)?;
     }
     Ok(paths)
 }
@@ -105,16 +106,19 @@ fn followed<'a>(netlist: &Netlist, nets: &'a [NetId]) -> &'a [NetId]
 }
 
 // No lane is marked in any word.
-fn no_marks(alloc: Global, alarms: usize) -> Result<Vec<Beyond>, AllocError>
+fn no_marks(alloc: Global, alarms: usize) -> Result<Vec<Beyond>, NoRoom>
     ensures words { IfOk result (λ words. length words.items ≡ 4) }
     ensures alarms { IfOk result (λ words. (word : ℕ) → word < 4 → length (beyond_at words.items word).alarms ≡ alarms) }
 {
     let mut words = Vec::new(alloc);
     for _ in 0..WORDS {
-        words.push(Beyond {
-            observation: 0,
-            alarms: vec![in alloc; 0; alarms]?,
-        })?;
+        push(
+            &mut words,
+            Beyond {
+                observation: 0,
+                alarms: filled(alloc, 0, alarms)?,
+            },
+        )?;
     }
     Ok(words)
 }
@@ -205,7 +209,7 @@ fn mark_words(
 impl PointReach {
     /// What marks lanes for the points of a testbench. A search backwards is made from each alarm point, in two bytes for each net; where
     /// that would take more than 8 MiB, no lane is ever marked for an alarm point.
-    pub fn new(alloc: Global, bench: &Testbench<'_>) -> Result<Self, AllocError>
+    pub fn new(alloc: Global, bench: &Testbench<'_>) -> Result<Self, NoRoom>
         ensures { IfOk result (IsReachFor bench.now.circuit bench.now.points) }
     {
         let nets = followed(bench.net(), bench.points().alarm.as_slice());

@@ -11,7 +11,8 @@ ghost use Rattle.shown_runs.specs.Seen.{HasSeen};
 
 use crate::first::FirstCycles;
 use alarm_points::Points;
-use std::alloc::{AllocError, Global};
+use room::{NoRoom, push};
+use std::alloc::Global;
 use std::marker::Model;
 
 /// What a run has shown of an alarm point in 64 lanes: when it is first raised, and where it is silenced.
@@ -87,23 +88,23 @@ impl Model for RunRecord {
 }
 
 // Room for so many goals.
-fn goal_cycles(alloc: Global, count: usize) -> Result<Vec<FirstCycles>, AllocError>
+fn goal_cycles(alloc: Global, count: usize) -> Result<Vec<FirstCycles>, NoRoom>
     ensures { IfOk result (λ goals. length goals.items ≡ count) }
 {
     let mut goals = Vec::new(alloc);
     for _ in 0..count {
-        goals.push(FirstCycles::new())?;
+        push(&mut goals, FirstCycles::new())?;
     }
     Ok(goals)
 }
 
 // Room for so many alarm points.
-fn alarm_cycles(alloc: Global, count: usize) -> Result<Vec<AlarmCycles>, AllocError>
+fn alarm_cycles(alloc: Global, count: usize) -> Result<Vec<AlarmCycles>, NoRoom>
     ensures { IfOk result (λ alarms. length alarms.items ≡ count) }
 {
     let mut alarms = Vec::new(alloc);
     for _ in 0..count {
-        alarms.push(AlarmCycles::new())?;
+        push(&mut alarms, AlarmCycles::new())?;
     }
     Ok(alarms)
 }
@@ -129,7 +130,7 @@ fn start_alarms(alarms: &mut [AlarmCycles])
 
 impl RunRecord {
     /// A record for these points.
-    pub fn new(alloc: Global, points: &Points) -> Result<Self, AllocError>
+    pub fn new(alloc: Global, points: &Points) -> Result<Self, NoRoom>
         ensures { IfOk result (IsRecordFor points.now) }
     {
         let goals = goal_cycles(alloc, points.goals.as_slice().len())?;

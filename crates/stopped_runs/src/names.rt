@@ -3,7 +3,8 @@ ghost use Rattle.std.specs.Prelude.{◌≡◌, map, true, IfOk};
 ghost use Rattle.std.specs.Str.{bytes_eq};
 ghost use Rattle.stopped_runs.specs.Stopping.{NotesRead, NotesWrite, one_more as one_more_than, read_noted, write_noted};
 
-use std::alloc::{AllocError, Global};
+use room::{NoRoom, from_slice, push, with_room};
+use std::alloc::Global;
 
 /// A name, with how often reads of it have failed since the stop, and cuts of it and appends to it.
 #[derive(Drop)]
@@ -68,17 +69,20 @@ fn note_writes(names: &mut [Told], name: &str)
 
 impl ToldNames {
     /// These names, of which no call has failed.
-    pub(crate) fn new(alloc: Global, names: &[&str]) -> Result<Self, AllocError>
+    pub(crate) fn new(alloc: Global, names: &[&str]) -> Result<Self, NoRoom>
         ensures { IfOk result (λ t. map (λ told. told.name.items) t.names.items ≡ map (λ name. name.now) names.now) }
     {
-        let mut told = Vec::with_capacity(alloc, names.len())?;
+        let mut told = with_room(alloc, names.len())?;
         for name in names {
-            let name = Vec::from_slice(alloc, name.as_bytes())?;
-            told.push(Told {
-                name,
-                reads: 0,
-                writes: 0,
-            })?;
+            let name = from_slice(alloc, name.as_bytes())?;
+            push(
+                &mut told,
+                Told {
+                    name,
+                    reads: 0,
+                    writes: 0,
+                },
+            )?;
         }
         Ok(ToldNames {
             names: told,

@@ -9,7 +9,8 @@ use crate::names::ToldNames;
 use fm_shelf::past::{Note, Past};
 use fm_shelf::shelf::{Failed, Shelf};
 use fm_shelf::whole::append_all;
-use std::alloc::{AllocError, Global};
+use room::NoRoom;
+use std::alloc::Global;
 
 /// When a stop comes: behind so many calls of a shelf. Where the call that follows is an append, it may be torn: it was begun, and has taken
 /// so many bytes of its piece, or all of a shorter one.
@@ -51,7 +52,7 @@ fn tear<F: Shelf>(shelf: &mut F, torn: Option<u64>, name: &str, piece: &[u8])
 
 impl<F: Shelf + Drop> StoppingShelf<F> {
     /// A shelf that tells the files of these names, and on which this stop comes.
-    pub fn new(alloc: Global, shelf: F, names: &[&str], stop: Stop) -> Result<Self, AllocError>
+    pub fn new(alloc: Global, shelf: F, names: &[&str], stop: Stop) -> Result<Self, NoRoom>
         ensures stop { IfOk result (λ s. s.stop ≡ stop) }
         ensures shelf { IfOk result (λ s. s.shelf ≡ shelf) }
         ensures names { IfOk result (λ s. map (λ told. told.name.items) s.told.names.items ≡ map (λ name. name.now) names.now) }

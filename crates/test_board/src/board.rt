@@ -17,7 +17,8 @@ use fm_shelf::shelf::Shelf;
 use fm_shelf::whole::read_all;
 use metric_sums::Sums;
 use result_file::header;
-use std::alloc::{AllocError, Global};
+use room::{NoRoom, from_slice, from_str};
+use std::alloc::Global;
 use std::marker::Brand;
 use std::sync::Wait;
 use std::test::*;
@@ -204,8 +205,8 @@ fn look_of(permanent: u64, count: u32, stopped: bool) -> Look {
     }
 }
 
-fn shelf_of(alloc: Global, failing: &[u64]) -> Result<MemoryShelf, AllocError> {
-    let failing: Calls = Seq::from_vec(Vec::from_slice(alloc, failing)?);
+fn shelf_of(alloc: Global, failing: &[u64]) -> Result<MemoryShelf, NoRoom> {
+    let failing: Calls = Seq::from_vec(from_slice(alloc, failing)?);
     MemoryShelf::new(alloc, Seq::new(alloc), 1000, failing)
 }
 
@@ -232,8 +233,8 @@ fn seen_of(alloc: Global, played: &mut Played<MemoryShelf>) -> Seen {
 }
 
 // The campaign whose calls of the given numbers fail
-fn campaign<R: Wait>(rt: &R, alloc: Global, failing: &[u64]) -> Result<Option<Seen>, AllocError> {
-    let name = String::from_str(alloc, "res")?;
+fn campaign<R: Wait>(rt: &R, alloc: Global, failing: &[u64]) -> Result<Option<Seen>, NoRoom> {
+    let name = from_str(alloc, "res")?;
     let shelf = shelf_of(alloc, failing)?;
     let own = header(&[0; 32], 2);
     match play(rt, alloc, shelf, &name, &own, &chain_of_33()) {

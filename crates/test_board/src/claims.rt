@@ -4,7 +4,8 @@ ghost use Rattle.claim_counter.specs.Views.{starting_view, giving};
 ghost use Rattle.claim_counter.specs.Seats.{IsOf};
 
 use claim_counter::{Claims, Kept, Seat};
-use std::alloc::{AllocError, Global};
+use room::NoRoom;
+use std::alloc::Global;
 use std::sync::Wait;
 use std::test::*;
 use std::thread::{Threads, join};
@@ -30,7 +31,7 @@ impl Kept for Plain {
 }
 
 // A table whose turn is free, with an empty list behind it
-fn table(alloc: Global, todo: u64) -> Result<(Claims<Plain>, Seat<Plain>), AllocError>
+fn table(alloc: Global, todo: u64) -> Result<(Claims<Plain>, Seat<Plain>), NoRoom>
     requires { todo ≤ 2 ^ 20 }
     ensures { IfOk result (λ r. IsOf r.0 r.1 × (r.0.todo ≡ todo) × (r.1.view ≡ giving (starting_view todo) false)) }
 {
@@ -88,7 +89,7 @@ fn post_one<R: Wait>(rt: &R, claims: &Claims<Plain>, seat: &mut Seat<Plain>)
     claims.give(seat, value);
 }
 
-fn drawn_alone<R: Wait>(rt: &R, alloc: Global, todo: u64) -> Result<Drawn, AllocError>
+fn drawn_alone<R: Wait>(rt: &R, alloc: Global, todo: u64) -> Result<Drawn, NoRoom>
     requires { todo ≤ 128 }
 {
     let (claims, seat) = table(alloc, todo)?;
@@ -112,10 +113,7 @@ fn numbers_come_in_order_and_then_none(rt: HostRuntime) -> Result<(), Fail> {
 }
 
 // What two threads draw of 100 numbers
-fn drawn_by_two<R: Threads + Wait + Sync>(
-    rt: &R,
-    alloc: Global,
-) -> Result<(Drawn, Drawn), AllocError> {
+fn drawn_by_two<R: Threads + Wait + Sync>(rt: &R, alloc: Global) -> Result<(Drawn, Drawn), NoRoom> {
     let (claims, mut first) = table(alloc, 100)?;
     let second = claims.split(&mut first);
     Ok(join(
@@ -140,7 +138,7 @@ fn two_threads_draw_each_number_once(rt: HostRuntime) -> Result<(), Fail> {
 }
 
 // What is behind the turn at the end where two seats posted, the second first
-fn posted_by_two<R: Wait>(rt: &R, alloc: Global) -> Result<Plain, AllocError> {
+fn posted_by_two<R: Wait>(rt: &R, alloc: Global) -> Result<Plain, NoRoom> {
     let (claims, mut first) = table(alloc, 3)?;
     let mut second = claims.split(&mut first);
     post_one(rt, &claims, &mut second);

@@ -7,7 +7,8 @@ use fm_shelf::shelf::{Shelf, Sink};
 use fm_shelf::whole::read_all;
 use fmeda_top::ended::Ended;
 use fmeda_top::top::fmeda;
-use std::alloc::{AllocError, Global};
+use room::{NoRoom, from_slice, from_str, push};
+use std::alloc::Global;
 use std::sync::Wait;
 use std::thread::Threads;
 use worker_gate::Gate;
@@ -74,22 +75,22 @@ impl Seen {
     }
 }
 
-fn words_of(alloc: Global, line: &str) -> Result<Vec<String>, AllocError> {
+fn words_of(alloc: Global, line: &str) -> Result<Vec<String>, NoRoom> {
     let mut words = Vec::new(alloc);
     for word in line.split(' ') {
-        words.push(String::from_str(alloc, word)?)?;
+        push(&mut words, from_str(alloc, word)?)?;
     }
     Ok(words)
 }
 
-fn file_of(alloc: Global, name: &str, bytes: &[u8]) -> Result<File, AllocError> {
-    let bytes = Seq::from_vec(Vec::from_slice(alloc, bytes)?);
-    let name = String::from_str(alloc, name)?;
+fn file_of(alloc: Global, name: &str, bytes: &[u8]) -> Result<File, NoRoom> {
+    let bytes = Seq::from_vec(from_slice(alloc, bytes)?);
+    let name = from_str(alloc, name)?;
     Ok(File { name, bytes })
 }
 
 /// The input files, and the result file as it is before.
-pub fn files_of<'a>(alloc: Global, netlist: &'a str, held: &'a [u8]) -> Result<Files, AllocError> {
+pub fn files_of<'a>(alloc: Global, netlist: &'a str, held: &'a [u8]) -> Result<Files, NoRoom> {
     let mut files = Seq::new(alloc);
     for (name, bytes) in [
         ("net", netlist.as_bytes()),
@@ -104,8 +105,8 @@ pub fn files_of<'a>(alloc: Global, netlist: &'a str, held: &'a [u8]) -> Result<F
     Ok(files)
 }
 
-fn numbers(alloc: Global, numbers: &[u64]) -> Result<Calls, AllocError> {
-    Ok(Seq::from_vec(Vec::from_slice(alloc, numbers)?))
+fn numbers(alloc: Global, numbers: &[u64]) -> Result<Calls, NoRoom> {
+    Ok(Seq::from_vec(from_slice(alloc, numbers)?))
 }
 
 /// A shelf with these files.
@@ -114,14 +115,14 @@ pub fn shelf_of(
     netlist: &str,
     held: &[u8],
     failing: Failing<'_>,
-) -> Result<MemoryShelf, AllocError> {
+) -> Result<MemoryShelf, NoRoom> {
     let numbered = numbers(alloc, failing.shelf)?;
     let files = files_of(alloc, netlist, held)?;
     MemoryShelf::tearing(alloc, files, ROOM, numbered, failing.taken)
 }
 
 /// A sink for what is written.
-pub fn sink_of(alloc: Global, failing: Failing<'_>) -> Result<MemorySink, AllocError> {
+pub fn sink_of(alloc: Global, failing: Failing<'_>) -> Result<MemorySink, NoRoom> {
     MemorySink::new(alloc, ROOM, numbers(alloc, failing.out)?)
 }
 
@@ -133,7 +134,7 @@ pub fn call<R: Threads + Wait + Sync, F: Shelf + Send + Drop, G: Gate + Sync>(
     shelf: F,
     out: &mut MemorySink,
     gate: &G,
-) -> Result<Ended<F>, AllocError> {
+) -> Result<Ended<F>, NoRoom> {
     let words = words_of(alloc, line)?;
     Ok(fmeda(rt, alloc, words.as_slice(), shelf, out, gate))
 }
@@ -181,7 +182,7 @@ pub fn see<R: Threads + Wait + Sync, G: Gate + Sync>(
     texts: &Texts<'_>,
     failing: Failing<'_>,
     gate: &G,
-) -> Result<Seen, AllocError> {
+) -> Result<Seen, NoRoom> {
     let mut out = sink_of(alloc, failing)?;
     let shelf = shelf_of(alloc, texts.netlist, texts.before, failing)?;
     let mut ended = call(rt, alloc, texts.line, shelf, &mut out, gate)?;

@@ -1,10 +1,11 @@
 // The four input files of a small campaign, and what is worked out of them by hand.
-use std::alloc::{AllocError, Global};
+use room::{NoRoom, from_str};
+use std::alloc::Global;
 use std::fmt::Write;
 
 /// 33 nets n0 to n32 in a row, with n32 observed, no alarm, and a rate of 1 FIT for each fault.
-pub fn chain(alloc: Global) -> Result<String, AllocError> {
-    let mut netlist = String::from_str(alloc, ".model chain\n.inputs n0\n.outputs n32\n")?;
+pub fn chain(alloc: Global) -> Result<String, NoRoom> {
+    let mut netlist = from_str(alloc, ".model chain\n.inputs n0\n.outputs n32\n")?;
     for i in 0..32 {
         write!(netlist, ".names n{i} n{}\n1 1\n", i + 1)?;
     }
@@ -19,8 +20,8 @@ pub const RATES: &str = "pattern,part,role,covered,permanent,transient\n*,all,mi
 pub const POINTS: &str = "kind,net\nobserve,n32\n";
 
 /// The report of the chain. Its faults stand in the order of the nets: n32 is the second one, since outputs stand before tables.
-pub fn chain_report(alloc: Global) -> Result<String, AllocError> {
-    let mut text = String::from_str(alloc, CHAIN_HEAD)?;
+pub fn chain_report(alloc: Global) -> Result<String, NoRoom> {
+    let mut text = from_str(alloc, CHAIN_HEAD)?;
     for net in 1..32 {
         for value in 0..2 {
             write!(text, "single-point n{net}/{value} 1000000\n")?;

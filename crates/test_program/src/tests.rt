@@ -8,7 +8,8 @@ use crate::inputs::{
 use crate::steps::{Course, Step, course_of};
 use crate::watch::{HoldsFirst, Watched};
 use fm_shelf::sure::SureShelf;
-use std::alloc::{AllocError, Global};
+use room::NoRoom;
+use std::alloc::Global;
 use std::sync::Wait;
 use std::sync::atomic::AtomicU64;
 use std::test::*;
@@ -30,7 +31,7 @@ fn code_over_a_sure_shelf<R: Threads + Wait + Sync>(
     rt: &R,
     alloc: Global,
     netlist: &str,
-) -> Result<u8, AllocError> {
+) -> Result<u8, NoRoom> {
     let mut out = sink_of(alloc, NOTHING)?;
     let shelf = SureShelf::new(alloc, files_of(alloc, netlist, b"")?)?;
     Ok(
@@ -57,7 +58,7 @@ fn meet<R: Threads + Wait + Sync>(
     alloc: Global,
     netlist: &str,
     line: &str,
-) -> Result<bool, AllocError> {
+) -> Result<bool, NoRoom> {
     let texts = Texts {
         line,
         netlist,
@@ -91,7 +92,7 @@ fn is_turned<R: Threads + Wait + Sync>(
     alloc: Global,
     netlist: &str,
     report: &str,
-) -> Result<bool, AllocError> {
+) -> Result<bool, NoRoom> {
     let appends = AtomicU64::new(0);
     let mut out = sink_of(alloc, NOTHING)?;
     let shelf = Watched::new(shelf_of(alloc, netlist, b"", NOTHING)?, &appends);
@@ -206,7 +207,7 @@ fn ends_clean<'a, R: Threads + Wait + Sync>(
     alloc: Global,
     netlist: &'a str,
     course: &Course<'a>,
-) -> Result<(bool, u64), AllocError> {
+) -> Result<(bool, u64), NoRoom> {
     let texts = texts_of(course, netlist, course.text, course.after);
     let seen = see(rt, alloc, &texts, NOTHING, &NoGate)?;
     let right = seen.is(0, Written::Whole, 0, 0) && seen.calls == course.steps.len() as u64;
@@ -222,7 +223,7 @@ fn ends_after<'a, R: Threads + Wait + Sync>(
     number: usize,
     taken: u64,
     out: &[u64],
-) -> Result<bool, AllocError> {
+) -> Result<bool, NoRoom> {
     let Some(step) = course.steps.get(number) else {
         return Ok(false);
     };
@@ -246,7 +247,7 @@ fn ends_silent<'a, R: Threads + Wait + Sync>(
     netlist: &'a str,
     course: &Course<'a>,
     write: u64,
-) -> Result<bool, AllocError> {
+) -> Result<bool, NoRoom> {
     let texts = texts_of(course, netlist, course.text, course.after);
     let failing = Failing {
         shelf: &[],
@@ -320,7 +321,7 @@ fn first_odd<'a, R: Threads + Wait + Sync>(
     netlist: &'a str,
     course: &Course<'a>,
     writes: u64,
-) -> Result<Option<u64>, AllocError> {
+) -> Result<Option<u64>, NoRoom> {
     for number in 0..course.steps.len() {
         for (taken, out) in FAILURES {
             if !ends_after(rt, alloc, netlist, course, number, taken, out)? {

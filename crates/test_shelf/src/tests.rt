@@ -6,7 +6,8 @@ use fm_shelf::real::{FileShelf, OutSink};
 use fm_shelf::shelf::{Shelf, Sink};
 use fm_shelf::sure::{SureShelf, SureSink};
 use fm_shelf::whole::{append_all, read_all, write_all};
-use std::alloc::{AllocError, Global};
+use room::{NoRoom, filled, from_slice, from_str};
+use std::alloc::Global;
 use std::test::*;
 use std::{fs, process};
 
@@ -93,9 +94,9 @@ fn first_odd<F: Shelf>(shelf: &mut F, calls: &[Wanted]) -> Option<usize> {
 }
 
 // The file `a` with the bytes `abc`.
-fn one_file(alloc: Global) -> Result<Files, AllocError> {
-    let bytes = Seq::from_vec(Vec::from_slice(alloc, b"abc")?);
-    let name = String::from_str(alloc, "a")?;
+fn one_file(alloc: Global) -> Result<Files, NoRoom> {
+    let bytes = Seq::from_vec(from_slice(alloc, b"abc")?);
+    let name = from_str(alloc, "a")?;
     let mut files: Files = Seq::new(alloc);
     files.push(File { name, bytes })?;
     Ok(files)
@@ -107,9 +108,9 @@ fn ends_as_wanted(shelf: &mut MemoryShelf, row: &Row) -> bool {
         && (shelf.calls(), shelf.failures()) == (row.calls.len() as u64, row.failures)
 }
 
-fn is_right(alloc: Global, row: &Row) -> Result<bool, AllocError> {
+fn is_right(alloc: Global, row: &Row) -> Result<bool, NoRoom> {
     let files = one_file(alloc)?;
-    let failing: Calls = Seq::from_vec(Vec::from_slice(alloc, row.failing)?);
+    let failing: Calls = Seq::from_vec(from_slice(alloc, row.failing)?);
     let mut shelf = MemoryShelf::tearing(alloc, files, row.capacity, failing, row.taken)?;
     Ok(ends_as_wanted(&mut shelf, row))
 }
@@ -122,12 +123,7 @@ const TORN: [(u64, &[u8], &[u8]); 4] = [
     (88, b"abcdef", b""),
 ];
 
-fn takes<'a>(
-    alloc: Global,
-    taken: u64,
-    appended: &'a [u8],
-    cut: &'a [u8],
-) -> Result<bool, AllocError> {
+fn takes<'a>(alloc: Global, taken: u64, appended: &'a [u8], cut: &'a [u8]) -> Result<bool, NoRoom> {
     let row = Row {
         capacity: 8,
         failing: &[1, 3, 5],
@@ -156,7 +152,7 @@ fn calls_fail_where_they_are_listed_or_past_the_capacity(rt: HostRuntime) -> Res
 }
 
 // Whether calls make four files, the first of them with the longest name that may be, and no more.
-fn makes_four<'a>(alloc: Global, longest: &'a str, longer: &'a str) -> Result<bool, AllocError> {
+fn makes_four<'a>(alloc: Global, longest: &'a str, longer: &'a str) -> Result<bool, NoRoom> {
     let row = Row {
         capacity: 5,
         failing: &[],
@@ -180,7 +176,7 @@ fn makes_four<'a>(alloc: Global, longest: &'a str, longer: &'a str) -> Result<bo
 
 #[test]
 fn calls_make_four_files_of_short_names(rt: HostRuntime) -> Result<(), Fail> {
-    let name = String::from_utf8(Vec::from_elem(rt.alloc(), b'n', 256)?)?;
+    let name = String::from_utf8(filled(rt.alloc(), b'n', 256)?)?;
     let longest = name.get(..255).unwrap_or("");
     assert!(rt; makes_four(rt.alloc(), longest, name.as_str())?);
     Ok(())
@@ -198,7 +194,7 @@ fn writes_as_wanted(sink: &mut MemorySink) -> bool {
 
 #[test]
 fn a_sink_whose_first_call_fails_has_nothing_written(rt: HostRuntime) -> Result<(), Fail> {
-    let failing: Calls = Seq::from_vec(Vec::from_slice(rt.alloc(), &[1])?);
+    let failing: Calls = Seq::from_vec(from_slice(rt.alloc(), &[1])?);
     let mut sink = MemorySink::new(rt.alloc(), 4, failing)?;
     let right = writes_as_wanted(&mut sink);
     drop(sink);

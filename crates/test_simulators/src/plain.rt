@@ -4,7 +4,8 @@ use circuit::evaluate::value_within;
 use circuit::meaning::{bit, is_flipped, turned};
 use circuit::netlist::Netlist;
 use circuit::parts::{Fault, NetId};
-use std::alloc::{AllocError, Global};
+use room::{NoRoom, push};
+use std::alloc::Global;
 
 fn values_in(
     alloc: Global,
@@ -13,11 +14,14 @@ fn values_in(
     cycle: u32,
     state: &[bool],
     inputs: &[bool],
-) -> Result<Vec<bool>, AllocError> {
+) -> Result<Vec<bool>, NoRoom> {
     let depth = net.tables().saturating_add(1);
     let mut values = Vec::new(alloc);
     for n in 0..net.nets() as u32 {
-        values.push(value_within(alloc, net, faults, cycle, state, inputs, depth, NetId(n))?)?;
+        push(
+            &mut values,
+            value_within(alloc, net, faults, cycle, state, inputs, depth, NetId(n))?,
+        )?;
     }
     Ok(values)
 }
@@ -32,7 +36,7 @@ fn with_bits(number: u32, bits: &[bool]) -> u32 {
 }
 
 /// The bits of the nets in all cycles.
-pub fn plain_bits(alloc: Global, net: &Netlist, faults: &[Fault]) -> Result<u32, AllocError> {
+pub fn plain_bits(alloc: Global, net: &Netlist, faults: &[Fault]) -> Result<u32, NoRoom> {
     let mut bits = 0;
     let mut values = Vec::new(alloc);
     for cycle in 0..4 {

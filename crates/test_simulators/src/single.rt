@@ -6,7 +6,8 @@ use circuit::netlist::Netlist;
 use circuit::parts::{Fault, NetId};
 use cycle_sim::sim::Sim;
 use netlist_levels::Order;
-use std::alloc::{AllocError, Global};
+use room::NoRoom;
+use std::alloc::Global;
 
 // The bits of the nets in this cycle, behind those of a number.
 fn with_nets(number: u32, net: &Netlist, sim: &Sim) -> u32 {
@@ -23,7 +24,7 @@ pub fn single_bits(
     net: &Netlist,
     order: &Order,
     faults: &[Fault],
-) -> Result<u32, AllocError>
+) -> Result<u32, NoRoom>
     requires { IsOrder net.now order.now }
 {
     let mut bits = 0;

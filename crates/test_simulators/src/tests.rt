@@ -11,7 +11,8 @@ use circuit::netlist::Netlist;
 use circuit::parts::Fault;
 use fm_base::Steps;
 use netlist_levels::{Order, levels};
-use std::alloc::{AllocError, Global};
+use room::{NoRoom, push};
+use std::alloc::Global;
 use std::marker::Brand;
 use std::sync::ledger::{Blank, Ledger};
 
@@ -25,21 +26,17 @@ struct Told {
     four_words: [[u32; 64]; 4],
 }
 
-fn faults_of(alloc: Global, row: &Row) -> Result<Vec<Fault>, AllocError> {
+fn faults_of(alloc: Global, row: &Row) -> Result<Vec<Fault>, NoRoom> {
     let mut faults = Vec::new(alloc);
     for fault in &row.faults {
         if let Some(fault) = fault {
-            faults.push(*fault)?;
+            push(&mut faults, *fault)?;
         }
     }
     Ok(faults)
 }
 
-fn plain_table(
-    alloc: Global,
-    net: &Netlist,
-    rows: &[Row; ROWS],
-) -> Result<[u32; ROWS], AllocError> {
+fn plain_table(alloc: Global, net: &Netlist, rows: &[Row; ROWS]) -> Result<[u32; ROWS], NoRoom> {
     let mut table = [0; ROWS];
     for k in 0..ROWS {
         let faults = faults_of(alloc, &rows[k])?;
@@ -53,7 +50,7 @@ fn single_table(
     net: &Netlist,
     order: &Order,
     rows: &[Row; ROWS],
-) -> Result<[u32; ROWS], AllocError>
+) -> Result<[u32; ROWS], NoRoom>
     requires { IsOrder net.now order.now }
 {
     let mut table = [0; ROWS];
@@ -70,7 +67,7 @@ fn told_by_all<L: Ledger>(
     order: &Order,
     rows: &[Row; ROWS],
     steps: &mut Steps<L>,
-) -> Result<Told, AllocError>
+) -> Result<Told, NoRoom>
     requires { IsOrder net.now order.now }
 {
     Ok(Told {

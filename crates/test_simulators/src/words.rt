@@ -8,7 +8,8 @@ use circuit::parts::{Fault, NetId};
 use fm_base::Steps;
 use lane_kernel::{Lanes, Lanes4};
 use netlist_levels::Order;
-use std::alloc::{AllocError, Global};
+use room::NoRoom;
+use std::alloc::Global;
 use std::sync::ledger::Ledger;
 
 /// The faults of the lanes of a word.
@@ -62,7 +63,7 @@ pub fn word_bits<L: Ledger>(
     order: &Order,
     rows: &[Row; ROWS],
     steps: &mut Steps<L>,
-) -> Result<[u32; 64], AllocError>
+) -> Result<[u32; 64], NoRoom>
     requires { IsOrder net.now order.now }
 {
     let mut bits = [0; 64];
@@ -83,7 +84,7 @@ pub fn four_words_bits<L: Ledger>(
     order: &Order,
     rows: &[Row; ROWS],
     steps: &mut Steps<L>,
-) -> Result<[[u32; 64]; 4], AllocError>
+) -> Result<[[u32; 64]; 4], NoRoom>
     requires { IsOrder net.now order.now }
 {
     let mut bits = [[0; 64]; 4];

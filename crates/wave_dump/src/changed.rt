@@ -14,7 +14,8 @@ use fm_base::Steps;
 use lane_kernel::Lanes;
 use lane_words::Word;
 use netlist_levels::Order;
-use std::alloc::{AllocError, Global};
+use room::{NoRoom, filled};
+use std::alloc::Global;
 use std::marker::Brand;
 use std::sync::ledger::{Blank, Ledger};
 
@@ -46,11 +47,11 @@ fn marks_by<L: Ledger>(
     order: &Order,
     lanes: &mut Lanes,
     steps: &mut Steps<L>,
-) -> Result<Vec<bool>, AllocError>
+) -> Result<Vec<bool>, NoRoom>
     requires { HasLanes scene.now order.now lanes.old }
     ensures { IfOk result (λ marks. AreMarks scene.now (cycles_of scene.now.run) marks.items) }
 {
-    let mut marks = vec![in alloc; false; scene.netlist().nets()]?;
+    let mut marks = filled(alloc, false, scene.netlist().nets())?;
     lanes.start();
     for t in 0..scene.cycles() {
         run_next(scene, order, t, lanes, steps);
@@ -65,7 +66,7 @@ fn counted_marks<L: Ledger>(
     scene: &Scene<'_>,
     order: &Order,
     blank: Blank,
-) -> Result<Vec<bool>, AllocError>
+) -> Result<Vec<bool>, NoRoom>
     requires order { IsOrder scene.now.circuit order.now }
     requires blank { (blank.name ≡ L.name) × (blank.parts ≡ L.parts) × (0 < blank.parts) }
     ensures { IfOk result (λ marks. AreMarks scene.now (cycles_of scene.now.run) marks.items) }
@@ -80,7 +81,7 @@ pub(crate) fn changed_nets(
     alloc: Global,
     scene: &Scene<'_>,
     order: &Order,
-) -> Result<Vec<bool>, AllocError>
+) -> Result<Vec<bool>, NoRoom>
     requires { IsOrder scene.now.circuit order.now }
     ensures { IfOk result (λ marks. AreMarks scene.now (cycles_of scene.now.run) marks.items) }
 {

@@ -25,7 +25,8 @@ use fm_shelf::shelf::{Failed, Sink};
 use fm_shelf::whole::write_all;
 use lane_kernel::Lanes;
 use netlist_levels::Order;
-use std::alloc::{AllocError, Global};
+use room::{NoRoom, filled};
+use std::alloc::Global;
 use std::marker::{Brand, Model};
 use std::sync::ledger::{Blank, Ledger};
 use workload::run::Workload;
@@ -105,7 +106,7 @@ fn scene_of<'a>(
     run: u32,
     fault: Option<Fault>,
     word: &[u8],
-) -> Result<Scene<'a>, AllocError>
+) -> Result<Scene<'a>, NoRoom>
     requires sound { IsNetlist net.now }
     requires order { IsOrder net.now order.now }
     requires runs { AreRuns work.now }
@@ -160,11 +161,11 @@ impl<'a> Dump<'a> {
     }
 
     // The dump of what is known.
-    fn of(alloc: Global, scene: Scene<'a>, order: &'a Order) -> Result<Dump<'a>, AllocError>
+    fn of(alloc: Global, scene: Scene<'a>, order: &'a Order) -> Result<Dump<'a>, NoRoom>
         requires { IsOrder scene.circuit order.now }
         ensures { IfOk result (λ dump. dump ≡ scene.entry) }
     {
-        let held = vec![in alloc; 0; scene.nets().len()]?;
+        let held = filled(alloc, 0, scene.nets().len())?;
         let lanes = loaded_lanes(alloc, &scene, order)?;
         Ok(Dump {
             scene,

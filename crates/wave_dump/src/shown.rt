@@ -12,17 +12,20 @@ use crate::named::{is_all, is_differing, is_match};
 use crate::scene::Scene;
 use circuit::netlist::Netlist;
 use netlist_levels::Order;
-use std::alloc::{AllocError, Global};
+use room::{NoRoom, collect, filled, push};
+use std::alloc::Global;
 
 // For each net whether a pattern matches its name.
-fn matching_nets(alloc: Global, net: &Netlist, pattern: &[u8]) -> Result<Vec<bool>, AllocError>
+fn matching_nets(alloc: Global, net: &Netlist, pattern: &[u8]) -> Result<Vec<bool>, NoRoom>
     ensures marks { IfOk result (λ marks. marks.items ≡ map (matches (name_pattern pattern.now)) net.now.names) }
     ensures sound { IsNetlist net.now }
 {
-    net.names()
-        .iter()
-        .map(|name| is_match(pattern, name.as_slice()))
-        .collect(alloc)
+    collect(
+        net.names()
+            .iter()
+            .map(|name| is_match(pattern, name.as_slice())),
+        alloc,
+    )
 }
 
 // For each net whether it is shown.
@@ -31,12 +34,12 @@ fn shown_marks(
     scene: &Scene<'_>,
     order: &Order,
     word: &[u8],
-) -> Result<Vec<bool>, AllocError>
+) -> Result<Vec<bool>, NoRoom>
     requires { IsOrder scene.now.circuit order.now }
     ensures { IfOk result (λ marks. MarksShown scene.now word.now marks.items) }
 {
     if is_all(scene.fault(), word) {
-        vec![in alloc; true; scene.netlist().nets()]
+        filled(alloc, true, scene.netlist().nets())
     } else if is_differing(scene.fault(), word) {
         changed_nets(alloc, scene, order)
     } else {
@@ -45,14 +48,14 @@ fn shown_marks(
 }
 
 // The numbers of the marked nets.
-fn marked(alloc: Global, marks: &[bool]) -> Result<Vec<u32>, AllocError>
+fn marked(alloc: Global, marks: &[bool]) -> Result<Vec<u32>, NoRoom>
     requires { length marks.now ≤ 2 ^ 18 }
     ensures { IfOk result (λ nets. nets.items ≡ filter (λ n. slice_index_or marks.now n false) (below (length marks.now))) }
 {
     let mut nets = Vec::new(alloc);
     for (n, is_marked) in marks.iter().enumerate() {
         if *is_marked {
-            nets.push(n as u32)?;
+            push(&mut nets, n as u32)?;
         }
     }
     Ok(nets)
@@ -64,7 +67,7 @@ pub(crate) fn nets_shown(
     scene: &Scene<'_>,
     order: &Order,
     word: &[u8],
-) -> Result<Vec<u32>, AllocError>
+) -> Result<Vec<u32>, NoRoom>
     requires { IsOrder scene.now.circuit order.now }
     ensures { IfOk result (λ nets. nets.items ≡ shown_by scene.now.circuit scene.now.run scene.now.fault word.now) }
 {

@@ -17,7 +17,8 @@ use fm_shelf::shelf::{Failed, Sink};
 use lane_kernel::Lanes;
 use lane_words::Word;
 use netlist_levels::Order;
-use std::alloc::{AllocError, Global};
+use room::NoRoom;
+use std::alloc::Global;
 use std::sync::ledger::Ledger;
 
 // The value of the net at a place of those that are shown, in both scopes: bit 0 without faults and bit 1 with the fault.
@@ -117,11 +118,7 @@ fn hold(scene: &Scene<'_>, lanes: &Lanes, held: &mut [u64])
 }
 
 /// Lanes that are loaded with the fault: lane 0 without it, lane 1 with it.
-pub(crate) fn loaded_lanes(
-    alloc: Global,
-    scene: &Scene<'_>,
-    order: &Order,
-) -> Result<Lanes, AllocError>
+pub(crate) fn loaded_lanes(alloc: Global, scene: &Scene<'_>, order: &Order) -> Result<Lanes, NoRoom>
     requires { IsOrder scene.now.circuit order.now }
     ensures { IfOk result (λ lanes. HasLanes scene.now order.now lanes) }
 {

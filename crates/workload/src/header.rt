@@ -8,7 +8,8 @@ use crate::file::{WorkloadFault, WorkloadKind, refusal};
 use circuit::netlist::Netlist;
 use csv_rows::Row;
 use fm_base::{NameIndex, Refusal};
-use std::alloc::{AllocError, Global};
+use room::{NoRoom, push};
+use std::alloc::Global;
 
 /// How the rows of a workload file are laid out.
 #[derive(Drop)]
@@ -20,7 +21,7 @@ pub(crate) struct Layout {
 }
 
 // The names of the inputs.
-fn inputs_of(alloc: Global, net: &Netlist) -> Result<NameIndex, AllocError>
+fn inputs_of(alloc: Global, net: &Netlist) -> Result<NameIndex, NoRoom>
     ensures { IfOk result (λ names. names ≡ distinct (input_names net.now)) }
 {
     let mut names = NameIndex::new(alloc);
@@ -32,11 +33,7 @@ fn inputs_of(alloc: Global, net: &Netlist) -> Result<NameIndex, AllocError>
 }
 
 // The columns, where each is an input and none stands twice.
-fn columns_of(
-    alloc: Global,
-    inputs: &NameIndex,
-    header: &Row,
-) -> Result<Option<NameIndex>, AllocError>
+fn columns_of(alloc: Global, inputs: &NameIndex, header: &Row) -> Result<Option<NameIndex>, NoRoom>
     ensures { IfOk result (AreColumns inputs.now header.now) }
 {
     let mut columns = NameIndex::new(alloc);
@@ -57,7 +54,7 @@ fn places_of(
     alloc: Global,
     net: &Netlist,
     columns: &NameIndex,
-) -> Result<Option<Vec<usize>>, AllocError>
+) -> Result<Option<Vec<usize>>, NoRoom>
     requires { length columns.now + 2 < 2 ^ 64 }
     ensures { IfOk result (AreColumnPlaces columns.now (input_names net.now)) }
 {
@@ -67,7 +64,7 @@ fn places_of(
         let Some(column) = columns.number(net.name(*input)) else {
             return Ok(None);
         };
-        places.push(column + 2)?;
+        push(&mut places, column + 2)?;
     }
     Ok(Some(places))
 }

@@ -11,7 +11,7 @@ use Rattle.blif_flatten.proofs.marks.marks_of.Goals as goal
 pub loop-step-init : goal.loop-step-init
 unfolding names_by
 loop-step-init c =
-    c.in_ok-marks.ensures.items_if_clones_equal (λ y same. same) ∙ ap (λ (n : ℕ). replicate n false) c.len.ensures
+    c.in_ok-marks.ensures.items ∙ ap (λ (n : ℕ). replicate n false) c.len.ensures
     ∙ mark_none c.args.flat.now.names
 
 pub mark-requires : goal.mark-requires

@@ -25,7 +25,7 @@ returns c = IfOk-weaker c.nets.result _ _ (λ nets e.
     let ids = c.in_ok-names.names.items in
     let seen = c.in_ok-seen.seen.items in
     let within = c.in_ok-names.ensures.within in
-    let none : seen ≡ replicate (length flat.names) false = c.in_ok-seen.ensures.items_if_clones_equal (λ y same. same) ∙ ap (λ n. replicate n false) c.len.ensures in
+    let none : seen ≡ replicate (length flat.names) false = c.in_ok-seen.ensures.items ∙ ap (λ n. replicate n false) c.len.ensures in
     e ∙ ap (map (net_of_name c.args.numbers.now)) (c.as_slice-2.ensures.value ∙ c.in_ok-firsts.ensures ∙ ap (first_ids seen) c.as_slice.ensures.value)
     ∙ nets_are flat c.args.numbers.now c.requires (first_ids seen ids) (firsts_within flat ids seen within)
     ∙ ap (map (net_id (nets_of (flat_steps flat)))) (firsts_named flat ids [] seen within (none ∙ mark_none flat.names) ∙ ap distinct c.in_ok-names.ensures.names)) c.nets.ensures
