@@ -130,7 +130,7 @@ ends : {F : Type 0} (end : End) (c : Campaign) (before after : Outside) (sums : 
 ends Done c before after sums board many start worked told =
     let text = text_is c before.shelf after.shelf sums board many start worked told.0 in
     reports c before after sums board worked told.0 (subst (Wrote before.out after.out) text told.1)
-ends NoMemory c before after sums board many start worked told = absurd told
+ends (NoMemory no_room) c before after sums board many start worked told = absurd told
 ends ResultFault c before after sums board many start worked told = (
   worked.1.rose told.0,
   leaves c before.shelf after.shelf sums board many start worked told.0,

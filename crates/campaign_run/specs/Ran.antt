@@ -60,7 +60,7 @@ HasStopped c before after =
 -- OutFault: the file is as after Done, and a prefix of the text went out.
 abbrev pub EndsAs : End → Campaign → (before after : Outside) → Type 0
 EndsAs Done c before after = IsReported c before after
-EndsAs NoMemory c before after = after ≡ before
+EndsAs (NoMemory no_room) c before after = after ≡ before
 EndsAs ResultFault c before after =
     CountRose (before.shelf.write_faults c.name) (after.shelf.write_faults c.name) × IsTruncatedResult c before.shelf after.shelf × (after.out ≡ before.out)
     × HasStopped c before.shelf after.shelf

@@ -35,6 +35,6 @@ HaveAll o rows = (batch : ℕ) → batch < length o.entries → Contains (batche
 -- what went out, by the end of a campaign: nothing where the board has failed, and else the text, or a prefix of it
 abbrev pub TellsEnd : End → (failed : Bool) → (text : Bytes) → (before after : SinkState) → Type 0
 TellsEnd Done failed text before after = (failed ≡ false) × Wrote before after text
-TellsEnd NoMemory failed text before after = ⊥
+TellsEnd (NoMemory no_room) failed text before after = ⊥
 TellsEnd ResultFault failed text before after = (failed ≡ true) × (after ≡ before)
 TellsEnd OutFault failed text before after = (failed ≡ false) × WrotePrefix before after text

@@ -156,7 +156,7 @@ ends : {F : Type 0} (end : End) (c : PartCampaign) (before after : Outside) (sum
     → IsBoard (part_origin c.name c.own c.p before.shelf) board.rows sums board.failed board.written after.shelf
     → TellsEnd end board.failed (shard_line c.part c.parts (length board.rows)) before.out after.out → EndsPartAs end c before after
 ends Done c before after sums board worked kept told = tells c before.shelf board sums after.shelf worked kept told.0 before.out after.out told.1
-ends NoMemory c before after sums board worked kept told = absurd told
+ends (NoMemory no_room) c before after sums board worked kept told = absurd told
 ends ResultFault c before after sums board worked kept told = (
   kept.rose told.0,
   leaves c before.shelf board sums after.shelf worked kept told.0,

@@ -29,6 +29,7 @@ use Rattle.refusals.specs.declared.status.Status.{Status}
 use Rattle.refusals.specs.declared.status.Status.TheVariants as status
 use Rattle.refusals.specs.NetlistFile.{or_refuse}
 use Rattle.refusals.specs.Refusals.{HasItsNets, IsPlain, status_of}
+use Rattle.refusals.specs.WantOfMemory.{IsMemory}
 use Rattle.command_reads.specs.declared.begun.Begun.{Begun}
 use Rattle.command_reads.specs.declared.driven.Driven.{Driven}
 use Rattle.command_reads.specs.declared.merged.Merged.{Merged}
@@ -43,7 +44,7 @@ use Rattle.command_reads.specs.FirstRefusal.{Judged, Planned as StandsPlanned, D
 -- a step over bytes: it gives this, or refuses by a status that names no net; want of memory is free
 abbrev pub AnswersAs : {A : Type 0} → Result A Status → Result A Status → Type 0
 AnswersAs expected (Ok x) = expected ≡ Ok x
-AnswersAs expected (Err ended) = ((ended ≡ status.Memory) ⊎ (expected ≡ Err ended)) × IsPlain ended
+AnswersAs expected (Err ended) = (IsMemory ended ⊎ (expected ≡ Err ended)) × IsPlain ended
 
 -- `walk` is what is answered of the netlist's loops, where it was read
 abbrev pub LoopsAnswered : (netlist : Bytes) → Reads → Option (List NetId) → Type 0
@@ -53,14 +54,14 @@ LoopsAnswered netlist reads walk = (c : Circuit) → netlist_read netlist reads 
 abbrev pub TakesAs : {A : Type 0} → (netlist : Bytes) → Reads → (Option (List NetId) → Result A Status) → Result A Refused → Type 0
 TakesAs netlist reads step (Ok x) = (step None ≡ Ok x) × LoopsAnswered netlist reads None
 TakesAs netlist reads step (Err refused) =
-    ((status_of refused ≡ status.Memory)
+    (IsMemory (status_of refused)
     ⊎ ((walk : Option (List NetId)) × LoopsAnswered netlist reads walk × (step walk ≡ Err (status_of refused))))
     × HasItsNets netlist (known_by (reads which.Netlist)) refused
 
 -- an order of the netlist's tables, or a loop
 abbrev pub OrdersAs : Circuit → Result Ordered Refused → Type 0
 OrdersAs c (Ok made) = (made.net ≡ c) × IsOrder c made.order × HasNoLoop c
-OrdersAs c (Err (By ended)) = ended ≡ status.Memory
+OrdersAs c (Err (By ended)) = IsMemory ended
 OrdersAs c (Err (Looped walk net)) = (net ≡ c) × IsShownLoop c walk
 
 -- NETLIST
@@ -85,7 +86,7 @@ abbrev pub TablesAs : Circuit → Reads → Result Tables Status → Type 0
 TablesAs c reads (Ok made) =
     (read_as which.Workload status.Workload (workload_of c) reads ≡ Ok made.work) × (read_as which.Rates status.Rates rates_of reads ≡ Ok made.rates)
     × (read_as which.Points status.Points (points_of c) reads ≡ Ok made.points)
-TablesAs c reads (Err ended) = ((ended ≡ status.Memory) ⊎ ((set : Settings) → plan_behind c set reads ≡ Err ended)) × IsPlain ended
+TablesAs c reads (Err ended) = (IsMemory ended ⊎ ((set : Settings) → plan_behind c set reads ≡ Err ended)) × IsPlain ended
 
 -- the plan of what was read
 abbrev pub PlannedAs : Analysis → Result Planned Status → Type 0

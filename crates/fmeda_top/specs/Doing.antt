@@ -29,6 +29,8 @@ use Rattle.refusals.specs.declared.status.Status.{Status}
 use Rattle.refusals.specs.declared.status.Status.TheVariants as status
 use Rattle.refusals.specs.Said.{IsSaid}
 use Rattle.refusals.specs.Refusals.{HasItsNets, IsPlain, IsSaidOf, status_of}
+use Rattle.refusals.specs.WantOfMemory.{IsMemory}
+use Rattle.room.specs.declared.edge.NoRoom.{NoRoom}
 use Rattle.command_reads.specs.declared.begun.Begun.{Begun as BegunOf}
 use Rattle.command_reads.specs.declared.judge.Judged.{Judged as Made}
 use Rattle.command_reads.specs.declared.judge.Judged.TheVariants as made
@@ -51,7 +53,7 @@ PreparesAs command before after reads made =
 
 -- the same, or there was no memory to read them
 abbrev pub IsPrepared : Command → (before after : ShelfState) → Result Made Refused → Type 0
-IsPrepared command before after it = (it ≡ Err (By status.Memory)) ⊎ ((reads : Reads) × PreparesAs command before after reads it)
+IsPrepared command before after it = ((no_room : NoRoom) × (it ≡ Err (By (status.Memory no_room)))) ⊎ ((reads : Reads) × PreparesAs command before after reads it)
 
 -- the text of a task went out, or a prefix of it where `out` failed; or it was refused, and nothing went out; want of memory is free
 abbrev pub TellsAs : Task → Judged → (before after : SinkState) → Result Status Refused → Type 0
@@ -59,13 +61,13 @@ TellsAs own made before after (Ok ended) =
     (task_refusal own made ≡ None) × (before.faults ≤ after.faults) × ((text : Bytes) × (text_of own made ≡ Some text)
     × (((ended ≡ status.Done) × Wrote before after text) ⊎ ((ended ≡ status.OutFault) × WrotePrefix before after text)))
 TellsAs own made before after (Err (By ended)) =
-    ((ended ≡ status.Memory) ⊎ (task_refusal own made ≡ Some ended)) × IsPlain ended × (after ≡ before)
+    (IsMemory ended ⊎ (task_refusal own made ≡ Some ended)) × IsPlain ended × (after ≡ before)
 TellsAs own made before after (Err (Looped walk net)) = ⊥
 
 -- how the campaign of a task has ended, before it is told
 abbrev pub EndsWith : End → Task → Judged → Reads → (name : Bytes) → (before after : Outside) → Type 0
 EndsWith end.Done own made reads name before after = HasWritten own made reads name before after
-EndsWith end.NoMemory own made reads name before after = after ≡ before
+EndsWith (end.NoMemory no_room) own made reads name before after = after ≡ before
 EndsWith end.ResultFault own made reads name before after =
     CountRose (before.shelf.write_faults name) (after.shelf.write_faults name)
     × ((after.shelf.content name ≡ before.shelf.content name) ⊎ MayLeave made reads (before.shelf.content name) (after.shelf.content name))
@@ -85,7 +87,7 @@ pub record HasEnded (how : End) (own : Task) (made : Judged) (reads : Reads) (na
 abbrev pub EndSaid : End → Status → (before after : SinkState) → (names : Which → Bytes) → Type 0
 EndSaid end.Done ended before after names = (ended ≡ status.Done) × (after ≡ before)
 EndSaid end.OutFault ended before after names = (ended ≡ status.OutFault) × (after ≡ before)
-EndSaid end.NoMemory ended before after names = (ended ≡ status.Memory) × IsSaid before after (codes "refused: out of memory\n")
+EndSaid (end.NoMemory no_room) ended before after names = (ended ≡ status.Memory no_room) × IsSaid before after (codes "refused: out of memory\n")
 EndSaid end.ResultFault ended before after names =
     (ended ≡ status.ResultFault) × IsSaid before after (line (codes "refused: cannot write" ∷ names which.Result ∷ []))
 
@@ -129,19 +131,19 @@ PrintedAs (Err refused) ended before after names =
 -- all of the audited rows have the planes that their batches truly have, or the first that hasn't is refused
 abbrev pub ChecksAs : (every : ℕ) → Analysis → KeptRows → Result (Unit {0}) Refused → Type 0
 ChecksAs every p k (Ok done) = first_false p every k.rows ≡ None
-ChecksAs every p k (Err (By ended)) = ((ended ≡ status.Memory) ⊎ (option_map status.Disagrees (first_false p every k.rows) ≡ Some ended)) × IsPlain ended
+ChecksAs every p k (Err (By ended)) = (IsMemory ended ⊎ (option_map status.Disagrees (first_false p every k.rows) ≡ Some ended)) × IsPlain ended
 ChecksAs every p k (Err (Looped walk net)) = ⊥
 
 -- the status of a text that needs memory beside: it went out, or a prefix of it where `out` failed; or there was no memory, and nothing did
 abbrev pub AfterAs : Result (Unit {0}) (Refusal Failed) → Result Status Refused → Type 0
 AfterAs (Ok done) told = told ≡ Ok status.Done
 AfterAs (Err (Fault failed)) told = told ≡ Ok status.OutFault
-AfterAs (Err (Memory no_room)) told = told ≡ Err (By status.Memory)
+AfterAs (Err (Memory no_room)) told = told ≡ Err (By (status.Memory no_room))
 
 -- the pairs are those by the rows that were kept, or the refusal says why there are none
 abbrev pub ChoosesAs : Analysis → KeptRows → Result Chosen Status → Type 0
 ChoosesAs p k (Ok c) = (option_map status.Pairs (pair_refusal p k.rows) ≡ None) × (c ≡ chosen p (planes_in k.rows))
-ChoosesAs p k (Err ended) = ((ended ≡ status.Memory) ⊎ (option_map status.Pairs (pair_refusal p k.rows) ≡ Some ended)) × IsPlain ended
+ChoosesAs p k (Err ended) = (IsMemory ended ⊎ (option_map status.Pairs (pair_refusal p k.rows) ≡ Some ended)) × IsPlain ended
 
 -- no file was changed, and the line of a refusal went out, by the nets of the netlist as far as it is known
 pub record HasRefused (names : Which → Bytes) (netlist : Content) (why : Status) (before after : Outside) : Type 0 where

@@ -26,6 +26,7 @@ use Rattle.commands.specs.Commands.{Command, files_of}
 use Rattle.command_line.specs.Words.{IsCommand, IsNoCommand}
 use Rattle.refusals.specs.declared.status.Status.{Status}
 use Rattle.refusals.specs.declared.status.Status.TheVariants as status
+use Rattle.refusals.specs.WantOfMemory.{IsMemory}
 use Rattle.command_reads.specs.declared.files.FileRead.TheVariants.{Failed}
 use Rattle.command_reads.specs.Files.{Reads, WereRead, given}
 use Rattle.command_reads.specs.FirstRefusal.{IsLoopAnswer, Judged, Driven, Rated, Planned, Begun, Merged}
@@ -50,7 +51,7 @@ AreOfTheCommand =
 abbrev pub UsageIsOfTheWords : Type 0
 UsageIsOfTheWords =
     (words : List Bytes) (ended : Status) (before after : Outside) → Promises words ended before after
-    → ((ended ≡ status.Usage) ↔ IsNoCommand words) ⊎ (ended ≡ status.Memory)
+    → ((ended ≡ status.Usage) ↔ IsNoCommand words) ⊎ IsMemory ended
 
 -- OF WHAT IS KNOWN: where a file is known to hold these bytes, they are what was read of it, or a read of it has failed
 abbrev pub HeldIsRead : Type 0

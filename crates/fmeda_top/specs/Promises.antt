@@ -10,6 +10,8 @@ use Rattle.command_line.specs.Words.{IsAlone, IsCommand}
 use Rattle.refusals.specs.declared.status.Status.{Status}
 use Rattle.refusals.specs.declared.status.Status.TheVariants as status
 use Rattle.refusals.specs.RefusalLines.{refusal_line}
+use Rattle.refusals.specs.WantOfMemory.{IsMemory}
+use Rattle.room.specs.Refused.{WasRefused}
 use Rattle.command_reads.specs.Files.{Reads, WereRead}
 use Rattle.command_reads.specs.FirstRefusal.{IsLoopAnswer}
 use Rattle.fmeda_top.specs.TaskRefusals.{judged}
@@ -24,9 +26,9 @@ CommandEnds command ended before after =
     (λ made. IsDoneOrFailed command made reads ended before after)
     (λ why. (ended ≡ why) × RefusedAs (refusal_line command.files c why) before after))
 
--- MEMORY may run out at any time before a file is changed; no file was changed then, and the line of this was written
+-- MEMORY RAN OUT: the allocator has refused a request, before a file was changed; none was, and the line of this was written
 abbrev pub RanOut : Status → (before after : Outside) → Type 0
-RanOut ended before after = (ended ≡ status.Memory) × RefusedAs (codes "refused: out of memory\n") before after
+RanOut ended before after = IsMemory ended × WasRefused × RefusedAs (codes "refused: out of memory\n") before after
 
 -- WHAT IS PROMISED OF A CALL: its words are one command, and this is promised of it; or they are none, which is Usage; or memory ran out
 abbrev pub Promises : (words : List Bytes) → (ended : Status) → (before after : Outside) → Type 0

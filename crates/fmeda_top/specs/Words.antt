@@ -23,5 +23,5 @@ WaitsForNobody _ = Unit {0}
 -- a refusal of the words themselves
 abbrev pub IsOfWords : Status → Type 0
 IsOfWords status.Usage = Unit {0}
-IsOfWords status.Memory = Unit {0}
+IsOfWords (status.Memory no_room) = Unit {0}
 IsOfWords _ = ⊥

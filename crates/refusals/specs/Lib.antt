@@ -4,3 +4,4 @@ pub mod RefusalLines
 pub mod Said
 pub mod Refusals
 pub mod Steps
+pub mod WantOfMemory

@@ -117,7 +117,7 @@ refusal_line file c ended =
       | status.Plan (plan.IdleRate part permanent) ↦ line (codes "refused: part" ∷ part
           ∷ codes "has a" ∷ (if permanent then codes "permanent" else codes "transient") ∷ codes "rate and no such fault" ∷ [])
       | status.Plan plan.TooManyFaults ↦ codes "refused: more than 1048576 faults\n"
-      | status.Plan plan.Memory ↦ codes "refused: out of memory\n"
+      | status.Plan (plan.Memory no_room) ↦ codes "refused: out of memory\n"
       | status.ManyOutputs ↦ codes "refused: more than 1024 outputs\n"
       | status.TooLong which ↦ line (codes "refused:" ∷ file which ∷ codes "is longer than 67108864 bytes" ∷ [])
       | status.Result (Foreign it own) ↦ line (codes "refused: foreign result file, found" ∷ (head it ++ codes ",") ∷ codes "own" ∷ take 88 own ∷ [])
@@ -131,7 +131,7 @@ refusal_line file c ended =
       | status.NoNet ↦ codes "refused: no such net\n"
       | status.ReadFault which ↦ line (codes "refused: cannot read" ∷ file which ∷ [])
       | status.ResultFault ↦ line (codes "refused: cannot write" ∷ file which.Result ∷ [])
-      | status.Memory ↦ codes "refused: out of memory\n"
+      | status.Memory no_room ↦ codes "refused: out of memory\n"
       | _ ↦ []
     ]
 
@@ -143,7 +143,7 @@ code_of (status.Netlist fault) = 3
 code_of (status.Bench fault) = 14
 code_of (status.Loop walk) = 4
 code_of (status.Rates fault) = 5
-code_of (status.Plan refusal) = elim refusal [ plan.MissingRate net name ↦ 6 | plan.IdleRate part permanent ↦ 7 | plan.TooManyFaults ↦ 10 | plan.Memory ↦ 30 ]
+code_of (status.Plan refusal) = elim refusal [ plan.MissingRate net name ↦ 6 | plan.IdleRate part permanent ↦ 7 | plan.TooManyFaults ↦ 10 | plan.Memory no_room ↦ 30 ]
 code_of (status.Points fault) = 8
 code_of (status.Workload fault) = 9
 code_of status.ManyOutputs = 10
@@ -158,7 +158,7 @@ code_of status.NoNet = 17
 code_of (status.ReadFault which) = 20
 code_of status.ResultFault = 21
 code_of status.OutFault = 21
-code_of status.Memory = 30
+code_of (status.Memory no_room) = 30
 
 -- ---- a shape of private steps
 

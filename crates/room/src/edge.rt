@@ -8,7 +8,7 @@ ghost use Rattle.std.specs.Iterator.Runs.{WholeRun};
 ghost use Rattle.std.specs.Vec.{vec_len, vec_capacity};
 ghost use Rattle.indexmap.specs.IndexSet.{IsUnchanged as IsUnchangedSet, spare as set_spare};
 ghost use Rattle.indexmap.specs.IndexMap.{IsUnchanged, spare};
-ghost use Rattle.csv.specs.Reading.{ReadRecord, Ready, reader_trim, took_first};
+ghost use Rattle.csv.specs.Reading.{ReadRecord, Ready, is_flexible, reader_trim, took_first};
 ghost use Rattle.csv.specs.Records.{fields_of};
 ghost use Rattle.csv.specs.declared.reader.Trim.TheVariants as trim;
 ghost use Rattle.clap.specs.Built.{AddsArg, AddsSubcommand, MeetsSubcommandOf};
@@ -86,8 +86,11 @@ pub fn read_byte_record<'a>(
     reader: &mut Reader<&'a [u8]>,
     row: &mut ByteRecord,
 ) -> Result<bool, NoRoom>
-    ensures ready { (reader_trim reader.old ≡ trim.None) → OnOk result (took_first reader.new ≡ true) }
-    ensures reads { IfOk result (λ found. (reader_trim reader.old ≡ trim.None) → Ready reader.old → ReadRecord (λ (rest : Bor (List ℕ)). Some rest.now) reader.old reader.new found (fields_of row.new)) }
+    requires flexible { is_flexible reader.old ≡ true }
+    requires trim { reader_trim reader.old ≡ trim.None }
+    ensures flexible { OnOk result (is_flexible reader.new ≡ true) }
+    ensures ready { OnOk result (took_first reader.new ≡ true) }
+    ensures reads { IfOk result (λ found. Ready reader.old → ReadRecord (λ (rest : Bor (List ℕ)). Some rest.now) reader.old reader.new found (fields_of row.new)) }
 {
     match reader.read_byte_record(row) {
         Ok(found) => Ok(found),

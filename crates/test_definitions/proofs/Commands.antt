@@ -101,9 +101,9 @@ pub read_line : refusal_line name dup (status.ReadFault which.Points) ≡ codes 
 unfolding opened
 read_line = refl
 
-pub memory_line : refusal_line name dup status.Memory ≡ codes "refused: out of memory\n"
+pub memory_line : (no_room : NoRoom) → refusal_line name dup (status.Memory no_room) ≡ codes "refused: out of memory\n"
 unfolding opened
-memory_line = refl
+memory_line no_room = refl
 
 abbrev files : List ℕ → List ℕ → List ℕ → Reads
 files text workload rates file = Whole (by_file text workload rates dup_points [] [] [] file)
