@@ -1,5 +1,5 @@
 -- Shapes of private steps: the arguments and the commands of the table as the code adds them, one after the other.
-use Rattle.std.specs.declared.alloc.AllocError.{AllocError}
+use Rattle.room.specs.declared.edge.NoRoom.{NoRoom}
 use Rattle.std.specs.Prelude.{◌≡◌, ℕ, [], ◌∷◌, Result, Ok, Err, fold, codes, true, pos, Some}
 use Rattle.clap.specs.Simple.{on_top}
 use Rattle.clap.specs.Words.{App, Rule, Text, app_of, new_app, new_rule, with_rule, with_subcommand}
@@ -75,6 +75,6 @@ abbrev pub named_app : App
 named_app = on_top (λ top. record top { subcommand_required = true }) (new_app (codes "fmeda"))
 
 -- what was made is the program with this command behind its others, and there is none where the command is none
-abbrev pub HasCommandToo : Command → Result Command AllocError → Command → Type 0
+abbrev pub HasCommandToo : Command → Result Command NoRoom → Command → Type 0
 HasCommandToo program (Ok command) made = app_of made ≡ with_subcommand (app_of program) (app_of command).top
 HasCommandToo program (Err error) made = ⊥

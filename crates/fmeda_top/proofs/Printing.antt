@@ -14,6 +14,7 @@ use Rattle.refusals.specs.declared.refused.Refused.TheVariants.{By, Looped}
 use Rattle.refusals.specs.declared.status.Status.{Status}
 use Rattle.refusals.specs.declared.status.Status.TheVariants as status
 use Rattle.refusals.specs.Refusals.{IsSaidOf}
+use Rattle.refusals.specs.WantOfMemory.{IsMemory}
 use Rattle.command_reads.specs.Files.{Reads, known_by}
 use Rattle.command_reads.specs.FirstRefusal.{Judged}
 use Rattle.fmeda_top.specs.TaskRefusals.{task_refusal}
@@ -63,8 +64,8 @@ module _ (command : Command) (made : Judged) (reads : Reads) (shelf : ShelfState
       said : (held : Content) → IsSaidOf held out now command.files why
       said held = subst (λ s. IsSaidOf held s now command.files why) kept (line held plain)
 
-      by_cause : (why ≡ status.Memory) ⊎ (task_refusal command.task made ≡ Some why) → DoesItsTask command made reads ended before after
-      by_cause (inl memory) = inr (memory_said ended why command.files Unknown before after (is ∙ memory) memory unchanged (said Unknown))
+      by_cause : IsMemory why ⊎ (task_refusal command.task made ≡ Some why) → DoesItsTask command made reads ended before after
+      by_cause (inl memory) = inr (memory_said ended why command.files Unknown before after (memory.0, is ∙ memory.1) memory unchanged (said Unknown))
       by_cause (inr refusal) = inl (subst DoesUnless (sym refusal) (is, record { files = unchanged; said = said (known_by (reads which.Netlist)) }))
 
   -- A TASK THAT PRINTS has done what it promises, where it told its text or the line of its refusal

@@ -28,6 +28,7 @@ use Rattle.refusals.specs.declared.refused.Refused.TheVariants.{By, Looped}
 use Rattle.refusals.specs.declared.status.Status.{Status}
 use Rattle.refusals.specs.declared.status.Status.TheVariants as status
 use Rattle.refusals.specs.Refusals.{IsPlain}
+use Rattle.refusals.specs.WantOfMemory.{IsMemory}
 use Rattle.command_reads.specs.FirstRefusal.{Begun}
 use Rattle.row_audit.specs.Audited.{first_false}
 use Rattle.result_file.specs.declared.FalseRow.{FalseRow}
@@ -43,7 +44,7 @@ checks_tell every by p k out (Looped walk net) none = absurd none
 
 -- the refusal is that of the first false row
 pub row_refused : (p : Analysis) (every : ℕ) (k : KeptRows) (row : FalseRow) (ended : Status) → first_false p every k.rows ≡ Some row → ended ≡ status.Disagrees row
-    → ((ended ≡ status.Memory) ⊎ (option_map status.Disagrees (first_false p every k.rows) ≡ Some ended)) × IsPlain ended
+    → (IsMemory ended ⊎ (option_map status.Disagrees (first_false p every k.rows) ≡ Some ended)) × IsPlain ended
 row_refused p every k row ended is told = (inr (ap (option_map status.Disagrees) is ∙ ap Some (sym told)), subst IsPlain (sym told) tt)
 
 -- ---- `pairs`

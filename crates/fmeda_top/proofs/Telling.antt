@@ -10,6 +10,7 @@ use Rattle.commands.specs.declared.command.Task.{Task}
 use Rattle.refusals.specs.declared.refused.Refused.{Refused}
 use Rattle.refusals.specs.declared.status.Status.{Status}
 use Rattle.refusals.specs.declared.status.Status.TheVariants as status
+use Rattle.room.specs.declared.edge.NoRoom.{NoRoom}
 use Rattle.command_reads.specs.FirstRefusal.{Judged}
 use Rattle.fmeda_top.specs.TaskRefusals.{task_refusal}
 use Rattle.fmeda_top.specs.Ends.{text_of}
@@ -25,11 +26,11 @@ told own made before after text (Err e) ended free is sent done failed = (free, 
 -- a text that takes memory beside was sent, or there was none and nothing was sent
 pub told_after : (own : Task) (made : Judged) (before after : SinkState) (text : Bytes) (written : Result (Unit {0}) (Refusal Failed)) (told : Result Status Refused)
     → task_refusal own made ≡ None → text_of own made ≡ Some text → OnOk written (Wrote before after text) → before.faults ≤ after.faults
-    → ((failed : Failed) → written ≡ Err (Fault failed) → WrotePrefix before after text) → (written ≡ Err Memory → after ≡ before) → AfterAs written told
+    → ((failed : Failed) → written ≡ Err (Fault failed) → WrotePrefix before after text) → ((no_room : NoRoom) → written ≡ Err (Memory no_room) → after ≡ before) → AfterAs written told
     → TellsAs own made before after told
 told_after own made before after text (Ok v) told free is sent grows torn none ends =
     subst (TellsAs own made before after) (sym ends) (free, grows, (text, is, inl (refl, sent)))
 told_after own made before after text (Err (Fault e)) told free is sent grows torn none ends =
     subst (TellsAs own made before after) (sym ends) (free, grows, (text, is, inr (refl, torn e refl)))
 told_after own made before after text (Err (Memory no_room)) told free is sent grows torn none ends =
-    subst (TellsAs own made before after) (sym ends) (inl refl, tt, none refl)
+    subst (TellsAs own made before after) (sym ends) (inl (no_room, refl), tt, none no_room refl)

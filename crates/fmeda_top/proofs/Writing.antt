@@ -96,9 +96,10 @@ module _ (command : Command) (it : Judged) (reads : Reads) (before after : Outsi
       writes_end ended (omega (arith, ran.grows, more)) ran.given ran.others
       (subst (λ s. WritesAs command.task it reads name before at_end s) (sym is)
       (ResultFailed ran.ends.0 ran.ends.1 ran.ends.3 (subst (λ from. WroteOrFailed from out (line (codes "refused: cannot write" ∷ name ∷ []))) ran.ends.2 said)))
-  told_ends end.NoMemory ended ran (is, (said, more)) = (
+  told_ends (end.NoMemory no_room) ended ran (is, (said, more)) = (
     inr (
-      is,
+      (no_room, is),
+      no_room.why,
       (
         record { content = ap (λ (s : Outside). s.shelf.content) ran.ends; changed = ap (λ (s : Outside). s.shelf.changed) ran.ends },
         subst (λ from. WroteOrFailed from out (codes "refused: out of memory\n")) (ap (λ (s : Outside). s.out) ran.ends) said,
@@ -158,7 +159,7 @@ module _ (planned : PlannedOf) (reads : Reads) (name : Bytes) (workers : ℕ) (b
   pub anew_ended : (how : End) (text : Text) (after : Outside) → HasRun how (begun_anew planned name text) before after
       → HasEnded how (task_of_text text workers) (Planned planned.plan) reads name before after
   anew_ended end.Done text after ran = record { ends = anew_written text after ran.ends; others = ran.others; given = ran.given; grows = ran.out_faults }
-  anew_ended end.NoMemory text after ran = record { ends = ran.ends; others = ran.others; given = ran.given; grows = ran.out_faults }
+  anew_ended (end.NoMemory no_room) text after ran = record { ends = ran.ends; others = ran.others; given = ran.given; grows = ran.out_faults }
   anew_ended end.ResultFault text after ran = record {
     ends = (ran.ends.0, anew_left text after ran.ends.1, ran.ends.2, anew_stopped text after ran.ends.3);
     others = ran.others;
@@ -219,7 +220,7 @@ module _ (law : StoppedAreTakenUp) (begun : BegunOf) (reads : Reads) (name : Byt
   pub on_ended : (how : End) (after : Outside) → HasRun how (going_on begun name) before after
       → HasEnded how (task.Resume workers) (Begun p begun.kept) reads name before after
   on_ended end.Done after ran = record { ends = on_written after ran.ends; others = ran.others; given = ran.given; grows = ran.out_faults }
-  on_ended end.NoMemory after ran = record { ends = ran.ends; others = ran.others; given = ran.given; grows = ran.out_faults }
+  on_ended (end.NoMemory no_room) after ran = record { ends = ran.ends; others = ran.others; given = ran.given; grows = ran.out_faults }
   on_ended end.ResultFault after ran = record {
     ends = (ran.ends.0, on_left after ran.ends.1, ran.ends.2, on_stopped after ran.ends.3);
     others = ran.others;

@@ -33,7 +33,7 @@ pub fn write_breakdown<R: Threads + Sync, O: Sink>(
     requires workers { (0 < workers) × (workers ≤ 32) }
     ensures wrote { OnOk result (Wrote (O.seen out.old) (O.seen out.new) (breakdown plan.now intervals.now)) }
     ensures grows { (O.seen out.old).faults ≤ (O.seen out.new).faults }
-    ensures memory { result ≡ Err Memory → O.seen out.new ≡ O.seen out.old }
+    ensures memory { (no_room : NoRoom) → result ≡ Err (Memory no_room) → O.seen out.new ≡ O.seen out.old }
     ensures failed { (failed : FailedValue) → result ≡ Err (FaultOf failed) → WrotePrefix (O.seen out.old) (O.seen out.new) (breakdown plan.now intervals.now) }
 {
     list_gives_readings();

@@ -1,18 +1,18 @@
-// The doors of vectors, proved over the one of `edge`.
-ghost use Rattle.std.specs.Prelude.{◌≡◌, ◌≤◌, ◌<◌, ◌+◌, ◌*◌, [], ◌∷◌, ◌++◌, length, replicate, IfOk, OnErr, OnOk, IsOk, List};
+// The doors of vectors, proved over the one of `edge`. Functions and clauses have the kit's names.
+ghost use Rattle.std.specs.Prelude.{◌≡◌, ◌≤◌, ◌<◌, ◌+◌, [], ◌∷◌, ◌++◌, length, replicate, if◌then◌else◌, is_ok, IfOk, OnErr};
 ghost use Rattle.std.specs.Vec.{vec_len, vec_capacity};
 
 use crate::edge::{NoRoom, reserve};
 use std::alloc::Global;
 
 /// An empty vector with room for this many values.
-pub fn with_room<T>(alloc: Global, n: usize) -> Result<Vec<T>, NoRoom>
+pub fn with_room<T>(alloc: Global, capacity: usize) -> Result<Vec<T>, NoRoom>
     ensures items { IfOk result (λ v. v.items ≡ []) }
     ensures len { IfOk result (λ v. vec_len v ≡ 0) }
-    ensures room { IfOk result (λ v. n ≤ vec_capacity v) }
+    ensures capacity { IfOk result (λ v. capacity ≤ vec_capacity v) }
 {
     let mut v = Vec::new(alloc);
-    match reserve(&mut v, n) {
+    match reserve(&mut v, capacity) {
         Ok(()) => Ok(v),
         Err(e) => {
             v.destroy_empty();
@@ -22,43 +22,45 @@ pub fn with_room<T>(alloc: Global, n: usize) -> Result<Vec<T>, NoRoom>
 }
 
 /// Puts a value behind the others. For want of memory it is dropped, and they stay.
-pub fn push<T: Drop>(v: &mut Vec<T>, x: T) -> Result<(), NoRoom>
-    ensures ok { OnOk result (v.new.items ≡ v.old.items ++ x ∷ []) }
-    ensures len { OnOk result (vec_len v.new ≡ vec_len v.old + 1) }
-    ensures err { OnErr result (v.new.items ≡ v.old.items) }
+pub fn push<T: Drop>(v: &mut Vec<T>, value: T) -> Result<(), NoRoom>
+    ensures items { v.new.items ≡ (if is_ok result then v.old.items ++ value ∷ [] else v.old.items) }
+    ensures len { vec_len v.new ≡ (if is_ok result then vec_len v.old + 1 else vec_len v.old) }
+    ensures capacity { vec_capacity v.old ≤ vec_capacity v.new }
+    ensures full { OnErr result (vec_capacity v.old ≤ vec_len v.old) }
 {
     reserve(v, 1)?;
-    v.push_reserved(x);
+    v.push_reserved(value);
     Ok(())
 }
 
-/// Puts values behind the others. For want of memory they stay.
-pub fn extend<T: Copy>(v: &mut Vec<T>, xs: &[T]) -> Result<(), NoRoom>
-    ensures ok { OnOk result (v.new.items ≡ v.old.items ++ xs.now) }
-    ensures len { OnOk result (vec_len v.new ≡ vec_len v.old + length xs.now) }
-    ensures err { OnErr result (v.new.items ≡ v.old.items) }
+/// Puts values behind the others. For want of memory these stay alone.
+pub fn extend<T: Copy>(v: &mut Vec<T>, other: &[T]) -> Result<(), NoRoom>
+    ensures items { v.new.items ≡ (if is_ok result then v.old.items ++ other.now else v.old.items) }
+    ensures len { vec_len v.new ≡ (if is_ok result then vec_len v.old + length other.now else vec_len v.old) }
+    ensures capacity { vec_capacity v.old ≤ vec_capacity v.new }
+    ensures full { OnErr result (vec_capacity v.old < vec_len v.old + length other.now) }
 {
-    reserve(v, xs.len())?;
-    v.extend_from_slice(xs).unwrap();
+    reserve(v, other.len())?;
+    v.extend_from_slice(other).unwrap();
     Ok(())
 }
 
 /// These values.
-pub fn from_slice<T: Copy>(alloc: Global, xs: &[T]) -> Result<Vec<T>, NoRoom>
-    ensures items { IfOk result (λ v. v.items ≡ xs.now) }
-    ensures len { IfOk result (λ v. vec_len v ≡ length xs.now) }
+pub fn from_slice<T: Copy>(alloc: Global, items: &[T]) -> Result<Vec<T>, NoRoom>
+    ensures items { IfOk result (λ v. v.items ≡ items.now) }
+    ensures len { IfOk result (λ v. vec_len v ≡ length items.now) }
 {
-    let mut v = with_room(alloc, xs.len())?;
-    v.extend_from_slice(xs).unwrap();
+    let mut v = with_room(alloc, items.len())?;
+    v.extend_from_slice(items).unwrap();
     Ok(v)
 }
 
 /// A value so many times.
-pub fn filled<T: Copy>(alloc: Global, x: T, n: usize) -> Result<Vec<T>, NoRoom>
-    ensures items { IfOk result (λ v. v.items ≡ replicate n x) }
+pub fn filled<T: Copy>(alloc: Global, value: T, n: usize) -> Result<Vec<T>, NoRoom>
+    ensures items { IfOk result (λ v. v.items ≡ replicate n value) }
     ensures len { IfOk result (λ v. vec_len v ≡ n) }
 {
     let mut v = with_room(alloc, n)?;
-    v.resize(n, x).unwrap();
+    v.resize(n, value).unwrap();
     Ok(v)
 }

@@ -48,6 +48,7 @@ pub fn reserve<T>(v: &mut Vec<T>, more: usize) -> Result<(), NoRoom>
     ensures items { v.new.items ≡ v.old.items }
     ensures len { vec_len v.new ≡ vec_len v.old }
     ensures ok { OnOk result (vec_len v.new + more ≤ vec_capacity v.new) }
+    ensures capacity { vec_capacity v.old ≤ vec_capacity v.new }
     ensures full { OnErr result (vec_capacity v.old < vec_len v.old + more) }
 {
     match v.reserve(more) {

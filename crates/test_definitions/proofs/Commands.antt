@@ -19,6 +19,7 @@ use Rattle.commands.specs.Commands.{Command, by_file, settings_of}
 use Rattle.class_table.specs.ClassTable.{classes_text}
 use Rattle.refusals.specs.Texts.{check_text, audit_line}
 use Rattle.refusals.specs.RefusalLines.{refusal_line}
+use Rattle.room.specs.declared.edge.NoRoom.{NoRoom}
 use Rattle.command_reads.specs.FirstRefusal.{Planned}
 use Rattle.command_reads.specs.Answers.{classes_plan, plan_behind}
 use Rattle.test_definitions.specs.Circuits.{dup, net}

@@ -7,5 +7,5 @@ use Rattle.fm_base.proofs.Options.{none_from}
 pub returns-clause-added : goal.returns-clause-added
 returns-clause-added c =
     let none = none_from c.place_of.result (sym c.if-is_some.ensures) in
-    added_new (place_in c.args.places.now.entries) (place_in c.insert.new.self.entries) c.args.name.now c.args.place
+    added_new (place_in c.args.places.now.entries) (place_in c.insert.new.map.entries) c.args.name.now c.args.place
     (sym c.place_of.ensures ∙ none) (λ q. c.in_ok-insert.ensures.updates.0 (record c.args.name { now = q }))

@@ -13,7 +13,7 @@ loop-i-init c = record { sized = ap length c.in_ok-numbers.ensures.items; number
 pub loop-i-preserved : goal.loop-i-preserved
 loop-i-preserved c =
     let i : ℕ = c.loop-i.i in
-    let pushed : c.push.new.self.items ≡ c.loop-i.numbers.items ++ c.first_like.result ∷ [] = c.in_ok-push.ensures.items in
+    let pushed : c.push.new.v.items ≡ c.loop-i.numbers.items ++ c.first_like.result ∷ [] = c.in_ok-push.ensures.items in
     record {
       sized = ap length pushed ∙ length-append c.loop-i.numbers.items (c.first_like.result ∷ []) ∙ ap (λ n. n + 1) c.loop-i.invariant.sized;
       numbers = λ circuit listed.

@@ -7,7 +7,7 @@ use Rattle.differential_kernel.proofs.difference.same_words.Goals as goal
 
 pub loop-n-preserved : goal.loop-n-preserved
 loop-n-preserved g c =
-    let e : c.push.new.self.items ≡ c.loop-n.words.items ++ c.all.result ∷ [] = search rules in
+    let e : c.push.new.v.items ≡ c.loop-n.words.items ++ c.all.result ∷ [] = search rules in
     record {
       count = ap (λ (ws : List g.row.W.Denot). length ws) e ∙ length_push c.loop-n.words.items c.all.result ∙ ap (λ n. n + 1) c.loop-n.invariant.count;
       same = λ n k lt.

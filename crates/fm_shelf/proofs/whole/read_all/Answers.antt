@@ -18,8 +18,8 @@ returns-then-n-eq0-clause-rest g c =
     reads_on (g.F.Shelf.seen c.args.shelf.now) (g.F.Shelf.seen c.loop-piece.shelf) (g.F.Shelf.seen c.read.new.self) c.args.name.now c.loop-piece.invariant.rest
     c.in_ok-n.ensures.rest
 
-pub returns-in_err-extend_from_slice-clause-rest : goal.returns-in_err-extend_from_slice-clause-rest
-returns-in_err-extend_from_slice-clause-rest g c =
+pub returns-in_err-extend-clause-rest : goal.returns-in_err-extend-clause-rest
+returns-in_err-extend-clause-rest g c =
     reads_on (g.F.Shelf.seen c.args.shelf.now) (g.F.Shelf.seen c.loop-piece.shelf) (g.F.Shelf.seen c.read.new.self) c.args.name.now c.loop-piece.invariant.rest
     c.in_ok-n.ensures.rest
 
@@ -34,7 +34,7 @@ loop-piece-preserved g c =
     let n = c.in_ok-n.n in
     let e = c.in_ok-n.ensures in
     let so_far = c.loop-piece.invariant in
-    let items : c.extend_from_slice.new.self.items ≡ bytes ++ take n piece = grind (arith, common_steps) in
+    let items : c.extend.new.v.items ≡ bytes ++ take n piece = grind (arith, common_steps) in
     let long : c.len-in-loop-piece.result ≡ length bytes = grind (arith, common_steps) in
     let some : 0 < length (take n piece) = omega (arith, c.if-n-eq0.false, length-take-le n piece e.fits) in
     rw items (record {

@@ -8,7 +8,7 @@ use Rattle.lane_words.proofs.program.make_gates.Goals as goal
 
 pub loop-net-preserved : goal.loop-net-preserved
 loop-net-preserved c =
-    let e : c.push.new.self.items ≡ c.loop-net.gates.items ++ c.gate_of.result ∷ [] = search rules in
+    let e : c.push.new.v.items ≡ c.loop-net.gates.items ++ c.gate_of.result ∷ [] = search rules in
     rw e (
       length_push c.loop-net.gates.items c.gate_of.result ∙ ap (λ n. n + 1) c.loop-net.invariant.0,
       pushed_each (λ (j : ℕ) (gate : Gate). (gate.to ≡ (net_at c.args.order.now j).0) × IsGate c.args.netlist.now gate) c.loop-net.gates.items c.gate_of.result c.loop-net.net-index

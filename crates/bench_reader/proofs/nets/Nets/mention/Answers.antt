@@ -9,7 +9,7 @@ use Rattle.bench_reader.proofs.nets.Nets.mention.Goals.{then-is_new+in_ok-push, 
 pub returns-clause-nets : goal.returns-clause-nets
 returns-clause-nets c =
     elim c.if-is_new.branch [
-      | then-is_new+in_ok-push w ↦ w.self-is ∙ ap (λ (keys : List Key). seen (texts_of keys) w.push.new.self.items) c.in_ok-place.ensures.keys
+      | then-is_new+in_ok-push w ↦ w.self-is ∙ ap (λ (keys : List Key). seen (texts_of keys) w.push.new.v.items) c.in_ok-place.ensures.keys
           ∙ ap (λ (marks : List Mark). seen (texts_of _) marks) w.in_ok-push.ensures.items
           ∙ mention_new_key c.self.inside.names.keys c.args.name c.self.inside.marks.items c.args.line (sym w.if-is_new.true ∙ c.in_ok-place.ensures.added)
           ∙ ap (λ (t : NetMarks). mention c.args.line t c.args.name.now) c.self.view_is

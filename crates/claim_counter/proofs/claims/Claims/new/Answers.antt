@@ -7,8 +7,7 @@ use Rattle.claim_counter.proofs.claims.Claims.new.Goals as goal
 pub vacant-requires : goal.vacant-requires
 vacant-requires g c =
     let made = c.in_ok-words.ensures in
-    let items = made.items_if_clones_equal in
-    starts g.V.Kept.list g.V.Kept.is_failed c.args.todo c.as_slice.result.now (c.as_slice.ensures.value ∙ items (λ y e. e))
+    starts g.V.Kept.list g.V.Kept.is_failed c.args.todo c.as_slice.result.now (c.as_slice.ensures.value ∙ made.items)
 
 pub compare_exchange-requires : goal.compare_exchange-requires
 compare_exchange-requires g c =
