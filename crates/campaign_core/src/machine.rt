@@ -1,9 +1,9 @@
-ghost use Rattle.std.specs.Prelude.{◌≡◌, true, false, IfOk, IfErr, MatchBool};
+ghost use Rattle.std.specs.Prelude.{◌≡◌, true, false, IfOk, IfErr, OnOk, OnErr};
 ghost use Rattle.campaign_core.specs.Machines.{fresh, is_claimed, is_posted, is_lawful, after};
 ghost use Rattle.campaign_core.specs.Refusals.{Refuses};
 
 use crate::event::Event;
-use room::push;
+use room::{NoRoom, push};
 use std::alloc::Global;
 use std::marker::Model;
 
@@ -34,7 +34,7 @@ pub enum StepRefusal {
     /// The event may not come next.
     NotLawful(Core),
     /// The event may come next, and there was no memory to keep it.
-    Memory(Core),
+    Memory(Core, NoRoom),
 }
 
 impl Core {
@@ -97,28 +97,22 @@ impl Core {
         }
     }
 
-    // True where there was memory for it
-    fn apply(&mut self, event: Event) -> bool
-        ensures { MatchBool result (self.new ≡ after self.old event) (self.new ≡ self.old) }
+    fn apply(&mut self, event: Event) -> Result<(), NoRoom>
+        ensures ok { OnOk result (self.new ≡ after self.old event) }
+        ensures err { OnErr result (self.new ≡ self.old) }
     {
         match event {
             Event::Draw(worker) => {
                 if self.next < self.limit {
-                    if push(&mut self.claims, (worker, self.next)).is_err() {
-                        return false;
-                    }
+                    push(&mut self.claims, (worker, self.next))?;
                     self.next += 1;
                 }
             }
-            Event::Post(_, number) => {
-                if push(&mut self.history, number).is_err() {
-                    return false;
-                }
-            }
+            Event::Post(_, number) => push(&mut self.history, number)?,
             Event::Look(_) => {}
             Event::Fail(_) => self.failed = true,
         }
-        true
+        Ok(())
     }
 }
 
@@ -130,9 +124,8 @@ pub fn step(mut core: Core, event: Event) -> Result<Core, StepRefusal>
     if !core.allows(event) {
         return Err(StepRefusal::NotLawful(core));
     }
-    if core.apply(event) {
-        Ok(core)
-    } else {
-        Err(StepRefusal::Memory(core))
+    match core.apply(event) {
+        Ok(()) => Ok(core),
+        Err(no_room) => Err(StepRefusal::Memory(core, no_room)),
     }
 }

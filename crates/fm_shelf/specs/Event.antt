@@ -1,25 +1,35 @@
--- A record of calls on files, of which the last stands first.
+-- A record of calls on files and on an output, of which the last stands first.
 use Rattle.std.specs.Prelude.{◌≡◌, ℕ, ◌==◌, List, [], ◌∷◌, ◌++◌, refl, if◌then◌else◌}
 use Rattle.std.specs.Str.{bytes_eq}
 use Rattle.std.specs.Coded.{Coded, code_by, coded×, coded_ℕ, coded_list}
 use Rattle.fm_shelf.specs.Past.{Given, Gave, Ended, Change, Took, Tore, Cut, MayCut}
 
--- a read of the file of this name gave these; or it was changed so
+-- a read of the file of this name gave these; or it was changed so; or an output took these bytes
 pub data Event : Type 0 where
   Read : (name : List ℕ) → List Given → Event
   Changed : (name : List ℕ) → List Change → Event
+  Sent : (bytes : List ℕ) → Event
 
 -- what reads of a file gave, in the order of the calls
 abbrev pub given_of : List Event → List ℕ → List Given
 given_of [] name = []
 given_of (Read own given ∷ earlier) name = if bytes_eq own name then given_of earlier name ++ given else given_of earlier name
 given_of (Changed own changed ∷ earlier) name = given_of earlier name
+given_of (Sent bytes ∷ earlier) name = given_of earlier name
 
 -- how it was changed
 abbrev pub changed_of : List Event → List ℕ → List Change
 changed_of [] name = []
 changed_of (Read own given ∷ earlier) name = changed_of earlier name
 changed_of (Changed own changed ∷ earlier) name = if bytes_eq own name then changed_of earlier name ++ changed else changed_of earlier name
+changed_of (Sent bytes ∷ earlier) name = changed_of earlier name
+
+-- what the output took
+abbrev pub sent_of : List Event → List ℕ
+sent_of [] = []
+sent_of (Read own given ∷ earlier) = sent_of earlier
+sent_of (Changed own changed ∷ earlier) = sent_of earlier
+sent_of (Sent bytes ∷ earlier) = sent_of earlier ++ bytes
 
 -- ---- how the logic stores such a record
 
@@ -52,13 +62,15 @@ change_back (MayCut given len) = refl
 abbrev event_parts : Event → ℕ × (List ℕ × (List Given × List Change))
 event_parts (Read name given) = (0, (name, (given, [])))
 event_parts (Changed name changed) = (1, (name, ([], changed)))
+event_parts (Sent bytes) = (2, (bytes, ([], [])))
 
 abbrev event_from : ℕ × (List ℕ × (List Given × List Change)) → Event
-event_from p = if p.0 == 0 then Read p.1.0 p.1.1.0 else Changed p.1.0 p.1.1.1
+event_from p = if p.0 == 0 then Read p.1.0 p.1.1.0 else if p.0 == 1 then Changed p.1.0 p.1.1.1 else Sent p.1.0
 
 pub event_back : (e : Event) → event_from (event_parts e) ≡ e
 event_back (Read name given) = refl
 event_back (Changed name changed) = refl
+event_back (Sent bytes) = refl
 
 abbrev given_code : Coded Given
 given_code = code_by (ℕ × (ℕ × ℕ)) (coded× coded_ℕ (coded× coded_ℕ coded_ℕ)) given_parts given_from given_back

@@ -6,8 +6,8 @@ ghost use Rattle.fm_shelf.specs.Event.{Event, events_code};
 use crate::shelf::Failed;
 use std::marker::Model;
 
-/// The calls of a shelf so far, the last of them first. A shelf that keeps one notes each of its calls in it, and that it notes what it has
-/// done is no more proved than what the system's files hold.
+/// The calls of a shelf, or of an output, so far, the last of them first. Who keeps one notes each of its calls in it, and that it notes what it
+/// has done is no more proved than what the system's files hold.
 #[derive(Drop)]
 pub struct Past {
     pub ghost events: { List Event } by { events_code },
@@ -20,7 +20,7 @@ impl Model for Past {
 // It owns nothing.
 unsafe impl Send for Past {}
 
-/// A call of a shelf, with its answer. Of a read there is the piece as the call has left it.
+/// A call of a shelf or of an output, with its answer. Of a read there is the piece as the call has left it.
 #[derive(Clone, Copy, Drop)]
 pub enum Note<'a> {
     Read {
@@ -38,6 +38,10 @@ pub enum Note<'a> {
         name: &'a str,
         len: u64,
         answer: Result<(), Failed>,
+    },
+    Write {
+        piece: &'a [u8],
+        answer: Result<usize, Failed>,
     },
 }
 

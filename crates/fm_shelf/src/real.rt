@@ -1,5 +1,5 @@
 // The shelf over the system's files, and the sink over its standard output.
-ghost use Rattle.std.specs.Prelude.{◌≡◌, ◌≤◌, List, ℕ, [], false, None, length, IfOk};
+ghost use Rattle.std.specs.Prelude.{◌≡◌, ◌≤◌, List, ℕ, [], false, Some, length, IfOk};
 ghost use Rattle.fm_shelf.specs.Entries.{known_files};
 
 use crate::past::{Note, Past};
@@ -133,35 +133,44 @@ fn put_some<R: Print>(rt: &R, piece: &[u8]) -> io::Result<usize>
     rt.write_some(piece)
 }
 
-/// Standard output. It tells nothing of what was written. Its count of failures rises at every error of the system, and where
-/// the system takes no byte; it stands still at the end of `u64`. Each write is one call of the system, so after one that failed
-/// no byte of its piece went out.
+/// Standard output. It tells what the system has taken since it was made: it notes each call that it makes, which takes no memory. Its count
+/// of failures rises at every error of the system, and where the system takes no byte; it stands still at the end of `u64`. Each write
+/// is one call of the system, so after one that failed no byte of its piece went out.
 #[derive(Drop)]
 pub struct OutSink<'a, R: Print> {
     rt: &'a R,
     failures: u64,
+    past: Past,
 }
 
 impl<'a, R: Print> OutSink<'a, R> {
-    /// The standard output of this runtime.
+    /// The standard output of this runtime, which has taken nothing yet.
     pub fn new(rt: &'a R) -> Self
-        ensures { ⟦<OutSink<'a, R> as Sink>⟧.seen result ≡ record { written = None; faults = 0 } }
+        ensures { ⟦<OutSink<'a, R> as Sink>⟧.seen result ≡ record { written = Some []; faults = 0 } }
     {
-        OutSink { rt, failures: 0 }
+        OutSink {
+            rt,
+            failures: 0,
+            past: Past::new(),
+        }
     }
 }
 
 impl<'a, R: Print> Sink for OutSink<'a, R> {
-    ghost seen = { λ s. record { written = None; faults = s.failures } };
+    ghost use Rattle.fm_shelf.specs.Event.{sent_of};
+
+    ghost seen = { λ s. record { written = Some (sent_of s.past.events); faults = s.failures } };
 
     fn write(&mut self, piece: &[u8]) -> Result<usize, Failed> {
-        match put_some(self.rt, piece) {
+        let answer = match put_some(self.rt, piece) {
             Ok(n) if n > 0 || piece.is_empty() => Ok(n),
-            _ => {
-                self.failures = self.failures.saturating_add(1);
-                Err(Failed)
-            }
+            _ => Err(Failed),
+        };
+        if answer.is_err() {
+            self.failures = self.failures.saturating_add(1);
         }
+        self.past = self.past.then(&Note::Write { piece, answer });
+        answer
     }
 
     fn failures(&self) -> u64 {

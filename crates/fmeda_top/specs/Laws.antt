@@ -1,5 +1,5 @@
 -- Laws under the promises of a call.
-use Rattle.std.specs.Prelude.{◌≡◌, ◌⊎◌, ◌↔◌, ◌++◌, List, flat_map, Option, None, Ok}
+use Rattle.std.specs.Prelude.{◌≡◌, ◌⊎◌, ◌↔◌, ◌++◌, ℕ, List, flat_map, Option, None, Ok, Err}
 use Rattle.std.specs.List.{AllByRecursion as ForEach}
 use Rattle.fm_base.specs.Names.{Bytes}
 use Rattle.fm_shelf.specs.Content.{Held}
@@ -22,7 +22,7 @@ use Rattle.result_merge.specs.Merged.{merged}
 use Rattle.commands.specs.declared.command.Kind.{Kind}
 use Rattle.commands.specs.declared.command.Which.{Which}
 use Rattle.commands.specs.declared.command.Which.TheVariants as which
-use Rattle.commands.specs.Commands.{Command, files_of}
+use Rattle.commands.specs.Commands.{Command, files_of, kind_of}
 use Rattle.command_line.specs.Words.{IsCommand, IsNoCommand}
 use Rattle.refusals.specs.declared.status.Status.{Status}
 use Rattle.refusals.specs.declared.status.Status.TheVariants as status
@@ -32,6 +32,8 @@ use Rattle.command_reads.specs.Files.{Reads, WereRead, given}
 use Rattle.command_reads.specs.FirstRefusal.{IsLoopAnswer, Judged, Driven, Rated, Planned, Begun, Merged}
 use Rattle.fmeda_top.specs.TaskRefusals.{judged}
 use Rattle.fmeda_top.specs.Promises.{CommandEnds, Promises, RanOut}
+use Rattle.fmeda_top.specs.Program.{ProgramEnds}
+use Rattle.room.specs.Refused.{WasRefused}
 
 -- the circuit that is worked on
 abbrev pub circuit_in : Judged → Circuit
@@ -52,6 +54,33 @@ abbrev pub UsageIsOfTheWords : Type 0
 UsageIsOfTheWords =
     (words : List Bytes) (ended : Status) (before after : Outside) → Promises words ended before after
     → ((ended ≡ status.Usage) ↔ IsNoCommand words) ⊎ IsMemory ended
+
+-- the command is refused with this, as the first refusal of what was read of its files
+abbrev pub IsOfTheFiles : Command → Status → (before after : Outside) → Type 0
+IsOfTheFiles command ended before after =
+    (reads : Reads) × WereRead before.shelf after.shelf command.files reads (kind_of command.task)
+    × ((c : Circuit) × (walk : Option (List NetId)) × IsLoopAnswer (command.files which.Netlist) reads c walk × (judged walk command reads ≡ Err ended))
+
+-- a write has failed in this call, and was counted
+abbrev pub IsOfAWrite : Command → Status → (before after : Outside) → Type 0
+IsOfAWrite command status.OutFault before after = CountRose before.out.faults after.out.faults
+IsOfAWrite command status.ResultFault before after =
+    CountRose (before.shelf.write_faults (command.files which.Result)) (after.shelf.write_faults (command.files which.Result))
+IsOfAWrite command _ before after = ⊥
+
+-- OF WANT OF MEMORY: it is the answer only where the allocator has refused a request. Where it has refused none, a call ends Done, with a refusal
+-- of its words or of its files, or with a write that has failed; and the program's exit status isn't that of want of memory
+abbrev pub MemoryWasRefused : Type 0
+MemoryWasRefused =
+    ((words : List Bytes) (ended : Status) (before after : Outside) → Promises words ended before after → IsMemory ended → WasRefused)
+    × ((words : List Bytes) (code : ℕ) (before after : Outside) → ProgramEnds words code before after → code ≡ 30 → WasRefused)
+
+abbrev pub OthersHaveCauses : Type 0
+OthersHaveCauses =
+    (words : List Bytes) (ended : Status) (before after : Outside) → Promises words ended before after → ¬ WasRefused
+    → ((ended ≡ status.Usage) × IsNoCommand words)
+    ⊎ ((command : Command) × IsCommand words command
+    × ((ended ≡ status.Done) ⊎ (IsOfTheFiles command ended before after ⊎ IsOfAWrite command ended before after)))
 
 -- OF WHAT IS KNOWN: where a file is known to hold these bytes, they are what was read of it, or a read of it has failed
 abbrev pub HeldIsRead : Type 0

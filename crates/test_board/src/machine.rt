@@ -51,7 +51,7 @@ const ROWS: [Row; 3] = [
 fn tried(core: Core, event: Event) -> (Core, bool) {
     match step(core, event) {
         Ok(core) => (core, true),
-        Err(StepRefusal::NotLawful(core) | StepRefusal::Memory(core)) => (core, false),
+        Err(StepRefusal::NotLawful(core) | StepRefusal::Memory(core, _)) => (core, false),
     }
 }
 

@@ -1,4 +1,4 @@
-use Rattle.fmeda_top.proofs.Causing.{have_no_loop, held_read, of_the_command, read_fault_rose, usage_of_words}
+use Rattle.fmeda_top.proofs.Causing.{have_no_loop, held_read, memory_refused, of_the_command, others_caused, read_fault_rose, usage_of_words}
 use Rattle.fmeda_top.proofs.RowTexts.{pairs_are_true}
 use Rattle.fmeda_top.proofs.Writing.{merged_stopped}
 use Rattle.fmeda_top.proofs.law.promises_are_of_the_command.Goals as goal
@@ -8,6 +8,12 @@ returns-clause-command c = of_the_command
 
 pub returns-clause-usage : goal.returns-clause-usage
 returns-clause-usage c = usage_of_words
+
+pub returns-clause-memory : goal.returns-clause-memory
+returns-clause-memory c = memory_refused
+
+pub returns-clause-causes : goal.returns-clause-causes
+returns-clause-causes c = others_caused
 
 pub returns-clause-read : goal.returns-clause-read
 returns-clause-read c = held_read
