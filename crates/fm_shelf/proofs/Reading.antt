@@ -1,8 +1,8 @@
 -- What was read of a file so far.
-use Rattle.std.proofs.Common.{◌≡◌, ◌≢◌, ℕ, ◌+◌, ◌<◌, ◌≤◌, List, [], ◌∷◌, ◌++◌, length, take, drop, refl, ap, sym, subst, ◌∙◌, arith, append_assoc, append-nil, length-append}
+use Rattle.std.proofs.Common.{◌≡◌, ◌≢◌, ℕ, ◌+◌, ◌<◌, ◌≤◌, List, [], ◌∷◌, ◌++◌, length, take, ap, sym, subst, ◌∙◌, arith, append_assoc, append-nil, length-append}
 use Rattle.std.proofs.lemmas.List.{length-take-le}
 use Rattle.std.proofs.Math.Seq.{take-add}
-use Rattle.fm_shelf.specs.Content.{Content, Unknown, Absent, Held, IfPresent, IsThere}
+use Rattle.fm_shelf.specs.Content.{greatest, Content, Unknown, Absent, Held, IfPresent, IsThere}
 use Rattle.fm_shelf.specs.Past.{Given, gave_from, gave_whole, gave, Ended}
 use mathlib.Core.List.{IsPrefix}
 use Rattle.fm_shelf.specs.Shelf.{ShelfState, Gives, IsPieceRead, OnlyReads}
@@ -14,6 +14,8 @@ pub record HasRead (start now : ShelfState) (name bytes : List ℕ) : Type 0 whe
   pub front : IfPresent (start.content name) (λ held. (length bytes ≤ length held) × (bytes ≡ take (length bytes) held))
   pub there : 0 < length bytes → start.content name ≢ Absent
   pub given : now.given name ≡ start.given name ++ gave_from 0 bytes
+  pub asked : now.asked name ≤ start.asked name + length bytes
+  pub few : now.asked name ≤ start.asked name + (greatest + 1)
   pub rest : OnlyReads start now name
 
 -- one read of the file after another
@@ -28,6 +30,7 @@ reads_on a b c name p q = record {
   more = λ other. prefix_then (a.given other) (b.given other) (c.given other) (p.more other) (q.more other);
   gives = λ other ne. q.gives other ne ∙ p.gives other ne;
   changed = q.changed ∙ p.changed;
+  asks = λ other ne. q.asks other ne ∙ p.asks other ne;
 }
 
 -- a read gave more

@@ -1,7 +1,6 @@
 -- A file that is cut and then written on, call by call.
-use Rattle.std.proofs.Common.{◌≡◌, ℕ, ◌≤◌, List, [], ◌∷◌, ◌++◌, length, map, take, drop, refl, ap, sym, subst, ◌∙◌, append_assoc, append-nil}
+use Rattle.std.proofs.Common.{◌≡◌, ℕ, ◌≤◌, List, [], ◌∷◌, ◌++◌, length, map, take, drop, ap, sym, subst, ◌∙◌, append_assoc, append-nil}
 use Rattle.std.proofs.lemmas.List.{map-append, drop-append-le, take-append-drop}
-use mathlib.Core.List.{IsPrefix}
 use Rattle.fm_shelf.specs.Past.{Given, Change, Took, Tore, Cut, WritesOn, StopsOn, AtPiece}
 
 -- what is taken of a text that follows the bytes that stand

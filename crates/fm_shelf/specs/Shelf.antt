@@ -5,13 +5,15 @@ use mathlib.Core.List.{IsPrefix}
 use Rattle.fm_shelf.specs.Content.{Content, Unknown, Absent, Held, IsThere, HasIfKnown, bytes_of}
 use Rattle.fm_shelf.specs.Past.{Given, Change, Took, Tore}
 
--- of each file by its name: what is known; how often reads and how often writes failed; and, known or not, what reads gave and how it was changed
+-- of each file by its name: what is known; how often reads and how often writes failed; and, known or not, what reads gave, how it was changed,
+-- and how often it was read
 pub record ShelfState : Type 0 where
   pub content : List ℕ → Content
   pub read_faults : List ℕ → ℕ
   pub write_faults : List ℕ → ℕ
   pub given : List ℕ → List Given
   pub changed : List ℕ → List Change
+  pub asked : List ℕ → ℕ
 
 -- the count rose, or stands at the last value of a counter
 abbrev pub CountRose : ℕ → ℕ → Type 0
@@ -36,6 +38,7 @@ pub record OnlyReads (before after : ShelfState) (name : List ℕ) : Type 0 wher
   pub more : (other : List ℕ) → IsPrefix (before.given other) (after.given other)
   pub gives : (other : List ℕ) → other ≢ name → after.given other ≡ before.given other
   pub changed : after.changed ≡ before.changed
+  pub asks : (other : List ℕ) → other ≢ name → after.asked other ≡ before.asked other
 
 -- nothing was done but that files were read, or reads of them failed
 pub record OnlyReadsAny (before after : ShelfState) : Type 0 where
@@ -53,6 +56,7 @@ pub record OnlyWrites (before after : ShelfState) (name : List ℕ) : Type 0 whe
   pub reads : (other : List ℕ) → after.read_faults other ≡ before.read_faults other
   pub changes : (other : List ℕ) → other ≢ name → after.changed other ≡ before.changed other
   pub given : after.given ≡ before.given
+  pub asked : after.asked ≡ before.asked
 
 -- no file was changed: what is known of each is as it was, and none was cut or appended to
 pub record IsUnchanged (before after : ShelfState) : Type 0 where

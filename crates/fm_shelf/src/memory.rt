@@ -449,7 +449,15 @@ impl Shelf for MemoryShelf {
         }
         self.failures = self.failures.saturating_add(1);
         note_read(&mut self.entries, &mut self.other_reads, name);
-        Err(Failed)
+        let answer = Err(Failed);
+        let piece = &*piece;
+        self.past = self.past.then(&Note::Read {
+            name,
+            at,
+            piece,
+            answer,
+        });
+        answer
     }
 
     fn append(&mut self, name: &str, piece: &[u8]) -> Result<usize, Failed> {

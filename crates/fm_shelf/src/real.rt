@@ -40,13 +40,11 @@ fn shorten<R: Files>(rt: &R, name: &str, len: u64) -> io::Result<()> {
 /// Files of the system, by their paths. It tells nothing of what they hold, but what its calls told: it notes each call that it makes, which
 /// takes no memory.
 ///
-/// One count of failed reads and one of failed writes stand for every name. Each rises at every error of the system, want of
-/// memory inside that call included, and stands still at the end of `u64`.
+/// Failed reads and failed writes are counted for each name, in the record alone: at every error of the system, want of memory inside that
+/// call included.
 #[derive(Drop)]
 pub struct FileShelf<'a, R: Files + Sync> {
     rt: &'a R,
-    failed_reads: u64,
-    failed_writes: u64,
     past: Past,
 }
 
@@ -57,27 +55,21 @@ impl<'a, R: Files + Sync> FileShelf<'a, R> {
     {
         FileShelf {
             rt,
-            failed_reads: 0,
-            failed_writes: 0,
             past: Past::new(),
         }
     }
 }
 
 impl<'a, R: Files + Sync> Shelf for FileShelf<'a, R> {
-    ghost use Rattle.fm_shelf.specs.Content.{Unknown};
-    ghost use Rattle.fm_shelf.specs.Entries.{told};
+    ghost use Rattle.fm_shelf.specs.Entries.{told_by_calls};
 
-    ghost seen = { λ s. told (λ _. Unknown) (λ _. s.failed_reads) (λ _. s.failed_writes) s.past.events };
+    ghost seen = { λ s. told_by_calls s.past.events };
 
     fn read(&mut self, name: &str, at: u64, piece: &mut [u8]) -> Result<usize, Failed> {
         let answer = match read_some(self.rt, name, at, piece) {
             Ok(n) => Ok(n),
             Err(_) => Err(Failed),
         };
-        if answer.is_err() {
-            self.failed_reads = self.failed_reads.saturating_add(1);
-        }
         let piece = &*piece;
         self.past = self.past.then(&Note::Read {
             name,
@@ -93,9 +85,6 @@ impl<'a, R: Files + Sync> Shelf for FileShelf<'a, R> {
             Ok(()) => Ok(piece.len()),
             Err(_) => Err(Failed),
         };
-        if answer.is_err() {
-            self.failed_writes = self.failed_writes.saturating_add(1);
-        }
         self.past = self.past.then(&Note::Append {
             name,
             piece,
@@ -109,9 +98,6 @@ impl<'a, R: Files + Sync> Shelf for FileShelf<'a, R> {
             Ok(()) => Ok(()),
             Err(_) => Err(Failed),
         };
-        if answer.is_err() {
-            self.failed_writes = self.failed_writes.saturating_add(1);
-        }
         self.past = self.past.then(&Note::Cut { name, len, answer });
         answer
     }

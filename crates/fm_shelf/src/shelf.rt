@@ -1,5 +1,5 @@
 // A set of named files, and a sink of bytes.
-ghost use Rattle.std.specs.Prelude.{◌≡◌, ◌<◌, ◌≤◌, ◌++◌, ℕ, List, length, take, OnOk, OnErr, IfOk, IsErr};
+ghost use Rattle.std.specs.Prelude.{◌≡◌, ◌<◌, ◌≤◌, ◌+◌, ◌++◌, ℕ, List, length, take, OnOk, OnErr, IfOk, IsErr};
 ghost use Rattle.fm_shelf.specs.Content.{Absent, IfPresent};
 ghost use Rattle.fm_shelf.specs.Past.{given_by, taken_by, cut_by};
 ghost use Rattle.fm_shelf.specs.Shelf.{ShelfState, CountRose, IsPieceRead, OnlyReads, OnlyWrites, Becomes, MayBecome, Appends, MayAppend};
@@ -30,6 +30,7 @@ pub trait Shelf {
         ensures absent { (seen self.old).content name.now ≡ Absent → IsErr result }
         ensures failed { OnErr result (CountRose ((seen self.old).read_faults name.now) ((seen self.new).read_faults name.now)) }
         ensures given { (seen self.new).given name.now ≡ (seen self.old).given name.now ++ given_by at piece.new result }
+        ensures asked { (seen self.new).asked name.now ≡ (seen self.old).asked name.now + 1 }
         ensures rest { OnlyReads (seen self.old) (seen self.new) name.now };
 
     /// Adds the first bytes of the piece to the end of a file, and answers how many: one at least, where there is one. An

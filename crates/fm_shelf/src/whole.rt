@@ -1,5 +1,5 @@
 // Whole files and whole pieces.
-ghost use Rattle.std.specs.Prelude.{◌≡◌, ◌<◌, ◌≤◌, ◌^◌, ◌++◌, ℕ, List, length, OnOk, OnErr, IfOk, IsErr, IsErrOf};
+ghost use Rattle.std.specs.Prelude.{◌≡◌, ◌<◌, ◌≤◌, ◌+◌, ◌^◌, ◌++◌, ℕ, List, length, OnOk, OnErr, IfOk, IsErr, IsErrOf};
 ghost use Rattle.std.specs.List.{flat_map};
 ghost use Rattle.fm_shelf.specs.Content.{Absent, IfPresent, IsIfKnown, greatest};
 ghost use Rattle.fm_shelf.specs.Past.{gave_from, gave_whole};
@@ -100,6 +100,7 @@ pub fn read_all<F: Shelf>(alloc: Global, shelf: &mut F, name: &str) -> Result<Se
     ensures given { IfOk result (λ bytes. (F.seen shelf.new).given name.now ≡ (F.seen shelf.old).given name.now ++ gave_whole bytes) }
     ensures gave_more { IsErrOf result ReadRefusal.TooLong → (bytes : List ℕ) × (greatest < length bytes)
         × ((F.seen shelf.new).given name.now ≡ (F.seen shelf.old).given name.now ++ gave_from 0 bytes) }
+    ensures asked { (F.seen shelf.new).asked name.now ≤ (F.seen shelf.old).asked name.now + (2 ^ 26 + 2) }
     ensures rest { OnlyReads (F.seen shelf.old) (F.seen shelf.new) name.now }
 {
     let mut room = room_of_a_piece(alloc)?;

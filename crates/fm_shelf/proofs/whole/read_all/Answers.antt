@@ -1,4 +1,4 @@
-use Rattle.std.proofs.Common.{◌≡◌, ◌<◌, ap, subst, ◌∙◌, List, ◌++◌, ℕ, length, take, arith}
+use Rattle.std.proofs.Common.{◌≡◌, ◌<◌, ap, subst, ◌∙◌, List, ◌++◌, ℕ, length, length-append, take, arith}
 use Rattle.std.proofs.lemmas.Grind.{common_steps}
 use Rattle.std.proofs.lemmas.Bool.{false≢true}
 use Rattle.std.proofs.lemmas.List.{length-take-le}
@@ -44,5 +44,10 @@ loop-piece-preserved g c =
       there = λ _ absent. absurd (false≢true (e.absent (ap (λ (content : List ℕ → Content). content name) so_far.rest.content ∙ absent)));
       given = given_on (start.given name) (mid.given name) (now.given name) bytes (take n piece) (length piece) some so_far.given
           (subst (λ at. now.given name ≡ mid.given name ++ gave at (length piece) (take n piece)) long e.given);
+      asked = let more = length-append bytes (take n piece) in omega (arith, so_far.asked, e.asked, some, more);
+      few = omega (arith, so_far.asked, e.asked, c.loop-piece-test.true, long);
       rest = reads_on start mid now name so_far.rest e.rest;
     })
+
+pub returns-clause-asked : goal.returns-clause-asked
+returns-clause-asked g c = omega (arith, c.loop-piece.invariant.few)
