@@ -1,6 +1,7 @@
 // The program: words, files and standard output are those of the system.
 #![tactic(auto)]
 
+use claim_counter::Waiting;
 use fm_shelf::real::{FileShelf, OutSink};
 use fmeda_top::program::program;
 use std::process::ExitCode;
@@ -24,6 +25,15 @@ fn main(rt: HostRuntime) -> ExitCode {
         return ExitCode::from(NO_WORDS);
     };
     let (shelf, out) = (FileShelf::new(&rt), OutSink::new(&rt));
-    let exited = program(&rt, rt.alloc(), words.as_slice(), shelf, out, &NoGate);
+    let turn = Waiting::new(&rt);
+    let exited = program(
+        &rt,
+        &turn,
+        rt.alloc(),
+        words.as_slice(),
+        shelf,
+        out,
+        &NoGate,
+    );
     ExitCode::from(exited.code)
 }

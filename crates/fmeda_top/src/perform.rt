@@ -26,7 +26,7 @@ use crate::run::{run_anew, run_on, run_share};
 use crate::trace::tell_trace;
 use campaign_run::{End, Ran, Text};
 use campaign_shard::Shard;
-use claim_counter::{Alone, Turn, Waiting};
+use claim_counter::{Alone, Turn};
 use command_reads::judge::Judged;
 use commands::{Asked, FileNames, Task};
 use fm_shelf::shelf::{Shelf, Sink};
@@ -34,7 +34,6 @@ use refusals::refuse::{refuse, say_refused};
 use refusals::refused::Refused;
 use refusals::status::Status;
 use std::alloc::Global;
-use std::sync::Wait;
 use std::thread::Threads;
 use worker_gate::Gate;
 
@@ -225,17 +224,15 @@ pub fn waits_for_nobody(task: &Task) -> bool
     }
 }
 
-// Does what a command asks: reads its files, judges them, says the refusal or does what its task asks. Several workers of a campaign come
-// to the turn so.
-fn perform<R: Threads + Sync, F: Shelf + Send + Drop, O: Sink, G: Gate + Sync, T: Turn + Sync>(
-    rt: &R,
-    turn: &T,
-    alloc: Global,
-    asked: Asked<'_>,
-    shelf: F,
-    out: &mut O,
-    gate: &G,
-) -> Ended<F>
+/// Does what a command asks: reads its files, judges them, says the refusal or does what its task asks. Several workers of a campaign come
+/// to the turn so.
+pub(crate) fn perform<
+    R: Threads + Sync,
+    F: Shelf + Send + Drop,
+    O: Sink,
+    G: Gate + Sync,
+    T: Turn + Sync,
+>(rt: &R, turn: &T, alloc: Global, asked: Asked<'_>, shelf: F, out: &mut O, gate: &G) -> Ended<F>
     requires turn { ¬ (WaitsForNobody asked.task) → (share : ℕ) → T.admits share }
     requires fit { IsFit (told_by asked) }
     ensures { MayEnd (told_by asked.entry) result.status
@@ -272,21 +269,4 @@ pub fn perform_alone<R: Threads + Sync, F: Shelf + Send + Drop, O: Sink, G: Gate
         (outside (F.seen shelf) (O.seen out.old)) (outside (F.seen result.shelf) (O.seen out.new)) }
 {
     perform(rt, &Alone, alloc, asked, shelf, out, gate)
-}
-
-/// Does what a command asks, each worker of a campaign in a thread of its own, where they wait for each other.
-pub(crate) fn perform_shared<
-    R: Threads + Wait + Sync,
-    F: Shelf + Send + Drop,
-    O: Sink,
-    G: Gate + Sync,
->(rt: &R, alloc: Global, asked: Asked<'_>, shelf: F, out: &mut O, gate: &G) -> Ended<F>
-    requires fit { IsFit (told_by asked) }
-    ensures { MayEnd (told_by asked.entry) result.status
-        (outside (F.seen shelf) (O.seen out.old)) (outside (F.seen result.shelf) (O.seen out.new)) }
-{
-    if waits_for_nobody(&asked.task) {
-        return perform_alone(rt, alloc, asked, shelf, out, gate);
-    }
-    perform(rt, &Waiting::new(rt), alloc, asked, shelf, out, gate)
 }

@@ -1,15 +1,16 @@
 // The program, with the sink that its output goes to.
-ghost use Rattle.std.specs.Prelude.{◌≡◌, ◌≤◌, ◌⊎◌, drop, map, string_bytes};
+ghost use Rattle.std.specs.Prelude.{◌≡◌, ◌≤◌, ◌⊎◌, ℕ, drop, map, string_bytes};
 ghost use Rattle.fm_shelf.specs.Outside.{outside};
 ghost use Rattle.fm_shelf.specs.Sink.{with_more};
+ghost use Rattle.fmeda_top.specs.Words.{MayWait};
 ghost use Rattle.fmeda_top.specs.Program.{ProgramEnds, SendsRest, failed_code as failed_code_of};
 
-use crate::top::fmeda;
+use crate::top::fmeda_by;
+use claim_counter::Turn;
 use fm_shelf::paged::Paged;
 use fm_shelf::shelf::{Shelf, Sink};
 use refusals::status::Status;
 use std::alloc::Global;
-use std::sync::Wait;
 use std::thread::Threads;
 use worker_gate::Gate;
 
@@ -46,21 +47,22 @@ fn send_rest<O: Sink + Drop>(status: &Status, failures: u64, page: &mut Paged<O>
     }
 }
 
-/// Does what the words ask for, as `fmeda` does, and sends all that it has written on to `out`. The exit status is that of the call; where a write
+/// Does what the words ask for, as `fmeda_by` does, and sends all that it has written on to `out`. For words that aren't `run`, `resume` or `gen` of
+/// several workers it needs no turn, and so returns, as soon as threads of its own that it joins do. The exit status is that of the call; where a write
 /// of the output has failed, it is 21 if all else was done. Behind a write that failed nothing more is sent.
-pub fn program<R: Threads + Wait + Sync, F: Shelf + Send + Drop, O: Sink + Drop, G: Gate + Sync>(
-    rt: &R,
-    alloc: Global,
-    words: &[String],
-    shelf: F,
-    out: O,
-    gate: &G,
-) -> Exited<F, O>
+pub fn program<
+    R: Threads + Sync,
+    F: Shelf + Send + Drop,
+    O: Sink + Drop,
+    G: Gate + Sync,
+    T: Turn + Sync,
+>(rt: &R, turn: &T, alloc: Global, words: &[String], shelf: F, out: O, gate: &G) -> Exited<F, O>
+    requires turn { MayWait (map string_bytes words.now) → (share : ℕ) → T.admits share }
     ensures { ProgramEnds (map string_bytes words.now) result.code (outside (F.seen shelf) (O.seen out)) (outside (F.seen result.shelf) (O.seen result.out)) }
 {
     let failures = out.failures();
     let mut page = Paged::new(alloc, out);
-    let ended = fmeda(rt, alloc, words, shelf, &mut page, gate);
+    let ended = fmeda_by(rt, turn, alloc, words, shelf, &mut page, gate);
     let code = send_rest(&ended.status, failures, &mut page);
     Exited {
         code,

@@ -1,6 +1,6 @@
 -- What is noted of each name, and what is seen of a shelf then.
 use Rattle.std.proofs.Common.{◌≡◌, ◌≢◌, ℕ, zero, suc, ◌+◌, ◌<◌, ◌≤◌, ◌^◌, ◌-◌, Bool, true, false, List, [], ◌∷◌, ◌++◌, map, length, take, drop, get_or, set, refl, ap, sym, subst, ◌∙◌, arith, append_assoc, append-nil}
-use Rattle.std.specs.Prelude.{if◌then◌else◌, nat_lt}
+use Rattle.std.specs.Prelude.{if◌then◌else◌, nat_lt, Result}
 use Rattle.std.proofs.lemmas.Bool.Decides.{nat_tests}
 use Rattle.std.specs.Str.{bytes_eq}
 use Rattle.std.proofs.lemmas.Slice.Eq.{bytes_eq-Decides}
@@ -9,8 +9,9 @@ use Rattle.std.proofs.Math.Seq.{set_at, get_or-append_seam}
 use Rattle.fm_base.specs.Names.{Bytes}
 use Rattle.fm_shelf.specs.Content.{Content, Unknown, Absent, Held, IsThere}
 use Rattle.fm_shelf.specs.Past.{Given}
-use Rattle.fm_shelf.specs.Event.{Event, Read, given_of}
-use Rattle.fm_shelf.proofs.Pasts.{NotesChange, prefix_same, noted_read}
+use Rattle.fm_shelf.specs.Event.{Event, Unread}
+use Rattle.fm_shelf.specs.Noted.{read_by}
+use Rattle.fm_shelf.proofs.Pasts.{NotesChange, failed_read, noted_ask}
 use Rattle.fm_shelf.specs.Shelf.{CountRose, MayHaveMore, OnlyReads, OnlyWrites, ShelfState}
 use Rattle.stopped_runs.specs.declared.names.Told.{Told}
 use Rattle.stopped_runs.specs.declared.names.ToldNames.{ToldNames}
@@ -183,11 +184,11 @@ there_inner false content there = absurd there
 -- ---- a call that goes to the shelf behind
 
 module _ (inner now : ShelfState) (name : Bytes) (names : ToldNames) (events later : List Event) where
-  pub read_passes : (given : List Given) → OnlyReads inner now name → later ≡ Read name given ∷ events
+  pub read_passes : {E : Type 0} (at : ℕ) (piece : Bytes) (answer : Result ℕ E) → OnlyReads inner now name → later ≡ read_by name at piece answer ∷ events
       → OnlyReads (stopping_state inner names events) (stopping_state now names later) name
-  read_passes given rest is =
+  read_passes at piece answer rest is =
       let own =
-      noted_read inner.content inner.read_faults inner.read_faults inner.write_faults events later name given is
+      noted_ask inner.content inner.read_faults inner.read_faults inner.write_faults events later name at piece answer is
       (record { grows = λ other. omega arith; others = λ other ne there. refl }) in
       record {
         content = ap (λ (content : Bytes → Content). content_told content names.names.items) rest.content;
@@ -200,6 +201,7 @@ module _ (inner now : ShelfState) (name : Bytes) (names : ToldNames) (events lat
         more = own.more;
         gives = own.gives;
         changed = own.changed;
+        asks = own.asks;
       }
 
   pub write_passes : OnlyWrites inner now name → NotesChange events later name
@@ -215,6 +217,7 @@ module _ (inner now : ShelfState) (name : Bytes) (names : ToldNames) (events lat
     reads = λ other. ap (λ n. n + reads_of names other) (rest.reads other);
     changes = noted.changes;
     given = noted.given;
+    asked = noted.asked;
   }
     where
       unknown_passes : (b : Bool) → (if b then inner.content name else Unknown) ≡ Unknown → (inner.content name ≡ Unknown → now.content name ≡ Unknown)
@@ -237,17 +240,23 @@ module _ (inner now : ShelfState) (name : Bytes) (before after : ToldNames) (eve
     read_grows other =
         rw (notes.names, notes.reads) (counts_grow name (read_noted name) (read_keeps name) (λ it. it.reads) (read_hits name) (read_misses name) before.other_reads before.names.items other)
 
-    pub read_stops : OnlyReads (stopping_state inner before events) (stopping_state inner after events) name
-    read_stops = record {
+    pub read_stops : (later : List Event) → later ≡ Unread name ∷ events
+        → OnlyReads (stopping_state inner before events) (stopping_state inner after later) name
+    read_stops later is =
+      let own =
+      failed_read inner.content inner.read_faults inner.read_faults inner.write_faults events later name is
+      (record { grows = λ other. omega arith; others = λ other ne there. refl }) in
+      record {
       content = λ i other. content_told_at (is_same other i) other;
       counts = record {
         grows = λ other. let more = read_grows other in omega (arith, more);
         others = λ other ne there. ap (λ n. inner.read_faults other + n) (stays other ne (there_told inner.content before.names.items other there));
       };
       writes = λ other. ap (λ n. inner.write_faults other + n) (writes_same other);
-      more = λ other. prefix_same (given_of events other);
-      gives = λ other ne. refl;
-      changed = refl;
+      more = own.more;
+      gives = own.gives;
+      changed = own.changed;
+      asks = own.asks;
     }
       where
         content_told_at : Bool → Bytes → Content
@@ -294,6 +303,7 @@ module _ (inner now : ShelfState) (name : Bytes) (before after : ToldNames) (eve
       reads = λ other. ap (λ n. n + reads_of after other) (rest.reads other) ∙ ap (λ n. inner.read_faults other + n) (reads_same other);
       changes = noted.changes;
       given = noted.given;
+      asked = noted.asked;
     }
       where
         by_told : (other : Bytes) → is_told after.names.items other ≡ is_told before.names.items other → now.content other ≡ inner.content other
@@ -337,6 +347,7 @@ unwritten inner name = record {
   reads = λ other. refl;
   changes = λ other ne. refl;
   given = refl;
+  asked = refl;
 }
 
 pub unappended : (content : Content) (piece : Bytes) → MayHaveMore content content piece

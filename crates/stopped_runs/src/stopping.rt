@@ -1,5 +1,5 @@
 // A shelf on which a stop comes.
-ghost use Rattle.std.specs.Prelude.{◌≡◌, ◌++◌, ◌<◌, ◌≤◌, ◌-◌, Some, None, length, take, map, OnOk, OnErr, IfOk, IsErr, true};
+ghost use Rattle.std.specs.Prelude.{◌≡◌, ◌++◌, ◌<◌, ◌≤◌, ◌+◌, ◌-◌, Some, None, length, take, map, OnOk, OnErr, IfOk, IsErr, true};
 ghost use Rattle.fm_shelf.specs.Content.{Absent, IfPresent};
 ghost use Rattle.fm_shelf.specs.Past.{cut_by, given_by, taken_by};
 ghost use Rattle.fm_shelf.specs.Shelf.{CountRose, IsPieceRead, OnlyReads, OnlyWrites, Becomes, MayBecome, Appends, MayAppend, MayHaveMore};
@@ -95,6 +95,8 @@ impl<F: Shelf + Drop> Shelf for StoppingShelf<F> {
             ((stopping_state (F.seen self.new.shelf) self.new.told self.new.past.events).read_faults name.now)) }
         ensures given { (stopping_state (F.seen self.new.shelf) self.new.told self.new.past.events).given name.now
             ≡ (stopping_state (F.seen self.old.shelf) self.old.told self.old.past.events).given name.now ++ given_by at piece.new result }
+        ensures asked { (stopping_state (F.seen self.new.shelf) self.new.told self.new.past.events).asked name.now
+            ≡ (stopping_state (F.seen self.old.shelf) self.old.told self.old.past.events).asked name.now + 1 }
         ensures rest { OnlyReads (stopping_state (F.seen self.old.shelf) self.old.told self.old.past.events) (stopping_state (F.seen self.new.shelf) self.new.told self.new.past.events) name.now }
         ensures stop { self.new.stop ≡ behind_call self.old.stop }
         ensures fails { self.old.stop.calls ≡ 0 → IsErr result }
@@ -103,7 +105,15 @@ impl<F: Shelf + Drop> Shelf for StoppingShelf<F> {
         if self.stop.calls == 0 {
             self.stop.torn = None;
             self.told.note_read(name);
-            return Err(Failed);
+            let answer = Err(Failed);
+            let piece = &*piece;
+            self.past = self.past.then(&Note::Read {
+                name,
+                at,
+                piece,
+                answer,
+            });
+            return answer;
         }
         self.stop.calls -= 1;
         let answer = self.shelf.read(name, at, piece);

@@ -10,14 +10,14 @@ use Rattle.fmeda_top.proofs.program.program.Goals as goal
 pub returns : goal.returns
 returns g c =
     let words = map string_bytes c.args.words.now in
-    let ended = c.fmeda-ended.result.status in
+    let ended = c.fmeda_by-ended.result.status in
     let before : Outside = outside (g.F.Shelf.seen c.args.shelf) (g.O.Sink.seen c.args.out) in
-    let shelf = g.F.Shelf.seen c.fmeda-ended.result.shelf in
+    let shelf = g.F.Shelf.seen c.fmeda_by-ended.result.shelf in
     let first = c.new-page.result in
-    let page = c.fmeda-ended.new.out in
+    let page = c.fmeda_by-ended.new.out in
     let told : SinkState = record { written = with_more (g.O.Sink.seen page.out).written (drop page.sent page.page.items); faults = (g.O.Sink.seen page.out).faults } in
     let began = page_begins (g.O.Sink.seen c.args.out) (g.O.Sink.seen first.out) (drop first.sent first.page.items) (ap g.O.Sink.seen c.new-page.ensures.out) c.new-page.ensures.waits in
-    let promised = subst (λ (s : SinkState). Promises words ended (outside (g.F.Shelf.seen c.args.shelf) s) (outside shelf told)) began c.fmeda-ended.ensures.promises in
+    let promised = subst (λ (s : SinkState). Promises words ended (outside (g.F.Shelf.seen c.args.shelf) s) (outside shelf told)) began c.fmeda_by-ended.ensures.promises in
     subst (λ (out : g.row.O.Denot). ProgramEnds words c.send_rest-code.result before (outside shelf (g.O.Sink.seen out))) (sym c.into_sink.ensures)
     (program_ends words ended c.send_rest-code.result before shelf told (g.O.Sink.seen c.send_rest-code.new.page.out) promised c.send_rest-code.ensures.grows
     (rw c.failures-failures.ensures at c.send_rest-code.ensures.sends))

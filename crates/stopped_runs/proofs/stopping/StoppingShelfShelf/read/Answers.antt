@@ -1,5 +1,5 @@
 use Rattle.std.proofs.Common.{append-nil, sym}
-use Rattle.fm_shelf.proofs.Pasts.{adds_given}
+use Rattle.fm_shelf.proofs.Pasts.{asked_once, given_once}
 use Rattle.stopped_runs.proofs.Noting.{read_passes, read_rises, read_stops}
 use Rattle.stopped_runs.proofs.stopping.StoppingShelfShelf.read.Goals as goal
 
@@ -10,15 +10,17 @@ returns-then-self-eq0-clause-failed g c =
 pub returns-then-self-eq0-clause-rest : goal.returns-then-self-eq0-clause-rest
 returns-then-self-eq0-clause-rest g c =
     read_stops (g.F.Shelf.seen c.args.self.now.shelf) (g.F.Shelf.seen c.args.self.now.shelf) c.args.name.now c.args.self.now.told c.note_read.new.self c.args.self.now.past.events c.note_read.ensures
-
--- a read that failed has given nothing
-pub returns-then-self-eq0-clause-given : goal.returns-then-self-eq0-clause-given
-returns-then-self-eq0-clause-given g c = sym (append-nil _)
+    c.then-self.result.events c.then-self.ensures
 
 pub returns-clause-given : goal.returns-clause-given
-returns-clause-given g c = adds_given c.args.self.now.past.events c.then-self.result.events c.args.name.now _ c.then-self.ensures
+returns-clause-given g c =
+    given_once c.args.self.now.past.events c.then-self-2.result.events c.args.name.now c.args.at c.read-answer.new.piece c.read-answer.result c.then-self-2.ensures
+
+pub returns-clause-asked : goal.returns-clause-asked
+returns-clause-asked g c =
+    asked_once c.args.self.now.past.events c.then-self-2.result.events c.args.name.now c.args.at c.read-answer.new.piece c.read-answer.result c.then-self-2.ensures
 
 pub returns-clause-rest : goal.returns-clause-rest
 returns-clause-rest g c =
-    read_passes (g.F.Shelf.seen c.args.self.now.shelf) (g.F.Shelf.seen c.read-answer.new.self) c.args.name.now c.args.self.now.told c.args.self.now.past.events c.then-self.result.events _
-    c.read-answer.ensures.rest c.then-self.ensures
+    read_passes (g.F.Shelf.seen c.args.self.now.shelf) (g.F.Shelf.seen c.read-answer.new.self) c.args.name.now c.args.self.now.told c.args.self.now.past.events c.then-self-2.result.events
+    c.args.at c.read-answer.new.piece c.read-answer.result c.read-answer.ensures.rest c.then-self-2.ensures
