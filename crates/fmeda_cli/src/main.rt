@@ -1,6 +1,9 @@
 // The program: words, files and standard output are those of the system.
 #![tactic(auto)]
 
+mod help;
+
+use crate::help::HELP;
 use claim_counter::Waiting;
 use fm_shelf::real::{FileShelf, OutSink};
 use fmeda_top::program::program;
@@ -10,6 +13,9 @@ use worker_gate::NoGate;
 
 /// The exit status where the system doesn't give the words.
 const NO_WORDS: u8 = 22;
+
+/// The exit status where the words are no command.
+const NO_COMMAND: u8 = 2;
 
 // The words of the command line, the program's name first.
 fn words(rt: &HostRuntime) -> io::Result<Vec<String>> {
@@ -35,5 +41,9 @@ fn main(rt: HostRuntime) -> ExitCode {
         out,
         &NoGate,
     );
+    if exited.code == NO_COMMAND {
+        // Nobody is told where even this can't be written.
+        let _told = rt.eprintln(HELP);
+    }
     ExitCode::from(exited.code)
 }
