@@ -87,13 +87,13 @@ def an_archive_of_a_release(folder, program):
     _committed(copy)
     said = _dist(copy, program)
     commit = subprocess.run(["git", "rev-parse", "HEAD"], cwd=copy, check=True, capture_output=True, text=True).stdout.strip()
-    archive = copy / "build" / f"fmeda-{commit[:12]}.tar.gz"
+    archive = copy / "build" / f"fmeda-1.0.0-{commit[:12]}.tar.gz"
     first = archive.read_bytes()
     assert f"build/{archive.name} " in said.splitlines()[-1], said
     with tarfile.open(archive) as packed:
-        assert all(entry.name.startswith(f"fmeda-{commit[:12]}") and entry.uid == 0 for entry in packed)
+        assert all(entry.name.startswith(f"fmeda-1.0.0-{commit[:12]}") and entry.uid == 0 for entry in packed)
         packed.extractall(folder)
-    unpacked = pathlib.Path(folder, f"fmeda-{commit[:12]}")
+    unpacked = pathlib.Path(folder, f"fmeda-1.0.0-{commit[:12]}")
     told = dict(line.split(" ", 1) for line in unpacked.joinpath("RELEASE").read_text().splitlines()[:6])
     listed = subprocess.run("git ls-files -z | xargs -0 sha256sum | sha256sum", shell=True, cwd=copy, check=True, capture_output=True, text=True).stdout.split()[0]
     digest = subprocess.run(["sha256sum", str(program)], check=True, capture_output=True, text=True).stdout.split()[0]

@@ -80,7 +80,7 @@ impl<F: Shelf + Drop, N: Origin> Board<F, N> {
             Err(no_room) => return Err(NoBoard { shelf, no_room }),
         };
         let sums = last_sums(rows.as_slice());
-        let rows = match with_room_for(rows, batches as usize) {
+        let rows = match with_room(rows, batches as usize) {
             Ok(rows) => rows,
             Err(no_room) => return Err(NoBoard { shelf, no_room }),
         };
@@ -180,7 +180,7 @@ impl<F: Shelf + Drop, N: Origin> Board<F, N> {
 }
 
 // The rows, with room for one for each batch.
-fn with_room_for(rows: RowList, batches: usize) -> Result<Vec<Row>, NoRoom>
+fn with_room(rows: RowList, batches: usize) -> Result<Vec<Row>, NoRoom>
     requires { length rows ≤ batches }
     ensures rows { IfOk result (λ v. v.items ≡ rows) }
     ensures room { IfOk result (λ v. batches ≤ vec_capacity v) }
