@@ -1,22 +1,27 @@
 -- Where the first of a name stands, when one more comes.
-use Rattle.std.proofs.Common.{◌≡◌, ℕ, ◌<◌, Bool, cond, List, [], ◌∷◌, ◌++◌, sym, ◌∙◌, length, arith}
-use Rattle.std.specs.Prelude.{Option, Some, None, MatchOption, bytes_eq, find, position}
+use Rattle.std.proofs.Common.{◌≡◌, ℕ, ◌<◌, Bool, true, false, cond, List, [], ◌∷◌, ◌++◌, refl, ap, sym, ◌∙◌, length, arith}
+use Rattle.std.specs.Prelude.{Some, None, MatchOption, bytes_eq, find, position}
 use Rattle.std.specs.Option.{option_or}
 use Rattle.std.specs.List.{slice_get}
 use Rattle.std.specs.Borrow.{Bor}
 use Rattle.std.proofs.lemmas.Bool.Decides.{nat_tests}
 use Rattle.std.proofs.lemmas.List.Folds.{find_at}
 use Rattle.std.proofs.lemmas.Option.{slice_get-map, slice_get_past, slice_get_read}
-use Rattle.std.proofs.lemmas.Slice.Eq.{bytes_eq-Decides}
+use Rattle.fm_base.proofs.Distinct.{bytes_eq-sym}
 use Rattle.fm_base.proofs.Finding.{position-snoc}
-use Rattle.fm_base.proofs.Options.{or_none}
 use Rattle.blif_flatten.specs.Places.{AreNamePlaces, place_in}
 
--- a name with no place gets one
-pub added_new : (f g : List ℕ → Option ℕ) (name : List ℕ) (place : ℕ) → f name ≡ None
-    → ((q : List ℕ) → g q ≡ cond (bytes_eq name q) (Some place) (f q))
-    → (q : List ℕ) → g q ≡ option_or (f q) (cond (bytes_eq name q) (Some place) None)
-added_new f g name place none e q = grind (arith, nat_tests, e q, (bytes_eq-Decides name q).0, or_none (f q))
+-- one more entry, behind the others
+pub added_last : (es : List (Bor (List ℕ) × ℕ)) (name : Bor (List ℕ)) (place : ℕ) (q : List ℕ)
+    → place_in (es ++ (name, place) ∷ []) q ≡ option_or (place_in es q) (cond (bytes_eq name.now q) (Some place) None)
+added_last [] name place q = ap (λ b. cond b (Some place) None) (bytes_eq-sym q name.now)
+added_last (e ∷ es) name place q = by_cases (bytes_eq q e.0.now) (added_last es name place q)
+  where
+    by_cases : (b : Bool) → place_in (es ++ (name, place) ∷ []) q ≡ option_or (place_in es q) (cond (bytes_eq name.now q) (Some place) None)
+        → cond b (Some e.1) (place_in (es ++ (name, place) ∷ []) q)
+        ≡ option_or (cond b (Some e.1) (place_in es q)) (cond (bytes_eq name.now q) (Some place) None)
+    by_cases true more = refl
+    by_cases false more = more
 
 -- what stands at the first place that passes
 pub placed : {X : Type 0} (p : X → Bool) (xs : List X)

@@ -29,7 +29,7 @@ walked_then a b xs ys (Some c) one two = (two.0 ∙ one.0, two.1 ∙ rw one.1 (a
 
 -- a name too many stays one
 pub walked_past : (a : Walked) (xs ys : List Step) → IsWalkedOn a xs None → IsWalkedOn a (xs ++ ys) None
-walked_past a xs ys past = rw (← append_assoc (walked_steps a) xs ys) (omega (arith, past, names_longer (walked_steps a ++ xs) ys))
+walked_past a xs ys past = rw (← append_assoc (walked_steps a) xs ys) (past.0, omega (arith, past.1, names_longer (walked_steps a ++ xs) ys))
 
 -- by the step of a line
 pub line_walked : (w : Walked) (new : List Name) (line : ℕ) (act : Option NumberedAct) (acts : List Act)

@@ -1,5 +1,5 @@
 // The way from the models of a file to the flattened main model.
-ghost use Rattle.std.specs.Prelude.{◌≡◌, ◌<◌, ◌≤◌, IfOk, IfSome, length, MatchOption};
+ghost use Rattle.std.specs.Prelude.{◌≡◌, ◌<◌, ◌≤◌, ◌-◌, ◌^◌, IfOk, IfSome, length, MatchOption};
 ghost use Rattle.blif_model.specs.Walk.{walk};
 ghost use Rattle.blif_flatten.specs.Flat.{all_names};
 ghost use Rattle.blif_flatten.specs.Flattened.{flat_steps};
@@ -35,7 +35,7 @@ pub fn flatten<'m, 'a>(
     models: &ModelTable<'m, 'a>,
     most: usize,
 ) -> Result<Option<FlatModel<'m, 'a>>, NoRoom>
-    ensures steps { IfOk result (λ o. MatchOption o (most < length (all_names (walk models.now))) (λ f. flat_steps f ≡ walk models.now)) }
+    ensures steps { IfOk result (λ o. MatchOption o ((most < 2 ^ 64 - 1) × (most < length (all_names (walk models.now)))) (λ f. flat_steps f ≡ walk models.now)) }
     ensures fits { IfOk result (λ o. IfSome o (λ f. length f.names ≤ most)) }
 {
     let names = NetNames {

@@ -1,5 +1,5 @@
 // The models of a file, and the models that each of them instances.
-ghost use Rattle.std.specs.Prelude.{◌≡◌, ◌<◌, ◌^◌, ℕ, None, IfOk, map, min};
+ghost use Rattle.std.specs.Prelude.{◌≡◌, ℕ, None, IfOk, map, min};
 ghost use Rattle.std.specs.Option.{option_or};
 ghost use Rattle.blif_model.specs.ModelFault.{recursive, too_deep, two_models};
 ghost use Rattle.blif_model.specs.Models.{Model, sum_over_instances};

@@ -1,5 +1,5 @@
 // Rounds over the models.
-ghost use Rattle.std.specs.Prelude.{◌≡◌, ◌+◌, ◌≤◌, ◌<◌, ◌^◌, ℕ, IfOk, length, map, min, sum_by, slice_index};
+ghost use Rattle.std.specs.Prelude.{◌≡◌, ◌+◌, ℕ, IfOk, length, map, min, sum_by, slice_index};
 ghost use Rattle.blif_model.specs.Models.{Model, sum_over_instances};
 ghost use Rattle.blif_hierarchy.specs.Rounds.{next_round, rounds};
 

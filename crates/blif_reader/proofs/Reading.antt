@@ -1,5 +1,5 @@
 -- What is answered for a file, from what is found of its models and of their walk.
-use Rattle.std.proofs.Common.{◌≡◌, ℕ, ◌+◌, ◌<◌, ◌^◌, List, [], ◌∷◌, refl, ap, ◌∙◌, length, arith}
+use Rattle.std.proofs.Common.{◌≡◌, ℕ, ◌+◌, ◌-◌, ◌<◌, ◌^◌, min, List, [], ◌∷◌, refl, ap, ◌∙◌, length, arith}
 use Rattle.std.specs.Prelude.{Option, Some, None, Err, nat_lt}
 use Rattle.std.specs.Option.{option_or}
 use Rattle.blif_text.specs.declared.NetlistFault.{NetlistFault}
@@ -28,8 +28,9 @@ use Rattle.blif_reader.proofs.FlatSteps.{given_or}
 use Rattle.blif_reader.proofs.Mentions.{few_clocks}
 
 -- more names than nets and mentions of clock names allow
-pub over_names : (models : List Model) (most : ℕ) → most ≡ 2 ^ 18 + count_of_mentions models → most < length (all_names (walk models)) → 2 ^ 18 < length (nets_of (walk models))
-over_names models most counted over = let names = few_names (walk models) in let clocks = few_clocks models in omega arith
+pub over_names : (models : List Model) (most : ℕ) → most ≡ min (2 ^ 64 - 1) (2 ^ 18 + count_of_mentions models)
+    → (most < 2 ^ 64 - 1) × (most < length (all_names (walk models))) → 2 ^ 18 < length (nets_of (walk models))
+over_names models most counted over = let names = few_names (walk models) in let clocks = few_clocks models in omega (arith, over.0, over.1)
 
 -- the kinds of faults of models
 model_kinds : (models : List Model)
@@ -59,4 +60,4 @@ file_is bytes = netlist-told bytes ∙ by_cases (line_fault (said_lines bytes))
 -- a file of which no models are read
 pub gives_unread : (bytes : Bytes) (refusal : Refusal NetlistFault) → Gives (models_read bytes) (Err refusal) → Gives (netlist_of bytes) (Err refusal)
 gives_unread bytes (Fault fault) told = file_is bytes ∙ ap file_gives told
-gives_unread bytes Memory told = told
+gives_unread bytes (Memory no_room) told = told

@@ -1,5 +1,5 @@
 // Instances, cells and clock names of a model, counted line by line.
-ghost use Rattle.std.specs.Prelude.{◌≡◌, ◌+◌, ◌*◌, ◌<◌, ◌≤◌, ◌^◌, length, max, min, sum_by};
+ghost use Rattle.std.specs.Prelude.{◌≡◌, ◌+◌, ◌*◌, length, max, min, sum_by};
 ghost use Rattle.std.specs.Option.{option_to_list};
 ghost use Rattle.blif_model.specs.Grouped.{model_of};
 ghost use Rattle.blif_model.specs.Meant.{control_said, meant};

@@ -1,5 +1,5 @@
 // The netlist of a flattened model.
-ghost use Rattle.std.specs.Prelude.{◌≡◌, ◌<◌, ◌≤◌, ◌^◌, IfOk, None, length};
+ghost use Rattle.std.specs.Prelude.{◌≡◌, ◌≤◌, ◌^◌, IfOk, None, length};
 ghost use Rattle.circuit.specs.Sound.{IsNetlist};
 ghost use Rattle.blif_model.specs.Net.{circuit_of};
 ghost use Rattle.blif_model.specs.Walk.{nets_of};
@@ -23,7 +23,6 @@ pub fn flat_netlist(
     clocks: &[bool],
 ) -> Result<Netlist, NoRoom>
     requires clocks { AreClockMarks flat.now clocks.now }
-    requires few_names { length flat.now.names < 2 ^ 32 }
     requires few { length (nets_of (flat_steps flat.now)) ≤ 2 ^ 18 }
     requires unfaulted { walk_fault (flat_steps flat.now) ≡ None }
     requires sound { IsNetlist (circuit_of (flat_steps flat.now)) }

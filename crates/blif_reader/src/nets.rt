@@ -1,5 +1,5 @@
 // Nets: how many there are, their names, and the number of each name's net.
-ghost use Rattle.std.specs.Prelude.{◌≡◌, ◌∷◌, ◌++◌, [], ◌+◌, ◌<◌, ◌^◌, Bool, IfOk, OnOk, count_by, filter, if◌then◌else◌, length, map, not, slice_index_or};
+ghost use Rattle.std.specs.Prelude.{◌≡◌, ◌∷◌, ◌++◌, [], ◌+◌, ◌<◌, ◌≤◌, ◌^◌, Bool, IfOk, OnOk, count_by, filter, if◌then◌else◌, length, map, not, slice_index_or};
 ghost use Rattle.fm_base.specs.Names.{Name};
 ghost use Rattle.blif_model.specs.Walk.{nets_of};
 ghost use Rattle.blif_flatten.specs.Flattened.{flat_steps};
@@ -72,7 +72,7 @@ fn next_number(is_clock: bool, next: u32) -> u32
 }
 
 fn numbers_by(alloc: Global, clocks: &[bool]) -> Result<Vec<NetId>, NoRoom>
-    requires { length clocks.now < 2 ^ 32 }
+    requires { count_by not clocks.now ≤ 2 ^ 18 }
     ensures { IfOk result (λ numbers. numbers.items ≡ numbers_from 0 (count_by not clocks.now) clocks.now) }
 {
     let behind = net_count(clocks) as u32;
@@ -92,7 +92,7 @@ pub fn net_numbers(
     clocks: &[bool],
 ) -> Result<Vec<NetId>, NoRoom>
     requires marks { AreClockMarks flat.now clocks.now }
-    requires few { length flat.now.names < 2 ^ 32 }
+    requires few { length (nets_of (flat_steps flat.now)) ≤ 2 ^ 18 }
     ensures { IfOk result (λ numbers. AreNetNumbers flat.now numbers.items) }
 {
     numbers_by(alloc, clocks)

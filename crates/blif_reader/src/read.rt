@@ -1,5 +1,5 @@
 // Reads the netlist of a file.
-ghost use Rattle.std.specs.Prelude.{◌≡◌, ◌<◌, ◌≤◌, ◌^◌, IfOk, length, nat_lt};
+ghost use Rattle.std.specs.Prelude.{◌≡◌, ◌≤◌, ◌^◌, IfOk, length, nat_lt};
 ghost use Rattle.blif_text.specs.declared.NetlistKind.TheVariants.{TooLarge};
 ghost use Rattle.blif_model.specs.LineFault.{at_line};
 ghost use Rattle.blif_model.specs.Models.{main_of};
@@ -60,8 +60,7 @@ fn read_flat(
     flat: &FlatModel<'_, '_>,
     line: u32,
 ) -> Result<Netlist, Refusal<NetlistFault>>
-    requires sound { IsNetlistIfGiven (walk_gives (flat_steps flat.now) line) }
-    requires few { length flat.now.names < 2 ^ 32 }
+    requires { IsNetlistIfGiven (walk_gives (flat_steps flat.now) line) }
     ensures { Gives (walk_gives (flat_steps flat.now) line) result }
 {
     let clocks = clock_marks(alloc, flat)?;

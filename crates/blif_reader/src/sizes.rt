@@ -1,5 +1,5 @@
 // Numbers of the flattened main model, summed without a walk.
-ghost use Rattle.std.specs.Prelude.{◌≡◌, ◌+◌, ◌<◌, ◌^◌, ◌||◌, IfOk, map, min, nat_lt};
+ghost use Rattle.std.specs.Prelude.{◌≡◌, ◌+◌, ◌-◌, ◌^◌, ◌||◌, IfOk, map, min, nat_lt};
 ghost use Rattle.blif_model.specs.Grouped.{model_of};
 ghost use Rattle.blif_model.specs.ModelSteps.{count_of_cells, count_of_instances};
 ghost use Rattle.blif_reader.specs.Counts.{main_count, model_count};

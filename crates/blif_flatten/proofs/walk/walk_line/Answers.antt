@@ -7,7 +7,7 @@ pub returns-then-len-most : goal.returns-then-len-most
 returns-then-len-most c =
     let new = c.act_of.new.names.index in
     let on = line_walked c.args.walked new c.args.line c.in_ok-act.act _ c.in_ok-act.ensures.numbered c.in_ok-act.ensures.act in
-    rw (← on.1, ← all_are on.0) (omega arith)
+    rw (← on.1, ← all_are on.0) (omega arith, omega arith)
 
 pub invariant_of-result : goal.invariant_of-result
 invariant_of-result c =

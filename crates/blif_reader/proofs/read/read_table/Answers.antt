@@ -4,8 +4,8 @@ use Rattle.blif_model.specs.Walk.{nets_of, walk}
 use Rattle.blif_reader.proofs.Reading.{over_names}
 use Rattle.blif_reader.proofs.read.read_table.Goals as goal
 
-pub read_flat-requires-clause-sound : goal.read_flat-requires-clause-sound
-read_flat-requires-clause-sound c =
+pub read_flat-requires : goal.read_flat-requires
+read_flat-requires c =
     let same = rw c.in-Some-2.is at c.in_ok-flat.ensures.steps in
     λ p e. c.requires p (rw (sym c.in_ok-fault.ensures ∙ c.in-None.is, sym same, sym c.main_line-line.ensures) e)
 
