@@ -1,16 +1,35 @@
 // The four input files of a small campaign, and what is worked out of them by hand.
-use room::{NoRoom, from_str};
+use room::{NoRoom, extend, from_slice, from_str, push};
 use std::alloc::Global;
-use std::fmt::Write;
+
+// Adds a number of at most two digits.
+fn put_number(text: &mut Vec<u8>, number: u8) -> Result<(), NoRoom> {
+    if number >= 10 {
+        push(text, b'0' + number / 10)?;
+    }
+    push(text, b'0' + number % 10)
+}
+
+// Bytes as a text; none where they aren't one.
+fn text_of(alloc: Global, bytes: Vec<u8>) -> Result<String, NoRoom> {
+    match String::from_utf8(bytes) {
+        Ok(text) => Ok(text),
+        Err(_) => from_str(alloc, ""),
+    }
+}
 
 /// 33 nets n0 to n32 in a row, with n32 observed, no alarm, and a rate of 1 FIT for each fault.
 pub fn chain(alloc: Global) -> Result<String, NoRoom> {
-    let mut netlist = from_str(alloc, ".model chain\n.inputs n0\n.outputs n32\n")?;
-    for i in 0..32 {
-        write!(netlist, ".names n{i} n{}\n1 1\n", i + 1)?;
+    let mut netlist = from_slice(alloc, b".model chain\n.inputs n0\n.outputs n32\n")?;
+    for i in 0..32u8 {
+        extend(&mut netlist, b".names n")?;
+        put_number(&mut netlist, i)?;
+        extend(&mut netlist, b" n")?;
+        put_number(&mut netlist, i + 1)?;
+        extend(&mut netlist, b"\n1 1\n")?;
     }
-    netlist.push_str(".end\n")?;
-    Ok(netlist)
+    extend(&mut netlist, b".end\n")?;
+    text_of(alloc, netlist)
 }
 
 pub const WORKLOAD: &str = "workload,kind,n0\nw,mission,0\nw,mission,1\n";
@@ -21,14 +40,18 @@ pub const POINTS: &str = "kind,net\nobserve,n32\n";
 
 /// The report of the chain. Its faults stand in the order of the nets: n32 is the second one, since outputs stand before tables.
 pub fn chain_report(alloc: Global) -> Result<String, NoRoom> {
-    let mut text = from_str(alloc, CHAIN_HEAD)?;
-    for net in 1..32 {
-        for value in 0..2 {
-            write!(text, "single-point n{net}/{value} 1000000\n")?;
+    let mut text = from_slice(alloc, CHAIN_HEAD.as_bytes())?;
+    'nets: for net in 1..32u8 {
+        for value in 0..2u8 {
+            extend(&mut text, b"single-point n")?;
+            put_number(&mut text, net)?;
+            push(&mut text, b'/')?;
+            put_number(&mut text, value)?;
+            extend(&mut text, b" 1000000\n")?;
         }
     }
-    text.push_str("end\n")?;
-    Ok(text)
+    extend(&mut text, b"end\n")?;
+    text_of(alloc, text)
 }
 
 const CHAIN_HEAD: &str = "fmeda-report 1
