@@ -8,6 +8,7 @@ ghost use Rattle.campaign_run.specs.Origins.{origin_of};
 ghost use Rattle.campaign_run.specs.Starting.{StartsFrom};
 ghost use Rattle.campaign_run.specs.Steps.{IsNewBoard, HasWorked};
 ghost use Rattle.campaign_run.specs.Ran.{HasRun};
+ghost use Rattle.room.specs.declared.edge.NoRoom.{NoRoom};
 
 use crate::campaign::Campaign;
 use crate::run::{End, Ran};

@@ -1,5 +1,6 @@
 ghost use Rattle.std.specs.Prelude.{◌≡◌};
 ghost use Rattle.campaign_shard.specs.RanPart.{HasRunPart};
+ghost use Rattle.room.specs.declared.edge.NoRoom.{NoRoom};
 
 use crate::over::run_over;
 use crate::part::PartCampaign;

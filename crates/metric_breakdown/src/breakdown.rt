@@ -5,6 +5,7 @@ ghost use Rattle.fm_base.specs.declared.refusal.Refusal.TheVariants.{Fault as Fa
 ghost use Rattle.fm_shelf.specs.Sink.{Wrote, WrotePrefix};
 ghost use Rattle.fm_shelf.specs.declared.shelf.Failed.{Failed as FailedValue};
 ghost use Rattle.readings.specs.Breakdown.{breakdown};
+ghost use Rattle.room.specs.declared.edge.NoRoom.{NoRoom};
 
 use crate::fan_out::reading_sums;
 use crate::text::write_text;
