@@ -16,6 +16,7 @@ use Rattle.refusals.specs.declared.status.Status.TheVariants as status
 use Rattle.refusals.specs.NetlistFile.{is_bench, netlist_in, or_refuse}
 use Rattle.refusals.specs.Refusals.{HasItsNets, IsPlain}
 use Rattle.refusals.proofs.Refusals.{ok_same}
+use Rattle.refusals.proofs.WantOfMemory.{evidence_of}
 use Rattle.command_reads.specs.declared.netlist.Ordered.{Ordered}
 use Rattle.command_reads.specs.Files.{Reads, known_by}
 use Rattle.command_reads.specs.FirstRefusal.{netlist_read, netlist_step, unless, whole, ◌>>=◌}
@@ -73,7 +74,7 @@ module _ (name : Bytes) (reads : Reads) where
       pub net_ordered : (result : Result Ordered Refused) → OrdersAs c result → NetTakenAs name reads result
       net_ordered (Ok made) (same, order, no_loop) =
           (over None ∙ ap (λ d. Ok d) (sym same), loops_are None no_loop)
-      net_ordered (Err (By ended)) memory = (inl memory, subst IsPlain (sym memory) tt)
+      net_ordered (Err (By ended)) memory = (inl memory, subst IsPlain (sym (evidence_of ended memory).1) tt)
       net_ordered (Err (Looped walk net)) (same, loop) = (inr (Some walk, loops_are (Some walk) loop, over (Some walk)), nets)
         where
           nets : HasItsNets name (known_by (reads which.Netlist)) (Looped walk net)

@@ -18,7 +18,7 @@ use Rattle.refusals.specs.WantOfMemory.{IsMemory}
 use Rattle.command_reads.specs.Files.{Reads, known_by}
 use Rattle.command_reads.specs.FirstRefusal.{Judged}
 use Rattle.fmeda_top.specs.TaskRefusals.{task_refusal}
-use Rattle.fmeda_top.specs.Ends.{IsDoneOrFailed, PrintsAs, WritesAs}
+use Rattle.fmeda_top.specs.Ends.{IsDoneOrFailed, IsSimulated, PrintsAs, WritesAs}
 use Rattle.fmeda_top.specs.Doing.{DoesAs, DoesItsTask, HasRefused, PrintedAs, TellsAs}
 use Rattle.fmeda_top.proofs.Ending.{memory_said}
 
@@ -40,7 +40,7 @@ module _ (command : Command) (made : Judged) (reads : Reads) (shelf : ShelfState
   HasTold text =
       let name : Bytes = command.files which.Result in
       MatchOption text (KeepsOthers before.shelf after.shelf name × WritesAs command.task made reads name before after ended)
-      (λ t. PrintsAs t ended before after)
+      (λ t. PrintsAs t ended before after × IsSimulated command.task)
 
   unchanged : IsUnchanged shelf shelf
   unchanged = record { content = refl; changed = refl }
@@ -48,8 +48,8 @@ module _ (command : Command) (made : Judged) (reads : Reads) (shelf : ShelfState
   -- a text went out, or a prefix of it, and nothing else
   does_print : (how : Status) → TellsAs command.task made out mid (Ok how) → PrintedAs (Ok how) ended mid now command.files
       → DoesItsTask command made reads ended before after
-  does_print how (free, grows, (text, is, sent)) (same, kept) =
-      inl (subst DoesUnless (sym free) (subst HasTold (sym is) (unchanged, by_sent sent)))
+  does_print how (free, grows, (text, is, sent), by) (same, kept) =
+      inl (subst DoesUnless (sym free) (subst HasTold (sym is) ((unchanged, by_sent sent), by)))
     where
       by_sent : ((how ≡ status.Done) × Wrote out mid text) ⊎ ((how ≡ status.OutFault) × WrotePrefix out mid text)
           → ((ended ≡ status.Done) × Wrote out now text) ⊎ ((ended ≡ status.OutFault) × WrotePrefix out now text)
@@ -65,7 +65,7 @@ module _ (command : Command) (made : Judged) (reads : Reads) (shelf : ShelfState
       said held = subst (λ s. IsSaidOf held s now command.files why) kept (line held plain)
 
       by_cause : IsMemory why ⊎ (task_refusal command.task made ≡ Some why) → DoesItsTask command made reads ended before after
-      by_cause (inl memory) = inr (memory_said ended why command.files Unknown before after (memory.0, is ∙ memory.1) memory unchanged (said Unknown))
+      by_cause (inl memory) = inr (memory_said ended why command.files Unknown before after (subst IsMemory (sym is) memory) memory unchanged (said Unknown))
       by_cause (inr refusal) = inl (subst DoesUnless (sym refusal) (is, record { files = unchanged; said = said (known_by (reads which.Netlist)) }))
 
   -- A TASK THAT PRINTS has done what it promises, where it told its text or the line of its refusal

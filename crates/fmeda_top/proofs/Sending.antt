@@ -19,7 +19,7 @@ use Rattle.command_reads.specs.Files.{Reads}
 use Rattle.command_reads.specs.FirstRefusal.{Judged, Planned, Begun, Merged}
 use Rattle.fmeda_top.specs.TaskRefusals.{judged}
 use Rattle.campaign_run.specs.Outside.{KeepsOthers}
-use Rattle.fmeda_top.specs.Ends.{HasWritten, IsDoneOrFailed, PrintsAs, RefusedAs, WritesAs, text_of}
+use Rattle.fmeda_top.specs.Ends.{HasWritten, IsDoneOrFailed, IsSimulated, PrintsAs, RefusedAs, WritesAs, text_of}
 use Rattle.fmeda_top.specs.Ends.WritesAs.{All, OutFailed, ResultFailed}
 use Rattle.fmeda_top.specs.Promises.{CommandEnds, Promises}
 use Rattle.fmeda_top.specs.Program.{ExitsWith, ProgramEnds, SendsRest}
@@ -92,11 +92,11 @@ module _ (before : Outside) (shelf : ShelfState) (written : Option Bytes) (low h
     where
       by_text : (text : Option Bytes)
           → MatchOption text (KeepsOthers before.shelf shelf (command.files which.Result) × WritesAs command.task made reads (command.files which.Result) before sooner ended)
-          (λ text. PrintsAs text ended before sooner)
+          (λ text. PrintsAs text ended before sooner × IsSimulated command.task)
           → MatchOption text (KeepsOthers before.shelf shelf (command.files which.Result) × WritesAs command.task made reads (command.files which.Result) before later ended)
-          (λ text. PrintsAs text ended before later)
+          (λ text. PrintsAs text ended before later × IsSimulated command.task)
       by_text None (others, writes) = (others, writes_later command.task made reads (command.files which.Result) writes)
-      by_text (Some text) printed = prints_later before shelf written low high grows text ended printed
+      by_text (Some text) (printed, by) = (prints_later before shelf written low high grows text ended printed, by)
 
   command_later : (command : Command) (ended : Status) → CommandEnds command ended before sooner → CommandEnds command ended before later
   command_later command ended (reads, read, (c, walk, loops, ends)) = (reads, read, (c, walk, loops, by_first (judged walk command reads) ends))

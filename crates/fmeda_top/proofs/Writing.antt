@@ -38,6 +38,7 @@ use Rattle.commands.specs.declared.command.Which.TheVariants as which
 use Rattle.commands.specs.Commands.{Command}
 use Rattle.refusals.specs.declared.status.Status.{Status}
 use Rattle.refusals.specs.declared.status.Status.TheVariants as status
+use Rattle.refusals.specs.WantOfMemory.{IsMemory}
 use Rattle.refusals.specs.Texts.{merge_line}
 use Rattle.command_reads.specs.declared.begun.Begun.{Begun as BegunOf}
 use Rattle.command_reads.specs.declared.merged.Merged.{Merged as MergedOf}
@@ -49,7 +50,7 @@ use Rattle.command_reads.specs.Files.{Reads, bytes_of as bytes_read, known_by}
 use Rattle.command_reads.specs.FirstRefusal.{Judged, Begun, Merged, Planned, own_header}
 use Rattle.fmeda_top.specs.TaskRefusals.{task_refusal}
 use Rattle.fmeda_top.specs.Doing.{DoesAs, EndSaid, HasEnded, HasRefused, IsHeld, task_of_text}
-use Rattle.fmeda_top.specs.Ends.{HasWritten, IsDoneOrFailed, MayLeave, MayStop, PrintsAs, WritesAs, text_of}
+use Rattle.fmeda_top.specs.Ends.{HasWritten, IsDoneOrFailed, IsSimulated, MayLeave, MayStop, PrintsAs, WritesAs, text_of}
 use Rattle.fmeda_top.specs.Ends.WritesAs.{All, OutFailed, ResultFailed}
 use Rattle.fmeda_top.specs.Written.{rows_file}
 
@@ -72,7 +73,7 @@ module _ (command : Command) (it : Judged) (reads : Reads) (before after : Outsi
         (sym no_refusal)
         (subst
         (λ text. MatchOption text (KeepsOthers before.shelf after.shelf name × WritesAs command.task it reads name before at_end ended)
-        (λ text. PrintsAs text ended before at_end))
+        (λ text. PrintsAs text ended before at_end × IsSimulated command.task))
         (sym no_text) (others, writes))),
     grows,
     given,
@@ -98,7 +99,7 @@ module _ (command : Command) (it : Judged) (reads : Reads) (before after : Outsi
       (ResultFailed ran.ends.0 ran.ends.1 ran.ends.3 (subst (λ from. WroteOrFailed from out (line (codes "refused: cannot write" ∷ name ∷ []))) ran.ends.2 said)))
   told_ends (end.NoMemory no_room) ended ran (is, (said, more)) = (
     inr (
-      (no_room, is),
+      subst IsMemory (sym is) tt,
       no_room.why,
       (
         record { content = ap (λ (s : Outside). s.shelf.content) ran.ends; changed = ap (λ (s : Outside). s.shelf.changed) ran.ends },

@@ -42,7 +42,7 @@ use Rattle.fm_base.specs.declared.Refusal.TheVariants.{Fault, Memory}
 use Rattle.fm_shelf.specs.declared.shelf.Failed.{Failed}
 use Rattle.fmeda_top.specs.TaskRefusals.{not_there, task_refusal}
 use Rattle.command_reads.specs.Judging.{AreSound, IsOfKind, JudgesAs}
-use Rattle.fmeda_top.specs.Ends.{HasWritten, IsDoneOrFailed, MayLeave, MayStop, text_of}
+use Rattle.fmeda_top.specs.Ends.{HasWritten, IsDoneOrFailed, IsSimulated, MayLeave, MayStop, text_of}
 use Rattle.fmeda_top.specs.Promises.{CommandEnds, RanOut}
 
 -- the files of a command were read and judged
@@ -60,6 +60,7 @@ abbrev pub TellsAs : Task → Judged → (before after : SinkState) → Result S
 TellsAs own made before after (Ok ended) =
     (task_refusal own made ≡ None) × (before.faults ≤ after.faults) × ((text : Bytes) × (text_of own made ≡ Some text)
     × (((ended ≡ status.Done) × Wrote before after text) ⊎ ((ended ≡ status.OutFault) × WrotePrefix before after text)))
+    × IsSimulated own
 TellsAs own made before after (Err (By ended)) =
     (IsMemory ended ⊎ (task_refusal own made ≡ Some ended)) × IsPlain ended × (after ≡ before)
 TellsAs own made before after (Err (Looped walk net)) = ⊥

@@ -25,10 +25,15 @@ use Rattle.readings.specs.Latencies.{latencies}
 use Rattle.wave_dump.specs.Asked.{waves_asked}
 use Rattle.wave_dump.specs.Dump.{dump_text}
 use Rattle.row_audit.specs.Audited.{each_nth}
+use Rattle.row_audit.specs.Simulated.{WasSimulatedBy}
+use Rattle.row_audit.specs.declared.kernel.Kernel.{Kernel}
+use Rattle.row_audit.specs.declared.kernel.Kernel.TheVariants as kernel
 use Rattle.campaign_run.specs.Outside.{had_written}
 use Rattle.campaign_run.specs.Found.{checkpointed_or_true}
 use Rattle.campaign_run.specs.Reported.{BeginsWith, HasReported, ResumedAs}
 use Rattle.campaign_run.specs.Left.{IsPrefixOf, LeftPrefix, StoppedRows}
+use Rattle.commands.specs.declared.command.AuditBy.{AuditBy}
+use Rattle.commands.specs.declared.command.AuditBy.TheVariants.{Lanes, Alone}
 use Rattle.commands.specs.declared.command.Task.{Task}
 use Rattle.commands.specs.declared.command.Task.TheVariants as task
 use Rattle.commands.specs.declared.command.Which.TheVariants as which
@@ -57,6 +62,16 @@ text_of (task.Latencies workers) (Planned p) = Some (latencies p)
 text_of (task.Trace run fault nets) (Driven c runs set) =
     Some (elim (waves_asked c runs set.flips set.pulses run fault nets) [ Ok waves ↦ dump_text waves | Err why ↦ [] ])
 text_of _ _ = None
+
+-- the kernel of an audit: one circuit at a time where its words ask for it, and else many at once
+abbrev pub kernel_for : AuditBy → Kernel
+kernel_for Lanes = kernel.EveryTable
+kernel_for Alone = kernel.OneCircuit
+
+-- AN AUDIT HAS SIMULATED by the kernel that its words ask for
+abbrev pub IsSimulated : Task → Type 0
+IsSimulated (task.Audit every by) = WasSimulatedBy (kernel_for by)
+IsSimulated _ = Unit {0}
 
 -- a command that prints this text: no file was changed; the text went out, or `out` failed and a prefix of it did
 abbrev pub PrintsAs : (text : Bytes) → Status → (before after : Outside) → Type 0
@@ -127,7 +142,7 @@ abbrev pub IsDoneOrFailed : Command → Judged → Reads → Status → (before 
 IsDoneOrFailed command made reads ended before after =
     MatchOption (text_of command.task made)
     (KeepsOthers before.shelf after.shelf (command.files which.Result) × WritesAs command.task made reads (command.files which.Result) before after ended)
-    (λ text. PrintsAs text ended before after)
+    (λ text. PrintsAs text ended before after × IsSimulated command.task)
 
 -- AFTER A REFUSAL: no file was changed, and its line was written, or a prefix of it where `out` failed
 abbrev pub RefusedAs : (line : Bytes) → (before after : Outside) → Type 0

@@ -2,3 +2,4 @@ mod CheckText
 mod Saying
 mod Statuses
 pub mod Refusals
+pub mod WantOfMemory

@@ -1,9 +1,8 @@
 -- The answer that there is no memory. It carries its evidence: whoever answers it was refused a request.
-use Rattle.std.specs.Prelude.{◌≡◌}
-use Rattle.room.specs.declared.edge.NoRoom.{NoRoom}
 use Rattle.refusals.specs.declared.status.Status.{Status}
 use Rattle.refusals.specs.declared.status.Status.TheVariants as status
 
 -- memory ran out
 abbrev pub IsMemory : Status → Type 0
-IsMemory ended = (no_room : NoRoom) × (ended ≡ status.Memory no_room)
+IsMemory (status.Memory no_room) = Unit {0}
+IsMemory _ = ⊥

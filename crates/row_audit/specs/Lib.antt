@@ -3,3 +3,4 @@ pub mod Laws
 pub mod Loaded
 pub mod Alone
 pub mod Watched
+pub mod Simulated

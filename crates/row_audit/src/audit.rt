@@ -12,23 +12,16 @@ ghost use Rattle.row_audit.specs.Watched.{AreAllAtHand};
 use crate::bench::Bench;
 use crate::circuits::Circuits;
 use crate::every_table::lanes_for;
-use crate::judge::{planes_of, watchers_for};
+use crate::judge::planes_of;
+use crate::kernel::Kernel;
 use crate::one_circuit::circuits_for;
+use crate::simulated::{Simulated, simulated_by};
 use crate::watcher::Watcher;
 use campaign_plan::{Outcome, Plan};
 use netlist_levels::Order;
 use result_file::{FalseRow, Row};
 use room::NoRoom;
 use std::alloc::Global;
-
-/// What an audit simulates by.
-#[derive(Clone, Copy)]
-pub enum Kernel {
-    /// 256 circuits at once, in each of which every table is evaluated in every cycle: three batches, and the golden circuit.
-    EveryTable,
-    /// One circuit at a time, by the rows of its tables: the 64 faults of a batch one by one, and the golden circuit.
-    OneCircuit,
-}
 
 // Whether a row of this number is one of those that are looked at.
 fn is_audited(place: usize, every: u32) -> bool
@@ -88,8 +81,8 @@ fn false_at<B: Circuits>(
     judged(row, planes)
 }
 
-// What is told of the first such row.
-fn first_in<B: Circuits>(
+/// What is told of the first such row.
+pub(crate) fn first_in<B: Circuits>(
     bench: &Bench<'_>,
     rows: &[Row],
     every: u32,
@@ -114,25 +107,6 @@ fn first_in<B: Circuits>(
     None
 }
 
-// The same by these circuits, with watchers of their own.
-fn first_by<B: Circuits>(
-    alloc: Global,
-    bench: &Bench<'_>,
-    rows: &[Row],
-    every: u32,
-    circuits: &mut B,
-) -> Result<Option<FalseRow>, NoRoom>
-    requires every { 0 < every }
-    requires points { ArePointsFor bench.now.net.now bench.now.points.now }
-    requires made { IsLoadedFor bench.now.net.now bench.now.order.now (B.loaded circuits.old) }
-    requires sound { B.IsSound circuits.old }
-    ensures { (p : Analysis) → IsOfPlan p bench.now.net.now bench.now.work.now bench.now.points.now bench.now.ftti bench.now.faults.now
-        → IfOk result (λ found. found ≡ first_false p every rows.now) }
-{
-    let mut watchers = watchers_for(alloc, bench, B::words())?;
-    Ok(first_in(bench, rows, every, circuits, &mut watchers))
-}
-
 /// Simulates the batches of the rows at the places 0, N, 2N and so on, N being `every`, and answers the first of these rows that keeps
 /// other planes than its batch truly has, with both. What the row keeps, and what was simulated when it was written, is no matter. All
 /// memory is taken before the first cycle: some words of 256 bits for each net, or 65 bytes where one circuit is simulated at a time.
@@ -143,20 +117,21 @@ pub fn first_false_row(
     rows: &[Row],
     every: u32,
     kernel: Kernel,
-) -> Result<Option<FalseRow>, NoRoom>
+) -> Result<Simulated, NoRoom>
     requires order { IsOrder plan.now.circuit order.now }
     requires every { 0 < every }
-    ensures { IfOk result (λ found. found ≡ first_false plan.now every rows.now) }
+    ensures found { IfOk result (λ simulated. simulated.row ≡ first_false plan.now every rows.now) }
+    ensures kernel { IfOk result (λ simulated. simulated.kernel ≡ kernel) }
 {
     let bench = Bench::of_plan(plan, order);
     match kernel {
         Kernel::EveryTable => {
             let mut lanes = lanes_for(alloc, plan.net(), order)?;
-            first_by(alloc, &bench, rows, every, &mut lanes)
+            simulated_by(alloc, &bench, rows, every, &mut lanes)
         }
         Kernel::OneCircuit => {
             let mut circuits = circuits_for(alloc, plan.net(), order)?;
-            first_by(alloc, &bench, rows, every, &mut circuits)
+            simulated_by(alloc, &bench, rows, every, &mut circuits)
         }
     }
 }

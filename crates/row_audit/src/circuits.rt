@@ -4,7 +4,9 @@ ghost use Rattle.circuit.specs.Trace.{trace};
 ghost use Rattle.fm_base.specs.Planes.{bit};
 ghost use Rattle.classifier.specs.Batch.{alone_in};
 ghost use Rattle.row_audit.specs.Loaded.{IsLoadedFor, Loaded};
+ghost use Rattle.row_audit.specs.declared.kernel.Kernel.{Kernel as KernelValue};
 
+use crate::kernel::Kernel;
 use circuit::netlist::Netlist;
 use circuit::parts::NetId;
 use fault_list::FaultList;
@@ -16,6 +18,9 @@ pub trait Circuits: Drop {
     // how many words there are
     ghost words: { ℕ };
 
+    // which kernel they are of
+    ghost kernel: { KernelValue };
+
     // what they were made for, and loaded with
     ghost loaded: { Self → Loaded };
 
@@ -24,6 +29,10 @@ pub trait Circuits: Drop {
 
     // since the start each has run cycles with these vectors
     ghost IsAfter: { Self → List (List Bool) → Type 0 };
+
+    /// Which kernel they are of.
+    fn kernel() -> Kernel
+        ensures { result ≡ kernel };
 
     /// The number of words.
     fn words() -> usize

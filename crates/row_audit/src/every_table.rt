@@ -8,6 +8,7 @@ ghost use Rattle.classifier.specs.Batch.{alone_in};
 ghost use Rattle.row_audit.specs.Loaded.{HasGoldenWord, in_lanes};
 
 use crate::circuits::Circuits;
+use crate::kernel::Kernel;
 use campaign_plan::has_bit;
 use circuit::netlist::Netlist;
 use circuit::parts::{Fault, NetId};
@@ -66,11 +67,17 @@ fn run_next<L: Ledger>(
 impl Circuits for Lanes4 {
     ghost words = { 3 };
 
+    ghost kernel = { Kernel.EveryTable };
+
     ghost loaded = { in_lanes };
 
     ghost IsSound = { HasGoldenWord };
 
     ghost IsAfter = { λ lanes vectors. HasGoldenWord lanes × AreAfter 256 quad_bit vectors lanes };
+
+    fn kernel() -> Kernel {
+        Kernel::EveryTable
+    }
 
     fn words() -> usize {
         GOLDEN_WORD as usize

@@ -7,12 +7,16 @@ mod bench;
 mod circuits;
 mod every_table;
 mod judge;
+mod kernel;
 mod law;
 mod one_circuit;
 mod points;
 mod run;
 mod see;
+mod simulated;
 mod watcher;
 
-pub use audit::{Kernel, audited, first_false_row};
+pub use audit::{audited, first_false_row};
+pub use kernel::Kernel;
 pub use law::each_first_is_each;
+pub use simulated::Simulated;

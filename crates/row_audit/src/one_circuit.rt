@@ -13,6 +13,7 @@ ghost use Rattle.fault_list.specs.Faults.{fault_in_lane};
 ghost use Rattle.row_audit.specs.Alone.{AreOfOneNetlist, AreSims, HaveRun, fault_alone, in_circuits, sim_at};
 
 use crate::circuits::Circuits;
+use crate::kernel::Kernel;
 use circuit::netlist::Netlist;
 use circuit::parts::{Fault, NetId};
 use cycle_sim::sim::Sim;
@@ -141,11 +142,17 @@ fn plane_in(sims: &[Sim], net: NetId) -> u64
 impl Circuits for OneCircuit {
     ghost words = { 1 };
 
+    ghost kernel = { Kernel.OneCircuit };
+
     ghost loaded = { in_circuits };
 
     ghost IsSound = { AreOfOneNetlist };
 
     ghost IsAfter = { HaveRun };
+
+    fn kernel() -> Kernel {
+        Kernel::OneCircuit
+    }
 
     fn words() -> usize {
         1

@@ -22,7 +22,7 @@ returns-in_err-pairs g c =
 pub returns-in_err-crew : goal.returns-in_err-crew
 returns-in_err-crew g c =
     let p = err_from_is_err_and c.from_residual-in_err-crew.result c.from_residual-in_err-crew.ensures.1 in
-    rw (p.1, p.2) (inl refl, tt, refl)
+    rw (p.1, p.2) (inl tt, tt, refl)
 
 pub returns : goal.returns
 returns g c =
@@ -31,4 +31,4 @@ returns g c =
     told (task.Pairs c.args.workers) (Begun begun.planned.plan begun.kept) _ _ (pairs_text begun.planned.plan (planes_in begun.kept.rows)) c.write_pairs.result
     c.after_text.result chose.0 refl
     (sends_as (judged_text c.pairs_are_told.ensures begun.planned.plan begun.kept.rows c.in_ok-pairs.pairs _ chose.1 c.judge-planes.ensures) c.write_pairs.ensures)
-    c.after_text.ensures.done c.after_text.ensures.failed
+    c.after_text.ensures.done c.after_text.ensures.failed tt

@@ -1,9 +1,10 @@
-use Rattle.std.proofs.Common.{inl, inr, map, refl, subst}
+use Rattle.std.proofs.Common.{inl, inr, map, refl, subst, sym}
 use Rattle.std.specs.Prelude.{string_bytes}
 use Rattle.fm_shelf.specs.Content.{Unknown}
 use Rattle.fm_shelf.specs.Outside.{outside}
 use Rattle.command_line.specs.Asks.{IsWordsRefusal}
 use Rattle.refusals.specs.RefusalLines.{refusal_line}
+use Rattle.refusals.specs.WantOfMemory.{IsMemory}
 use Rattle.commands.specs.Commands.{told_by}
 use Rattle.fmeda_top.proofs.Ending.{promised}
 use Rattle.fmeda_top.proofs.top.fmeda_by.Goals as goal
@@ -29,7 +30,7 @@ returns-in-Err-Usage-clause-promises g c =
 pub returns-in-Err-Memory-clause-promises : goal.returns-in-Err-Memory-clause-promises
 unfolding refusal_line
 returns-in-Err-Memory-clause-promises g c =
-    inr (inr ((c.in-Err-Memory.no_room, c.refuse_words-in-Err-Memory.ensures.status), c.in-Err-Memory.no_room.why, (record { content = refl; changed = refl }, (c.refuse_words-in-Err-Memory.ensures.said Unknown).2.0)))
+    inr (inr (subst IsMemory (sym c.refuse_words-in-Err-Memory.ensures.status) tt, c.in-Err-Memory.no_room.why, (record { content = refl; changed = refl }, (c.refuse_words-in-Err-Memory.ensures.said Unknown).2.0)))
 
 pub returns-in-Err-Usage-clause-grows : goal.returns-in-Err-Usage-clause-grows
 returns-in-Err-Usage-clause-grows g c = (c.refuse_words.ensures.said Unknown).2.1
