@@ -6,6 +6,7 @@ ghost use Rattle.lane_words.specs.Bits.{quad_bit};
 ghost use Rattle.lane_words.specs.Loads.{loaded_faults};
 ghost use Rattle.classifier.specs.Batch.{alone_in};
 ghost use Rattle.row_audit.specs.Loaded.{HasGoldenWord, in_lanes};
+ghost use Rattle.row_audit.specs.declared.kernel.Kernel.TheVariants.{EveryTable as EveryTableKernel};
 
 use crate::circuits::Circuits;
 use crate::kernel::Kernel;
@@ -67,7 +68,7 @@ fn run_next<L: Ledger>(
 impl Circuits for Lanes4 {
     ghost words = { 3 };
 
-    ghost kernel = { Kernel.EveryTable };
+    ghost kernel = { EveryTableKernel };
 
     ghost loaded = { in_lanes };
 

@@ -11,6 +11,7 @@ ghost use Rattle.fm_base.specs.Planes.{plane_of};
 ghost use Rattle.lane_words.specs.Loads.{somes};
 ghost use Rattle.fault_list.specs.Faults.{fault_in_lane};
 ghost use Rattle.row_audit.specs.Alone.{AreOfOneNetlist, AreSims, HaveRun, fault_alone, in_circuits, sim_at};
+ghost use Rattle.row_audit.specs.declared.kernel.Kernel.TheVariants.{OneCircuit as OneCircuitKernel};
 
 use crate::circuits::Circuits;
 use crate::kernel::Kernel;
@@ -142,7 +143,7 @@ fn plane_in(sims: &[Sim], net: NetId) -> u64
 impl Circuits for OneCircuit {
     ghost words = { 1 };
 
-    ghost kernel = { Kernel.OneCircuit };
+    ghost kernel = { OneCircuitKernel };
 
     ghost loaded = { in_circuits };
 
