@@ -5,8 +5,9 @@ import re
 import designs
 from designs import tables
 
-ROW = re.compile(r"^(?:refused: )?(workload|rates|points) row (\d+) (\w+)$", re.M)
-LINE = re.compile(r"^refused: (?:netlist|bench) line (\d+) ", re.M)
+# A tool that was refused says its own name and that of the file before it.
+ROW = re.compile(r"^(?:.*refused: )?(workload|rates|points) row (\d+) (\w+)$", re.M)
+LINE = re.compile(r"^(?:.*: )?refused: (?:netlist|bench) line (\d+) ", re.M)
 MOST_NETS = 4
 
 

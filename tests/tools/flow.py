@@ -157,7 +157,7 @@ def a_missed_target_is_a_status_where_it_is_asked_for(folder, program):
 def a_step_is_left_out_where_nothing_changed(folder, program):
     _design(folder)
     _flow(folder, program)
-    for name, text, wanted in (("rates.csv", RATES, ()), ("flow.ini", SETTINGS + "[output]\ntitle = another\n", ("page",)),
+    for name, text, wanted in (("rates.csv", RATES, ()), ("rates.csv", RATES.replace("0.1,0", "0.10,0.000"), ()), ("flow.ini", SETTINGS + "[output]\ntitle = another\n", ("page",)),
                                ("flow.ini", SETTINGS.replace("asil = C", "asil = B"), ("run", "latencies", "breakdown", "page", "manifest")), ("points.csv", POINTS + "observe,c\n", ("check", "alarms", "run", "latencies", "breakdown", "page", "manifest")),
                                ("drive.vcd", _dump() + "#60\n0!\n", ("workload", "golden")), ("rates.csv", RATES.replace("0.1", "0.2"), ("parts", "check", "run", "latencies", "breakdown", "page", "manifest"))):
         pathlib.Path(folder, name).write_text(text)
@@ -187,7 +187,7 @@ def another_program_begins_the_campaign_anew(folder, program):
     assert _done(_flow(folder, fake)[0]) == ()
     _program(folder, "fmeda", f'exec "{program}" "$@" # another\n')
     printed, _ = _flow(folder, fake)
-    assert _done(printed)[:5] == ("golden", "parts", "check", "alarms", "run") and " resume " not in printed and "of another program, are in flow/result." in printed, printed
+    assert _done(printed)[:5] == ("golden", "parts", "check", "alarms", "run") and " resume " not in printed and "of another program, are in flow/result.before now" in printed, printed
 
 
 def rows_that_are_there_are_kept(folder, program):
@@ -208,6 +208,10 @@ def rows_that_are_there_are_kept(folder, program):
     printed, _ = _flow(folder, program)
     aside = re.search(r"the rows of another campaign, or of another program, are in (\S+) now", printed)
     assert aside and pathlib.Path(folder, aside[1]).read_bytes() == kept and " resume " not in printed, printed
+    for interval in ("2", "3"):
+        _design(folder, _with(("campaign", f"interval = {interval}")))
+        _flow(folder, program)
+    assert sorted(it.name for it in result.parent.glob("result*")) == ["result", "result.before"]
 
 
 def no_step_outlives_the_flow(folder, program):
@@ -271,6 +275,9 @@ def what_a_refusal_names_is_shown(folder, program):
         _design(folder, SETTINGS.replace("[runs]\ndrive = mission drive.vcd", "[workload]\nfile = w.csv"), w__csv="workload,kind,d\nw,mission,0\nw,mission,1\nw,mission,1\n", **changes)
         _, said = _flow(folder, program, status=3)
         assert wanted in said, said
+    _design(folder, design__blif=NETLIST.replace("01 1", "01 0"))
+    _, said = _flow(folder, program, status=3)
+    assert "stopped at workload" in said and "line 8 of design.blif is 01 0\n" in said, said
 
 
 def patterns_that_take_nothing(folder, program):
