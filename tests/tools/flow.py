@@ -388,6 +388,9 @@ def steps_that_fail(folder, program):
     assert "stopped at workload" in said and "refused: netlist line" in said, said
 
 
+VERILOG = SETTINGS.replace("netlist = design.blif", "verilog = drive.vcd\ntop = top\n{}")
+
+
 def settings_that_say_something_wrong(folder, program):
     for settings, wanted in (
             (_with(("campaign", "flip = 2")), "[campaign] has no key flip: rates, points"), (_with(("design", "netlsit = x"), without=("netlist = design.blif",)), "has no key netlsit"),
@@ -398,6 +401,9 @@ def settings_that_say_something_wrong(folder, program):
             (_with(("runs", "second = test none.vcd:0-3")), "there is no file none.vcd"), (_with(("campaign", "interval = 4097")), "interval is a number from 0 to 4096"),
             (_with(("campaign", "workers = 0")), "workers is a number from 1 to 32"), (_with(("campaign", "pulses = 1;2")), "pulses is none, or cycles"), (SETTINGS.replace("= C", "= A"), "asil is B, C or D"),
             (_with(("output", "folder = ../other")), "folder of its own"), (_with(("output", "folder = .")), "folder of its own"), (_with(("accepted", "missions = why not")), "[accepted] has no key missions"),
+            (_with(("design", "liberty = drive.vcd")), "liberty is for verilog, and not for netlist"), (VERILOG.format("script = drive.vcd\nsynth = -nofsm"), "synth belongs into the script drive.vcd"),
+            (VERILOG.format("liberty = drive.vcd\nsynth = -nofsm"), "nothing is synthesised"), (VERILOG.format("parameters = WIDTH 8"), "parameters is a list of NAME=VALUE, and not WIDTH"),
+            (VERILOG.format("defines = A-B"), "defines is a list of NAME or NAME=VALUE, and not A-B"), (VERILOG.format("include = none"), "there is no folder none"), (VERILOG.format("techmap = none.v"), "there is no file none.v"),
             (_with(("accepted", "goals =")), "[accepted] goals has no value"), ("rates\n", "no section headers"), (SETTINGS.replace("rates.csv", "none.csv"), "there is no file none.csv")):
         _design(folder, settings)
         _, said = _flow(folder, program, status=2)
@@ -458,6 +464,45 @@ def the_script_is_that_of_the_page(folder, program):
         if example == "lockstep":
             wanted.insert(wanted.index("async2sync"), "techmap -map async_reset.v")
         assert _script(copy.joinpath("flow", "synth.ys").read_text()) == wanted, example
+
+
+# A register of WIDTH bits from an included file, one more with EXTRA, and a state machine of 3 bits that yosys recodes to 5.
+KEYED = {"first__v": """`include "width.vh"
+module top #(parameter WIDTH = `WIDTH) (input clk, rst, go, stop, output reg [WIDTH-1:0] q, output busy, done);
+always @(posedge clk) q <= {q, go};
+`ifdef EXTRA
+reg more; always @(posedge clk) more <= stop & `EXTRA; assign done = more;
+`else
+assign done = 0;
+`endif
+machine u_machine (.clk(clk), .rst(rst), .go(go), .stop(stop), .busy(busy));
+endmodule
+""", "second__v": """module machine (input clk, rst, go, stop, output busy); reg [2:0] state; always @(posedge clk) if (rst) state <= 0; else case (state)
+0: if (go) state <= 1; 1: state <= 2; 2: if (stop) state <= 3; 3: if (!stop) state <= 4; default: state <= 0; endcase
+assign busy = state == 1 || state == 2 || state == 3; endmodule
+""", "own__v": """module machine (input clk, rst, go, stop, output busy); assign busy = go; endmodule
+""", "own__ys": "read_verilog -Iinc first.v second.v; hierarchy -top top; proc; async2sync; synth -run coarse:check; dfflegalize -cell $_DFF_P_ 01; abc -g AND; flatten; opt_clean; write_blif -noalias {}\n"}
+
+
+def how_the_verilog_is_read(folder, program):
+    """The latches tell what yosys did: 2 or 7 of the register, 1 of EXTRA, 5 or 3 of the machine; the techmap has another machine, without a state."""
+    if shutil.which("yosys") is None:
+        raise Skipped("yosys is not installed")
+    for keys, latches in (((), 2 + 5), (("synth = -nofsm",), 2 + 3), (("defines = EXTRA=1",), 2 + 1 + 5), (("parameters = WIDTH=7", "defines = EXTRA=1 OTHER", "synth = -nofsm"), 7 + 1 + 3),
+                                  (("techmap = own.v",), 2), (("script = own.ys",), 2 + 5)):
+        shutil.rmtree(pathlib.Path(folder, "flow"), ignore_errors=True)
+        own = keys and keys[0].startswith("script")
+        lines = [("design", line) for line in ("verilog = first.v second.v", "top = top", "latches = 99", *([] if own else ["include = inc"]), *keys)]
+        _design(folder, _with(*lines, ("workload", "file = w.csv"), without=("netlist = design.blif", "latches = 2", "drive = mission drive.vcd")), w__csv="workload,kind,rst,go,stop\nw,mission,1,0,0\nw,mission,0,1,1\nw,mission,0,1,0\n",
+                rates__csv="pattern,part,role,covered,permanent,transient\n*,all,mission,no,1,1\n", points__csv="kind,net\nobserve,busy\n", **{**KEYED, "own__ys": KEYED["own__ys"].format("flow/design.blif")})
+        pathlib.Path(folder, "inc").mkdir(exist_ok=True)
+        held(pathlib.Path(folder, "inc"), width__vh="`define WIDTH 2\n")
+        _, said = _flow(folder, program, status=1)
+        assert f"flow/design.blif has {latches} latches, and the design 99" in said, (keys, said)
+    shutil.rmtree(pathlib.Path(folder, "flow"))
+    held(folder, own__ys=KEYED["own__ys"].format("other.blif"))
+    _, said = _flow(folder, program, status=3)
+    assert "own.ys wrote no flow/design.blif: its last line must be `write_blif -noalias flow/design.blif`" in said, said
 
 
 def from_a_netlist_and_dumps(folder, program):
