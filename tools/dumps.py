@@ -108,6 +108,18 @@ class Dump:
         with self.opened() as lines:
             return read_head(lines, self.file)
 
+    def begins_with_edge(self, signal, wanted):
+        """Whether a bit comes to this value from the other one before it first leaves it."""
+        code, before = signal[0].code, "x"
+        with self.opened() as lines:
+            read_head(lines, self.file)
+            for now in changes(lines, self.file):
+                value = bit_of(now[code], signal[0].width, signal[1]) if code in now else before
+                if before + value in ("01", "10"):
+                    return value == wanted
+                before = value
+        return False
+
     def cycles(self, clock, falling, wanted):
         """For each edge of the clock, the values of the wanted signals just before it: (signal, place of the bit from the left) each."""
         with self.opened() as lines:

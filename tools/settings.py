@@ -96,7 +96,7 @@ def parsed(name):
 def look_at_words(parser):
     """Each section and each key is one that has a meaning: a word that is misspelt would change the campaign in silence."""
     for section in parser.sections():
-        known = {**KEYS, "runs": None, "accepted": hints.MAY_BE_MEANT}
+        known = {**KEYS, "runs": None, "accepted": (*hints.MAY_BE_MEANT, *hints.LOOKED_AT)}
         if section not in known:
             raise Wrong(f"there is no section [{section}]: " + ", ".join(known))
         for key, value in parser[section].items():

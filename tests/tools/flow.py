@@ -268,6 +268,92 @@ def latches_that_start_at_an_unknown_value(folder, program):
     assert "look: 1 .latch lines give no initial value, and these latches start at 0" in printed, printed
 
 
+# ---- hints: each on a design made for it
+
+NARROW = ("workload", "scope = tb.dut\nnets = q,al")
+
+
+def outputs_that_are_no_point(folder, program):
+    """A second output that nothing observes; and one that an observer, a part of role other, reads."""
+    netlist = NETLIST.replace(".outputs q al", ".outputs q al z y seen").replace(".end", ".names q z\n1 1\n.names q y\n1 1\n.names y d seen\n11 1\n.names z dead\n0 1\n.end")
+    rates = RATES + "z,main,mission,yes,2,4\ny,main,mission,yes,2,4\ndead,main,mission,yes,2,4\nseen,look,other,no,0,0\n"
+    _design(folder, _with(NARROW, ("accepted", "outside = an observer")), design__blif=netlist, rates__csv=rates)
+    printed, _ = _flow(folder, program)
+    assert "look: 1 outputs of the netlist are no point: z. A fault that reaches these alone counts as safe." in printed, printed
+    assert "look: 1 nets are read by nothing and are no point: dead. Their faults are safe whatever happens." in printed, printed
+    _design(folder, _with(NARROW, ("accepted", "outside = an observer\noutputs = z is for a probe")), design__blif=netlist, rates__csv=rates)
+    printed, _ = _flow(folder, program)
+    page = pathlib.Path(folder, "flow", "page.html").read_text()
+    assert "accepted, outputs: 1 outputs" in printed and "counts as safe. Accepted: z is for a probe" in page and "Accepted: an observer" in page, printed
+
+
+# A reset holds the alarm at 0 while q, which has none, begins at 0: q/1 is harm in the cycles 0 to 2, and afterwards the alarm of the cycle in which it is.
+HELD = NETLIST.replace(".inputs clk d", ".inputs clk rst d").replace(".names q c al\n10 1\n01 1\n", ".names rst q c al\n010 1\n001 1\n")
+HELD_RATES = RATES.replace("d,pins", "rst,pins,mission,no,0.1,0\nd,pins")
+
+
+def harm_before_the_reset(folder, program):
+    """Of q/1, whose weight is half of 2 FIT, without which SPFM is that of the design; d/0, d/1 and rst/1 do harm at any time, and are not counted."""
+    data = "".join(f"w,mission,{int(k < 3)},{bit}\n" for k, bit in enumerate((0, 0, 0, *DATA)))
+    settings = _with(("workload", "file = w.csv"), without=("drive = mission drive.vcd", "flips = 2"))
+    rates = HELD_RATES.replace(",4\n", ",0\n")
+    _design(folder, settings, design__blif=HELD, rates__csv=rates, w__csv="workload,kind,rst,d\n" + data)
+    printed, _ = _flow(folder, program)
+    report = pathlib.Path(folder, "flow", "report.txt").read_text()
+    assert "residual q/1 1000000" in report, report
+    harmful = sum(int(line.split()[2]) for line in report.splitlines() if line.split()[0] in ("residual", "single-point"))
+    wanted = f"{10000 * (4100000 - harmful + 1000000) // 4100000 / 100:.2f} %"
+    assert f"look: 1 harmful faults, 1 FIT, first differ while rst is held, in the cycles 0 to 2, and an alarm finds them later. They are no slow alarms: without them SPFM is {wanted}" in printed, printed
+    assert "harmful in the cycles 0 to 2, before the reset ends" in pathlib.Path(folder, "flow", "page.html").read_text()
+
+
+def the_shares_of_flips_and_pulses(folder, program):
+    """One latch and one net in main, two flips and one pulse of it: 66 % and 34 %; copy has a net more: 2 of 4 faults."""
+    _design(folder, _with(("campaign", "flips = 2,3\npulses = 2"), ("accepted", "weights = pins have no transient rate"), without=("flips = 2",)))
+    printed, _ = _flow(folder, program)
+    assert "look: Flips and pulses share the transient rate of a part by their number: main 66 % and 34 %; copy 50 % and 50 %." in printed, printed
+    assert "main 66 % and 34 %" in pathlib.Path(folder, "flow", "page.html").read_text()
+
+
+def what_was_not_compared_or_not_known(folder, program):
+    """q's copy has no signal in the dump; d is x in cycle 0; and then the dump is a cycle shorter."""
+    _design(folder, _with(("workload", "nets = all\nunknown = 0")), drive__vcd=_dump().replace("#0\n0!\n0#", "#0\n0!\nx#"))
+    for _ in (0, 1):
+        printed, _ = _flow(folder, program)
+        assert "look: run drive: 6 cycles, 3 nets agree, 1 of 2 latches are not compared: the dump has no signal for them." in printed, printed
+        assert "look: run drive: 6 cycles, 1 inputs had x or z: the campaign has 0 there." in printed, printed
+    page = pathlib.Path(folder, "flow", "page.html").read_text()
+    assert "1 of 2 latches are not compared" in page and "1 inputs had x or z" in page
+    held(folder, drive__vcd=_dump()[:_dump().index("#50")])
+    printed, _ = _flow(folder, program)
+    assert "look: run drive has 5 cycles, and had 6 at the last time. Was its simulation cut off?" in printed, printed
+
+
+def both_starts_side_by_side(folder, program):
+    """With q unknown and c at 0: at 1 both differ in cycle 0, in which al is 1 in the golden run; the metrics of both stand there."""
+    _design(folder, design__blif=NETLIST.replace("re clk 0", "re clk 2").replace(".latch d c re clk 2", ".latch d c"))
+    printed, _ = _flow(folder, program)
+    ones = pathlib.Path(folder, "flow", "ones.blif").read_text()
+    assert ".latch d q re clk 1\n.latch d c 1\n" in ones, ones
+    found = re.findall(r"# (spfm permanent|spfm transient|lfm|term): (.*); where latches of unknown start begin at 1: (.*)", printed)
+    assert len(found) == 4 and found[0][1] == "97.56 %, met", printed
+    assert "latches of unknown start at 1" in pathlib.Path(folder, "flow", "page.html").read_text()
+
+
+def near_names(folder, _):
+    import refusals
+    for name, wanted in (("seen_words[3]", ["seen_word[3]"]), ("sene_word[3]", ["seen_word[3]"]), ("seen_word[33]", ["seen_word[3]"]), ("SEEN_WORD[3]", ["seen_word[3]"]), ("other", []), ("seen_word", ["seen_word[3]"])):
+        assert refusals.like(name, ["seen_word[3]", "rdata", "clk"]) == wanted, (name, refusals.like(name, ["seen_word[3]", "rdata", "clk"]))
+
+
+def names_of_neighbours_in_the_flow(folder, program):
+    """u_b.x is made of a net of u_a alone, and of another part."""
+    netlist = NETLIST.replace(".end", ".names q u_a.w\n1 1\n.names u_a.w u_a.v\n1 1\n.names u_a.v u_a.u\n1 1\n.names u_a.u u_b.x\n1 1\n.names u_b.x u_b.y u_b.z\n11 1\n.names u_b.x u_b.y\n0 1\n.names u_b.z u_b.o\n1 1\n.end")
+    _design(folder, _with(NARROW), design__blif=netlist, rates__csv=RATES + "u_a.*,main,mission,yes,2,4\nu_b.*,copy,mechanism,no,2,4\n")
+    printed, _ = _flow(folder, program)
+    assert "look: perhaps of another part than copy: u_b.x, made of nets of u_a alone" in printed, printed
+
+
 def what_a_refusal_names_is_shown(folder, program):
     for changes, wanted in (({"points__csv": POINTS + "observe,AL\n"}, "row 4 of points.csv is observe,AL\n  the netlist has al\n"),
                             ({"rates__csv": RATES.replace("pins,mission", "pins,Mission")}, "row 2 of rates.csv is d,pins,Mission,no,0.1,0\n"),
