@@ -129,6 +129,10 @@ def a_flow_to_its_page(folder, program):
     assert flow.joinpath("report.txt").read_text().endswith(METRICS), flow.joinpath("report.txt").read_text()
     for wanted in ("97.56 %", "4000000/4100000", "87.50 %", "0.1 FIT", "Nothing was noticed"):
         assert wanted in flow.joinpath("page.html").read_text(), wanted
+    # Residual, single-point, latent, detected and safe FIT of each part.
+    said = " ".join(re.sub("<[^>]*>", " ", flow.joinpath("page.html").read_text()).split())
+    for wanted in ("pins permanent 0.1 0 0.1 0 0 0", "main permanent 2 0 0 0 2 0", "main transient 4 0 0 0 4 0", "copy permanent 2 0 0 0.5 1.5 0", "all permanent 4.1 0 0.1 0.5 3.5 0", "all transient 8 0 0 0 8 0"):
+        assert wanted in said, wanted
     for wanted in ("run drive: 6 cycles, 2 nets agree", "# spfm permanent: 97.56 %, met", "# term: 0.1 FIT, met", "# the page: flow/page.html"):
         assert wanted in printed, printed
 

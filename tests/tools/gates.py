@@ -1,6 +1,7 @@
 """Cases of tools/ungate and of netlists of standard cells: clock gates against Icarus, over random enables and with faults; what is refused."""
 import pathlib
 import random
+import re
 import shutil
 import subprocess
 import sys
@@ -185,6 +186,54 @@ def what_the_netlist_of_cells_is(folder, program):
     held(folder, r__csv="pattern,part,role,covered,permanent,transient\n*,all,mission,no,1,0\n")
     done = subprocess.run([program, "parts", "n.blif", "r.csv"], cwd=folder, capture_output=True, text=True)
     assert not done.returncode and "latches 3 " in done.stdout, done.stdout
+
+
+def rates_by_area(folder, _):
+    """A part has the areas of its module's cells, counted in the Verilog, and its flip-flops; a cell that no net stands for is shared, so that the sum is that of the block."""
+    _needs("yosys")
+    copy = shutil.copytree(GATES, pathlib.Path(folder, "gates"), ignore=shutil.ignore_patterns("flow"))
+    subprocess.run(["yosys", "-q", "-s", "synth.ys"], cwd=copy, check=True)
+    areas = {name: float(area) for name, area in re.findall(r"cell \((\w+)\) { area : ([0-9.]+);", copy.joinpath("cells.lib").read_text())}
+    used = {}
+    for name, body in re.findall(r"^module (\w+)\(.*?;(.*?)^endmodule", copy.joinpath("netlist.v").read_text(), re.M | re.S):
+        used[name] = re.findall(r"^  ([A-Z]\w+) ", body, re.M)
+    area = {name: sum(areas[cell] for cell in own) for name, own in used.items()}
+    text, said = tool("rates", "cells.json", "design.blif", "rates.csv", "--liberty", "cells.lib", "--area", "0.05", "--flip-flop", "0.5", "--pin", "0.01", folder=copy)
+    rows = {row[1]: (row[4], row[5]) for row in (line.split(",") for line in text.splitlines()[1:])}
+    assert rows == {"main": (f"{0.05 * area['meter']:g}", "4"), "check": (f"{0.05 * area['meter']:g}", "4"), "compare": (f"{0.05 * area['compare']:g}", "0.5"), "pins": ("0.08", "0")}, (rows, area)
+    assert said.splitlines()[-1].endswith(f": {0.05 * (2 * area['meter'] + area['compare']) + 0.08:g} and 8.5 FIT"), said
+    netlist = copy / "netlist.v"
+    netlist.write_text(netlist.read_text().replace("  meter u_main", "  FILL1 u_fill ();\n  meter u_main"))
+    subprocess.run(["yosys", "-q", "-s", "synth.ys"], cwd=copy, check=True)
+    _, said = tool("rates", "cells.json", "design.blif", "rates.csv", "--liberty", "cells.lib", "--area", "0.05", "--flip-flop", "0.5", "--pin", "0.01", folder=copy)
+    assert "of which 0.2 are in no part" in said and said.splitlines()[-1].endswith(f": {0.05 * (2 * area['meter'] + area['compare'] + 0.2) + 0.08:g} and 8.5 FIT"), said
+    for words, wanted in ((("--area", "-1"), "invalid"), (("--area", "x"), "invalid")):
+        assert wanted in tool("rates", "cells.json", "design.blif", "rates.csv", "--liberty", "cells.lib", *words, folder=copy, status=2)[1]
+
+
+DDR = """module top (input clk, rst, input [3:0] d, output reg [3:0] q, low, high);
+always @(posedge clk) if (rst) q <= 0; else q <= q + d;
+always @(negedge clk) low <= q ^ 4'h5;
+always @(negedge clk or posedge rst) if (rst) high <= 4'h9; else high <= q;
+endmodule
+"""
+DDR_BENCH = """module bench; reg clk = 0, rst = 0; reg [3:0] d = 0; wire [3:0] q, low, high; integer k, seed = 3;
+top dut (.clk(clk), .rst(rst), .d(d), .q(q), .low(low), .high(high)); always #5 clk = ~clk;
+initial begin $dumpfile("n.vcd"); $dumpvars(0, bench.dut); #1 rst = 1;
+for (k = 0; k < 60; k = k + 1) begin @(posedge clk) #1; rst = k < 2; d = $random(seed); end #2 $finish; end endmodule
+"""
+
+
+def registers_of_the_other_edge(folder, _):
+    """By the techmap each is a wire, and every net agrees with Icarus just before the rising edge."""
+    _needs("yosys", "iverilog")
+    held(folder, n__v=DDR, bench__v=DDR_BENCH)
+    script = f"read_verilog n.v; hierarchy -top top; proc; techmap -map {EXAMPLES}/bridge/other_edge.v; async2sync; synth -run coarse:check; dfflegalize -cell $_DFF_P_ 01; abc -g AND,XOR; opt_clean; write_blif -noalias n.blif"
+    subprocess.run(["yosys", "-q", "-p", script], cwd=folder, check=True)
+    _simulated(folder, "bench.v", "n.v")
+    tool("vcd2workload", "--netlist", "n.blif", "--run", "w", "mission", "n.vcd", "-o", "w.csv", folder=folder)
+    text, _ = tool("golden", "n.blif", "w.csv", "--run", "w", "n.vcd", "--nets", "all", "--skip", "1", folder=folder)
+    assert "60 cycles" in text and "x or z" not in text and pathlib.Path(folder, "n.blif").read_text().count(".latch") == 4, text
 
 
 # ---- refusals
