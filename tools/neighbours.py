@@ -1,7 +1,7 @@
 """Nets that may have the name of another instance than the one that makes them, and so be of another part."""
 import reports
 
-MOST_OF_A_CELL = 3
+MOST_OF_A_CELL = 2
 
 
 def cells_of(design):

@@ -324,7 +324,7 @@ def what_was_not_compared_or_not_known(folder, program):
     _design(folder, _with(("workload", "nets = all\nunknown = 0")), drive__vcd=_dump().replace("#0\n0!\n0#", "#0\n0!\nx#"))
     for _ in (0, 1):
         printed, _ = _flow(folder, program)
-        assert "look: run drive: 6 cycles, 3 nets agree, 1 of 2 latches are not compared: the dump has no signal for them." in printed, printed
+        assert "look: run drive: 6 cycles, 3 nets agree, 1 values were x or z, 1 of 2 latches are not compared: the dump has no signal for them." in printed, printed
         assert "look: run drive: 6 cycles, 1 inputs had x or z: the campaign has 0 there." in printed, printed
     page = pathlib.Path(folder, "flow", "page.html").read_text()
     assert "1 of 2 latches are not compared" in page and "1 inputs had x or z" in page
