@@ -4,7 +4,7 @@
 PREFIX ?= /usr/local
 INTO = $(DESTDIR)$(PREFIX)
 SHARE = $(INTO)/share/fmeda
-TOOLS = chip faults flow golden manifest page patterns vcd2workload waves
+TOOLS = chip faults flow golden manifest page patterns rates ungate vcd2workload waves
 DATA = examples/lockstep
 FILES = design.blif workload.csv rates.csv points.csv
 WORDS = run $(FILES)

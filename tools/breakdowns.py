@@ -4,8 +4,9 @@ import html
 import io
 
 import designs
+import hints
 import reports
-from pages import bar, row, section, table, tag
+from pages import bar, row, section, table, tag, values
 
 COLUMNS = ["fault", "part", "class", "weight", "excited", "reached_run", "reached_cycle", "alarm_run", "alarm_cycle", "alarm", "interval"]
 KINDS = ("all", "goal", "without", "only", "ftti")
@@ -55,30 +56,20 @@ def read_latencies(name, report):
     return found
 
 
-def cells(reading):
-    """A cell for each metric: its value, a bar and its verdict."""
-    for name, num, den, _ in reports.metrics(reading):
-        verdict = reading.targets[name]
-        shown = bar([("good" if verdict == "met" else "bad", num / den, "")]) if den else ""
-        yield tag("b", reports.per_cent(num, den)) + " " + shown + tag("span", verdict, class_=f"verdict {verdict}")
-    verdict = reading.targets["term"]
-    yield tag("b", reports.fit(reading.danger + reading.transient_danger) + " FIT") + " " + tag("span", verdict, class_=f"verdict {verdict}")
-
-
 METRICS = ["spfm permanent", "spfm transient", "lfm", "term"]
 
 
 def goal_section(readings):
-    rows = [row([html.escape(it.name), *cells(it)]) for it in readings if it.kind == "goal"]
+    rows = [row([html.escape(it.name), *values(it)]) for it in readings if it.kind == "goal"]
     return section("bygoal", "By safety goal", tag("p", "The metrics of the standard are for each safety goal: of its observation points alone, with all alarms."),
                    table(["goal", *METRICS], rows, id="bygoal"))
 
 
 def alarm_section(readings):
     """What is lost without an alarm is what no other catches in time."""
-    whole, rows = readings[0], [row(["all alarms", "", *cells(readings[0])])]
+    whole, rows = readings[0], [row(["all alarms", "", *values(readings[0])])]
     for kind, said in (("without", "left out"), ("only", "alone")):
-        rows += [row([html.escape(it.name), said, *cells(it)]) for it in readings if it.kind == kind]
+        rows += [row([html.escape(it.name), said, *values(it)]) for it in readings if it.kind == kind]
     lost = []
     for it in readings:
         if it.kind == "without":
@@ -88,7 +79,7 @@ def alarm_section(readings):
 
 
 def interval_section(readings):
-    rows = [row([html.escape(it.name), *cells(it)]) for it in readings if it.kind == "ftti"]
+    rows = [row([html.escape(it.name), *values(it)]) for it in readings if it.kind == "ftti"]
     return section("byinterval", "By interval", tag("p", "The metrics with other intervals in place of --ftti, in clock cycles. A goal with an interval of its own keeps it."),
                    table(["interval", *METRICS], rows, id="byinterval"))
 
@@ -101,9 +92,14 @@ def bins(most):
         low, step = low + step, max(1, low + step) if low + step > 1 else 1
 
 
-def interval_bins(rows):
-    """(words, faults, weight) of the faults that reach an observation point, by the least interval that would do."""
+def interval_bins(rows, last):
+    """(words, faults, weight) of the faults that reach an observation point, by the least interval that would do; `last` is the last cycle of the reset."""
     reached = [it for it in rows if it["reached_run"] != "-" and it["class"] != "outside"]
+    early = hints.early_faults(reached, last)
+    if early:
+        yield f"harmful in the cycles 0 to {last}, before the reset ends", len(early), sum(int(it["weight"]) for it in early)
+        known = {it["fault"] for it in early}
+        reached = [it for it in reached if it["fault"] not in known]
     needed = [(int(it["interval"]), int(it["weight"])) for it in reached if it["interval"] != "-"]
     for low, high in bins(max((n for n, _ in needed), default=0)):
         inside = [weight for n, weight in needed if low <= n <= high]
@@ -112,10 +108,10 @@ def interval_bins(rows):
     yield "no interval would do", len(never), sum(never)
 
 
-def latency_section(rows):
-    found = list(interval_bins(rows))
+def latency_section(rows, last):
+    found = list(interval_bins(rows, last))
     most = max((weight for _, _, weight in found), default=0) or 1
-    shown = [row([words, str(count), reports.fit(weight), bar([("bad" if words.startswith("no ") else "good", weight / most, "")])]) for words, count, weight in found]
+    shown = [row([words, str(count), reports.fit(weight), bar([("bad" if words.startswith(("no ", "harmful")) else "good", weight / most, "")])]) for words, count, weight in found]
     return section("latencies", "How late alarms come", tag("p", "The faults that reach an observation point in a run of the mission, by the least interval in clock cycles with which they "
                    "aren't dangerous."), table(["interval", "faults", "FIT", ""], shown, id="latencies"))
 
@@ -133,14 +129,13 @@ def excited_section(rows):
                    "done no harm."), table(["part", "faults", "never excited", "", "", "which"], shown, id="excited"))
 
 
-def sections(report, breakdown, latencies):
-    """The sections that these files give; a file that isn't named gives none."""
+def sections(report, breakdown, rows, last):
+    """The sections that these files give; a file that isn't named gives none. `rows` are those of the latencies, and `last` is the last cycle of the reset."""
     found = []
     if breakdown:
         readings = read_breakdown(breakdown, report)
         found += [goal_section(readings), alarm_section(readings)]
         found += [interval_section(readings)] if any(it.kind == "ftti" for it in readings) else []
-    if latencies:
-        rows = read_latencies(latencies, report)
-        found += [latency_section(rows), excited_section(rows)]
+    if rows:
+        found += [latency_section(rows, last), excited_section(rows)]
     return found

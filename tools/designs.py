@@ -13,6 +13,10 @@ import tables
 signal.signal(signal.SIGPIPE, signal.SIG_DFL)
 
 
+# What the first line of a netlist says whose nets have their names in the instance that drives them.
+CELLS_AS_TABLES = "cells as tables by tools/ungate"
+
+
 class Refused(Exception):
     pass
 
@@ -60,6 +64,7 @@ def read(name):
     design.outputs = [design.names[n] for n in design.net.outputs]
     design.clock, design.falling = clock_of(text)
     design.unknown_starts = unknown_starts(text, name)
+    design.named_by_driver = CELLS_AS_TABLES.encode() in text[:1000]
     return design
 
 

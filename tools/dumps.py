@@ -4,6 +4,9 @@ import re
 RANGE = re.compile(r"^(.*?)\s*\[(-?\d+)(?::(-?\d+))?\]$")
 
 
+CUT = "the dump was cut off. Let the simulation end by $finish, and dump again"
+
+
 class Unreadable(Exception):
     pass
 
@@ -35,25 +38,43 @@ def read_head(lines, file):
         while "$end" in words:
             end = words.index("$end")
             said, words = words[:end], words[end + 1:]
-            if not said:
-                continue
-            if said[0] == "$scope":
-                path.append(said[2])
-            elif said[0] == "$upscope":
-                path.pop()
-            elif said[0] == "$var":
-                signal = Signal(said[3], int(said[2]), " ".join(said[4:]))
-                # Icarus Verilog writes a name with a backslash before it where Verilog needs one.
-                signal.name = signal.name.lstrip("\\")
-                signals[".".join([*path, signal.name])] = signal
-            elif said[0] == "$enddefinitions":
+            if said == ["$enddefinitions"]:
                 return signals
+            try:
+                take_declaration(signals, path, said)
+            except (IndexError, ValueError):
+                raise Unreadable(f"{file}: `{' '.join(said)}` declares nothing")
     raise Unreadable(f"{file}: no $enddefinitions: this is no value change dump")
 
 
-def changes(lines):
+def take_declaration(signals, path, said):
+    if said[:1] == ["$scope"]:
+        path.append(said[2])
+    elif said[:1] == ["$upscope"]:
+        path.pop()
+    elif said[:1] == ["$var"]:
+        signal = Signal(said[3], int(said[2]), " ".join(said[4:]))
+        # Icarus Verilog writes a name with a backslash before it where Verilog needs one.
+        signal.name = signal.name.lstrip("\\")
+        signals[".".join([*path, signal.name])] = signal
+
+
+def take_change(now, word, words):
+    """Takes one value of the words of a line into `now`."""
+    if word[0] in "bB":
+        now[words.pop(0)] = word[1:].lower()
+    elif word[0] in "rR":
+        words.pop(0)
+    elif word[0] in "01xXzZ":
+        now[word[1:] or words.pop(0)] = word[0].lower()
+    elif word == "$comment":
+        while words and words[0] != "$end":
+            words.pop(0)
+
+
+def changes(lines, file="the dump"):
     """For each moment, the codes that change with their new values, x and z as they are."""
-    now = {}
+    now, line = {}, "\n"
     for line in lines:
         words = line.split()
         while words:
@@ -62,15 +83,13 @@ def changes(lines):
                 if now:
                     yield now
                 now = {}
-            elif word[0] in "bB":
-                now[words.pop(0)] = word[1:].lower()
-            elif word[0] in "rR":
-                words.pop(0)
-            elif word[0] in "01xXzZ":
-                now[word[1:] or words.pop(0)] = word[0].lower()
-            elif word == "$comment":
-                while words and words[0] != "$end":
-                    words.pop(0)
+            else:
+                try:
+                    take_change(now, word, words)
+                except IndexError:
+                    raise Unreadable(f"{file}: the value `{line.strip()}` names no signal: {CUT}")
+    if line[-1] != "\n" and line[0] != "#":
+        raise Unreadable(f"{file}: it ends within the line `{line.strip()}`: {CUT}")
     if now:
         yield now
 
@@ -89,12 +108,24 @@ class Dump:
         with self.opened() as lines:
             return read_head(lines, self.file)
 
+    def begins_with_edge(self, signal, wanted):
+        """Whether a bit comes to this value from the other one before it first leaves it."""
+        code, before = signal[0].code, "x"
+        with self.opened() as lines:
+            read_head(lines, self.file)
+            for now in changes(lines, self.file):
+                value = bit_of(now[code], signal[0].width, signal[1]) if code in now else before
+                if before + value in ("01", "10"):
+                    return value == wanted
+                before = value
+        return False
+
     def cycles(self, clock, falling, wanted):
         """For each edge of the clock, the values of the wanted signals just before it: (signal, place of the bit from the left) each."""
         with self.opened() as lines:
             read_head(lines, self.file)
             values, before, after = {}, *("10" if falling else "01")
-            for now in changes(lines):
+            for now in changes(lines, self.file):
                 new = now.get(clock.code)
                 if new is not None and new == after and values.get(clock.code) == before:
                     yield [bit_of(values.get(signal.code, "x"), signal.width, place) for signal, place in wanted]

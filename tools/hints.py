@@ -1,8 +1,10 @@
 """What of a campaign makes a good number worth less, as far as a program can notice it (docs/before-you-believe.md)."""
 from dataclasses import dataclass
 
+import causes
 import designs
 import refusals
+import reports
 from designs import campaign, tables
 
 CONSTANTS = ("$false", "$true", "$undef")
@@ -71,6 +73,11 @@ class Hint:
     text: str
 
 
+def told(hint, accepted):
+    """A hint's text, with the reason for which it is known."""
+    return f"{hint.text} Accepted: {accepted[hint.key]}" if hint.key in accepted else hint.text
+
+
 # How the row of docs/before-you-believe.md begins that says why it matters.
 ROWS = {
     "outside": "the part of role `other` has the constants alone", "patterns": "each pattern takes what you meant", "rates": "no part got its rate 0 to silence a refusal",
@@ -78,10 +85,15 @@ ROWS = {
     "latches": "the latches are as many as in the design", "cycles": "the cycles of `--flips` and `--pulses` exist", "transient": "transient faults were asked for",
     "missions": "there is a run of kind `mission`", "mechanisms": "some part is a `mechanism`", "alarms": "the alarm is 0 in the golden run of the mission",
     "harm": "a mechanism has no residual or single-point faults", "golden": "the golden run is what the simulation of the RTL did", "safe": "few faults are `safe`",
+    "outputs": "each net that the safety goal names is observed", "unread": "each net that the safety goal names is observed", "early": "harm before the reset is looked at by itself",
+    "compared": "the golden run is what the simulation of the RTL did", "unknown": "inputs are known", "shorter": "the runs are as long as the simulations",
+    "shares": "flips and pulses share a rate as you mean it", "neighbours": "each pattern takes what you meant",
     "start": "latches of unknown initial value don't matter", "goals": "one safety goal", "end": "the report ends with `end`, and the status was 0", "kept": "the settings were kept",
 }
 # Those that make a metric untrue, or one that says nothing; what isn't here is worth a look. The first may be meant, for a reason; the others never.
 MAY_BE_MEANT = ("outside", "patterns", "rates", "weights", "mechanisms", "alarms", "harm", "goals")
+# What is worth a look alone, and may be told to be known.
+LOOKED_AT = ("outputs", "unread", "early", "safe", "start", "compared", "unknown", "shares", "neighbours")
 WRONG = (*MAY_BE_MEANT, "latches", "cycles", "missions", "golden", "end", "kept")
 
 
@@ -115,6 +127,75 @@ def of_latches(design):
         yield Hint("start", f"{design.unknown_starts} .latch lines give no initial value, and these latches start at 0. Do the metrics stay where they start at 1?")
 
 
+MOST_SHOWN = 6
+
+
+def some(names):
+    return ", ".join(names[:MOST_SHOWN]) + (", .." if len(names) > MOST_SHOWN else "")
+
+
+def read_by(design):
+    """For each net that a table or a latch reads, the nets that they make."""
+    found = {}
+    for n, driver in enumerate(design.net.drivers):
+        for read in driver[1] if driver[0] == "table" else [driver[1]] if driver[0] == "latch" else []:
+            found.setdefault(read, []).append(n)
+    return found
+
+
+def of_unobserved(design, asked, goals, alarms):
+    """Outputs that are no point, unless an observer reads them; and nets that nothing reads at all."""
+    points, readers, owners = {n for _, _, nets in goals for n in nets} | set(alarms), read_by(design), parts_by_net(asked.rates, design)
+    roles = {part[0].decode("latin-1"): part[1] for part in read_rates(asked.rates)[1]}
+    is_outside = lambda n: roles.get(owners.get(design.names[n])) == "other"
+    left = [n for n in dict.fromkeys(design.net.outputs) if n not in points and not is_outside(n) and not any(map(is_outside, readers.get(n, [])))]
+    if left:
+        yield Hint("outputs", f"{len(left)} outputs of the netlist are no point: {some([design.names[n] for n in left])}. A fault that reaches these alone counts as safe.")
+    dead = [n for n, driver in enumerate(design.net.drivers) if driver[0] != "input" and n not in readers and n not in points and n not in design.net.outputs and not is_outside(n)]
+    if dead:
+        yield Hint("unread", f"{len(dead)} nets are read by nothing and are no point: {some([design.names[n] for n in dead])}. Their faults are safe whatever happens. "
+                   "An observer is put behind the BLIF file, and not into the Verilog.")
+
+
+def last_of_reset(design, runs):
+    """(the reset's name, the last cycle in which the runs of the mission hold it), or (None, 0): before the first edge of the clock."""
+    found = [(name, released - 1) for _, kind, vectors in runs if kind == "mission" for name, _, _, released in causes.resets(design, vectors)]
+    return max(found, key=lambda it: it[1], default=(None, 0))
+
+
+def early_faults(rows, last):
+    """The harmful faults that first differ while the reset is held, and that an alarm finds later."""
+    return [it for it in rows if it["class"] in reports.HARMFUL and it["interval"] != "-" and it["reached_cycle"] != "-" and int(it["reached_cycle"]) <= last]
+
+
+def of_latencies(report, rows, design, runs):
+    name, last = last_of_reset(design, runs)
+    early = early_faults(rows, last)
+    if not early:
+        return
+    weight = lambda sign: sum(int(it["weight"]) for it in early if (it["fault"].rpartition("/")[1] == "/") == sign)
+    metrics = {metric: reports.per_cent(num + weight(metric == "spfm permanent"), den) for metric, num, den, _ in reports.metrics(report)}
+    when = f"while {name} is held, in the cycles 0 to {last}" if name else "in cycle 0, before the first edge of the clock"
+    yield Hint("early", f"{len(early)} harmful faults, {reports.fit(weight(True) + weight(False))} FIT, first differ {when}, and an alarm finds them later. They are no slow alarms: without them SPFM is "
+               f"{metrics['spfm permanent']} (permanent) and {metrics['spfm transient']} (transient).")
+
+
+def shares_of_transient(design, asked):
+    """What share of the transient rate flips and pulses have in each part: each fault of a part weighs the same."""
+    flips, pulses = len(cycles(asked.flips)), len(cycles(asked.pulses))
+    if not flips or not pulses:
+        return
+    owners, latches, counts = parts_by_net(asked.rates, design), {design.names[n] for n in design.net.latches}, {}
+    rated = {part[0].decode("latin-1") for part in read_rates(asked.rates)[1] if part[4]}
+    for net in design.names:
+        own = counts.setdefault(owners.get(net), [0, 0])
+        own[0] += flips * (net in latches)
+        own[1] += pulses
+    shown = [f"{part} {100 * own[0] // sum(own)} % and {100 - 100 * own[0] // sum(own)} %" for part, own in counts.items() if part in rated]
+    if shown:
+        yield Hint("shares", f"Flips and pulses share the transient rate of a part by their number: {'; '.join(shown)}.")
+
+
 def of_points(goals, alarms):
     if len(goals) > 1:
         yield Hint("goals", f"The points name {len(goals)} safety goals, and the metrics are of all of them together; the standard wants them for each.")
@@ -124,7 +205,8 @@ def of_points(goals, alarms):
 
 def of_files(design, asked):
     """What can be noticed before a campaign is run."""
-    return [*of_runs(designs.read_runs(asked.workload, design), asked), *of_rates(design, asked), *of_latches(design), *of_points(*read_points(asked.points, design))]
+    points = read_points(asked.points, design)
+    return [*of_runs(designs.read_runs(asked.workload, design), asked), *of_rates(design, asked), *of_latches(design), *of_points(*points), *of_unobserved(design, asked, *points)]
 
 
 def of_report(report):

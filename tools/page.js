@@ -54,7 +54,7 @@ document.addEventListener("keydown", event => {
   if (event.key === "Escape" && document.activeElement === search) { search.value = ""; anew(); }
 });
 let closed = [];
-addEventListener("beforeprint", () => { closed = [...document.querySelectorAll("details:not([open])")]; closed.forEach(it => { it.open = true; }); });
+addEventListener("beforeprint", () => { closed = [...document.querySelectorAll("#tree details:not([open])")]; closed.forEach(it => { it.open = true; }); });
 addEventListener("afterprint", () => closed.forEach(it => { it.open = false; }));
 const asked = decodeURIComponent(location.hash.slice(1));
 search.value = document.getElementById(asked) ? "" : asked;

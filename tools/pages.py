@@ -49,22 +49,32 @@ def whole(title, head, sections):
     return tag("header", tag("h1", html.escape(title)) + tag("p", html.escape(head), class_="head")) + tag("nav", links, aria_label="Contents") + tag("main", inner)
 
 
-def metric_rows(report):
-    rows = []
-    for name, num, den, least in reports.metrics(report):
+def verdict_mark(verdict):
+    return tag("span", verdict, class_=f"verdict {verdict}")
+
+
+def values(report):
+    """The value and the verdict of each metric, and of the term last."""
+    found = [f"{tag('b', reports.per_cent(num, den))} {verdict_mark(report.targets[name])}" for name, num, den, _ in reports.metrics(report)]
+    return [*found, f"{tag('b', reports.fit(report.danger + report.transient_danger) + ' FIT')} {verdict_mark(report.targets['term'])}"]
+
+
+def metric_rows(report, other=None):
+    rows, beside = [], values(other) if other else []
+    for k, (name, num, den, least) in enumerate(reports.metrics(report)):
         verdict = report.targets[name]
         shown = bar([("good" if verdict == "met" else "bad", num / den if den else 0, "")]) if den else ""
-        rows.append(row([name, tag("b", reports.per_cent(num, den)), f"at least {least} %", tag("span", verdict, class_=f"verdict {verdict}"), shown,
-                         f"{num}/{den}" if den else "nothing to divide"]))
+        rows.append(row([name, tag("b", reports.per_cent(num, den)), f"at least {least} %", verdict_mark(verdict), shown, f"{num}/{den}" if den else "nothing to divide", *beside[k:k + 1]]))
     term, most = report.danger + report.transient_danger, reports.PER_CENT[report.head["asil"]][2]
     verdict = report.targets["term"]
-    rows.append(row(["term (part of PMHF)", tag("b", reports.fit(term) + " FIT"), f"below {most // 10**6} FIT", tag("span", verdict, class_=f"verdict {verdict}"),
-                     bar([("bad" if verdict == "missed" else "good", min(term / most, 1), "")]), f"{term} × 10⁻⁶ FIT"]))
+    rows.append(row(["term (part of PMHF)", tag("b", reports.fit(term) + " FIT"), f"below {most // 10**6} FIT", verdict_mark(verdict),
+                     bar([("bad" if verdict == "missed" else "good", min(term / most, 1), "")]), f"{term} × 10⁻⁶ FIT", *beside[-1:]]))
     return rows
 
 
-def metric_table(report):
-    return (table(["metric", "value", f"target of ASIL {report.head['asil']}", "", "", "exactly"], metric_rows(report), id="metrics")
+def metric_table(report, other=None):
+    """The metrics against their targets; `other` is the report where latches of unknown start begin at 1."""
+    return (table(["metric", "value", f"target of ASIL {report.head['asil']}", "", "", "exactly", *["latches of unknown start at 1"] * bool(other)], metric_rows(report, other), id="metrics")
             + tag("p", "Percentages are rounded down. The term is the single-point and residual part of PMHF, and never the whole of it."))
 
 

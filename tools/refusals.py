@@ -5,8 +5,9 @@ import re
 import designs
 from designs import tables
 
-ROW = re.compile(r"^(?:refused: )?(workload|rates|points) row (\d+) (\w+)$", re.M)
-LINE = re.compile(r"^refused: (?:netlist|bench) line (\d+) ", re.M)
+# A tool that was refused says its own name and that of the file before it.
+ROW = re.compile(r"^(?:.*refused: )?(workload|rates|points) row (\d+) (\w+)$", re.M)
+LINE = re.compile(r"^(?:.*: )?refused: (?:netlist|bench) line (\d+) ", re.M)
 MOST_NETS = 4
 
 
@@ -16,9 +17,19 @@ def row_of(name, number):
     return [field.decode("utf-8", "replace") for field in rows[number - 1]] if 0 < number <= len(rows) else None
 
 
+def is_near(one, other):
+    """Whether names differ in a letter or two that stand together, are missing, or have changed places."""
+    if abs(len(one) - len(other)) > 2:
+        return False
+    first = next((i for i, (a, b) in enumerate(zip(one, other)) if a != b), min(len(one), len(other)))
+    one, other = one[first:], other[first:]
+    last = next((i for i, (a, b) in enumerate(zip(reversed(one), reversed(other))) if a != b), min(len(one), len(other)))
+    return max(len(one), len(other)) - last <= 2
+
+
 def like(name, nets):
-    """The nets that an unknown name may have meant: other letters, or the bits of a bus."""
-    close = [net for net in nets if net.lower() == name.lower() or net.startswith(f"{name}[")]
+    """The nets that an unknown name may have meant: capitals, the bits of a bus, or letters that are wrong."""
+    close = [net for net in nets if net.lower() == name.lower() or net.startswith(f"{name}[")] or [net for net in nets if is_near(net, name)]
     return close[:MOST_NETS] + ([".."] if len(close) > MOST_NETS else [])
 
 

@@ -7,9 +7,10 @@ from dataclasses import dataclass, field
 
 import hints
 
+LISTS = ("verilog", "headers", "liberty", "techmap", "parameters", "defines", "include")
 CYCLES = re.compile(r"none|[0-9]+(,[0-9]+)*")
 KEYS = {
-    "design": ("verilog", "headers", "top", "netlist", "latches"),
+    "design": ("verilog", "headers", "top", "netlist", "latches", "liberty", "script", "techmap", "synth", "parameters", "defines", "include"),
     "workload": ("file", "scope", "clock", "unknown", "nets", "without", "skip"),
     "campaign": ("rates", "points", "interval", "intervals", "flips", "pulses", "asil", "workers"),
     "output": ("folder", "title"),
@@ -36,6 +37,13 @@ class Settings:
     points: str
     verilog: tuple = ()
     headers: tuple = ()
+    liberty: tuple = ()
+    script: str = ""
+    techmap: tuple = ()
+    synth: str = ""
+    parameters: tuple = ()
+    defines: tuple = ()
+    include: tuple = ()
     top: str = ""
     given_netlist: str = ""
     latches: str = ""
@@ -88,7 +96,7 @@ def parsed(name):
 def look_at_words(parser):
     """Each section and each key is one that has a meaning: a word that is misspelt would change the campaign in silence."""
     for section in parser.sections():
-        known = {**KEYS, "runs": None, "accepted": hints.MAY_BE_MEANT}
+        known = {**KEYS, "runs": None, "accepted": (*hints.MAY_BE_MEANT, *hints.LOOKED_AT)}
         if section not in known:
             raise Wrong(f"there is no section [{section}]: " + ", ".join(known))
         for key, value in parser[section].items():
@@ -112,7 +120,7 @@ def values_of(parser):
     """The settings by their names here, those that are left out being left out."""
     renamed = {("design", "netlist"): "given_netlist", ("workload", "file"): "given_workload", ("output", "folder"): "out"}
     found = {renamed.get((section, key), key): value.strip() for section in KEYS if parser.has_section(section) for key, value in parser[section].items()}
-    for key in ("verilog", "headers"):
+    for key in LISTS:
         if key in found:
             found[key] = tuple(shlex.split(found[key]))
     return found
@@ -124,6 +132,7 @@ def look_at_values(said):
         raise Wrong("[design] has either verilog or netlist")
     if said.verilog and not said.top:
         raise Wrong("[design] top must name the top module of the Verilog")
+    look_at_synthesis(said)
     if not said.given_workload and not said.runs:
         raise Wrong("[workload] file, or runs with their dumps in [runs], must be given")
     for key, least, most in (("interval", 0, 4096), ("workers", 1, 32), ("skip", 0, 65536), ("latches", 0, 262144)):
@@ -138,8 +147,26 @@ def look_at_values(said):
         raise Wrong(f"[output] folder is a folder of its own below that of the settings, and not {said.out}")
 
 
+def look_at_synthesis(said):
+    """Keys that say how the Verilog is read have no meaning for a netlist or beside a script of one's own."""
+    for key in ("liberty", "script", "techmap", "synth", "parameters", "defines", "include"):
+        if getattr(said, key) and said.given_netlist:
+            raise Wrong(f"[design] {key} is for verilog, and not for netlist")
+        if getattr(said, key) and said.script and key not in ("script", "liberty"):
+            raise Wrong(f"[design] {key} belongs into the script {said.script}")
+    if said.liberty and said.synth:
+        raise Wrong("[design] synth has no meaning for cells of a library: nothing is synthesised")
+    for key, pattern, meaning in (("parameters", r"\w+=\S+", "NAME=VALUE"), ("defines", r"\w+(=\S*)?", "NAME or NAME=VALUE"), ("include", r"\S+", "folders")):
+        for word in getattr(said, key):
+            if not re.fullmatch(pattern, word):
+                raise Wrong(f"[design] {key} is a list of {meaning}, and not {word}")
+    for name in said.include:
+        if not (said.folder / name).is_dir():
+            raise Wrong(f"there is no folder {name}")
+
+
 def missing_files(said):
-    named = [*said.verilog, *said.headers, said.given_netlist, said.given_workload, said.rates, said.points, *[re.sub(r":\d+-\d+$", "", run.dump) for run in said.runs]]
+    named = [*said.verilog, *said.headers, *said.liberty, *said.techmap, said.script, said.given_netlist, said.given_workload, said.rates, said.points, *[re.sub(r":\d+-\d+$", "", run.dump) for run in said.runs]]
     return [name for name in named if name and not (said.folder / name).is_file()]
 
 

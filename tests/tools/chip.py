@@ -185,3 +185,17 @@ def the_page_of_a_chip(folder, _):
     for wanted in ("99.24 %", "96.75 %", "99.81 %", "128204969/132500860", "76.01 %", "2.22714 FIT", "|400|", "sheet of the SRAM with ECC", "intervals 0, 4"):
         assert wanted in cells.text, wanted
     assert text.count("verdict met") == 4
+
+
+def what_the_blocks_pages_say(folder, _):
+    """The guard of the block does no harm; made into one that does, its hint stands on the chip's page, as does a manifest of another report."""
+    _block(folder)
+    held(folder, list__csv="block,instances,report\ncore,3,report.txt\n")
+    tool("chip", "list.csv", "--asil", "B", "--page", "chip.html", folder=folder)
+    assert "Block core" not in pathlib.Path(folder, "chip.html").read_text()
+    _block(folder, counts=("faults 3 safe 0 detected 1 residual 0", "faults 3 safe 0 detected 0 residual 1"))
+    held(folder, manifest__json='{"output": {"sha256": "0", "bytes": 1}}')
+    tool("chip", "list.csv", "--asil", "B", "--page", "chip.html", folder=folder)
+    text = pathlib.Path(folder, "chip.html").read_text()
+    for wanted in ("Block core: Part guard is a mechanism with harmful faults", "Block core: manifest.json is the manifest of another report than report.txt."):
+        assert wanted in text, text

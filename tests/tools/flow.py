@@ -129,6 +129,10 @@ def a_flow_to_its_page(folder, program):
     assert flow.joinpath("report.txt").read_text().endswith(METRICS), flow.joinpath("report.txt").read_text()
     for wanted in ("97.56 %", "4000000/4100000", "87.50 %", "0.1 FIT", "Nothing was noticed"):
         assert wanted in flow.joinpath("page.html").read_text(), wanted
+    # Residual, single-point, latent, detected and safe FIT of each part.
+    said = " ".join(re.sub("<[^>]*>", " ", flow.joinpath("page.html").read_text()).split())
+    for wanted in ("pins permanent 0.1 0 0.1 0 0 0", "main permanent 2 0 0 0 2 0", "main transient 4 0 0 0 4 0", "copy permanent 2 0 0 0.5 1.5 0", "all permanent 4.1 0 0.1 0.5 3.5 0", "all transient 8 0 0 0 8 0"):
+        assert wanted in said, wanted
     for wanted in ("run drive: 6 cycles, 2 nets agree", "# spfm permanent: 97.56 %, met", "# term: 0.1 FIT, met", "# the page: flow/page.html"):
         assert wanted in printed, printed
 
@@ -157,7 +161,7 @@ def a_missed_target_is_a_status_where_it_is_asked_for(folder, program):
 def a_step_is_left_out_where_nothing_changed(folder, program):
     _design(folder)
     _flow(folder, program)
-    for name, text, wanted in (("rates.csv", RATES, ()), ("flow.ini", SETTINGS + "[output]\ntitle = another\n", ("page",)),
+    for name, text, wanted in (("rates.csv", RATES, ()), ("rates.csv", RATES.replace("0.1,0", "0.10,0.000"), ()), ("flow.ini", SETTINGS + "[output]\ntitle = another\n", ("page",)),
                                ("flow.ini", SETTINGS.replace("asil = C", "asil = B"), ("run", "latencies", "breakdown", "page", "manifest")), ("points.csv", POINTS + "observe,c\n", ("check", "alarms", "run", "latencies", "breakdown", "page", "manifest")),
                                ("drive.vcd", _dump() + "#60\n0!\n", ("workload", "golden")), ("rates.csv", RATES.replace("0.1", "0.2"), ("parts", "check", "run", "latencies", "breakdown", "page", "manifest"))):
         pathlib.Path(folder, name).write_text(text)
@@ -187,7 +191,7 @@ def another_program_begins_the_campaign_anew(folder, program):
     assert _done(_flow(folder, fake)[0]) == ()
     _program(folder, "fmeda", f'exec "{program}" "$@" # another\n')
     printed, _ = _flow(folder, fake)
-    assert _done(printed)[:5] == ("golden", "parts", "check", "alarms", "run") and " resume " not in printed and "of another program, are in flow/result." in printed, printed
+    assert _done(printed)[:5] == ("golden", "parts", "check", "alarms", "run") and " resume " not in printed and "of another program, are in flow/result.before now" in printed, printed
 
 
 def rows_that_are_there_are_kept(folder, program):
@@ -208,6 +212,10 @@ def rows_that_are_there_are_kept(folder, program):
     printed, _ = _flow(folder, program)
     aside = re.search(r"the rows of another campaign, or of another program, are in (\S+) now", printed)
     assert aside and pathlib.Path(folder, aside[1]).read_bytes() == kept and " resume " not in printed, printed
+    for interval in ("2", "3"):
+        _design(folder, _with(("campaign", f"interval = {interval}")))
+        _flow(folder, program)
+    assert sorted(it.name for it in result.parent.glob("result*")) == ["result", "result.before"]
 
 
 def no_step_outlives_the_flow(folder, program):
@@ -264,6 +272,92 @@ def latches_that_start_at_an_unknown_value(folder, program):
     assert "look: 1 .latch lines give no initial value, and these latches start at 0" in printed, printed
 
 
+# ---- hints: each on a design made for it
+
+NARROW = ("workload", "scope = tb.dut\nnets = q,al")
+
+
+def outputs_that_are_no_point(folder, program):
+    """A second output that nothing observes; and one that an observer, a part of role other, reads."""
+    netlist = NETLIST.replace(".outputs q al", ".outputs q al z y seen").replace(".end", ".names q z\n1 1\n.names q y\n1 1\n.names y d seen\n11 1\n.names z dead\n0 1\n.end")
+    rates = RATES + "z,main,mission,yes,2,4\ny,main,mission,yes,2,4\ndead,main,mission,yes,2,4\nseen,look,other,no,0,0\n"
+    _design(folder, _with(NARROW, ("accepted", "outside = an observer")), design__blif=netlist, rates__csv=rates)
+    printed, _ = _flow(folder, program)
+    assert "look: 1 outputs of the netlist are no point: z. A fault that reaches these alone counts as safe." in printed, printed
+    assert "look: 1 nets are read by nothing and are no point: dead. Their faults are safe whatever happens." in printed, printed
+    _design(folder, _with(NARROW, ("accepted", "outside = an observer\noutputs = z is for a probe")), design__blif=netlist, rates__csv=rates)
+    printed, _ = _flow(folder, program)
+    page = pathlib.Path(folder, "flow", "page.html").read_text()
+    assert "accepted, outputs: 1 outputs" in printed and "counts as safe. Accepted: z is for a probe" in page and "Accepted: an observer" in page, printed
+
+
+# A reset holds the alarm at 0 while q, which has none, begins at 0: q/1 is harm in the cycles 0 to 2, and afterwards the alarm of the cycle in which it is.
+HELD = NETLIST.replace(".inputs clk d", ".inputs clk rst d").replace(".names q c al\n10 1\n01 1\n", ".names rst q c al\n010 1\n001 1\n")
+HELD_RATES = RATES.replace("d,pins", "rst,pins,mission,no,0.1,0\nd,pins")
+
+
+def harm_before_the_reset(folder, program):
+    """Of q/1, whose weight is half of 2 FIT, without which SPFM is that of the design; d/0, d/1 and rst/1 do harm at any time, and are not counted."""
+    data = "".join(f"w,mission,{int(k < 3)},{bit}\n" for k, bit in enumerate((0, 0, 0, *DATA)))
+    settings = _with(("workload", "file = w.csv"), without=("drive = mission drive.vcd", "flips = 2"))
+    rates = HELD_RATES.replace(",4\n", ",0\n")
+    _design(folder, settings, design__blif=HELD, rates__csv=rates, w__csv="workload,kind,rst,d\n" + data)
+    printed, _ = _flow(folder, program)
+    report = pathlib.Path(folder, "flow", "report.txt").read_text()
+    assert "residual q/1 1000000" in report, report
+    harmful = sum(int(line.split()[2]) for line in report.splitlines() if line.split()[0] in ("residual", "single-point"))
+    wanted = f"{10000 * (4100000 - harmful + 1000000) // 4100000 / 100:.2f} %"
+    assert f"look: 1 harmful faults, 1 FIT, first differ while rst is held, in the cycles 0 to 2, and an alarm finds them later. They are no slow alarms: without them SPFM is {wanted}" in printed, printed
+    assert "harmful in the cycles 0 to 2, before the reset ends" in pathlib.Path(folder, "flow", "page.html").read_text()
+
+
+def the_shares_of_flips_and_pulses(folder, program):
+    """One latch and one net in main, two flips and one pulse of it: 66 % and 34 %; copy has a net more: 2 of 4 faults."""
+    _design(folder, _with(("campaign", "flips = 2,3\npulses = 2"), ("accepted", "weights = pins have no transient rate"), without=("flips = 2",)))
+    printed, _ = _flow(folder, program)
+    assert "look: Flips and pulses share the transient rate of a part by their number: main 66 % and 34 %; copy 50 % and 50 %." in printed, printed
+    assert "main 66 % and 34 %" in pathlib.Path(folder, "flow", "page.html").read_text()
+
+
+def what_was_not_compared_or_not_known(folder, program):
+    """q's copy has no signal in the dump; d is x in cycle 0; and then the dump is a cycle shorter."""
+    _design(folder, _with(("workload", "nets = all\nunknown = 0")), drive__vcd=_dump().replace("#0\n0!\n0#", "#0\n0!\nx#"))
+    for _ in (0, 1):
+        printed, _ = _flow(folder, program)
+        assert "look: run drive: 6 cycles, 3 nets agree, 1 values were x or z, 1 of 2 latches are not compared: the dump has no signal for them." in printed, printed
+        assert "look: run drive: 6 cycles, 1 inputs had x or z: the campaign has 0 there." in printed, printed
+    page = pathlib.Path(folder, "flow", "page.html").read_text()
+    assert "1 of 2 latches are not compared" in page and "1 inputs had x or z" in page
+    held(folder, drive__vcd=_dump()[:_dump().index("#50")])
+    printed, _ = _flow(folder, program)
+    assert "look: run drive has 5 cycles, and had 6 at the last time. Was its simulation cut off?" in printed, printed
+
+
+def both_starts_side_by_side(folder, program):
+    """With q unknown and c at 0: at 1 both differ in cycle 0, in which al is 1 in the golden run; the metrics of both stand there."""
+    _design(folder, design__blif=NETLIST.replace("re clk 0", "re clk 2").replace(".latch d c re clk 2", ".latch d c"))
+    printed, _ = _flow(folder, program)
+    ones = pathlib.Path(folder, "flow", "ones.blif").read_text()
+    assert ".latch d q re clk 1\n.latch d c 1\n" in ones, ones
+    found = re.findall(r"# (spfm permanent|spfm transient|lfm|term): (.*); where latches of unknown start begin at 1: (.*)", printed)
+    assert len(found) == 4 and found[0][1] == "97.56 %, met", printed
+    assert "latches of unknown start at 1" in pathlib.Path(folder, "flow", "page.html").read_text()
+
+
+def near_names(folder, _):
+    import refusals
+    for name, wanted in (("seen_words[3]", ["seen_word[3]"]), ("sene_word[3]", ["seen_word[3]"]), ("seen_word[33]", ["seen_word[3]"]), ("SEEN_WORD[3]", ["seen_word[3]"]), ("other", []), ("seen_word", ["seen_word[3]"])):
+        assert refusals.like(name, ["seen_word[3]", "rdata", "clk"]) == wanted, (name, refusals.like(name, ["seen_word[3]", "rdata", "clk"]))
+
+
+def names_of_neighbours_in_the_flow(folder, program):
+    """u_b.x is made of a net of u_a alone, and of another part."""
+    netlist = NETLIST.replace(".end", ".names q u_a.w\n1 1\n.names u_a.w u_a.v\n1 1\n.names u_a.v u_a.u\n1 1\n.names u_a.u u_b.x\n1 1\n.names u_b.x u_b.y u_b.z\n11 1\n.names u_b.x u_b.y\n0 1\n.names u_b.z u_b.o\n1 1\n.end")
+    _design(folder, _with(NARROW), design__blif=netlist, rates__csv=RATES + "u_a.*,main,mission,yes,2,4\nu_b.*,copy,mechanism,no,2,4\n")
+    printed, _ = _flow(folder, program)
+    assert "look: perhaps of another part than copy: u_b.x, made of nets of u_a alone" in printed, printed
+
+
 def what_a_refusal_names_is_shown(folder, program):
     for changes, wanted in (({"points__csv": POINTS + "observe,AL\n"}, "row 4 of points.csv is observe,AL\n  the netlist has al\n"),
                             ({"rates__csv": RATES.replace("pins,mission", "pins,Mission")}, "row 2 of rates.csv is d,pins,Mission,no,0.1,0\n"),
@@ -271,6 +365,9 @@ def what_a_refusal_names_is_shown(folder, program):
         _design(folder, SETTINGS.replace("[runs]\ndrive = mission drive.vcd", "[workload]\nfile = w.csv"), w__csv="workload,kind,d\nw,mission,0\nw,mission,1\nw,mission,1\n", **changes)
         _, said = _flow(folder, program, status=3)
         assert wanted in said, said
+    _design(folder, design__blif=NETLIST.replace("01 1", "01 0"))
+    _, said = _flow(folder, program, status=3)
+    assert "stopped at workload" in said and "line 8 of design.blif is 01 0\n" in said, said
 
 
 def patterns_that_take_nothing(folder, program):
@@ -381,6 +478,9 @@ def steps_that_fail(folder, program):
     assert "stopped at workload" in said and "refused: netlist line" in said, said
 
 
+VERILOG = SETTINGS.replace("netlist = design.blif", "verilog = drive.vcd\ntop = top\n{}")
+
+
 def settings_that_say_something_wrong(folder, program):
     for settings, wanted in (
             (_with(("campaign", "flip = 2")), "[campaign] has no key flip: rates, points"), (_with(("design", "netlsit = x"), without=("netlist = design.blif",)), "has no key netlsit"),
@@ -391,6 +491,9 @@ def settings_that_say_something_wrong(folder, program):
             (_with(("runs", "second = test none.vcd:0-3")), "there is no file none.vcd"), (_with(("campaign", "interval = 4097")), "interval is a number from 0 to 4096"),
             (_with(("campaign", "workers = 0")), "workers is a number from 1 to 32"), (_with(("campaign", "pulses = 1;2")), "pulses is none, or cycles"), (SETTINGS.replace("= C", "= A"), "asil is B, C or D"),
             (_with(("output", "folder = ../other")), "folder of its own"), (_with(("output", "folder = .")), "folder of its own"), (_with(("accepted", "missions = why not")), "[accepted] has no key missions"),
+            (_with(("design", "liberty = drive.vcd")), "liberty is for verilog, and not for netlist"), (VERILOG.format("script = drive.vcd\nsynth = -nofsm"), "synth belongs into the script drive.vcd"),
+            (VERILOG.format("liberty = drive.vcd\nsynth = -nofsm"), "nothing is synthesised"), (VERILOG.format("parameters = WIDTH 8"), "parameters is a list of NAME=VALUE, and not WIDTH"),
+            (VERILOG.format("defines = A-B"), "defines is a list of NAME or NAME=VALUE, and not A-B"), (VERILOG.format("include = none"), "there is no folder none"), (VERILOG.format("techmap = none.v"), "there is no file none.v"),
             (_with(("accepted", "goals =")), "[accepted] goals has no value"), ("rates\n", "no section headers"), (SETTINGS.replace("rates.csv", "none.csv"), "there is no file none.csv")):
         _design(folder, settings)
         _, said = _flow(folder, program, status=2)
@@ -451,6 +554,45 @@ def the_script_is_that_of_the_page(folder, program):
         if example == "lockstep":
             wanted.insert(wanted.index("async2sync"), "techmap -map async_reset.v")
         assert _script(copy.joinpath("flow", "synth.ys").read_text()) == wanted, example
+
+
+# A register of WIDTH bits from an included file, one more with EXTRA, and a state machine of 3 bits that yosys recodes to 5.
+KEYED = {"first__v": """`include "width.vh"
+module top #(parameter WIDTH = `WIDTH) (input clk, rst, go, stop, output reg [WIDTH-1:0] q, output busy, done);
+always @(posedge clk) q <= {q, go};
+`ifdef EXTRA
+reg more; always @(posedge clk) more <= stop & `EXTRA; assign done = more;
+`else
+assign done = 0;
+`endif
+machine u_machine (.clk(clk), .rst(rst), .go(go), .stop(stop), .busy(busy));
+endmodule
+""", "second__v": """module machine (input clk, rst, go, stop, output busy); reg [2:0] state; always @(posedge clk) if (rst) state <= 0; else case (state)
+0: if (go) state <= 1; 1: state <= 2; 2: if (stop) state <= 3; 3: if (!stop) state <= 4; default: state <= 0; endcase
+assign busy = state == 1 || state == 2 || state == 3; endmodule
+""", "own__v": """module machine (input clk, rst, go, stop, output busy); assign busy = go; endmodule
+""", "own__ys": "read_verilog -Iinc first.v second.v; hierarchy -top top; proc; async2sync; synth -run coarse:check; dfflegalize -cell $_DFF_P_ 01; abc -g AND; flatten; opt_clean; write_blif -noalias {}\n"}
+
+
+def how_the_verilog_is_read(folder, program):
+    """The latches tell what yosys did: 2 or 7 of the register, 1 of EXTRA, 5 or 3 of the machine; the techmap has another machine, without a state."""
+    if shutil.which("yosys") is None:
+        raise Skipped("yosys is not installed")
+    for keys, latches in (((), 2 + 5), (("synth = -nofsm",), 2 + 3), (("defines = EXTRA=1",), 2 + 1 + 5), (("parameters = WIDTH=7", "defines = EXTRA=1 OTHER", "synth = -nofsm"), 7 + 1 + 3),
+                                  (("techmap = own.v",), 2), (("script = own.ys",), 2 + 5)):
+        shutil.rmtree(pathlib.Path(folder, "flow"), ignore_errors=True)
+        own = keys and keys[0].startswith("script")
+        lines = [("design", line) for line in ("verilog = first.v second.v", "top = top", "latches = 99", *([] if own else ["include = inc"]), *keys)]
+        _design(folder, _with(*lines, ("workload", "file = w.csv"), without=("netlist = design.blif", "latches = 2", "drive = mission drive.vcd")), w__csv="workload,kind,rst,go,stop\nw,mission,1,0,0\nw,mission,0,1,1\nw,mission,0,1,0\n",
+                rates__csv="pattern,part,role,covered,permanent,transient\n*,all,mission,no,1,1\n", points__csv="kind,net\nobserve,busy\n", **{**KEYED, "own__ys": KEYED["own__ys"].format("flow/design.blif")})
+        pathlib.Path(folder, "inc").mkdir(exist_ok=True)
+        held(pathlib.Path(folder, "inc"), width__vh="`define WIDTH 2\n")
+        _, said = _flow(folder, program, status=1)
+        assert f"flow/design.blif has {latches} latches, and the design 99" in said, (keys, said)
+    shutil.rmtree(pathlib.Path(folder, "flow"))
+    held(folder, own__ys=KEYED["own__ys"].format("other.blif"))
+    _, said = _flow(folder, program, status=3)
+    assert "own.ys wrote no flow/design.blif: its last line must be `write_blif -noalias flow/design.blif`" in said, said
 
 
 def from_a_netlist_and_dumps(folder, program):

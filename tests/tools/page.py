@@ -44,12 +44,43 @@ def a_page_of_each_example(folder, _):
 
 def what_the_page_says(folder, _):
     text = _made_page(folder, "bridge").read_text()
-    for wanted in ("85.42 %", "at least 90 %", "3638933/4260000", "without the 22 heaviest faults", "u_control", "Nothing was noticed"):
+    for wanted in ("85.42 %", "at least 90 %", "3638933/4260000", "without the 22 heaviest faults", "u_control", "2 outputs of the netlist are no point: rparity, pparity."):
         assert wanted in text, wanted
     text = _made_page(folder, "watchdog").read_text()
     assert "2 safety goals" in text
     text = _made_page(folder, "secded_fifo", "--flips", "20,45,5000").read_text()
     assert "no mission run has the cycles 5000" in text and "No part has the role mechanism" in text
+
+
+def buses_and_the_top_module(folder, _):
+    """The faults of a bus in one row, with what the report says of its bits added up; and the nets of the top module beside its instances."""
+    page = _made_page(folder, "bridge")
+    lines = [line.split() for line in page.with_name("report.txt").read_text().splitlines() if line.startswith(("residual", "single-point", "latent"))]
+    said = _section(page.read_text(), "faults")
+    for bus in ("pwdata", "rdata", "paddr"):
+        own = [(name, int(weight)) for kind, name, weight in lines if name.startswith(f"{bus}[") and kind == "residual"]
+        assert re.search(rf"{bus}\[\*\] {re.escape(', '.join(name for name, _ in own[:1]))}.* residual \w+ {len(own)} {sum(weight for _, weight in own) / 1e6:g}\b", said), (bus, own, said[:400])
+    top = sum(int(weight) for kind, name, weight in lines if kind != "latent" and "." not in name)
+    shown = re.search(r"\(nets of the top module\) \d+ nets, (\d+) residual, (\d+) single-point, 0 latent; harmful (\S+) FIT", _section(page.read_text(), "hierarchy"))
+    assert shown and round(float(shown[3]) * 1e6) == top and int(shown[1]) + int(shown[2]) == sum(kind != "latent" and "." not in name for kind, name, _ in lines), (shown, top)
+
+
+WIDE = """<script>
+document.title = [...document.querySelectorAll(".wide")].filter(it => it.scrollWidth > it.clientWidth).map(it => it.firstChild.id).join("|") + "|" + innerWidth;
+</script>"""
+
+
+def no_column_is_cut(folder, program):
+    """At 1400 pixels each table is as wide as its place, with all that the flow gives to the page."""
+    page = _made_page(folder, "bridge")
+    copy, words = page.parent, (*FILES, "--ftti", "4", "--flips", "61,98,130,250", "--asil", "B")
+    for command, name, *own in (("breakdown", "b.txt", "--intervals", "0,2"), ("latencies", "l.csv")):
+        with open(copy / name, "wb") as out:
+            subprocess.run([program, command, *words, *own], cwd=copy, check=True, stdout=out)
+    tool("page", *FILES, "report.txt", "--breakdown", "b.txt", "--latencies", "l.csv", "-o", "page.html", folder=copy)
+    page.write_text(page.read_text().replace("</body>", WIDE + "</body>"))
+    found = re.search(r"<title>(.*?)</title>", _browser("--window-size=1400,1000", "--dump-dom", f"file://{page}"))[1]
+    assert found == "|1400", found
 
 
 def fewest_faults_by_hand(folder, _):

@@ -62,7 +62,7 @@ def _used(installed, folder):
     held = installed / "share" / "fmeda"
     done = subprocess.run(["bash", "-e", "-c", "cd examples/lockstep; ../../build/fmeda check design.blif workload.csv rates.csv points.csv"], cwd=held, capture_output=True, text=True)
     assert done.stdout.startswith("refused: part main has a transient rate"), done.stdout + done.stderr
-    for tool in ("chip", "faults", "flow", "golden", "manifest", "page", "patterns", "vcd2workload", "waves"):
+    for tool in ("chip", "faults", "flow", "golden", "manifest", "page", "patterns", "rates", "ungate", "vcd2workload", "waves"):
         subprocess.run([f"fmeda-{tool}", "--help"], env=environment, check=True, stdout=subprocess.DEVNULL)
 
 
