@@ -114,8 +114,8 @@ module _ (before : Outside) (shelf : ShelfState) (written : Option Bytes) (low h
   promises_later words ended (inl (command, is, alone, ends)) = inl (command, is, alone, command_later command ended ends)
   promises_later words ended (inr (inl (none, usage, refused))) =
       inr (inl (none, usage, refused_later before shelf written low high grows (codes "refused: usage\n") refused))
-  promises_later words ended (inr (inr (memory, refused))) =
-      inr (inr (memory, refused_later before shelf written low high grows (codes "refused: out of memory\n") refused))
+  promises_later words ended (inr (inr (memory, was, refused))) =
+      inr (inr (memory, was, refused_later before shelf written low high grows (codes "refused: out of memory\n") refused))
 
 -- a page in front of a sink, in which this waits
 abbrev page_of : SinkState → List ℕ → SinkState

@@ -67,7 +67,7 @@ returns g c =
     let has = subst (HasIfKnown (after.shelf.content name)) file both.0 in
     let wrote_on = subst (λ text. WritesOn 0 text (after.shelf.given name) (before.shelf.changed name) (after.shelf.changed name)) file both.1 in
     let line = merge_line (length it.rows) (batch_count it.planned.plan) in
-    let torn = rw (c.as_slice-rows.ensures, c.batches.ensures.count) at c.in-Err.ensures.failed in
+    let torn = rw (c.as_slice-rows.ensures, c.batches.ensures.count) at c.in-Err-write_merge.ensures.failed in
     λ reads sound. record {
       ends = (
         line,
@@ -76,5 +76,5 @@ returns g c =
       );
       others = c.write_anew.ensures.others;
       given = c.write_anew.ensures.given;
-      grows = c.in-Err.ensures.grows;
+      grows = c.in-Err-write_merge.ensures.grows;
     }

@@ -1,4 +1,5 @@
-use Rattle.std.proofs.Common.{inr, subst, sym}
+use Rattle.std.proofs.Common.{◌∙◌, Err, ap, inl, inr, subst, sym}
+use Rattle.std.proofs.lemmas.Result.{err_from_is_err_and}
 use Rattle.commands.specs.Commands.{name_by}
 use Rattle.command_reads.specs.Files.{IsFitKind, WereRead, reads_by}
 use Rattle.command_reads.specs.Judging.{JudgesAs}
@@ -19,3 +20,8 @@ returns-clause-prepared g c =
         subst (λ own. JudgesAs c.args.names.now.netlist.now c.args.settings reads own c.judge.result) c.kind-kind.ensures c.judge.ensures,
       ),
     )
+
+pub returns-in_err-reads-clause-prepared : goal.returns-in_err-reads-clause-prepared
+returns-in_err-reads-clause-prepared g c =
+    let p = err_from_is_err_and c.from_residual.result c.from_residual.ensures.1 in
+    inl (c.in_err-reads.field-0.0, p.1 ∙ ap (λ refused. Err refused) p.2)
