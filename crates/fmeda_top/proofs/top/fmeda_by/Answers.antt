@@ -39,4 +39,4 @@ pub returns-in-Err-Memory-clause-grows : goal.returns-in-Err-Memory-clause-grows
 returns-in-Err-Memory-clause-grows g c = (c.refuse_words-in-Err-Memory.ensures.said Unknown).2.1
 
 pub perform-requires-clause-turn : goal.perform-requires-clause-turn
-perform-requires-clause-turn g c κs within = λ several share. c.requires.turn (told_by c.in-Ok.asked, (c.in-Ok.ensures.reads, several)) share
+perform-requires-clause-turn g c κs within = λ several share. c.requires.turn (told_by c.in-Ok.asked, c.in-Ok.ensures.reads, several) share
