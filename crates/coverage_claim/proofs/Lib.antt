@@ -1,0 +1,4 @@
+pub mod Ruling
+pub mod Lasting
+mod Windows
+mod Worked
