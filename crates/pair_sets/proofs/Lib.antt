@@ -1,0 +1,6 @@
+pub mod Sets
+pub mod Rows
+pub mod Choices
+pub mod Ends
+pub mod FourPairs
+pub mod Nets

@@ -1,0 +1,4 @@
+pub mod Pairs
+pub mod Choice
+pub mod Steps
+pub mod Tables
