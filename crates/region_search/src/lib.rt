@@ -1,0 +1,6 @@
+//! The search for what proves a claim: what it keeps from one step to the next, and what it knows at its end.
+#![tactic(auto)]
+
+mod law;
+
+pub use law::settled_sets;
