@@ -1,6 +1,8 @@
 //! The search for what proves a claim: what it keeps from one step to the next, and what it knows at its end.
 #![tactic(auto)]
 
+mod frames;
 mod law;
 
+pub use frames::FrameSets;
 pub use law::settled_sets;
