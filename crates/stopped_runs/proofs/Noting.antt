@@ -243,21 +243,21 @@ module _ (inner now : ShelfState) (name : Bytes) (before after : ToldNames) (eve
     pub read_stops : (later : List Event) → later ≡ Unread name ∷ events
         → OnlyReads (stopping_state inner before events) (stopping_state inner after later) name
     read_stops later is =
-      let own =
-      failed_read inner.content inner.read_faults inner.read_faults inner.write_faults events later name is
-      (record { grows = λ other. omega arith; others = λ other ne there. refl }) in
-      record {
-      content = λ i other. content_told_at (is_same other i) other;
-      counts = record {
-        grows = λ other. let more = read_grows other in omega (arith, more);
-        others = λ other ne there. ap (λ n. inner.read_faults other + n) (stays other ne (there_told inner.content before.names.items other there));
-      };
-      writes = λ other. ap (λ n. inner.write_faults other + n) (writes_same other);
-      more = own.more;
-      gives = own.gives;
-      changed = own.changed;
-      asks = own.asks;
-    }
+        let own =
+        failed_read inner.content inner.read_faults inner.read_faults inner.write_faults events later name is
+        (record { grows = λ other. omega arith; others = λ other ne there. refl }) in
+        record {
+          content = λ i other. content_told_at (is_same other i) other;
+          counts = record {
+            grows = λ other. let more = read_grows other in omega (arith, more);
+            others = λ other ne there. ap (λ n. inner.read_faults other + n) (stays other ne (there_told inner.content before.names.items other there));
+          };
+          writes = λ other. ap (λ n. inner.write_faults other + n) (writes_same other);
+          more = own.more;
+          gives = own.gives;
+          changed = own.changed;
+          asks = own.asks;
+        }
       where
         content_told_at : Bool → Bytes → Content
         content_told_at b other = if b then inner.content other else Unknown
