@@ -27,6 +27,7 @@ use Rattle.command_line.specs.Words.{IsCommand}
 use Rattle.refusals.specs.declared.status.Status.{Status}
 use Rattle.refusals.specs.declared.status.Status.TheVariants as status
 use Rattle.refusals.specs.RefusalLines.{refusal_line}
+use Rattle.refusals.specs.WantOfMemory.{IsMemory}
 use Rattle.command_reads.specs.declared.files.FileRead.{FileRead}
 use Rattle.command_reads.specs.declared.files.FileRead.TheVariants.{Whole}
 use Rattle.command_reads.specs.Files.{Reads, WasRead, WereRead}
@@ -70,7 +71,7 @@ module _ (words : List Bytes) (command : Command) (ended : Status) (before after
   pub ended_as : Promises words ended before after → HasDone command ended before after ⊎ HasStayed ended before after
   ended_as (inl (own, of, alone, ends)) = by_ends (subst (λ it. CommandEnds it ended before after) (sym (alone command is)) ends)
   ended_as (inr (inl (none, usage, refused))) = absurd (none command is)
-  ended_as (inr (inr (memory, (files, said)))) = inr (files.content, λ done. absurd (cc))
+  ended_as (inr (inr (memory, was, (files, said)))) = inr (files.content, λ done. subst IsMemory done memory)
 
 -- ---- what it has written
 
