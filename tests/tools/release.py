@@ -11,7 +11,7 @@ from common import ROOT, Skipped
 import flow
 
 GATE = '#!/bin/sh\ncase $1 in\nci) mkdir -p crates/fmeda_cli/out; cp "{program}" crates/fmeda_cli/out/fmeda_cli; {more}; echo "rt: fmeda_cli proved"; echo "{last}"; exit {status};;\nversion) echo a-kit;;\nesac\n'
-PLACES = ("Makefile", "README.md", "CHANGELOG.md", ".gitignore", "crates.txt", "HANDLES", "docs", "tools", "reference", "examples/lockstep", "examples/bridge")
+PLACES = ("Makefile", "README.md", "CHANGELOG.md", ".gitignore", "crates.txt", "HANDLES", "docs", "tools", "reference", "examples/lockstep", "examples/bridge", "crates/fmeda_cli/src/help.rt")
 
 
 def _copy(folder, program):
@@ -27,7 +27,7 @@ def _copy(folder, program):
             shutil.copytree(ROOT / place, made, ignore=shutil.ignore_patterns("flow.json", "__pycache__", "*.pyc"))
         else:
             shutil.copy(ROOT / place, made)
-    copy.joinpath("crates", "fmeda_cli").mkdir(parents=True)
+    copy.joinpath("crates", "fmeda_cli").mkdir(parents=True, exist_ok=True)
     copy.joinpath("build").mkdir()
     shutil.copy(program, copy / "build" / "fmeda")
     return copy
