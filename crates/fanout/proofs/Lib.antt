@@ -3,3 +3,4 @@ pub mod Filling
 pub mod Reading
 pub mod Pushing
 pub mod Inside
+pub mod Places

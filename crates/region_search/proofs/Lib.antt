@@ -1,3 +1,4 @@
 pub mod Settling
 pub mod Counting
 pub mod Places
+pub mod Cutting

@@ -5,4 +5,4 @@ mod frames;
 mod law;
 
 pub use frames::FrameSets;
-pub use law::settled_sets;
+pub use law::{cuts_keep_search, settled_sets};
