@@ -1,3 +1,5 @@
 pub mod Settled
 pub mod Search
 pub mod Work
+pub mod Watch
+pub mod Going
