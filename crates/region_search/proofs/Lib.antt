@@ -4,3 +4,6 @@ pub mod Places
 pub mod Cutting
 pub mod Watching
 pub mod Narrowing
+pub mod Latches
+pub mod Placing
+pub mod Tables

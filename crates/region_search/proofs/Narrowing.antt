@@ -73,31 +73,40 @@ module _ (q left : Sets) (frame net : ℕ) (to : Pairs) (cut : (i n : ℕ) (a b 
 module _ (o : Ordered) (s : Stretch) (bounds q now left : Sets) (waiting more : Places) (empty next : Bool) (frame net : ℕ) (to : Pairs) (le : frame ≤ s.last)
     (cut : (i n : ℕ) (a b : Bool) → left i n a b ≡ only now frame net to i n a b) (going : IsGoing o s bounds q now waiting empty)
     (may : MayAllGo s q frame net (now frame net) to) where
-  by_rules : IsByRules s now left
-  by_rules = record {
-    among = λ i n a b _ e. cut_among now left frame net to cut i n a b e;
-    rightly = λ i n a b within had gone.
-        elim (cases_Bool (i == frame && n == net)) as (λ _. MayGo s now i n a b) [
-          | inr other ↦ absurd (clash (left i n a b) (cut_other now left frame net to cut i n a b other ∙ had) gone)
-          | inl it ↦ (
-              let parts = and_both (i == frame) (n == net) it in
-              let here : i ≡ frame = eqb-true i frame parts.0 in
-              let there : n ≡ net = eqb-true n net parts.1 in
-              subst (λ j. MayGo s now j n a b) (sym here) (subst (λ m. MayGo s now frame m a b) (sym there) (at_it a b (sym (ap₂ (λ j m. now j m a b) here there) ∙ had) (sym (ap₂ (λ j m. left j m a b) here there) ∙ gone))))
-        ];
-  }
+  -- a pair that has just gone might go before
+  gone_now : (i n : ℕ) (a b : Bool) → now i n a b ≡ true → left i n a b ≡ false → MayGo s q i n a b
+  gone_now i n a b had gone = elim (cases_Bool (i == frame && n == net)) as (λ _. MayGo s q i n a b) [
+    | inr other ↦ absurd (clash (left i n a b) (cut_other now left frame net to cut i n a b other ∙ had) gone)
+    | inl it ↦ (
+        let parts = and_both (i == frame) (n == net) it in
+        let here : i ≡ frame = eqb-true i frame parts.0 in
+        let there : n ≡ net = eqb-true n net parts.1 in
+        subst (λ j. MayGo s q j n a b) (sym here)
+        (subst (λ m. MayGo s q frame m a b) (sym there) (at_it (sym (ap₂ (λ j m. now j m a b) here there) ∙ had) (sym (ap₂ (λ j m. left j m a b) here there) ∙ gone))))
+  ]
     where
-      at_it : (a b : Bool) → now frame net a b ≡ true → left frame net a b ≡ false → MayGo s now frame net a b
-      at_it a b had gone =
-          may_more s q now going.among frame net a b (may a b had (and_not (now frame net a b) (to a b) (sym (cut_there now left frame net to cut a b) ∙ gone) had))
+      at_it : now frame net a b ≡ true → left frame net a b ≡ false → MayGo s q frame net a b
+      at_it still out = may a b still (and_not (now frame net a b) (to a b) (sym (cut_there now left frame net to cut a b) ∙ out) still)
+
+  from_now : IsByRules s now left
+  from_now = record {
+    among = λ i n a b _ e. cut_among now left frame net to cut i n a b e;
+    rightly = λ i n a b within had gone. may_more s q now going.by_rules.among i n a b (gone_now i n a b had gone);
+  }
 
   -- A STEP AT ONE NET goes on
   pub narrow_goes_on : Wakes o frame net waiting more → (next ≡ false → (empty ≡ false) × ((a : Bool) × (b : Bool) × (left frame net a b ≡ true)))
       → (next ≡ true → (empty ≡ true) ⊎ ((a b : Bool) → left frame net a b ≡ false)) → IsGoing o s bounds q left more next
   narrow_goes_on wakes some none = record {
     circuit = going.circuit;
-    search = cuts_keep o s bounds now left waiting more frame net going.circuit going.search by_rules (cut_elsewhere now left frame net to cut) wakes;
-    among = λ i n a b within e. going.among i n a b within (cut_among now left frame net to cut i n a b e);
+    search = cuts_keep o s bounds now left waiting more frame net going.circuit going.search from_now (cut_elsewhere now left frame net to cut) wakes;
+    by_rules = record {
+      among = λ i n a b within e. going.by_rules.among i n a b within (cut_among now left frame net to cut i n a b e);
+      rightly = λ i n a b within had gone. elim (cases_Bool (now i n a b)) as (λ _. MayGo s q i n a b) [
+        | inr before ↦ going.by_rules.rightly i n a b within had before
+        | inl still ↦ gone_now i n a b still gone
+      ];
+    };
     noted = record {
       some = λ e i n within. (let both = some e in each both.1 i n (going.noted.some both.0 i n within));
       none = λ e. elim (none e) as (λ _. IsSomeEmpty s left) [

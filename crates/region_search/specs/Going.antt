@@ -1,13 +1,12 @@
 -- A search that goes on: what each step of it keeps.
-use Rattle.std.specs.Prelude.{◌≡◌, ◌+◌, ◌*◌, ◌≤◌, ℕ, Bool, true, false, length}
-use Rattle.coverage_claim.specs.Largest.{AreAmong}
+use Rattle.std.specs.Prelude.{◌≡◌, ◌+◌, ◌*◌, ◌<◌, ◌≤◌, ℕ, Bool, true, false, length}
 use Rattle.coverage_claim.specs.Rules.{MayGo, Sets}
 use Rattle.coverage_claim.specs.Stretch.{Pairs, Stretch}
 use Rattle.fanout.specs.Readers.{Ordered}
-use Rattle.place_set.specs.Places.{Places}
-use Rattle.region_search.specs.Search.{IsSearch, places_of}
+use Rattle.place_set.specs.Places.{Places, has as waits}
+use Rattle.region_search.specs.Search.{IsByRules, IsSearch, places_of}
 use Rattle.region_search.specs.Settled.{AreSome, sets_in}
-use Rattle.region_search.specs.Work.{pairs_left}
+use Rattle.region_search.specs.Work.{pairs_left, work_left}
 use Rattle.region_search.specs.declared.frames.FrameSets.{FrameSets}
 use Rattle.region_search.specs.declared.search.Search.{Search}
 
@@ -24,11 +23,11 @@ pub record IsNoted (s : Stretch) (q : Sets) (empty : Bool) : Type 0 where
   pub some : empty ≡ false → AreSome s q
   pub none : empty ≡ true → IsSomeEmpty s q
 
--- A SEARCH GOES ON from some sets: it is a search, no pair is new, and it is noted where a set has become empty
+-- A SEARCH GOES ON from some sets: it is a search, what has gone might go from those sets, and it is noted where a set has become empty
 pub record IsGoing (o : Ordered) (s : Stretch) (bounds q left : Sets) (waiting : Places) (empty : Bool) : Type 0 where
   pub circuit : s.circuit ≡ o.circuit
   pub search : IsSearch o s bounds left waiting
-  pub among : AreAmong s left q
+  pub by_rules : IsByRules s q left
   pub noted : IsNoted s left empty
 
 -- the arrays are those of a netlist
@@ -49,3 +48,8 @@ MayAllGo s q frame net left to = (a b : Bool) → left a b ≡ true → to a b �
 pub record IsFurther (old new : Search) : Type 0 where
   pub less : pairs_left new.sets.sets.items ≤ pairs_left old.sets.sets.items
   pub idle : pairs_left new.sets.sets.items ≡ pairs_left old.sets.sets.items → new.waiting ≡ old.waiting
+
+-- A PLACE HAS BEEN LOOKED AT: it doesn't wait, and if it did, less is left to do
+pub record IsLookedAt (old new : Search) (place : ℕ) : Type 0 where
+  pub quiet : waits new.waiting place ≡ false
+  pub less : waits old.waiting place ≡ true → work_left new.sets.sets.items new.waiting < work_left old.sets.sets.items old.waiting

@@ -3,3 +3,4 @@ pub mod Search
 pub mod Work
 pub mod Watch
 pub mod Going
+pub mod Steps

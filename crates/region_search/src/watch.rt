@@ -1,8 +1,8 @@
 // Who looks again where a set has lost a pair.
-ghost use Rattle.std.specs.Prelude.{◌≡◌, ◌<◌, ◌≤◌, ◌+◌, ◌*◌, ◌^◌, ℕ, true, Contains};
+ghost use Rattle.std.specs.Prelude.{◌≡◌, ◌<◌, ◌≤◌, ◌+◌, ◌*◌, ◌^◌, ℕ, true, length, Contains};
 ghost use Rattle.circuit.specs.Sound.{IsNet};
 ghost use Rattle.place_set.specs.Places.{has};
-ghost use Rattle.region_search.specs.Search.{Wakes, places_of};
+ghost use Rattle.region_search.specs.Search.{Wakes, place_in, places_of};
 
 use circuit::parts::NetId;
 use fanout::Fanout;
@@ -45,6 +45,24 @@ impl Model for Watchers {
 }
 
 impl Watchers {
+    /// Where the table of a place in the order waits, in a frame.
+    pub fn table_place(&self, frame: u32, place: usize) -> usize
+        requires { place < length self.now.order }
+        ensures value { result ≡ place_in self.now frame place }
+        ensures inside { place < places_of self.now }
+    {
+        frame as usize * self.places + place
+    }
+
+    /// Where a latch waits, in a frame.
+    pub fn latch_place(&self, frame: u32, latch: usize) -> usize
+        requires { latch < length self.now.circuit.latches }
+        ensures value { result ≡ place_in self.now frame (length self.now.order + latch) }
+        ensures inside { length self.now.order + latch < places_of self.now }
+    {
+        frame as usize * self.places + self.tables + latch
+    }
+
     /// The places that look again where a net in a frame has lost a pair wait from now on.
     pub fn wake(&self, waiting: &mut PlaceSet, frame: u32, net: NetId)
         requires net { IsNet self.now.circuit net }
