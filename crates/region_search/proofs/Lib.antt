@@ -7,3 +7,4 @@ pub mod Narrowing
 pub mod Latches
 pub mod Placing
 pub mod Tables
+pub mod Made

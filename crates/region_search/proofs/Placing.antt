@@ -34,7 +34,7 @@ still old new at p out apart none = sym (out p ∙ rw (ne_eqb p at apart) refl) 
 pub looked_at : (o : Ordered) (s : Stretch) (bounds q left : Sets) (waiting fewer : Places) (empty : Bool) (frame place : ℕ) → place < places_of o
     → IsOut waiting fewer (place_in o frame place)
     → ((k : ℕ) → place < length o.order → driver_at s.circuit (net_at o.order place).0 ≡ FromTable k → IsTableSettled s left frame k (net_at o.order place))
-    → ((l : ℕ) (latch : Latch) → place ≡ length o.order + l → slice_get s.circuit.latches l ≡ Some latch → IsLatchSettled s left frame latch)
+    → ((l : ℕ) (latch : Latch) → frame < s.last → place ≡ length o.order + l → slice_get s.circuit.latches l ≡ Some latch → IsLatchSettled s left frame latch)
     → IsGoing o s bounds q left waiting empty → IsGoing o s bounds q left fewer empty
 looked_at o s bounds q left waiting fewer empty frame place inside out table latched going = record {
   circuit = going.circuit;
@@ -56,7 +56,7 @@ looked_at o s bounds q left waiting fewer empty frame place inside out table lat
       | inl same ↦ (
           let here : l < length o.circuit.latches = slice_get_within o.circuit.latches l latch (subst (λ (c : Circuit). slice_get c.latches l ≡ Some latch) going.circuit at) in
           let one = one_place (places_of o) i (length o.order + l) frame place (omega (arith, here)) inside same in
-          subst (λ j. IsLatchSettled s left j latch) (sym one.0) (latched l latch (sym one.1) at))
+          subst (λ j. IsLatchSettled s left j latch) (sym one.0) (latched l latch (omega (arith, lt, one.0)) (sym one.1) at))
     ];
   };
 }

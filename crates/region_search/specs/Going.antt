@@ -1,5 +1,16 @@
 -- A search that goes on: what each step of it keeps.
-use Rattle.std.specs.Prelude.{◌≡◌, ◌+◌, ◌*◌, ◌<◌, ◌≤◌, ℕ, Bool, true, false, length}
+use Rattle.std.specs.Prelude.{◌≡◌, ◌+◌, ◌*◌, ◌<◌, ◌≤◌, ℕ, Bool, true, false, List, length, take, All, Some}
+use Rattle.std.specs.List.{slice_get}
+use Rattle.circuit.specs.Order.{IsOrder, net_at}
+use Rattle.circuit.specs.Sound.{IsNet, IsNetlist}
+use Rattle.circuit.specs.Value.{driver_at, table_at}
+use Rattle.circuit.specs.declared.parts.Driver.TheVariants.{Table as FromTable}
+use Rattle.circuit.specs.declared.parts.Latch.{Latch}
+use Rattle.coverage_claim.specs.declared.parts.Site.{Site}
+use Rattle.pair_sets.specs.Tables.{IsTruth}
+use Rattle.region_search.specs.declared.search.TablePlace.{TablePlace}
+use Rattle.coverage_claim.specs.Largest.{most_inputs}
+use Rattle.coverage_claim.specs.Region.{Region}
 use Rattle.coverage_claim.specs.Rules.{MayGo, Sets}
 use Rattle.coverage_claim.specs.Stretch.{Pairs, Stretch}
 use Rattle.fanout.specs.Readers.{Ordered}
@@ -53,3 +64,30 @@ pub record IsFurther (old new : Search) : Type 0 where
 pub record IsLookedAt (old new : Search) (place : ℕ) : Type 0 where
   pub quiet : waits new.waiting place ≡ false
   pub less : waits old.waiting place ≡ true → work_left new.sets.sets.items new.waiting < work_left old.sets.sets.items old.waiting
+
+-- ---- all tables and latches
+
+-- the table of a place in the order: its own net, the nets that it reads, each once, and its truth table, where it reads few
+-- wide: else it reads too many nets to be looked into
+pub record IsPlaced (o : Ordered) (place : ℕ) (table : TablePlace) : Type 0 where
+  pub own : table.own ≡ net_at o.order place
+  pub nets : All (IsNet o.circuit) (take table.count table.reads)
+  pub truth : (k : ℕ) → driver_at o.circuit table.own.0 ≡ FromTable k → table.count ≤ 6 → IsTruth o.circuit k table.own (take table.count table.reads) table.truth
+  pub wide : (k : ℕ) → driver_at o.circuit table.own.0 ≡ FromTable k → 6 < table.count → most_inputs < length (table_at o.circuit.tables k).ins
+
+-- THE TABLES of a netlist, by their places in the order
+pub record ArePlaced (o : Ordered) (tables : List TablePlace) : Type 0 where
+  pub count : length tables ≡ length o.order
+  pub each : (p : ℕ) (table : TablePlace) → slice_get tables p ≡ Some table → IsPlaced o p table
+
+-- what a region does at each net
+pub record AreSites (o : Ordered) (region : Region) (sites : List Site) : Type 0 where
+  pub each : (net : ℕ) (site : Site) → slice_get sites net ≡ Some site → region net ≡ site
+
+-- A SEARCH MAY BE MADE: of a sound netlist with an order
+pub record IsMade (o : Ordered) (tables : List TablePlace) (latches : List Latch) (sites : List Site) : Type 0 where
+  pub sound : IsNetlist o.circuit
+  pub order : IsOrder o.circuit o.order
+  pub placed : ArePlaced o tables
+  pub all : latches ≡ o.circuit.latches
+  pub count : length sites ≡ length o.circuit.drivers

@@ -17,6 +17,19 @@ use coverage_claim::Site;
 use pair_sets::{PairSet, TableRule};
 use place_set::PlaceSet;
 
+/// A table by its place in the order.
+#[derive(Clone, Copy)]
+pub struct TablePlace {
+    /// Its own net.
+    pub own: NetId,
+    /// How many nets it reads. With more than six it isn't looked into.
+    pub count: usize,
+    /// Each net that it reads, once; behind these anything.
+    pub reads: [NetId; 6],
+    /// A bit for each row; the first net that is read is the highest digit of a row's number.
+    pub truth: u64,
+}
+
 /// A search: the sets of all frames, the places of tables and latches that wait to be looked at, and whether a set has become empty.
 #[derive(Drop)]
 pub struct Search {
@@ -29,7 +42,7 @@ impl Search {
     ghost use Rattle.region_search.specs.Search.{place_in};
     ghost use Rattle.region_search.specs.Settled.{IsLatchSettled, IsTableSettled};
     ghost use Rattle.region_search.specs.Steps.{AreCut};
-    ghost use Rattle.region_search.specs.Going.{GoesOn, IsFor, IsFurther, IsLookedAt, MayAllGo, sets_of};
+    ghost use Rattle.region_search.specs.Going.{AreSites, GoesOn, IsFor, IsFurther, IsLookedAt, IsMade, MayAllGo, sets_of};
 
     /// Leaves a net in a frame these pairs alone. Where one goes, all who look again wait, and it is noted where none is left.
     pub fn narrow(&mut self, watchers: &Watchers, frame: u32, net: NetId, to: PairSet)
@@ -178,5 +191,36 @@ impl Search {
     {
         self.narrow_table(watchers, frame, own, rule, reads);
         self.waiting.remove(watchers.table_place(frame, place));
+    }
+
+    // Looks at the table of a place in the order.
+    fn look_at_place(
+        &mut self,
+        watchers: &Watchers,
+        tables: &[TablePlace],
+        sites: &[Site],
+        frame: u32,
+        place: usize,
+    )
+        requires fits { IsFor watchers.now self.old }
+        requires made { IsMade watchers.now tables.now watchers.now.circuit.latches sites.now }
+        requires frame { frame < self.old.sets.frames }
+        requires place { place < length watchers.now.order }
+        ensures fits { IsFor watchers.now self.new }
+        ensures frames { self.new.sets.frames ≡ self.old.sets.frames }
+        ensures goes_on { (s : Stretch) (bounds : Sets) → AreSites watchers.now s.region sites.now → GoesOn watchers.now s bounds (sets_of self.old.sets) self.old
+            → GoesOn watchers.now s bounds (sets_of self.old.sets) self.new }
+        ensures work { IsLookedAt self.old self.new (place_in watchers.now frame place) }
+    {
+        let table = tables[place];
+        if table.count > 6 {
+            self.waiting.remove(watchers.table_place(frame, place));
+            return;
+        }
+        let rule = TableRule {
+            truth: table.truth,
+            site: sites[table.own.0 as usize],
+        };
+        self.look_at_table(watchers, frame, place, rule, table.own, &table.reads[..table.count]);
     }
 }

@@ -45,6 +45,14 @@ impl Model for Watchers {
 }
 
 impl Watchers {
+    /// How many places a frame has, of which those of tables come first.
+    pub fn places(&self) -> (usize, usize)
+        ensures tables { result.0 ≡ length self.now.order }
+        ensures all { result.1 ≡ places_of self.now }
+    {
+        (self.tables, self.places)
+    }
+
     /// Where the table of a place in the order waits, in a frame.
     pub fn table_place(&self, frame: u32, place: usize) -> usize
         requires { place < length self.now.order }

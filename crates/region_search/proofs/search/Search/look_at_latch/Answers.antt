@@ -37,7 +37,7 @@ returns-clause-goes_on c = λ s bounds region goes.
       going = looked_at c.args.watchers.now s bounds (sets_of c.args.self.now.sets) (sets_of c.narrow_latch.new.self.sets) c.narrow_latch.new.self.waiting c.remove.new.self
           c.narrow_latch.new.self.empty c.args.frame (length c.args.watchers.now.order + c.args.number) c.latch_place.ensures.inside (out c)
           (λ k lt driver. absurd (omega (arith, lt)))
-          (λ l latch same there.
+          (λ l latch _ same there.
           (let number : c.args.number ≡ l = omega (arith, same) in
           let both : Some c.args.latch ≡ Some latch = sym at ∙ ap (slice_get s.circuit.latches) number ∙ there in
           let equal : c.args.latch ≡ latch = cc in

@@ -41,6 +41,6 @@ returns-clause-goes_on c = λ s bounds k region truth goes.
           let number : k ≡ j = cc in
           subst (λ (net : NetId). IsTableSettled s (sets_of c.narrow_table.new.self.sets) c.args.frame j net) (sym c.requires.at)
           (subst (λ n. IsTableSettled s (sets_of c.narrow_table.new.self.sets) c.args.frame n c.args.own) number settled)))
-          (λ l latch same there. absurd (omega (arith, same, c.requires.place)))
+          (λ l latch _ same there. absurd (omega (arith, same, c.requires.place)))
           next.going;
     }
