@@ -3,4 +3,3 @@ pub mod Filling
 pub mod Reading
 pub mod Pushing
 pub mod Inside
-pub mod Places

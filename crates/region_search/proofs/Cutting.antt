@@ -12,7 +12,7 @@ use Rattle.circuit.specs.declared.parts.NetId.{NetId}
 use Rattle.coverage_claim.proofs.Ruling.{not_had}
 use Rattle.coverage_claim.specs.Rules.{AgreeOver, Sets}
 use Rattle.coverage_claim.specs.Stretch.{Stretch}
-use Rattle.fanout.proofs.Places.{latch_read, table_read}
+use Rattle.region_search.proofs.ReadPlaces.{latch_read, table_read}
 use Rattle.fanout.specs.Readers.{IsReadAt}
 use Rattle.place_set.specs.Places.{has as waits}
 use Rattle.region_search.specs.Search.{CutsKeepSearch, IsByRules, IsElsewhere, place_in}

@@ -1,6 +1,7 @@
 pub mod Settling
 pub mod Counting
 pub mod Places
+pub mod ReadPlaces
 pub mod Cutting
 pub mod Watching
 pub mod Narrowing

@@ -8,7 +8,7 @@ use Rattle.std.proofs.lemmas.List.{get_or_default}
 use Rattle.std.proofs.lemmas.Option.{slice_get_within}
 use Rattle.circuit.specs.Order.{net_at}
 use Rattle.circuit.specs.declared.parts.Latch.{Latch}
-use Rattle.fanout.proofs.Places.{read_within}
+use Rattle.region_search.proofs.ReadPlaces.{read_within}
 use Rattle.fanout.specs.Readers.{IsReadAt, Ordered}
 use Rattle.place_set.specs.Places.{Places, has}
 use Rattle.region_search.specs.Search.{Wakes, place_in, places_of}

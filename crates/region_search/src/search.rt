@@ -142,7 +142,14 @@ impl Search {
     }
 
     // Takes pairs away from the nets of a table.
-    fn narrow_table(&mut self, watchers: &Watchers, frame: u32, own: NetId, rule: TableRule, reads: &[NetId])
+    fn narrow_table(
+        &mut self,
+        watchers: &Watchers,
+        frame: u32,
+        own: NetId,
+        rule: TableRule,
+        reads: &[NetId],
+    )
         requires fits { IsFor watchers.now self.old }
         requires frame { frame < self.old.sets.frames }
         requires own { IsNet watchers.now.circuit own }
@@ -221,6 +228,13 @@ impl Search {
             truth: table.truth,
             site: sites[table.own.0 as usize],
         };
-        self.look_at_table(watchers, frame, place, rule, table.own, &table.reads[..table.count]);
+        self.look_at_table(
+            watchers,
+            frame,
+            place,
+            rule,
+            table.own,
+            &table.reads[..table.count],
+        );
     }
 }
