@@ -70,7 +70,7 @@ over_more s q r among frame latch a b x y lt agree = record {
   faulty_may = agree.faulty_may;
 }
 
-may_more : (s : Stretch) (q r : Sets) → AreAmong s r q → (frame net : ℕ) (a b : Bool) → MayGo s q frame net a b → MayGo s r frame net a b
+pub may_more : (s : Stretch) (q r : Sets) → AreAmong s r q → (frame net : ℕ) (a b : Bool) → MayGo s q frame net a b → MayGo s r frame net a b
 may_more s q r among frame net a b (by_table k own le is driver none) =
     by_table k own le is driver (λ golden faulty agree. none golden faulty (agree_more s q r among frame k own golden faulty le agree))
 may_more s q r among frame net a b (by_latch before l latch next lt at own none) =

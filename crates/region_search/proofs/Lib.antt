@@ -1,3 +1,11 @@
 pub mod Settling
 pub mod Counting
 pub mod Places
+pub mod ReadPlaces
+pub mod Cutting
+pub mod Watching
+pub mod Narrowing
+pub mod Latches
+pub mod Placing
+pub mod Tables
+pub mod Made

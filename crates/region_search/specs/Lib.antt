@@ -1,3 +1,6 @@
 pub mod Settled
 pub mod Search
 pub mod Work
+pub mod Watch
+pub mod Going
+pub mod Steps

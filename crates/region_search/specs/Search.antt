@@ -1,13 +1,14 @@
 -- A search between two steps: what waits to be looked at, and what is settled.
-use Rattle.std.specs.Prelude.{◌≡◌, ◌+◌, ◌*◌, ◌<◌, ◌≤◌, ℕ, Bool, true, false, length, Some}
+use Rattle.std.specs.Prelude.{◌≡◌, ◌≢◌, ◌⊎◌, ◌+◌, ◌*◌, ◌<◌, ◌≤◌, ℕ, suc, Bool, true, false, length, Some}
 use Rattle.std.specs.List.{slice_get}
 use Rattle.circuit.specs.Order.{IsOrder, net_at}
 use Rattle.circuit.specs.Value.{driver_at}
 use Rattle.circuit.specs.declared.parts.Driver.TheVariants.{Table as FromTable}
 use Rattle.circuit.specs.declared.parts.Latch.{Latch}
-use Rattle.coverage_claim.specs.Rules.{Sets}
+use Rattle.coverage_claim.specs.Largest.{AreAmong}
+use Rattle.coverage_claim.specs.Rules.{MayGo, Sets}
 use Rattle.coverage_claim.specs.Stretch.{Stretch}
-use Rattle.fanout.specs.Readers.{Ordered}
+use Rattle.fanout.specs.Readers.{IsReadAt, Ordered}
 use Rattle.place_set.specs.Places.{Places, has as waits}
 use Rattle.region_search.specs.Settled.{HoldsAll, IsLatchSettled, IsTableSettled, NothingWaits, PassesAlone}
 
@@ -35,3 +36,32 @@ pub record IsSearch (o : Ordered) (s : Stretch) (bounds q : Sets) (waiting : Pla
 abbrev pub EndsSettled : Type 0
 EndsSettled = (o : Ordered) (s : Stretch) (bounds q : Sets) (waiting : Places) → s.circuit ≡ o.circuit → IsOrder o.circuit o.order → IsSearch o s bounds q waiting
     → ((p : ℕ) → waits waiting p ≡ false) → NothingWaits s q
+
+-- ---- steps
+
+-- A STEP BY THE RULES: no pair is new, and each that has gone might go from the sets as they were
+pub record IsByRules (s : Stretch) (q left : Sets) : Type 0 where
+  pub among : AreAmong s left q
+  pub rightly : (frame net : ℕ) (a b : Bool) → frame ≤ s.last → q frame net a b ≡ true → left frame net a b ≡ false → MayGo s q frame net a b
+
+-- no set has changed but that of a net in a frame
+abbrev pub IsElsewhere : (frame net : ℕ) (q left : Sets) → Type 0
+IsElsewhere frame net q left = (i n : ℕ) → (i ≢ frame) ⊎ (n ≢ net) → (a b : Bool) → left i n a b ≡ q i n a b
+
+-- WHO LOOKS AGAIN where a net in a frame has lost a pair
+-- waiting: what waited goes on waiting
+-- readers: the places that read the net, in this frame
+-- own: the place of its own table there
+-- before: and that of its own latch, in the frame before
+pub record Wakes (o : Ordered) (frame net : ℕ) (waiting more : Places) : Type 0 where
+  pub bound : more.bound ≡ waiting.bound
+  pub stays : (place : ℕ) → waits waiting place ≡ true → waits more place ≡ true
+  pub readers : (place : ℕ) → IsReadAt o net place → waits more (place_in o frame place) ≡ true
+  pub own : (p : ℕ) → p < length o.order → (net_at o.order p).0 ≡ net → waits more (place_in o frame p) ≡ true
+  pub before : (earlier l : ℕ) (latch : Latch) → frame ≡ suc earlier → slice_get o.circuit.latches l ≡ Some latch → latch.to.0 ≡ net
+      → waits more (place_in o earlier (length o.order + l)) ≡ true
+
+-- A CUT KEEPS THE SEARCH, where all who look again are woken
+abbrev pub CutsKeepSearch : Type 0
+CutsKeepSearch = (o : Ordered) (s : Stretch) (bounds q left : Sets) (waiting more : Places) (frame net : ℕ) → s.circuit ≡ o.circuit → IsSearch o s bounds q waiting
+    → IsByRules s q left → IsElsewhere frame net q left → Wakes o frame net waiting more → IsSearch o s bounds left more

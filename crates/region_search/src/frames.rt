@@ -29,6 +29,7 @@ pub struct FrameSets {
     pub sets: Vec<PairSet>,
     pub ghost sized: { length sets.items ≡ frames * nets },
     pub ghost few: { frames * nets < 2 ^ 64 },
+    pub ghost short: { frames ≤ 2 ^ 16 },
 }
 
 impl FrameSets {

@@ -3,6 +3,10 @@
 
 mod frames;
 mod law;
+mod search;
+mod watch;
 
 pub use frames::FrameSets;
-pub use law::settled_sets;
+pub use law::{cuts_keep_search, settled_sets};
+pub use search::Search;
+pub use watch::Watchers;
