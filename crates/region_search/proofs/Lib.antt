@@ -9,3 +9,4 @@ pub mod Latches
 pub mod Placing
 pub mod Tables
 pub mod Made
+pub mod Ending

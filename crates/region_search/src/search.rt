@@ -1,7 +1,7 @@
 // The steps of a search.
-ghost use Rattle.std.specs.Prelude.{◌≡◌, ◌<◌, ◌≤◌, ◌+◌, ◌*◌, ℕ, Bool, true, false, length, All, Some};
+ghost use Rattle.std.specs.Prelude.{◌≡◌, ◌<◌, ◌≤◌, ◌+◌, ◌*◌, ℕ, Bool, true, false, length, All, MatchOption, Some};
 ghost use Rattle.std.specs.List.{slice_get};
-ghost use Rattle.circuit.specs.Sound.{IsNet};
+ghost use Rattle.circuit.specs.Sound.{IsNet, IsNetlist};
 ghost use Rattle.circuit.specs.Order.{net_at};
 ghost use Rattle.coverage_claim.specs.Rules.{MayGo, Sets, only};
 ghost use Rattle.coverage_claim.specs.Stretch.{Stretch};
@@ -40,7 +40,7 @@ pub struct Search {
 
 impl Search {
     ghost use Rattle.region_search.specs.Search.{place_in};
-    ghost use Rattle.region_search.specs.Settled.{IsLatchSettled, IsTableSettled};
+    ghost use Rattle.region_search.specs.Settled.{IsLatchSettled, IsTableSettled, NothingWaits};
     ghost use Rattle.region_search.specs.Steps.{AreCut};
     ghost use Rattle.region_search.specs.Going.{AreSites, GoesOn, IsFor, IsFurther, IsLookedAt, IsMade, MayAllGo, sets_of};
 
@@ -236,5 +236,100 @@ impl Search {
             table.own,
             &table.reads[..table.count],
         );
+    }
+
+    // Looks at a latch between a frame and the next one; behind the last frame there is nothing to look at.
+    fn look_at_number(
+        &mut self,
+        watchers: &Watchers,
+        latches: &[Latch],
+        sites: &[Site],
+        frame: u32,
+        number: usize,
+    )
+        requires fits { IsFor watchers.now self.old }
+        requires sound { IsNetlist watchers.now.circuit }
+        requires latches { latches.now ≡ watchers.now.circuit.latches }
+        requires sites { length sites.now ≡ length watchers.now.circuit.drivers }
+        requires frame { frame < self.old.sets.frames }
+        requires number { number < length latches.now }
+        ensures fits { IsFor watchers.now self.new }
+        ensures frames { self.new.sets.frames ≡ self.old.sets.frames }
+        ensures goes_on { (s : Stretch) (bounds : Sets) → AreSites watchers.now s.region sites.now → GoesOn watchers.now s bounds (sets_of self.old.sets) self.old
+            → GoesOn watchers.now s bounds (sets_of self.old.sets) self.new }
+        ensures work { IsLookedAt self.old self.new (place_in watchers.now frame (length watchers.now.order + number)) }
+    {
+        if frame as usize + 1 == self.sets.frames {
+            self.waiting.remove(watchers.latch_place(frame, number));
+            return;
+        }
+        let latch = latches[number];
+        self.look_at_latch(watchers, frame, number, latch, sites[latch.to.0 as usize]);
+    }
+
+    // Looks at a place that waits.
+    fn look_at(
+        &mut self,
+        watchers: &Watchers,
+        tables: &[TablePlace],
+        latches: &[Latch],
+        sites: &[Site],
+        at: usize,
+    )
+        requires fits { IsFor watchers.now self.old }
+        requires made { IsMade watchers.now tables.now latches.now sites.now }
+        requires inside { at < self.old.waiting.bound }
+        ensures fits { IsFor watchers.now self.new }
+        ensures frames { self.new.sets.frames ≡ self.old.sets.frames }
+        ensures goes_on { (s : Stretch) (bounds : Sets) → AreSites watchers.now s.region sites.now → GoesOn watchers.now s bounds (sets_of self.old.sets) self.old
+            → GoesOn watchers.now s bounds (sets_of self.old.sets) self.new }
+        ensures work { IsLookedAt self.old self.new at }
+    {
+        let (first, places) = watchers.places();
+        let frame = (at / places) as u32;
+        let place = at % places;
+        if place < first {
+            self.look_at_place(watchers, tables, sites, frame, place);
+            return;
+        }
+        self.look_at_number(watchers, latches, sites, frame, place - first);
+    }
+
+    // Some place that waits: the first from one on, or else the first of all.
+    fn next(&self, from: usize) -> Option<usize>
+        ensures { MatchOption result ((p : ℕ) → waits self.now.waiting p ≡ false) (λ q. (q < self.now.waiting.bound) × (waits self.now.waiting q ≡ true)) }
+    {
+        match self.waiting.next_from(from) {
+            Some(at) => Some(at),
+            None => self.waiting.next_from(0),
+        }
+    }
+
+    /// Looks at all places that wait, until none does or a set has become empty. `tables` are those of the netlist by their places in
+    /// the order, `latches` its latches, and `sites` say of each net what faults may do there.
+    pub fn settle(
+        &mut self,
+        watchers: &Watchers,
+        tables: &[TablePlace],
+        latches: &[Latch],
+        sites: &[Site],
+    )
+        requires fits { IsFor watchers.now self.old }
+        requires made { IsMade watchers.now tables.now latches.now sites.now }
+        ensures fits { IsFor watchers.now self.new }
+        ensures frames { self.new.sets.frames ≡ self.old.sets.frames }
+        ensures goes_on { (s : Stretch) (bounds : Sets) → AreSites watchers.now s.region sites.now → GoesOn watchers.now s bounds (sets_of self.old.sets) self.old
+            → GoesOn watchers.now s bounds (sets_of self.new.sets) self.new }
+        ensures settled { self.new.empty ≡ false → (s : Stretch) (bounds : Sets) → AreSites watchers.now s.region sites.now
+            → GoesOn watchers.now s bounds (sets_of self.old.sets) self.old → NothingWaits s (sets_of self.new.sets) }
+    {
+        let mut from = 0;
+        'places: while !self.empty {
+            let Some(at) = self.next(from) else {
+                return;
+            };
+            self.look_at(watchers, tables, latches, sites, at);
+            from = at;
+        }
     }
 }
