@@ -1,5 +1,5 @@
 -- The end of a search.
-use Rattle.std.proofs.Common.{◌≡◌, ℕ, false, subst}
+use Rattle.std.proofs.Common.{◌≡◌, ℕ, false}
 use Rattle.fm_base.proofs.Tests.{clash}
 use Rattle.circuit.specs.Order.{IsOrder}
 use Rattle.coverage_claim.specs.Rules.{Sets}

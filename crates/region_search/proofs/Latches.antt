@@ -1,16 +1,16 @@
 -- What a latch takes away, and that it takes nothing more then.
-use Rattle.std.proofs.Common.{◌≡◌, inl, inr, ℕ, suc, ◌+◌, ◌<◌, ◌≤◌, Bool, true, false, ◌&&◌, ◌||◌, refl, ap, sym, subst, ◌∙◌, arith}
-use Rattle.std.specs.Prelude.{◌==◌, Some}
+use Rattle.std.proofs.Common.{◌≡◌, inl, inr, ℕ, suc, ◌+◌, ◌<◌, Bool, true, false, ◌&&◌, ◌||◌, refl, ap, sym, ◌∙◌, arith}
+use Rattle.std.specs.Prelude.{Some}
 use Rattle.std.specs.List.{slice_get}
 use Rattle.std.proofs.lemmas.Bool.{ne_eqb}
-use Rattle.fm_base.proofs.Tests.{and_both, both_true, clash, false_of, or_cases, or_second}
+use Rattle.fm_base.proofs.Tests.{and_both, both_true, clash, or_cases, or_second}
 use Rattle.circuit.specs.declared.parts.Latch.{Latch}
 use Rattle.coverage_claim.specs.Region.{may_show}
-use Rattle.coverage_claim.specs.Rules.{AgreeOver, MayGo, Sets, by_latch, by_next, only}
+use Rattle.coverage_claim.specs.Rules.{AgreeOver, Sets, by_latch, by_next, only}
 use Rattle.coverage_claim.specs.Stretch.{Pairs, Stretch}
 use Rattle.coverage_claim.specs.declared.parts.Site.{Site}
 use Rattle.pair_sets.specs.Pairs.{driving, shown}
-use Rattle.region_search.proofs.Narrowing.{cut_among, cut_other, cut_there}
+use Rattle.region_search.proofs.Narrowing.{cut_other, cut_there}
 use Rattle.region_search.specs.Going.{MayAllGo}
 use Rattle.region_search.specs.Settled.{IsLatchSettled}
 

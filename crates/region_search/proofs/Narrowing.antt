@@ -1,10 +1,9 @@
 -- A step of the search at one net of a frame.
-use Rattle.std.proofs.Common.{◌≡◌, ◌≢◌, ◌⊎◌, inl, inr, ℕ, ◌+◌, ◌*◌, ◌<◌, ◌≤◌, Bool, true, false, ◌&&◌, refl, ap, ap₂, sym, subst, ◌∙◌, arith}
+use Rattle.std.proofs.Common.{◌≡◌, ◌⊎◌, inl, inr, ℕ, ◌≤◌, Bool, true, false, ◌&&◌, refl, ap₂, sym, subst, ◌∙◌}
 use Rattle.std.specs.Prelude.{◌==◌, ◌↔◌, IsTrue, if◌then◌else◌}
 use Rattle.std.proofs.lemmas.Bool.{cases_Bool, eq-eqb, eqb-true}
 use Rattle.fm_base.proofs.Tests.{and_both, and_not, clash, false_of}
 use Rattle.coverage_claim.proofs.Lasting.{may_more}
-use Rattle.coverage_claim.specs.Largest.{AreAmong}
 use Rattle.coverage_claim.specs.Rules.{MayGo, Sets, only}
 use Rattle.coverage_claim.specs.Stretch.{Pairs, Stretch}
 use Rattle.fanout.specs.Readers.{Ordered}
@@ -14,7 +13,6 @@ use Rattle.place_set.specs.Places.{Places}
 use Rattle.region_search.proofs.Cutting.{cuts_keep}
 use Rattle.region_search.specs.Going.{IsGoing, IsSomeEmpty, MayAllGo}
 use Rattle.region_search.specs.Search.{IsByRules, IsElsewhere, Wakes}
-use Rattle.region_search.specs.Settled.{AreSome}
 
 -- a set that has a pair, where it isn't empty
 pub some_pair : (pairs : PairSet) (empty : Bool) → (IsTrue empty ↔ ((a b : Bool) → has pairs a b ≡ false)) → empty ≡ false → (a : Bool) × (b : Bool) × (has pairs a b ≡ true)

@@ -16,7 +16,7 @@ use Rattle.place_set.specs.Places.{Places, has as waits}
 use Rattle.region_search.proofs.Counting.{at_most_all, less_work, one_fewer}
 use Rattle.region_search.proofs.Places.{one_place}
 use Rattle.region_search.specs.Going.{IsGoing}
-use Rattle.region_search.specs.Search.{IsSearch, place_in, places_of}
+use Rattle.region_search.specs.Search.{place_in, places_of}
 use Rattle.region_search.specs.Settled.{IsLatchSettled, IsTableSettled}
 use Rattle.region_search.specs.Work.{passing_below, waiting_count}
 

@@ -1,22 +1,22 @@
 -- What a table takes away, and that it takes nothing more then.
-use Rattle.std.proofs.Common.{◌≡◌, ◌≢◌, inl, inr, ℕ, zero, suc, ◌+◌, ◌<◌, ◌≤◌, Bool, true, false, ◌&&◌, List, [], ◌∷◌, length, get_or, refl, ap, ap₂, sym, subst, ◌∙◌, arith}
-use Rattle.std.specs.Prelude.{◌==◌, All, Contains}
-use Rattle.std.proofs.lemmas.Bool.{cases_Bool, cases_eq, cases_lt, eqb-true, ne_eqb}
+use Rattle.std.proofs.Common.{◌≡◌, ◌≢◌, inl, inr, ℕ, zero, suc, ◌+◌, ◌<◌, Bool, true, false, ◌&&◌, List, [], ◌∷◌, length, refl, ap, ap₂, sym, ◌∙◌, arith}
+use Rattle.std.specs.Prelude.{◌==◌}
+use Rattle.std.proofs.lemmas.Bool.{cases_Bool, cases_lt, eqb-true}
 use Rattle.std.proofs.lemmas.List.Elements.{All-contains, Contains-get_or}
-use Rattle.fm_base.proofs.Tests.{and_both, both_true, clash, false_of}
+use Rattle.fm_base.proofs.Tests.{and_both, both_true, false_of}
 use Rattle.circuit.specs.Order.{net_at}
 use Rattle.circuit.specs.declared.parts.NetId.{NetId}
-use Rattle.coverage_claim.specs.Rules.{MayGo, Sets, only}
+use Rattle.coverage_claim.specs.Rules.{Sets, only}
 use Rattle.coverage_claim.specs.Stretch.{Stretch}
 use Rattle.coverage_claim.specs.declared.parts.Site.{Site}
 use Rattle.pair_sets.specs.Choice.{IsLeft, set_at}
 use Rattle.pair_sets.specs.Pairs.{has}
-use Rattle.pair_sets.specs.Tables.{AreSetsOf, IsLeftOf, IsOnce, IsSetOf, IsTruth}
+use Rattle.pair_sets.specs.Tables.{IsLeftOf, IsOnce, IsSetOf}
 use Rattle.pair_sets.specs.declared.pairs.PairSet.{PairSet}
 use Rattle.region_search.proofs.Narrowing.{cut_among, cut_other, cut_there}
 use Rattle.region_search.specs.Going.{IsFurther}
 use Rattle.region_search.specs.declared.search.Search.{Search}
-use Rattle.region_search.specs.Settled.{IsTableSettled, TakesNothing}
+use Rattle.region_search.specs.Settled.{IsTableSettled}
 use Rattle.region_search.specs.Steps.{AreCut}
 
 -- at first nothing has gone

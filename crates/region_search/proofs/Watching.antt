@@ -1,17 +1,14 @@
 -- Who looks again.
-use Rattle.std.proofs.Common.{◌≡◌, ℕ, suc, ◌+◌, ◌-◌, ◌*◌, ◌^◌, ◌<◌, ◌≤◌, Bool, true, false, List, length, get_or, refl, ap, sym, subst, ◌∙◌, arith}
-use Rattle.std.specs.Prelude.{◌==◌, Some, slice_index, if◌then◌else◌}
-use Rattle.std.specs.List.{slice_get}
-use Rattle.std.proofs.Math.Nat.{mul-le-mul_right, suc-mul}
+use Rattle.std.proofs.Common.{◌≡◌, ℕ, suc, ◌+◌, ◌*◌, ◌<◌, ◌≤◌, Bool, true, false, List, length, get_or, refl, ap, sym, subst, ◌∙◌, arith}
+use Rattle.std.specs.Prelude.{◌==◌, slice_index, if◌then◌else◌}
+use Rattle.std.proofs.Math.Nat.{suc-mul}
 use Rattle.std.proofs.lemmas.Bool.{eq-eqb}
 use Rattle.std.proofs.lemmas.List.{get_or_default}
 use Rattle.std.proofs.lemmas.Option.{slice_get_within}
-use Rattle.circuit.specs.Order.{net_at}
-use Rattle.circuit.specs.declared.parts.Latch.{Latch}
 use Rattle.region_search.proofs.ReadPlaces.{read_within}
 use Rattle.fanout.specs.Readers.{IsReadAt, Ordered}
 use Rattle.place_set.specs.Places.{Places, has}
-use Rattle.region_search.specs.Search.{Wakes, place_in, places_of}
+use Rattle.region_search.specs.Search.{Wakes, places_of}
 use Rattle.region_search.specs.Watch.{AreWatchers}
 
 -- a place of a frame stands inside the places of all frames

@@ -1,4 +1,4 @@
-use Rattle.std.proofs.Common.{◌≡◌, ◌+◌, ◌<◌, ℕ, true, length, get_or, ap, subst, ◌∙◌, arith, sym}
+use Rattle.std.proofs.Common.{◌≡◌, ◌+◌, true, get_or, subst, ◌∙◌, arith}
 use Rattle.std.proofs.lemmas.List.{get_or_default}
 use Rattle.std.proofs.lemmas.List.Elements.{Contains-get_or}
 use Rattle.place_set.specs.Places.{has}

@@ -1,7 +1,7 @@
-use Rattle.std.proofs.Common.{◌≡◌, ◌+◌, ◌-◌, ◌*◌, ◌/◌, ◌%◌, ◌<◌, ◌≤◌, ℕ, length, refl, ap, sym, subst, ◌∙◌, arith}
+use Rattle.std.proofs.Common.{◌≡◌, ◌+◌, ◌-◌, ◌*◌, ◌/◌, ◌%◌, length, ap, sym, subst, ◌∙◌, arith}
 use Rattle.std.proofs.Math.Nat.{div-add-mod'}
 use Rattle.region_search.specs.Going.{IsLookedAt}
-use Rattle.region_search.specs.Search.{place_in, places_of}
+use Rattle.region_search.specs.Search.{places_of}
 use Rattle.region_search.proofs.search.Search.look_at.Goals as goal
 
 pub returns-then-place-first-clause-work : goal.returns-then-place-first-clause-work

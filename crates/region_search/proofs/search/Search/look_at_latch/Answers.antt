@@ -1,9 +1,8 @@
-use Rattle.std.proofs.Common.{◌≡◌, ◌+◌, ◌*◌, ◌<◌, ℕ, length, ap, ap₂, sym, subst, ◌∙◌, arith}
+use Rattle.std.proofs.Common.{◌≡◌, ◌+◌, ◌*◌, length, ap, sym, subst, ◌∙◌, arith}
 use Rattle.std.specs.List.{slice_get}
 use Rattle.std.specs.Prelude.{Some}
 use Rattle.circuit.specs.Circuit.{Circuit}
 use Rattle.circuit.specs.declared.parts.Latch.{Latch}
-use Rattle.place_set.specs.Places.{has}
 use Rattle.region_search.proofs.Places.{inside}
 use Rattle.region_search.proofs.Placing.{IsOut, is_quiet, less_left, looked_at}
 use Rattle.region_search.specs.Going.{sets_of}

@@ -1,11 +1,10 @@
-use Rattle.std.proofs.Common.{◌≡◌, ◌+◌, ◌*◌, ◌<◌, ◌≤◌, ℕ, List, false, length, refl, ap, ap₂, sym, subst, ◌∙◌, arith}
+use Rattle.std.proofs.Common.{◌≡◌, ◌+◌, List, false, length, refl, subst, arith}
 use Rattle.std.specs.Prelude.{Some, slice_index_or}
 use Rattle.std.specs.List.{slice_get}
 use Rattle.std.proofs.lemmas.Option.{slice_get-get_or, slice_get_within}
 use Rattle.circuit.specs.declared.parts.Driver.TheVariants.{Latch as FromLatch}
 use Rattle.circuit.specs.declared.parts.Latch.{Latch}
 use Rattle.coverage_claim.specs.declared.parts.Site.TheVariants.{Intact}
-use Rattle.place_set.specs.Places.{has}
 use Rattle.region_search.proofs.Places.{inside}
 use Rattle.region_search.proofs.Placing.{IsOut, is_quiet, less_left, looked_at}
 use Rattle.region_search.specs.Going.{sets_of}

@@ -1,7 +1,6 @@
-use Rattle.std.proofs.Common.{◌≡◌, ◌+◌, ◌*◌, ◌<◌, ◌≤◌, ℕ, length, refl, ap, ap₂, sym, subst, ◌∙◌, arith}
+use Rattle.std.proofs.Common.{refl, sym, subst, arith}
 use Rattle.std.proofs.lemmas.Option.{slice_get-get_or}
 use Rattle.coverage_claim.specs.declared.parts.Site.TheVariants.{Intact}
-use Rattle.place_set.specs.Places.{has}
 use Rattle.region_search.proofs.Made.{is_placed, number_of, own_fits, own_inside, own_is_net, placed_at, truth_of, wide_settled}
 use Rattle.region_search.proofs.Places.{inside}
 use Rattle.region_search.proofs.Placing.{IsOut, is_quiet, less_left, looked_at}

@@ -1,8 +1,7 @@
-use Rattle.std.proofs.Common.{◌≡◌, ◌+◌, ◌*◌, ◌<◌, ◌≤◌, ℕ, length, ap, ap₂, sym, subst, ◌∙◌, arith}
+use Rattle.std.proofs.Common.{◌≡◌, ◌*◌, ◌≤◌, ap, sym, subst, ◌∙◌, arith}
 use Rattle.circuit.specs.Value.{driver_at}
 use Rattle.circuit.specs.declared.parts.Driver.TheVariants.{Table as FromTable}
 use Rattle.circuit.specs.declared.parts.NetId.{NetId}
-use Rattle.place_set.specs.Places.{has}
 use Rattle.region_search.proofs.Places.{inside}
 use Rattle.region_search.proofs.Placing.{IsOut, is_quiet, less_left, looked_at}
 use Rattle.region_search.specs.Going.{sets_of}

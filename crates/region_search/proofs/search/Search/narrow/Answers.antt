@@ -1,4 +1,4 @@
-use Rattle.std.proofs.Common.{◌≡◌, inl, inr, Bool, true, false, ap, sym, ◌∙◌, arith}
+use Rattle.std.proofs.Common.{inl, inr, true, sym, ◌∙◌, arith}
 use Rattle.pair_sets.specs.Pairs.{has}
 use Rattle.region_search.proofs.Narrowing.{narrow_goes_on, no_pair, some_pair}
 use Rattle.region_search.specs.Going.{sets_of}

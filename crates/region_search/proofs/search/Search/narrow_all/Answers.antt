@@ -1,5 +1,5 @@
-use Rattle.std.proofs.Common.{◌≡◌, ◌∙◌, arith}
-use Rattle.region_search.proofs.Tables.{cut_more, further_more, none_cut}
+use Rattle.std.proofs.Common.{◌∙◌}
+use Rattle.region_search.proofs.Tables.{cut_more, further_more}
 use Rattle.region_search.specs.Going.{sets_of}
 use Rattle.region_search.proofs.search.Search.narrow_all.Goals as goal
 

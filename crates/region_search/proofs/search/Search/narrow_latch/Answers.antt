@@ -1,4 +1,4 @@
-use Rattle.std.proofs.Common.{◌≡◌, arith}
+use Rattle.std.proofs.Common.{arith}
 use Rattle.pair_sets.specs.Pairs.{has}
 use Rattle.region_search.proofs.Latches.{latch_settled, may_first, may_second}
 use Rattle.region_search.specs.Going.{sets_of}

@@ -1,4 +1,4 @@
-use Rattle.std.proofs.Common.{◌≡◌, ◌≤◌, ℕ, length, sym, subst, ◌∙◌, arith}
+use Rattle.std.proofs.Common.{◌≡◌, ◌≤◌, ℕ, sym, subst, arith}
 use Rattle.coverage_claim.specs.Stretch.{Stretch}
 use Rattle.coverage_claim.specs.declared.parts.Site.{Site}
 use Rattle.pair_sets.proofs.Nets.{sound}

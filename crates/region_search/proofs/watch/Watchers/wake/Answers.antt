@@ -1,7 +1,7 @@
-use Rattle.std.proofs.Common.{◌≡◌, ◌+◌, ◌-◌, ◌*◌, ◌<◌, ◌≤◌, ℕ, suc, true, length, get_or, refl, ap, subst, ◌∙◌, arith, sym}
-use Rattle.fanout.specs.Readers.{IsReadAt, Ordered}
+use Rattle.std.proofs.Common.{◌≡◌, ◌+◌, ◌-◌, ◌*◌, true, refl, subst, arith}
+use Rattle.fanout.specs.Readers.{Ordered}
 use Rattle.place_set.specs.Places.{has}
-use Rattle.region_search.specs.Search.{Wakes, places_of}
+use Rattle.region_search.specs.Search.{Wakes}
 use Rattle.region_search.proofs.Watching.{bound_seen, own_read, put_stays, put_there, reads_inside, wakes_of}
 use Rattle.region_search.proofs.watch.Watchers.wake.Goals as goal
 
