@@ -176,7 +176,7 @@ def of_from_verilog(made):
 
 
 def of_statement(_):
-    """What tools/dev/statement counts, in place of a report's figures; and a row for each crate that names each of its files."""
+    """What tools/dev/statement counts, in place of a report's figures; and a line for each crate that names each of its files."""
     done = subprocess.run([sys.executable, str(ROOT / "tools" / "dev" / "statement")], stdout=subprocess.PIPE, text=True, check=True, timeout=60)
     of_the_program, beside = [[int(it) for it in line.split() if it.isdigit()] for line in done.stdout.splitlines()[-2:]]
     lines, definitions, files = of_the_program[:3]
@@ -184,7 +184,7 @@ def of_statement(_):
     named = {}
     for crate, file in re.findall(r" (\w+)/(?:specs|src)/(\S+)$", done.stdout, re.M):
         named.setdefault(crate, []).append(file.removesuffix(".antt"))
-    yield from (f"| {crate} | {', '.join(names)} |" for crate, names in named.items())
+    yield from (f"- {crate}: {', '.join(names)} (" for crate, names in named.items())
     traits, _, *of_the_kit = beside
     yield f"a shelf, a sink and a gate ({traits} lines)"
     if of_the_kit:
