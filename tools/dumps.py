@@ -5,6 +5,7 @@ RANGE = re.compile(r"^(.*?)\s*\[(-?\d+)(?::(-?\d+))?\]$")
 
 
 CUT = "the dump was cut off. Let the simulation end by $finish, and dump again"
+NO_LAST_TIME = "ends without its last time"
 
 
 class Unreadable(Exception):
@@ -107,6 +108,19 @@ class Dump:
     def head(self):
         with self.opened() as lines:
             return read_head(lines, self.file)
+
+    def ends_within_time(self, clock):
+        """Whether the dump ends with values and not with a time, as one that was cut off. Where a test bench finishes at an edge of the clock, it ends with this edge."""
+        moment = []
+        with self.opened() as lines:
+            read_head(lines, self.file)
+            for line in lines:
+                if line.startswith("#"):
+                    moment.clear()
+                else:
+                    moment.append(line)
+        now = next(changes(moment, self.file), {})
+        return bool(now) and clock.code not in now
 
     def begins_with_edge(self, signal, wanted):
         """Whether a bit comes to this value from the other one before it first leaves it."""

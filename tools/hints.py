@@ -87,13 +87,14 @@ ROWS = {
     "harm": "a mechanism has no residual or single-point faults", "golden": "the golden run is what the simulation of the RTL did", "safe": "few faults are `safe`",
     "outputs": "each net that the safety goal names is observed", "unread": "each net that the safety goal names is observed", "early": "harm before the reset is looked at by itself",
     "compared": "the golden run is what the simulation of the RTL did", "unknown": "inputs are known", "shorter": "the runs are as long as the simulations",
+    "ended": "the runs are as long as the simulations",
     "shares": "flips and pulses share a rate as you mean it", "neighbours": "each pattern takes what you meant",
     "start": "latches of unknown initial value don't matter", "goals": "one safety goal", "end": "the report ends with `end`, and the status was 0", "kept": "the settings were kept",
 }
 # Those that make a metric untrue, or one that says nothing; what isn't here is worth a look. The first may be meant, for a reason; the others never.
 MAY_BE_MEANT = ("outside", "patterns", "rates", "weights", "mechanisms", "alarms", "harm", "goals")
 # What is worth a look alone, and may be told to be known.
-LOOKED_AT = ("outputs", "unread", "early", "safe", "start", "compared", "unknown", "shares", "neighbours")
+LOOKED_AT = ("outputs", "unread", "early", "safe", "start", "compared", "unknown", "ended", "shares", "neighbours")
 WRONG = (*MAY_BE_MEANT, "latches", "cycles", "missions", "golden", "end", "kept")
 
 

@@ -63,7 +63,7 @@ def _dump(wrong=None):
     for cycle, bit in enumerate(DATA):
         q = DATA[cycle - 1] if cycle else 0
         lines += [f"#{10 * cycle}", "0!", f"{bit}#", f"{q ^ (cycle == wrong)}$", "0%", f"#{10 * cycle + 5}", "1!"]
-    return "\n".join(lines) + "\n"
+    return "\n".join([*lines, f"#{10 * len(DATA)}"]) + "\n"
 
 
 def _design(folder, settings=SETTINGS, **changes):
@@ -320,7 +320,7 @@ def the_shares_of_flips_and_pulses(folder, program):
 
 
 def what_was_not_compared_or_not_known(folder, program):
-    """q's copy has no signal in the dump; d is x in cycle 0; and then the dump is a cycle shorter."""
+    """q's copy has no signal in the dump; d is x in cycle 0; and then the dump is a cycle shorter, and ends with values."""
     _design(folder, _with(("workload", "nets = all\nunknown = 0")), drive__vcd=_dump().replace("#0\n0!\n0#", "#0\n0!\nx#"))
     for _ in (0, 1):
         printed, _ = _flow(folder, program)
@@ -328,9 +328,15 @@ def what_was_not_compared_or_not_known(folder, program):
         assert "look: run drive: 6 cycles, 1 inputs had x or z: the campaign has 0 there." in printed, printed
     page = pathlib.Path(folder, "flow", "page.html").read_text()
     assert "1 of 2 latches are not compared" in page and "1 inputs had x or z" in page
-    held(folder, drive__vcd=_dump()[:_dump().index("#50")])
+    assert "last time" not in printed + page, printed
+    held(folder, drive__vcd=_dump()[:_dump().index("1!\n#50")])
+    ended = "run drive: 5 cycles, drive.vcd ends without its last time. Was its simulation cut off?"
     printed, _ = _flow(folder, program)
     assert "look: run drive has 5 cycles, and had 6 at the last time. Was its simulation cut off?" in printed, printed
+    assert f"look: {ended}" in printed and ended in pathlib.Path(folder, "flow", "page.html").read_text(), printed
+    held(folder, flow__ini=_with(("workload", "nets = all\nunknown = 0"), ("accepted", "ended = the simulator writes none")))
+    printed, _ = _flow(folder, program)
+    assert f"accepted, ended: {ended}" in printed, printed
 
 
 def both_starts_side_by_side(folder, program):
