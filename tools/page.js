@@ -2,7 +2,7 @@
 const faults = JSON.parse(document.getElementById("data").textContent);
 const step = 1000;
 const search = document.getElementById("search"), body = document.querySelector("#faults tbody"), count = document.getElementById("count"), more = document.getElementById("more");
-const heads = [...document.querySelectorAll("#faults th")];
+const heads = [...document.querySelectorAll("#faults th")], names = heads.map(head => head.textContent);
 let most = step, order = null, rising = true;
 function before(one, other) {
   const [a, b] = [one[order], other[order]];
@@ -21,9 +21,21 @@ function show() {
   for (const it of some.slice(0, most)) {
     const row = body.insertRow();
     for (const text of [it[0], it[1], it[2], (it[3] / 1e6).toString(), it[4]]) row.insertCell().textContent = text;
+    named(row, names);
   }
   count.textContent = some.length + " faults, " + (weight / 1e6).toFixed(6) + " FIT" + (some.length > most ? ", the first " + most + " shown" : "");
   more.hidden = some.length <= most;
+  fit();
+}
+function named(row, columns) {
+  [...row.cells].forEach((cell, column) => { if (column && columns[column]) cell.dataset.head = columns[column]; });
+}
+// Of a table that is wider than the screen a row stands as lines, each cell with the name of its column.
+function fit() {
+  for (const table of document.querySelectorAll(".wide table")) {
+    table.classList.remove("stacked");
+    table.classList.toggle("stacked", table.offsetWidth > table.parentElement.clientWidth);
+  }
 }
 function anew() {
   most = step;
@@ -53,6 +65,8 @@ document.addEventListener("keydown", event => {
   if (event.key === "/" && document.activeElement !== search && !event.ctrlKey && !event.metaKey) { event.preventDefault(); search.focus(); }
   if (event.key === "Escape" && document.activeElement === search) { search.value = ""; anew(); }
 });
+document.querySelectorAll(".wide table").forEach(table => [...table.tBodies[0].rows].forEach(row => named(row, [...table.tHead.rows[0].cells].map(cell => cell.textContent))));
+addEventListener("resize", fit);
 let closed = [];
 addEventListener("beforeprint", () => { closed = [...document.querySelectorAll("#tree details:not([open])")]; closed.forEach(it => { it.open = true; }); });
 addEventListener("afterprint", () => closed.forEach(it => { it.open = false; }));

@@ -329,7 +329,7 @@ def what_was_not_compared_or_not_known(folder, program):
     page = pathlib.Path(folder, "flow", "page.html").read_text()
     assert "1 of 2 latches are not compared" in page and "1 inputs had x or z" in page
     assert "last time" not in printed + page, printed
-    held(folder, drive__vcd=_dump()[:_dump().index("1!\n#50")])
+    held(folder, drive__vcd=_dump()[:_dump().index("#50")] + "#50\n0$\n")
     ended = "run drive: 5 cycles, drive.vcd ends without its last time. Was its simulation cut off?"
     printed, _ = _flow(folder, program)
     assert "look: run drive has 5 cycles, and had 6 at the last time. Was its simulation cut off?" in printed, printed

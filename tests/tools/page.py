@@ -312,6 +312,44 @@ def _dark_columns(rows):
     return [number for number, row in enumerate(rows) if any(pixel < 200 for pixel in row[-4:])]
 
 
+WIDTHS = """<script>
+const frame = document.createElement("iframe");
+const said = [];
+async function look(width) {
+  frame.width = width;
+  frame.contentWindow.dispatchEvent(new Event("resize"));
+  await new Promise(done => setTimeout(done, 100));
+  const inner = frame.contentDocument;
+  said.push([...inner.querySelectorAll(".wide")].filter(it => it.scrollWidth > it.clientWidth + 1).map(it => it.firstChild.id).join(" "));
+  said.push(inner.querySelectorAll(".stacked").length > 0);
+}
+frame.srcdoc = document.documentElement.outerHTML.replace(/<script id="widths">[^]*/, "");
+frame.addEventListener("load", async () => {
+  for (const width of [1400, 800, 400]) await look(width);
+  document.title = said.join("|");
+});
+document.body.append(frame);
+</script>"""
+
+
+def no_table_is_cut_off_on_any_screen(folder, program):
+    """On 800 and 400 pixels the tables that are wider have each row as lines, with the names of the columns; on 1,400 none has."""
+    copy = pathlib.Path(folder, "bridge")
+    shutil.copytree(EXAMPLES / "bridge", copy)
+    words = copy.joinpath("words").read_text().split()
+    campaign = [word for word in words[1:] if word != "result"]
+    for command in ("latencies", "breakdown"):
+        done = subprocess.run([program, command, *campaign], cwd=copy, check=True, capture_output=True)
+        copy.joinpath(f"{command}.txt").write_bytes(done.stdout)
+    tool("page", *FILES, "report.txt", "--latencies", "latencies.txt", "--breakdown", "breakdown.txt", "-o", "page.html", folder=copy)
+    page = copy / "page.html"
+    page.write_text(page.read_text().replace("</body>", WIDTHS.replace("<script>", '<script id="widths">') + "</body>"))
+    text = _browser("--virtual-time-budget=20000", "--dump-dom", f"file://{page}")
+    found = re.search(r"<title>(.*?)</title>", text)[1].split("|")
+    assert found == ["", "false", "", "true", "", "true"], found
+    assert '<td data-head="faults">' in text and '<td data-head="weight in FIT">' in text
+
+
 def the_page_on_a_narrow_screen(folder, _):
     rows = _picture(_made_page(folder, "bridge"), 500, 3000)
     assert len(rows[0]) == 500 and not _dark_columns(rows), _dark_columns(rows)[:5]
@@ -344,3 +382,5 @@ def the_page_on_paper(folder, _):
         for wanted in ("Goals and settings", "SHA-256", "u_compare.turned[11]/1", "234 faults"):
             assert wanted in text, wanted
         assert "words of a fault" not in text and text.count("keeps missed") > 1
+        alone = [line for line in text.splitlines() if line.strip() in ("%", "met", "missed")]
+        assert not alone, alone
