@@ -1,11 +1,13 @@
 -- What is promised of a call holds also where more writes have failed since.
-use Rattle.std.proofs.Common.{ℕ, List, [], ◌≡◌, ◌≤◌, ◌∙◌, ap, refl, sym, subst, inl, inr, arith}
+use Rattle.std.proofs.Common.{ℕ, List, [], ◌++◌, ◌≡◌, ◌≤◌, ◌∙◌, ap, refl, sym, subst, take, inl, inr, arith}
 use Rattle.std.proofs.lemmas.List.{append-nil}
-use Rattle.std.specs.Prelude.{◌⊎◌, ◌<◌, ◌^◌, ◌-◌, Option, Some, None, MatchOption, MatchResult, Result, Ok, Err, codes}
+use Rattle.std.specs.Prelude.{◌⊎◌, ◌<◌, ◌^◌, ◌-◌, Option, Some, None, MatchOption, MatchResult, Result, Ok, Err, IfOk, OnErr, codes}
 use Rattle.fm_base.specs.Names.{Bytes}
+use Rattle.fm_shelf.specs.declared.shelf.Failed.{Failed}
 use Rattle.fm_shelf.specs.Shelf.{CountRose, ShelfState}
 use Rattle.fm_shelf.specs.Sink.{SinkState, WroteOrFailed, WrotePrefix, with_more}
 use Rattle.fm_shelf.specs.Outside.{Outside, outside}
+use Rattle.fm_shelf.proofs.Sends.{with_more-append}
 use Rattle.campaign_plan.specs.declared.Outcome.{Outcome}
 use Rattle.campaign_plan.specs.Analysis.{Analysis}
 use Rattle.campaign_run.specs.Reported.{HasReported, ResumedAs}
@@ -22,7 +24,7 @@ use Rattle.campaign_run.specs.Outside.{KeepsOthers}
 use Rattle.fmeda_top.specs.Ends.{HasWritten, IsDoneOrFailed, IsSimulated, PrintsAs, RefusedAs, WritesAs, text_of}
 use Rattle.fmeda_top.specs.Ends.WritesAs.{All, OutFailed, ResultFailed}
 use Rattle.fmeda_top.specs.Promises.{CommandEnds, Promises}
-use Rattle.fmeda_top.specs.Program.{ExitsWith, ProgramEnds, SendsRest}
+use Rattle.fmeda_top.specs.Program.{ExitsWith, ProgramEnds, SendsOn, SendsRest}
 
 -- as many bytes are known to have gone out, and no fewer writes have failed
 module _ (before : Outside) (shelf : ShelfState) (written : Option Bytes) (low high : ℕ) (grows : low ≤ high) where
@@ -131,11 +133,11 @@ page_begins out sink waits same none =
     ap (λ (s : SinkState). page_of s waits) same ∙ ap (page_of out) none
     ∙ ap (λ (written : Option Bytes). let s : SinkState = record { written = written; faults = out.faults } in s) (nothing_more out.written)
 
--- what a call has told as written was sent, or a rest of it wasn't
+-- what a call has told as written was sent, or a rest of it wasn't; what had gone out before stands
 pub program_ends : (words : List Bytes) (ended : Status) (code : ℕ) (before : Outside) (shelf : ShelfState) (told after : SinkState)
-    → Promises words ended before (outside shelf told) → told.faults ≤ after.faults → SendsRest ended code before.out.faults told.written after
-    → ProgramEnds words code before (outside shelf after)
-program_ends words ended code before shelf told after promised grows sends = (ended, by_sends sends)
+    → Promises words ended before (outside shelf told) → told.faults ≤ after.faults → SendsOn before.out.written after.written
+    → SendsRest ended code before.out.faults told.written after → ProgramEnds words code before (outside shelf after)
+program_ends words ended code before shelf told after promised grows on sends = (ended, by_sends sends)
   where
     kept : (written : Option Bytes) → written ≡ told.written → Promises words ended before (outside shelf (record { written = written; faults = after.faults }))
     kept written is =
@@ -144,4 +146,11 @@ program_ends words ended code before shelf told after promised grows sends = (en
 
     by_sends : SendsRest ended code before.out.faults told.written after → ExitsWith code words ended before (outside shelf after)
     by_sends (inl (same, all)) = inl (same, kept after.written all)
-    by_sends (inr (same, rose, (rest, is))) = inr (same, rose, (rest, kept (with_more after.written rest) is))
+    by_sends (inr (same, rose, (rest, is))) = inr (same, rose, on, (rest, kept (with_more after.written rest) is))
+
+-- a write sends on
+pub sends_on : (earlier before now : Option Bytes) (piece : Bytes) (result : Result ℕ Failed) → SendsOn earlier before
+    → IfOk result (λ n. now ≡ with_more before (take n piece)) → OnErr result (now ≡ before) → SendsOn earlier now
+sends_on earlier before now piece (Ok n) (sent, is) wrote none =
+    (sent ++ take n piece, wrote ∙ ap (λ w. with_more w (take n piece)) is ∙ with_more-append earlier sent (take n piece))
+sends_on earlier before now piece (Err e) (sent, is) wrote none = (sent, none ∙ is)

@@ -5,12 +5,14 @@ ghost use Rattle.fm_shelf.specs.Sink.{with_more};
 ghost use Rattle.fmeda_top.specs.Words.{MayWait};
 ghost use Rattle.fmeda_top.specs.Program.{ProgramEnds, SendsRest, failed_code as failed_code_of};
 
+use crate::continued::{Continued, Earlier};
 use crate::top::fmeda_by;
 use claim_counter::Turn;
 use fm_shelf::paged::Paged;
 use fm_shelf::shelf::{Shelf, Sink};
 use refusals::status::Status;
 use std::alloc::Global;
+use std::marker::Brand;
 use std::thread::Threads;
 use worker_gate::Gate;
 
@@ -47,9 +49,33 @@ fn send_rest<O: Sink + Drop>(status: &Status, failures: u64, page: &mut Paged<O>
     }
 }
 
+// The program, over what its output had sent before.
+fn program_since<
+    R: Threads + Sync,
+    F: Shelf + Send + Drop,
+    O: Sink + Drop,
+    G: Gate + Sync,
+    T: Turn + Sync,
+    N: Earlier,
+>(rt: &R, turn: &T, alloc: Global, words: &[String], shelf: F, out: O, gate: &G) -> Exited<F, O>
+    requires turn { MayWait (map string_bytes words.now) → (share : ℕ) → T.admits share }
+    requires earlier { (O.seen out).written ≡ N.sent }
+    ensures { ProgramEnds (map string_bytes words.now) result.code (outside (F.seen shelf) (O.seen out)) (outside (F.seen result.shelf) (O.seen result.out)) }
+{
+    let failures = out.failures();
+    let mut page = Paged::new(alloc, Continued::<O, N>::new(out));
+    let ended = fmeda_by(rt, turn, alloc, words, shelf, &mut page, gate);
+    let code = send_rest(&ended.status, failures, &mut page);
+    Exited {
+        code,
+        shelf: ended.shelf,
+        out: page.into_sink().into_sink(),
+    }
+}
+
 /// Does what the words ask for, as `fmeda_by` does, and sends all that it has written on to `out`. For words that aren't `run`, `resume` or `gen` of
 /// several workers it needs no turn, and so returns, as soon as threads of its own that it joins do. The exit status is that of the call; where a write
-/// of the output has failed, it is 21 if all else was done. Behind a write that failed nothing more is sent.
+/// of the output has failed, it is 21 if all else was done. Behind a write that failed nothing more is sent, and what had gone out stands.
 pub fn program<
     R: Threads + Sync,
     F: Shelf + Send + Drop,
@@ -60,13 +86,5 @@ pub fn program<
     requires turn { MayWait (map string_bytes words.now) → (share : ℕ) → T.admits share }
     ensures { ProgramEnds (map string_bytes words.now) result.code (outside (F.seen shelf) (O.seen out)) (outside (F.seen result.shelf) (O.seen result.out)) }
 {
-    let failures = out.failures();
-    let mut page = Paged::new(alloc, out);
-    let ended = fmeda_by(rt, turn, alloc, words, shelf, &mut page, gate);
-    let code = send_rest(&ended.status, failures, &mut page);
-    Exited {
-        code,
-        shelf: ended.shelf,
-        out: page.into_sink(),
-    }
+    program_since::<R, F, O, G, T, Brand>(rt, turn, alloc, words, shelf, out, gate)
 }
