@@ -171,8 +171,8 @@ pub fn advance<W: Word, L: Ledger>(
     ensures cost { steps.new ≤ steps.old + length cycle.now.order.now }
 {
     if pace.sweeps > 0 && holds(&pace.cone, forces, latches, &nets.own) {
-        pace.sweeps -= 1;
         run_cone(cycle, forces, &pace.cone, latches, nets, steps);
+        pace.go_on_by_sample(cycle.row, &nets.values);
     } else {
         let evaluated = run(cycle, program, forces, latches, &mut nets.own, steps);
         nets.swept = false;

@@ -9,6 +9,7 @@ ghost use Rattle.netlist_levels.specs.Search.{mark_at, frame_at, ins_of, steps_l
 
 use crate::found::LoopFound;
 use crate::order::Order;
+use crate::rank::{Rank, ranks_of};
 use crate::walk::loop_from;
 use circuit::netlist::Netlist;
 use circuit::parts::{Driver, NetId, NetIds};
@@ -182,16 +183,48 @@ impl Search {
         }
         Ok(())
     }
+
+    // Brings the tables of nets into the order, one behind the other.
+    fn visit_ranked(
+        &mut self,
+        alloc: Global,
+        net: &Netlist,
+        ranks: &[Rank],
+    ) -> Result<(), LoopFound>
+        requires search { Searches net.now self.old }
+        requires empty { self.old.stack.items ≡ [] }
+        ensures search { OnOk result (Searches net.now self.new) }
+        ensures empty { OnOk result (self.new.stack.items ≡ []) }
+        ensures why { IfErr result (IsWhy net.now) }
+    {
+        for rank in ranks {
+            if (rank.net as usize) < net.nets() {
+                self.visit(alloc, net, NetId(rank.net))?;
+            }
+        }
+        Ok(())
+    }
 }
 
-/// An order in which the tables of a netlist can be evaluated, or a loop through tables alone, where there is one.
-/// A loop through a latch is none. The time is linear in the number of tables and of nets that they read.
-pub fn levels(alloc: Global, net: &Netlist) -> Result<Order, LoopFound>
+// An order, or a loop. Of the tables that don't read one another those of the first nets come first.
+fn order_from(alloc: Global, net: &Netlist, first: &[Rank]) -> Result<Order, LoopFound>
     ensures { AnswersLevels net.now result }
 {
     let mut search = Search::new(alloc, net)?;
+    search.visit_ranked(alloc, net, first)?;
     for root in 0..net.nets() as u32 {
         search.visit(alloc, net, NetId(root))?;
     }
     Ok(Order::from_nets(NetIds::from_vec(search.order)))
+}
+
+/// An order in which the tables of a netlist can be evaluated, or a loop through tables alone, where there is one.
+/// A loop through a latch is none. A table comes behind all that have fewer tables on the longest way to them, and there beside those of
+/// its operation. The time is linear in the number of tables and of nets that they read, but for sorting.
+pub fn levels(alloc: Global, net: &Netlist) -> Result<Order, LoopFound>
+    ensures { AnswersLevels net.now result }
+{
+    let found = order_from(alloc, net, &[])?;
+    let ranks = ranks_of(alloc, net, found.nets())?;
+    order_from(alloc, net, &ranks)
 }
