@@ -7,7 +7,7 @@ use Rattle.circuit.specs.Sound.{IsNetlist}
 use Rattle.circuit.specs.Trace.{cycle_at, flipped, trace}
 use Rattle.circuit.specs.Value.{Cycle, bit_at, net_value}
 use Rattle.fanout.specs.Readers.{Ordered}
-use Rattle.golden_difference.specs.Beside.{AreBeside, IsBeside, IsGoldenRow, Stand, trace_differs}
+use Rattle.golden_difference.specs.Beside.{AreBeside, IsBeside, IsBetween, IsGoldenRow, Stand, trace_differs}
 use Rattle.golden_difference.proofs.Exclusive.{either_back}
 use Rattle.golden_difference.proofs.NextCycle.{beside_more, flipped_differs}
 use Rattle.golden_difference.specs.Lanes.{Lanes}
@@ -26,7 +26,7 @@ same_ordered c m order nets circuit same = ap₂ ordered circuit same
 
 -- where each net holds what it differs in, in every pair of cycles that begins as the lane stands
 pub stepped : (c : Circuit) (faults : List Fault) (vectors : List (List Bool)) (inputs : List Bool) (row : List ℕ) (old new : Stand)
-    → IsNetlist c → IsBeside c faults vectors old → length old.raw ≡ length c.latches
+    → IsNetlist c → IsBetween c faults vectors old → length old.raw ≡ length c.latches
     → IsGoldenRow c (vectors ++ inputs ∷ []) (length vectors) row
     → ((x golden : Cycle) → IsPair c row x golden → x.faults ≡ faults → x.number ≡ old.cycle
     → ((l : ℕ) → l < length c.latches → bit_at (flipped faults old.cycle old.raw) l ≡ either (bit_at x.state l) (bit_at golden.state l))
@@ -34,8 +34,8 @@ pub stepped : (c : Circuit) (faults : List Fault) (vectors : List (List Bool)) (
     → ((l : ℕ) → l < length c.latches → bit_at new.raw l ≡ new.nets (latch_at c.latches l).from.0)
     → new.cycle ≡ old.cycle + 1
     → IsBeside c faults (vectors ++ inputs ∷ []) new
-stepped c faults vectors inputs row old new sound beside size golden_row each raw cycle =
-    beside_more c faults vectors inputs old new sound beside values raw cycle
+stepped c faults vectors inputs row old new sound between size golden_row each raw cycle =
+    beside_more c faults vectors inputs old new sound between values raw cycle
   where
     longer : List (List Bool)
     longer = vectors ++ inputs ∷ []
@@ -45,8 +45,8 @@ stepped c faults vectors inputs row old new sound beside size golden_row each ra
 
     values : (net : ℕ) → net < length c.drivers → new.nets net ≡ trace_differs c faults longer (length vectors) net
     values net lt =
-        each (cycle_at c faults longer (length vectors)) (cycle_at c [] longer (length vectors)) pair refl (sym beside.cycle)
-        (λ l within. ap (λ t. bit_at (flipped faults t old.raw) l) beside.cycle ∙ flipped_differs c faults vectors inputs old.raw l size within beside.raw) net lt
+        each (cycle_at c faults longer (length vectors)) (cycle_at c [] longer (length vectors)) pair refl (sym between.cycle)
+        (λ l within. ap (λ t. bit_at (flipped faults t old.raw) l) between.cycle ∙ flipped_differs c faults vectors inputs old.raw l size within between.raw) net lt
 
 -- the value of a net, from its golden one and what it differs in
 pub read_value : {W : Type 0} (count : ℕ) (bit : W → ℕ → Bool) (lanes : Lanes W) (vectors : List (List Bool)) (row : List ℕ) (t k n : ℕ)

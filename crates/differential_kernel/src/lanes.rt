@@ -3,9 +3,9 @@ ghost use Rattle.std.specs.Prelude.{◌≡◌, ◌≢◌, ◌<◌, ◌≤◌, �
 ghost use Rattle.circuit.specs.Order.{IsOrder};
 ghost use Rattle.circuit.specs.Trace.{trace};
 ghost use Rattle.fm_base.specs.Planes.{bit};
-ghost use Rattle.golden_difference.specs.Beside.{AreBeside, DoNothing, IsGoldenRow, IsOver, trace_differs};
+ghost use Rattle.golden_difference.specs.Beside.{AreBeside, AreBetween, DoNothing, IsGoldenRow, IsOver, IsStateOf, trace_differs};
 ghost use Rattle.golden_difference.specs.Lanes.{AreBare, IsMadeFor, KeepsLoads};
-ghost use Rattle.lane_words.specs.Loads.{loaded_faults};
+ghost use Rattle.lane_words.specs.Loads.{loaded_faults, somes};
 ghost use Rattle.place_set.specs.Places.{has};
 ghost use Rattle.differential_kernel.specs.Picked.{AreBelow, ArePicks, lane_at, place_in};
 
@@ -16,6 +16,7 @@ use crate::drop::{keep_lanes, keep_nets, unload};
 use crate::flip::flip;
 use crate::force::Forces;
 use crate::golden_cycle::GoldenCycle;
+use crate::group::{keep_state, put_state};
 use crate::latches::LatchDifferences;
 use crate::note::{has_some_stuck, prepare};
 use crate::pace::Pace;
@@ -196,6 +197,50 @@ impl<W: Word> DifferentialLanes<W> {
         self.take_out(W::of_part(word, out));
     }
 
+    /// Empties all lanes before a cycle: none has a fault in force, so each stands there as the golden run does.
+    pub fn empty(&mut self, cycle: u32)
+        ensures keeps { KeepsLoads self.old self.new }
+        ensures cycle { self.new.cycle ≡ cycle }
+        ensures none { (k : ℕ) → k < W.lanes → loaded_faults self.new.in_force k ≡ [] }
+        ensures between { (vectors : List (List Bool)) → length vectors ≡ cycle → AreBetween W.lanes W.lane_bit vectors self.new }
+    {
+        unload(W::all(true), &mut self.in_force);
+        clear(&mut self.latches.live, &mut self.latches.raw);
+        self.noted = false;
+        self.whole = false;
+        self.cycle = cycle;
+        self.pace.begin();
+    }
+
+    /// Puts up to two faults in force in a lane that has none, which goes on from a state: the latches that differ are those of the set.
+    pub fn put(&mut self, lane: u32, faults: [Option<Fault>; 2], state: &PlaceSet)
+        requires lane { lane < W.lanes }
+        requires bound { state.now.bound ≡ length self.old.circuit.latches }
+        requires empty { loaded_faults self.old.in_force lane ≡ [] }
+        ensures keeps { KeepsLoads self.old self.new }
+        ensures cycle { self.new.cycle ≡ self.old.cycle }
+        ensures own { loaded_faults self.new.in_force lane ≡ somes faults }
+        ensures others { (k : ℕ) → k ≢ lane → loaded_faults self.new.in_force k ≡ loaded_faults self.old.in_force k }
+        ensures between { (vectors : List (List Bool)) → AreBetween W.lanes W.lane_bit vectors self.old
+            → IsStateOf self.old.circuit (somes faults) vectors state.now → AreBetween W.lanes W.lane_bit vectors self.new }
+    {
+        self.in_force[lane as usize] = faults;
+        put_state(lane, state, &mut self.latches);
+        self.noted = false;
+        self.whole = false;
+    }
+
+    /// Keeps the state of a lane: the latches that differ.
+    pub fn keep(&self, lane: u32, state: &mut PlaceSet)
+        requires lane { lane < W.lanes }
+        requires bound { state.old.bound ≡ length self.now.circuit.latches }
+        ensures bound { state.new.bound ≡ state.old.bound }
+        ensures state { (vectors : List (List Bool)) → AreBetween W.lanes W.lane_bit vectors self.now
+            → IsStateOf self.now.circuit (loaded_faults self.now.in_force lane) vectors state.new }
+    {
+        keep_state(lane, &self.latches, state);
+    }
+
     /// The lanes in which faults are in force, where there are at most 64.
     pub fn few(&self) -> Option<Picks>
         ensures sound { IfSome result ArePicks }
@@ -258,7 +303,7 @@ impl<W: Word> DifferentialLanes<W> {
         ensures in_force { self.new.in_force ≡ self.old.in_force }
         ensures cycle { self.new.cycle ≡ self.old.cycle + 1 }
         // After cycles with some vectors, each lane is after those and this one, with its own faults in force alone.
-        ensures step { (vectors : List (List Bool)) (inputs : List Bool) → AreBeside W.lanes W.lane_bit vectors self.old
+        ensures step { (vectors : List (List Bool)) (inputs : List Bool) → AreBetween W.lanes W.lane_bit vectors self.old
             → IsGoldenRow netlist.now (vectors ++ inputs ∷ []) (length vectors) row.now → AreBeside W.lanes W.lane_bit (vectors ++ inputs ∷ []) self.new }
         // At most one step for each table, for all words together.
         ensures cost { steps.new ≤ steps.old + length netlist.now.tables }

@@ -8,6 +8,7 @@ mod drop;
 mod flip;
 mod force;
 mod golden_cycle;
+mod group;
 mod lanes;
 mod latches;
 mod list;

@@ -10,7 +10,7 @@ use Rattle.circuit.specs.Trace.{cycle_at, first_state, flipped, flipped_from, ra
 use Rattle.circuit.specs.Value.{bit_at, net_value}
 use Rattle.circuit.proofs.Steps.{raw_state-suc, raw_state-zero}
 use Rattle.lane_words.specs.Bits.{either}
-use Rattle.golden_difference.specs.Beside.{IsBeside, Stand, state_differs, trace_differs}
+use Rattle.golden_difference.specs.Beside.{IsBeside, IsBetween, Stand, state_differs, trace_differs}
 use Rattle.golden_difference.proofs.Exclusive.{either_inverted, either_same}
 use Rattle.circuit.proofs.Cycles.{raw_state-append}
 
@@ -22,9 +22,11 @@ latch_at latches l = get_or latches l (record { from = record { 0 = 0 }; to = re
 pub beside_none : (c : Circuit) (faults : List Fault) (stand : Stand) → stand.cycle ≡ 0 → ((l : ℕ) → l < length c.latches → bit_at stand.raw l ≡ false)
     → IsBeside c faults [] stand
 beside_none c faults stand cycle raw = record {
-  cycle = cycle;
-  raw = λ l lt.
-      raw l lt ∙ sym (ap₂ (λ (a b : List Bool). either (bit_at a l) (bit_at b l)) (raw_state-zero c faults []) (raw_state-zero c [] []) ∙ either_same (bit_at (first_state c) l));
+  between = record {
+    cycle = cycle;
+    raw = λ l lt.
+        raw l lt ∙ sym (ap₂ (λ (a b : List Bool). either (bit_at a l) (bit_at b l)) (raw_state-zero c faults []) (raw_state-zero c [] []) ∙ either_same (bit_at (first_state c) l));
+  };
   values = λ t net e lt. absurd (omega arith);
 }
 
@@ -37,18 +39,20 @@ next_at c faults vectors t l lt =
 
 -- THE NEXT CYCLE: where each net holds what differs in it, and each latch what the net differs in that it reads
 pub beside_more : (c : Circuit) (faults : List Fault) (vectors : List (List Bool)) (inputs : List Bool) (old new : Stand)
-    → IsNetlist c → IsBeside c faults vectors old
+    → IsNetlist c → IsBetween c faults vectors old
     → ((net : ℕ) → net < length c.drivers → new.nets net ≡ trace_differs c faults (vectors ++ inputs ∷ []) (length vectors) net)
     → ((l : ℕ) → l < length c.latches → bit_at new.raw l ≡ new.nets (latch_at c.latches l).from.0)
     → new.cycle ≡ old.cycle + 1
     → IsBeside c faults (vectors ++ inputs ∷ []) new
-beside_more c faults vectors inputs old new sound beside values raw cycle = record {
-  cycle = cycle ∙ ap (λ n. n + 1) beside.cycle ∙ sym size;
-  raw = λ l lt.
-      let from : (latch_at c.latches l).from.0 < length c.drivers = sound.sources l (record { from = record { 0 = 0 }; to = record { 0 = 0 }; start = false }) lt in
-      raw l lt ∙ values (latch_at c.latches l).from.0 from
-      ∙ sym (ap₂ either (next_at c faults longer (length vectors) l lt) (next_at c [] longer (length vectors) l lt))
-      ∙ ap (λ n. state_differs c faults longer n l) (sym (add-one (length vectors)) ∙ sym size);
+beside_more c faults vectors inputs old new sound between values raw cycle = record {
+  between = record {
+    cycle = cycle ∙ ap (λ n. n + 1) between.cycle ∙ sym size;
+    raw = λ l lt.
+        let from : (latch_at c.latches l).from.0 < length c.drivers = sound.sources l (record { from = record { 0 = 0 }; to = record { 0 = 0 }; start = false }) lt in
+        raw l lt ∙ values (latch_at c.latches l).from.0 from
+        ∙ sym (ap₂ either (next_at c faults longer (length vectors) l lt) (next_at c [] longer (length vectors) l lt))
+        ∙ ap (λ n. state_differs c faults longer n l) (sym (add-one (length vectors)) ∙ sym size);
+  };
   values = λ t net e lt.
       let same : length vectors ≡ t = omega (arith, size, e) in
       values net lt ∙ ap (λ n. trace_differs c faults longer n net) same;

@@ -12,7 +12,7 @@ use Rattle.golden_difference.specs.Lanes.{Lanes}
 use Rattle.lane_words.specs.Bits.{either}
 use Rattle.lane_words.specs.Gates.{plane}
 use Rattle.lane_words.specs.Loads.{loaded_faults}
-use Rattle.place_set.specs.Places.{value_in}
+use Rattle.place_set.specs.Places.{Places, has, value_in}
 
 -- what a latch has at the start of cycle t, with these faults, differs from what it has without them
 abbrev pub state_differs : Circuit → List Fault → List (List Bool) → ℕ → ℕ → Bool
@@ -29,21 +29,31 @@ pub record Stand : Type 0 where
   pub raw : List Bool
   pub nets : ℕ → Bool
 
--- since the start cycles were simulated with these vectors, one after the other, and with these faults in all of them; what
--- differs does so from the golden run of the same vectors
-pub record IsBeside (c : Circuit) (faults : List Fault) (vectors : List (List Bool)) (stand : Stand) : Type 0 where
+-- since the start cycles have gone by with these vectors, one after the other, and with these faults in all of them: each latch differs
+-- from the golden run of the same vectors as they have left it
+pub record IsBetween (c : Circuit) (faults : List Fault) (vectors : List (List Bool)) (stand : Stand) : Type 0 where
   pub cycle : stand.cycle ≡ length vectors
   pub raw : (latch : ℕ) → latch < length c.latches → bit_at stand.raw latch ≡ state_differs c faults vectors (length vectors) latch
-  -- each net differs or not in the last of these cycles, if there is one
+
+-- the same, and the last of these cycles, if there is one, was simulated: each net differs or not as in that cycle
+pub record IsBeside (c : Circuit) (faults : List Fault) (vectors : List (List Bool)) (stand : Stand) : Type 0 where
+  pub between : IsBetween c faults vectors stand
   pub values : (t net : ℕ) → t + 1 ≡ length vectors → net < length c.drivers → stand.nets net ≡ trace_differs c faults vectors t net
 
 -- the simulation in one lane
 abbrev pub stand_in : {W : Type 0} → (W → ℕ → Bool) → ℕ → Lanes W → Stand
 stand_in bit k lanes = record { cycle = lanes.cycle; raw = plane bit k lanes.raw; nets = bit_at (slice_index_or lanes.shown k []) }
 
--- the same in each lane, with its own faults in force alone
+-- so in each lane, with its own faults in force alone
+abbrev pub AreBetween : {W : Type 0} → ℕ → (W → ℕ → Bool) → List (List Bool) → Lanes W → Type 0
+AreBetween count bit vectors lanes = (k : ℕ) → k < count → IsBetween lanes.circuit (loaded_faults lanes.in_force k) vectors (stand_in bit k lanes)
+
 abbrev pub AreBeside : {W : Type 0} → ℕ → (W → ℕ → Bool) → List (List Bool) → Lanes W → Type 0
 AreBeside count bit vectors lanes = (k : ℕ) → k < count → IsBeside lanes.circuit (loaded_faults lanes.in_force k) vectors (stand_in bit k lanes)
+
+-- a set has the latches that differ once cycles have gone by with these vectors and with these faults
+abbrev pub IsStateOf : Circuit → List Fault → List (List Bool) → Places → Type 0
+IsStateOf c faults vectors set = (latch : ℕ) → latch < length c.latches → has set latch ≡ state_differs c faults vectors (length vectors) latch
 
 -- in cycle t the faults change no net and flip no latch
 pub record DoNothing (faults : List Fault) (t : ℕ) : Type 0 where

@@ -9,5 +9,5 @@ returns-clause-keeps g c = load_kept c.args.lanes.now c.cycle.new.self c.cycle.e
 
 pub returns-clause-step : goal.returns-clause-step
 returns-clause-step g c = λ vectors inputs after golden.
-    c.cycle.ensures.step vectors inputs after
+    c.cycle.ensures.step vectors inputs (λ k lt. (after k lt).between)
     (subst (λ (bench : Testbench). IsGoldenRow bench.circuit (vectors ++ inputs ∷ []) (length vectors) c.args.row.now) (sym c.self.view_is) golden)

@@ -8,7 +8,7 @@ use Rattle.circuit.specs.Sound.{IsNetlist}
 use Rattle.circuit.specs.Trace.{flipped}
 use Rattle.circuit.specs.Value.{bit_at}
 use Rattle.fanout.specs.Readers.{Ordered}
-use Rattle.golden_difference.specs.Beside.{AreBeside, IsGoldenRow, Stand, stand_in}
+use Rattle.golden_difference.specs.Beside.{AreBetween, IsGoldenRow, Stand, stand_in}
 use Rattle.golden_difference.specs.Lanes.{Lanes}
 use Rattle.lane_words.specs.Gates.{latch_at, plane}
 use Rattle.lane_words.specs.Loads.{loaded_faults}
@@ -114,8 +114,8 @@ invariant_of-self g c =
 pub returns-clause-step : goal.returns-clause-step
 returns-clause-step g c = λ vectors inputs stood golden k lt.
     let s = c.self.inside in
-    let beside : AreBeside g.W.Word.lanes g.W.Word.lane_bit vectors (lanes_of g.W.Word.lanes g.W.Word.lane_bit s) =
-    subst (λ (lanes : Lanes g.row.W.Denot). AreBeside g.W.Word.lanes g.W.Word.lane_bit vectors lanes) (sym c.self.view_is) stood in
+    let between : AreBetween g.W.Word.lanes g.W.Word.lane_bit vectors (lanes_of g.W.Word.lanes g.W.Word.lane_bit s) =
+    subst (λ (lanes : Lanes g.row.W.Denot). AreBetween g.W.Word.lanes g.W.Word.lane_bit vectors lanes) (sym c.self.view_is) stood in
     let bit = g.W.Word.lane_bit in
     let circuit = s.circuit.value in
     let faults = loaded_faults s.in_force.items k in
@@ -123,7 +123,7 @@ returns-clause-step g c = λ vectors inputs stood golden k lt.
     let made : circuit ≡ c.args.netlist.now = ap (λ (lanes : Lanes g.row.W.Denot). lanes.circuit) c.self.view_is ∙ c.requires.made.circuit in
     let new : Stand = record { cycle = s.cycle + 1; raw = plane bit k c.advance.new.latches.raw.items; nets = bit_at (get_or (all_shown g.W.Word.lanes bit (length circuit.drivers) c.advance.new.nets) k []) } in
     let at : (n : ℕ) → n < length circuit.drivers → new.nets n ≡ shown_of bit c.advance.new.nets k n = λ n within. at_shown g.W.Word.lanes bit (length circuit.drivers) c.advance.new.nets k n lt within in
-    stepped circuit faults vectors inputs row (stand_in bit k (lanes_of g.W.Word.lanes bit s)) new c.self.invariant.sound (beside k lt)
+    stepped circuit faults vectors inputs row (stand_in bit k (lanes_of g.W.Word.lanes bit s)) new c.self.invariant.sound (between k lt)
     (length_plane bit k s.latches.raw.items ∙ c.self.invariant.latches.raw)
     (subst (λ (m : Circuit). IsGoldenRow m (vectors ++ inputs ∷ []) (length vectors) row) (sym made) golden)
     (λ x other pair faults_are number_is holds m net.

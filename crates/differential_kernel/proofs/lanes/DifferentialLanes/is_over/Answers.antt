@@ -13,7 +13,7 @@ returns-then-is_calm g c = λ vectors k is beside lane.
     subst (λ (lanes : Lanes g.row.W.Denot). AreBeside g.W.Word.lanes g.W.Word.lane_bit vectors lanes) (sym c.self.view_is) beside in
     subst (λ (lanes : Lanes g.row.W.Denot). IsOver lanes.circuit (loaded_faults lanes.in_force k) vectors 65536) c.self.view_is
     (is_over_after s.circuit.value (loaded_faults s.in_force.items k) vectors 65536
-    (λ l lt. sym ((stands k lane).raw l lt) ∙ c.self.invariant.latches.live.same l (c.is_empty_from.ensures is l (omega arith)) k lane)
+    (λ l lt. sym ((stands k lane).between.raw l lt) ∙ c.self.invariant.latches.live.same l (c.is_empty_from.ensures is l (omega arith)) k lane)
     (λ t from lt.
     subst (λ (lanes : Lanes g.row.W.Denot). DoNothing (loaded_faults lanes.in_force k) t) (sym c.self.view_is)
-    (c.is_calm.ensures k t c.if-is_calm.true (omega (arith, (beside k lane).cycle, from)) lt)))
+    (c.is_calm.ensures k t c.if-is_calm.true (omega (arith, (beside k lane).between.cycle, from)) lt)))

@@ -159,7 +159,7 @@ returns-clause-beside g c = λ vectors stood place lt.
       | inr behind ↦
           beside_dropped s.circuit.value faults vectors new
           (ap (λ (ls : List (List (Option Fault))). loaded_faults ls place) loads ∙ c.take_faults.ensures.rest place behind)
-          (beside 0 (omega (arith, g.met.V.Word.whole, c.words-some.ensures.some))).cycle
+          (beside 0 (omega (arith, g.met.V.Word.whole, c.words-some.ensures.some))).between.cycle
           (λ l.
           ap (λ ws. bit_at (plane bit place ws) l) raw ∙ c.take_words.ensures.words place l lt
           ∙ picked_behind picks (λ k. bit_at (plane others k c.deref-2.result.now) l) place behind)

@@ -100,7 +100,7 @@ returns-clause-beside g c = λ vectors stood k lt.
       | inl is ↦
           beside_dropped circuit faults vectors new
           (ap (λ (ls : List (List (Option Fault))). loaded_faults ls k) loads ∙ c.unload.ensures.dropped k lt is)
-          (beside k lt).cycle
+          (beside k lt).between.cycle
           (λ l. ap (λ ws. bit_at (plane bit k ws) l) raw ∙ c.keep_lanes.ensures k l lt ∙ none_out (bit out k) _ is)
           (λ n net. at_shown g.W.Word.lanes bit (length circuit.drivers) c.keep_nets.new.nets k n lt net ∙ c.keep_nets.ensures.shown k n lt ∙ none_out (bit out k) _ is)
       | inr is ↦
