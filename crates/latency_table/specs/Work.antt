@@ -1,5 +1,8 @@
 -- Shapes of private steps: what a worker simulates with, and what it has kept. Nothing public cites them.
 use Rattle.std.specs.Prelude.{◌≡◌, ℕ, ◌+◌, ◌*◌, ◌<◌, ◌≤◌, List, [], length, slice_index_or}
+use Rattle.std.specs.Int.{div_ceil}
+use Rattle.batch_crew.specs.Crew.{HaveWorked}
+use Rattle.batch_crew.specs.declared.rounds.WorkerShare.{WorkerShare}
 use Rattle.campaign_plan.specs.Analysis.{Analysis, fault_count}
 use Rattle.classifier.specs.Testbench.{Testbench}
 use Rattle.golden_difference.specs.Lanes.{IsMadeFor}
@@ -22,25 +25,27 @@ pub record IsEquippedFor (bench : Testbench) (rounds : ℕ) (worker : LatencyWor
   pub rounds_are : length worker.groups.items ≡ rounds
   pub room : (round : ℕ) → round < rounds → length (group_at worker.groups.items round) ≡ 256
 
--- the number of a fault: of a worker of so many, in one of its rounds, in one of 256 lanes
-abbrev pub number_in : (workers number round lane : ℕ) → ℕ
-number_in workers number round lane = (round * workers + number) * 256 + lane
+-- how many rounds each of so many workers does: each fault is in one of their groups
+abbrev pub rounds_for : Analysis → ℕ → ℕ
+rounds_for p workers = div_ceil (fault_count p) (workers * 256)
+
+-- the number of a fault: of a worker's share, in one of its rounds, in one of 256 lanes
+abbrev pub number_in : WorkerShare → (round lane : ℕ) → ℕ
+number_in share round lane = (round * share.workers + share.number) * 256 + lane
 
 -- the group of a round has what is kept of each of its faults
-abbrev pub HasGroup : Analysis → (workers number round : ℕ) → List (List Latency) → Type 0
-HasGroup p workers number round groups =
-    (lane : ℕ) → lane < 256 → number_in workers number round lane < fault_count p
-    → IsLatencyFor p (number_in workers number round lane) (latency_at (group_at groups round) lane)
+abbrev pub HasGroup : Analysis → WorkerShare → (round : ℕ) → List (List Latency) → Type 0
+HasGroup p share round groups =
+    (lane : ℕ) → lane < 256 → number_in share round lane < fault_count p
+    → IsLatencyFor p (number_in share round lane) (latency_at (group_at groups round) lane)
 
--- a worker has what is kept of each fault of its rounds
-pub record HasWorked (p : Analysis) (workers number rounds : ℕ) (groups : List (List Latency)) : Type 0 where
-  pub count : length groups ≡ rounds
-  pub room : (round : ℕ) → round < rounds → length (group_at groups round) ≡ 256
-  pub kept : (round : ℕ) → round < rounds → HasGroup p workers number round groups
+-- the worker of a share has room for all its rounds, and has what is kept of each fault of so many of them
+pub record HasKept (p : Analysis) (bench : Testbench) (share : WorkerShare) (rounds : ℕ) (worker : LatencyWorker) : Type 0 where
+  pub equipped : IsEquippedFor bench (rounds_for p share.workers) worker
+  pub kept : (round : ℕ) → round < rounds → HasGroup p share round worker.groups.items
 
--- so has each of some workers, whose rounds are enough for all faults of the plan
-pub record HaveWorked (p : Analysis) (crew : List LatencyWorker) : Type 0 where
-  pub rounds : ℕ
+-- each of some workers has done all rounds of its share
+pub record HaveKept (p : Analysis) (crew : List LatencyWorker) : Type 0 where
+  pub bench : Testbench
   pub some : 0 < length crew
-  pub enough : fault_count p ≤ rounds * length crew * 256
-  pub each : (w : ℕ) (d : LatencyWorker) → w < length crew → HasWorked p (length crew) w rounds (slice_index_or crew w d).groups.items
+  pub each : HaveWorked (HasKept p bench) (rounds_for p) crew

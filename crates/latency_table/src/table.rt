@@ -11,7 +11,7 @@ ghost use Rattle.campaign_plan.specs.Analysis.{fault_count};
 ghost use Rattle.classifier.specs.Testbench.{IsTestbenchFor};
 ghost use Rattle.readings.specs.Latencies.{latencies, latency_row, least_interval};
 ghost use Rattle.latency_table.specs.Golden.{HasSeenGolden};
-ghost use Rattle.latency_table.specs.Work.{HaveWorked};
+ghost use Rattle.latency_table.specs.Work.{HaveKept};
 
 use crate::fan_out::{latency_of, simulated};
 use crate::golden::GoldenValues;
@@ -46,7 +46,7 @@ fn simulate_on<R: Threads + Sync>(
     requires bench { IsTestbenchFor plan.now bench.now }
     requires workers { (0 < workers) × (workers ≤ 32) }
     ensures golden { IfOk result (λ s. HasSeenGolden plan.now.circuit plan.now.runs s.golden) }
-    ensures crew { IfOk result (λ s. HaveWorked plan.now s.crew.items) }
+    ensures crew { IfOk result (λ s. HaveKept plan.now s.crew.items) }
 {
     let golden = GoldenValues::new(alloc, bench)?;
     let crew = simulated(rt, alloc, plan, bench, workers)?;
@@ -64,7 +64,7 @@ fn simulate<R: Threads + Sync>(
     requires order { IsOrder plan.now.circuit order.now }
     requires workers { (0 < workers) × (workers ≤ 32) }
     ensures golden { IfOk result (λ s. HasSeenGolden plan.now.circuit plan.now.runs s.golden) }
-    ensures crew { IfOk result (λ s. HaveWorked plan.now s.crew.items) }
+    ensures crew { IfOk result (λ s. HaveKept plan.now s.crew.items) }
 {
     let bench = Testbench::of_plan(alloc, plan, order)?;
     let simulated = simulate_on(rt, alloc, plan, &bench, workers);
@@ -93,7 +93,7 @@ fn write_fault<O: Sink>(
 ) -> Result<(), Failed>
     requires order { (nets : List NetValue) × IsOrder plan.now.circuit nets }
     requires golden { HasSeenGolden plan.now.circuit plan.now.runs golden.now }
-    requires crew { HaveWorked plan.now crew.now }
+    requires crew { HaveKept plan.now crew.now }
     requires fault { i < fault_count plan.now }
     ensures { Sends (O.seen out.old) (O.seen out.new) (latency_row (least_interval plan.now) plan.now i) result }
 {
@@ -111,7 +111,7 @@ fn write_rows<O: Sink>(
 ) -> Result<(), Failed>
     requires order { (nets : List NetValue) × IsOrder plan.now.circuit nets }
     requires golden { HasSeenGolden plan.now.circuit plan.now.runs golden.now }
-    requires crew { HaveWorked plan.now crew.now }
+    requires crew { HaveKept plan.now crew.now }
     ensures { Sends (O.seen out.old) (O.seen out.new)
         (flat_map (latency_row (least_interval plan.now) plan.now) (below (fault_count plan.now))) result }
 {
@@ -130,7 +130,7 @@ fn write_table<O: Sink>(
 ) -> Result<(), Failed>
     requires order { (nets : List NetValue) × IsOrder plan.now.circuit nets }
     requires golden { HasSeenGolden plan.now.circuit plan.now.runs golden.now }
-    requires crew { HaveWorked plan.now crew.now }
+    requires crew { HaveKept plan.now crew.now }
     ensures { Sends (O.seen out.old) (O.seen out.new) (latencies plan.now) result }
 {
     write_columns(out)?;

@@ -6,11 +6,12 @@ ghost use Rattle.latency_table.specs.Latency.{IsLatencyFor, latency_at};
 ghost use Rattle.campaign_plan.specs.Analysis.{fault_count};
 ghost use Rattle.shown_runs.specs.Beyond.{IsReachFor};
 ghost use Rattle.shown_runs.specs.Record.{AreRecordsFor};
-ghost use Rattle.latency_table.specs.Work.{HasWorked, IsEquippedFor, group_at};
+ghost use Rattle.latency_table.specs.Work.{HasKept, IsEquippedFor, group_at, rounds_for};
 
 use crate::latency::{Latency, NOTHING};
 use crate::runs::follow_runs;
 use alarm_points::Points;
+use batch_crew::WorkerShare;
 use campaign_plan::Plan;
 use classifier::Testbench;
 use differential_kernel::DifferentialLanes4;
@@ -19,7 +20,7 @@ use room::{NoRoom, filled, push};
 use shown_runs::record::RunRecord;
 use shown_runs::{PointReach, load_batches};
 use std::alloc::Global;
-use std::marker::{Brand, Model};
+use std::marker::Model;
 use std::sync::ledger::{Blank, Ledger};
 
 /// The number of batches that are simulated at once, one in each word of lanes.
@@ -141,66 +142,33 @@ fn simulate_group<L: Ledger>(
     );
 }
 
-// Simulates the groups of one of so many workers.
-fn simulate_groups<L: Ledger>(
+/// Simulates the group of a round of a share, and keeps what is found of each of its faults.
+pub(crate) fn simulate_round<L: Ledger>(
     plan: &Plan,
     bench: &Testbench<'_>,
-    number: u32,
-    workers: u32,
-    rounds: u32,
-    lanes: &mut DifferentialLanes4,
-    records: &mut [RunRecord],
-    reach: &mut PointReach,
-    groups: &mut [Group],
+    share: WorkerShare,
+    round: u32,
+    worker: &mut LatencyWorker,
     blank: Blank,
 )
     requires bench { IsTestbenchFor plan.now bench.now }
-    requires number { number < workers }
-    requires few { workers ≤ 32 }
-    requires rounds { rounds ≤ 2 ^ 20 }
-    requires made { IsMadeFor bench.now.circuit bench.now.order lanes.old }
-    requires records { length records.old ≡ 4 }
-    requires fit { AreRecordsFor bench.now.points records.old }
-    requires reach { IsReachFor bench.now.circuit bench.now.points reach.old }
-    requires count { length groups.old ≡ rounds }
-    requires room { (round : ℕ) → round < rounds → length (group_at groups.old round) ≡ 256 }
+    requires share { (share.number < share.workers) × (share.workers ≤ 32) }
+    requires round { round < rounds_for plan.now share.workers }
+    requires few { round < 2 ^ 24 }
+    requires before { HasKept plan.now bench.now share round worker.old }
     requires blank { (blank.name ≡ L.name) × (blank.parts ≡ L.parts) × (0 < blank.parts) }
-    ensures { HasWorked plan.now workers number rounds groups.new }
+    ensures { HasKept plan.now bench.now share (round + 1) worker.new }
 {
     let mut steps: Steps<L> = Steps::fresh(blank);
-    for round in 0..rounds {
-        let first = (round * workers + number) * WORDS;
-        let group = &mut groups[round as usize];
-        simulate_group(plan, bench, first, lanes, records, reach, group, &mut steps);
-    }
-}
-
-/// Simulates the faults of one of so many workers: in round r the group of number r * workers + number.
-pub(crate) fn work(
-    plan: &Plan,
-    bench: &Testbench<'_>,
-    number: u32,
-    workers: u32,
-    rounds: u32,
-    worker: &mut LatencyWorker,
-)
-    requires bench { IsTestbenchFor plan.now bench.now }
-    requires number { number < workers }
-    requires few { workers ≤ 32 }
-    requires rounds { rounds ≤ 2 ^ 20 }
-    requires equipped { IsEquippedFor bench.now rounds worker.old }
-    ensures { HasWorked plan.now workers number rounds worker.new.groups.items }
-{
-    simulate_groups::<Brand>(
+    let first = (round * share.workers + share.number) * WORDS;
+    simulate_group(
         plan,
         bench,
-        number,
-        workers,
-        rounds,
+        first,
         &mut worker.lanes,
         worker.records.as_mut_slice(),
         &mut worker.reach,
-        worker.groups.as_mut_slice(),
-        Blank::new(1),
+        &mut worker.groups[round as usize],
+        &mut steps,
     );
 }

@@ -17,7 +17,7 @@ use Rattle.reading_planes.specs.Readings.{plan_by}
 use Rattle.reading_planes.specs.declared.reading.Reading.{Reading}
 use Rattle.metric_breakdown.specs.Text.{sums_by_reading}
 use Rattle.metric_breakdown.specs.Turns.{batch_of_turn, batch_sums, crew_sums, turn_sums}
-use Rattle.metric_breakdown.specs.declared.share.Share.{Share}
+use Rattle.batch_crew.specs.declared.rounds.WorkerShare.{WorkerShare}
 use Rattle.metric_breakdown.proofs.Dividing.{crew_whole, crew_within, dealt, dealt_within}
 
 -- ---- one turn more
@@ -42,14 +42,14 @@ module _ (own : ℕ → Sums) where
   one_number n = ap (λ k. sums_by own (below k)) (add-one n) ∙ ap (sums_by own) (below_push n) ∙ sums_by_push own (below n) n
 
 module _ (p : Analysis) (reading : Reading) where
-  pub turn_none : (share : Share) → turn_sums p share reading 0 ≡ no_sums
+  pub turn_none : (share : WorkerShare) → turn_sums p share reading 0 ≡ no_sums
   turn_none share = no_number (λ turn. batch_sums p reading (batch_of_turn share turn))
 
-  turn_more : (share : Share) (turns : ℕ) → turn_sums p share reading (turns + 1) ≡ plus (turn_sums p share reading turns) (batch_sums p reading (batch_of_turn share turns))
+  turn_more : (share : WorkerShare) (turns : ℕ) → turn_sums p share reading (turns + 1) ≡ plus (turn_sums p share reading turns) (batch_sums p reading (batch_of_turn share turns))
   turn_more share turns = one_number (λ turn. batch_sums p reading (batch_of_turn share turn)) turns
 
   -- a turn with a batch adds what it shows
-  pub turn_adds : (share : Share) (turns : ℕ) → batch_of_turn share turns < batch_count p
+  pub turn_adds : (share : WorkerShare) (turns : ℕ) → batch_of_turn share turns < batch_count p
       → turn_sums p share reading (turns + 1) ≡ plus (turn_sums p share reading turns) (own_sums p (batch_of_turn share turns) (true_planes (plan_by p reading) (batch_of_turn share turns)))
   turn_adds share turns lt =
       let there : nat_lt (batch_of_turn share turns) (batch_count p) ≡ true = grind (arith, lt) in
@@ -57,7 +57,7 @@ module _ (p : Analysis) (reading : Reading) where
       ∙ ap (λ b. plus (turn_sums p share reading turns) (if b then own_sums p (batch_of_turn share turns) (true_planes (plan_by p reading) (batch_of_turn share turns)) else no_sums)) there
 
   -- and one without adds nothing
-  pub turn_idle : (share : Share) (turns : ℕ) → batch_count p ≤ batch_of_turn share turns → turn_sums p share reading (turns + 1) ≡ turn_sums p share reading turns
+  pub turn_idle : (share : WorkerShare) (turns : ℕ) → batch_count p ≤ batch_of_turn share turns → turn_sums p share reading (turns + 1) ≡ turn_sums p share reading turns
   turn_idle share turns le =
       let behind : nat_lt (batch_of_turn share turns) (batch_count p) ≡ false = grind (arith, le) in
       turn_more share turns

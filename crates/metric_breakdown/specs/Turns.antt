@@ -12,26 +12,30 @@ use Rattle.reading_planes.specs.Folded.{reading_at}
 use Rattle.reading_planes.specs.Readings.{plan_by}
 use Rattle.reading_planes.specs.declared.reading.Reading.{Reading}
 use Rattle.metric_breakdown.specs.Text.{sums_at}
-use Rattle.metric_breakdown.specs.declared.share.Share.{Share}
+use Rattle.batch_crew.specs.declared.rounds.WorkerShare.{WorkerShare}
 
 -- the batch of a turn of a worker
-abbrev pub batch_of_turn : Share → ℕ → ℕ
+abbrev pub batch_of_turn : WorkerShare → ℕ → ℕ
 batch_of_turn share turn = turn * share.workers + share.number
 
--- the turns after which all batches were taken, where four are taken at once
+-- how often four batches are taken at once by each of so many workers
+abbrev pub rounds_for : Analysis → ℕ → ℕ
+rounds_for p workers = div_ceil (fault_count p) (256 * workers)
+
+-- the turns after which all batches were taken
 abbrev pub turns_for : Analysis → ℕ → ℕ
-turns_for p workers = 4 * div_ceil (fault_count p) (256 * workers)
+turns_for p workers = 4 * rounds_for p workers
 
 -- what a batch adds to the sums by a reading: nothing, where there is no such batch
 abbrev pub batch_sums : Analysis → Reading → ℕ → Sums
 batch_sums p reading batch = if nat_lt batch (batch_count p) then own_sums p batch (true_planes (plan_by p reading) batch) else no_sums
 
 -- the sums of a worker by a reading, after so many turns
-abbrev pub turn_sums : Analysis → Share → Reading → ℕ → Sums
+abbrev pub turn_sums : Analysis → WorkerShare → Reading → ℕ → Sums
 turn_sums p share reading turns = sums_by (λ turn. batch_sums p reading (batch_of_turn share turn)) (below turns)
 
 -- the worker has its sums by each reading
-pub record HasSums (p : Analysis) (readings : List Reading) (share : Share) (turns : ℕ) (sums : List Sums) : Type 0 where
+pub record HasSums (p : Analysis) (readings : List Reading) (share : WorkerShare) (turns : ℕ) (sums : List Sums) : Type 0 where
   pub count : length sums ≡ length readings
   pub each : (r : ℕ) → r < length readings → sums_at sums r ≡ turn_sums p share (reading_at readings r) turns
 

@@ -1,14 +1,14 @@
 -- What a worker simulates with, and what it has added up.
-use Rattle.std.specs.Prelude.{List}
+use Rattle.std.specs.Prelude.{ℕ, ◌*◌, List}
+use Rattle.batch_crew.specs.declared.rounds.WorkerShare.{WorkerShare}
 use Rattle.campaign_plan.specs.Analysis.{Analysis}
 use Rattle.classifier.specs.Testbench.{Testbench}
 use Rattle.reading_planes.specs.Simulator.{IsSimulatorFor}
 use Rattle.reading_planes.specs.declared.reading.Reading.{Reading}
 use Rattle.metric_breakdown.specs.Turns.{HasSums}
-use Rattle.metric_breakdown.specs.declared.share.Share.{Share}
 use Rattle.metric_breakdown.specs.declared.worker.Worker.{Worker}
 
--- a worker with a simulator for these readings, and with nothing added up yet, whatever its number
-pub record IsEquippedFor (p : Analysis) (bench : Testbench) (readings : List Reading) (worker : Worker) : Type 0 where
+-- the worker of a share has a simulator for these readings, and has added up the batches of so many rounds, four of each
+pub record HasAdded (p : Analysis) (bench : Testbench) (readings : List Reading) (share : WorkerShare) (rounds : ℕ) (worker : Worker) : Type 0 where
   pub simulator : IsSimulatorFor bench readings worker.simulator
-  pub sums : (share : Share) → HasSums p readings share 0 worker.sums.items
+  pub sums : HasSums p readings share (4 * rounds) worker.sums.items

@@ -1,86 +1,70 @@
 // The workers, each in a thread, and their sums added up.
-ghost use Rattle.std.specs.Prelude.{◌≡◌, ◌<◌, ◌≤◌, ℕ, All, IfOk, length, slice_index_or};
+ghost use Rattle.std.specs.Prelude.{◌<◌, ◌≤◌, IfOk, length};
+ghost use Rattle.batch_crew.specs.Crew.{AreReady, HaveWorked};
 ghost use Rattle.circuit.specs.Order.{IsOrder};
-ghost use Rattle.campaign_plan.specs.Analysis.{Analysis};
 ghost use Rattle.campaign_plan.specs.Kept.{IsPlan};
 ghost use Rattle.classifier.specs.Testbench.{IsTestbenchFor};
 ghost use Rattle.reading_planes.specs.Readings.{AreReadingsOf};
 ghost use Rattle.metric_breakdown.specs.Text.{AreReadingSums};
-ghost use Rattle.metric_breakdown.specs.Turns.{HasSums, HaveSums, turns_for};
-ghost use Rattle.metric_breakdown.specs.Work.{IsEquippedFor};
-ghost use Rattle.metric_breakdown.specs.declared.worker.Worker.{Worker as WorkerValue};
+ghost use Rattle.metric_breakdown.specs.Turns.{HaveSums, rounds_for, turns_for};
+ghost use Rattle.metric_breakdown.specs.Work.{HasAdded};
 
-use crate::share::Share;
+use crate::share::rounds;
 use crate::sums::{add_sums, no_sums};
-use crate::worker::{Worker, work};
+use crate::worker::{Worker, add_round};
+use batch_crew::{Rounds, WorkerShare, hired, work_all};
 use campaign_plan::Plan;
 use classifier::Testbench;
 use metric_sums::Sums;
 use netlist_levels::Order;
 use reading_planes::Reading;
-use room::{NoRoom, push};
+use room::NoRoom;
 use std::alloc::Global;
-use std::thread;
 use std::thread::Threads;
 
-// So many workers.
-fn hired(
-    alloc: Global,
-    bench: &Testbench<'_>,
-    readings: &[Reading],
-    count: u32,
-) -> Result<Vec<Worker>, NoRoom>
-    ensures equipped { IfOk result (λ workers. (p : Analysis) → All (IsEquippedFor p bench.now readings.now) workers.items) }
-    ensures count { IfOk result (λ workers. length workers.items ≡ count) }
-{
-    let mut workers = Vec::new(alloc);
-    for _ in 0..count {
-        push(&mut workers, Worker::new(alloc, bench, readings)?)?;
-    }
-    Ok(workers)
+// The sums by each of some readings of a plan: four batches in each round.
+#[derive(Clone, Copy)]
+struct ReadingRounds<'a> {
+    plan: &'a Plan,
+    bench: &'a Testbench<'a>,
+    readings: &'a [Reading],
 }
 
-// All workers at work, each in a thread.
-fn work_all<R: Threads + Sync>(
-    rt: &R,
-    plan: &Plan,
-    bench: &Testbench<'_>,
-    readings: &[Reading],
-    workers: &mut [Worker],
-)
-    requires bench { IsTestbenchFor plan.now bench.now }
-    requires readings { AreReadingsOf plan.now.points readings.now }
-    requires few { length workers.old ≤ 32 }
-    requires equipped { All (IsEquippedFor plan.now bench.now readings.now) workers.old }
-    ensures { (w : ℕ) (d : WorkerValue) → w < length workers.old
-        → HasSums plan.now readings.now (record { number = w; workers = length workers.old }) (turns_for plan.now (length workers.old)) (slice_index_or workers.new w d).sums.items }
-{
-    let count = workers.len();
-    thread::for_each_mut(
-        rt,
-        workers,
-        32,
-        &|number, worker: &mut Worker|
-            requires { IsEquippedFor plan.now bench.now readings.now worker.now × IsTestbenchFor plan.now bench.now × AreReadingsOf plan.now.points readings.now × (number < count) × (count ≤ 32) }
-            ensures { HasSums plan.entry.now readings.entry.now (record { number = number; workers = count }) (turns_for plan.entry.now count) worker.exit.now.sums.items }
-        {
-            let share = Share {
-                number: number as u32,
-                workers: count as u32,
-            };
-            work(plan, bench, readings, share, worker)
-        },
-    );
+impl<'a> Rounds for ReadingRounds<'a> {
+    ghost use Rattle.std.specs.Prelude.{◌≡◌};
+    ghost use Rattle.classifier.specs.Testbench.{IsTestbenchFor};
+    ghost use Rattle.reading_planes.specs.Readings.{AreReadingsOf};
+    ghost use Rattle.metric_breakdown.specs.Turns.{rounds_for};
+    ghost use Rattle.metric_breakdown.specs.Work.{HasAdded};
+
+    type Worker = Worker;
+
+    ghost is_sound = { λ s. IsTestbenchFor s.plan.now s.bench.now × AreReadingsOf s.plan.now.points s.readings.now };
+
+    ghost round_count = { λ s. rounds_for s.plan.now };
+
+    ghost has_done = { λ s. HasAdded s.plan.now s.bench.now s.readings.now };
+
+    fn round_count(&self, workers: u32) -> u32 {
+        rounds(self.plan, workers)
+    }
+
+    fn hire(&self, alloc: Global, _workers: u32) -> Result<Worker, NoRoom> {
+        Worker::new(alloc, self.bench, self.readings)
+    }
+
+    fn round(&self, share: WorkerShare, round: u32, worker: &mut Worker) {
+        add_round(self.plan, self.bench, self.readings, share, round, worker);
+    }
 }
 
 // Adds up the sums of all workers.
-fn gather(plan: &Plan, readings: &[Reading], workers: &[Worker], sums: &mut [Sums])
-    requires plan { IsPlan plan.now }
+fn gather(rounds: &ReadingRounds<'_>, workers: &[Worker], sums: &mut [Sums])
+    requires plan { IsPlan rounds.now.plan.now }
     requires some { 0 < length workers.now }
-    requires worked { (w : ℕ) (d : WorkerValue) → w < length workers.now
-        → HasSums plan.now readings.now (record { number = w; workers = length workers.now }) (turns_for plan.now (length workers.now)) (slice_index_or workers.now w d).sums.items }
-    requires none { HaveSums plan.now readings.now (length workers.now) (turns_for plan.now (length workers.now)) 0 sums.old }
-    ensures { AreReadingSums plan.now readings.now sums.new }
+    requires worked { HaveWorked (HasAdded rounds.now.plan.now rounds.now.bench.now rounds.now.readings.now) (rounds_for rounds.now.plan.now) workers.now }
+    requires none { HaveSums rounds.now.plan.now rounds.now.readings.now (length workers.now) (turns_for rounds.now.plan.now (length workers.now)) 0 sums.old }
+    ensures { AreReadingSums rounds.now.plan.now rounds.now.readings.now sums.new }
 {
     for worker in workers {
         add_sums(worker.sums.as_slice(), sums);
@@ -90,23 +74,21 @@ fn gather(plan: &Plan, readings: &[Reading], workers: &[Worker], sums: &mut [Sum
 // The sums by each reading, from workers that have added up nothing yet.
 fn sums_by_crew<R: Threads + Sync>(
     rt: &R,
-    plan: &Plan,
-    bench: &Testbench<'_>,
-    readings: &[Reading],
+    rounds: &ReadingRounds<'_>,
     workers: &mut [Worker],
     sums: &mut [Sums],
 )
-    requires plan { IsPlan plan.now }
-    requires bench { IsTestbenchFor plan.now bench.now }
-    requires readings { AreReadingsOf plan.now.points readings.now }
+    requires plan { IsPlan rounds.now.plan.now }
+    requires bench { IsTestbenchFor rounds.now.plan.now rounds.now.bench.now }
+    requires readings { AreReadingsOf rounds.now.plan.now.points rounds.now.readings.now }
     requires some { 0 < length workers.old }
     requires few { length workers.old ≤ 32 }
-    requires equipped { All (IsEquippedFor plan.now bench.now readings.now) workers.old }
-    requires none { HaveSums plan.now readings.now (length workers.old) (turns_for plan.now (length workers.old)) 0 sums.old }
-    ensures { AreReadingSums plan.now readings.now sums.new }
+    requires ready { AreReady (HasAdded rounds.now.plan.now rounds.now.bench.now rounds.now.readings.now) (length workers.old) workers.old }
+    requires none { HaveSums rounds.now.plan.now rounds.now.readings.now (length workers.old) (turns_for rounds.now.plan.now (length workers.old)) 0 sums.old }
+    ensures { AreReadingSums rounds.now.plan.now rounds.now.readings.now sums.new }
 {
-    work_all(rt, plan, bench, readings, workers);
-    gather(plan, readings, workers, sums);
+    work_all(rt, rounds, workers);
+    gather(rounds, workers, sums);
 }
 
 /// The five sums by each of these readings of a plan, in order. Each fault is simulated once, in a thread for each of 1 to 32 workers.
@@ -125,15 +107,13 @@ pub(crate) fn reading_sums<R: Threads + Sync>(
     ensures { IfOk result (λ sums. AreReadingSums plan.now readings.now sums.items) }
 {
     let bench = Testbench::of_plan(alloc, plan, order)?;
-    let mut crew = hired(alloc, &bench, readings, workers)?;
-    let mut sums = no_sums(alloc, readings.len())?;
-    sums_by_crew(
-        rt,
+    let rounds = ReadingRounds {
         plan,
-        &bench,
+        bench: &bench,
         readings,
-        crew.as_mut_slice(),
-        sums.as_mut_slice(),
-    );
+    };
+    let mut crew = hired(alloc, &rounds, workers)?;
+    let mut sums = no_sums(alloc, readings.len())?;
+    sums_by_crew(rt, &rounds, crew.as_mut_slice(), sums.as_mut_slice());
     Ok(sums)
 }

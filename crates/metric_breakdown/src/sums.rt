@@ -7,7 +7,8 @@ ghost use Rattle.metric_sums.specs.Totals.{AreSmall, no_sums, plus};
 ghost use Rattle.metric_breakdown.specs.Text.{sums_at};
 ghost use Rattle.metric_breakdown.specs.Turns.{HasSums, ShowsBatch, batch_of_turn};
 
-use crate::share::Share;
+use crate::share::batch_of;
+use batch_crew::WorkerShare;
 use campaign_plan::{Outcome, Plan, own_sums};
 use metric_sums::Sums;
 use reading_planes::Reading;
@@ -38,18 +39,18 @@ fn add_batch(plan: &Plan, batch: u32, found: &[Outcome], sums: &mut [Sums])
 pub(crate) fn add_turn(
     plan: &Plan,
     readings: &[Reading],
-    share: Share,
+    share: WorkerShare,
     turn: u32,
     found: &[Outcome],
     sums: &mut [Sums],
 )
-    requires turn { turn < 2 ^ 23 }
+    requires turn { turn < 2 ^ 26 }
     requires workers { (share.number < share.workers) × (share.workers ≤ 32) }
     requires found { ShowsBatch plan.now readings.now (batch_of_turn share turn) found.now }
     requires sums { HasSums plan.now readings.now share turn sums.old }
     ensures { HasSums plan.now readings.now share (turn + 1) sums.new }
 {
-    let batch = share.batch(turn);
+    let batch = batch_of(share, turn);
     if batch < plan.batches() {
         add_batch(plan, batch, found, sums);
     }

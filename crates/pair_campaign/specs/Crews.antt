@@ -1,10 +1,11 @@
 -- What a crew for pairs was made for.
-use Rattle.std.specs.Prelude.{◌≡◌, ◌≤◌, ◌<◌, ℕ, List, length, All}
+use Rattle.std.specs.Prelude.{◌≡◌, ◌≤◌, ◌<◌, ℕ, List, length}
+use Rattle.batch_crew.specs.Crew.{AreReady}
 use Rattle.fault_list.specs.Faults.{batches_for}
 use Rattle.campaign_plan.specs.Analysis.{Analysis}
 use Rattle.pair_list.specs.Chosen.{Chosen, AreFaults, pair_count}
 use Rattle.pair_campaign.specs.declared.worker.PairWorker.{PairWorker}
-use Rattle.pair_campaign.specs.Work.{IsEquippedFor}
+use Rattle.pair_campaign.specs.Work.{HasJudged}
 use Rattle.classifier.specs.Testbench.{Testbench, IsTestbenchFor}
 
 -- the plan and the pairs
@@ -16,7 +17,7 @@ pub record MadeFor : Type 0 where
 pub record IsCrewFor (made : MadeFor) (bench : Testbench) (workers : List PairWorker) (planes : List ℕ) : Type 0 where
   pub faults : AreFaults made.plan made.pairs
   pub bench_is : IsTestbenchFor made.plan bench
-  pub equipped : All (IsEquippedFor made.plan bench (batches_for (pair_count made.pairs))) workers
+  pub ready : AreReady (HasJudged made.plan bench made.pairs) (length workers) workers
   pub some : 0 < length workers
   pub few : length workers ≤ 32
   pub room : length planes ≡ batches_for (pair_count made.pairs)

@@ -1,5 +1,7 @@
 -- Shapes of private steps: what a worker judges pairs with, and what it has judged.
 use Rattle.std.specs.Prelude.{◌≡◌, ℕ, ◌+◌, ◌*◌, ◌%◌, ◌<◌, List, [], ◌∷◌, length, slice_index, if◌then◌else◌}
+use Rattle.std.specs.Int.{div_ceil}
+use Rattle.batch_crew.specs.declared.rounds.WorkerShare.{WorkerShare}
 use Rattle.circuit.specs.declared.parts.Fault.{Fault}
 use Rattle.fault_list.specs.Faults.{batches_for, fault_number, is_used}
 use Rattle.fm_base.specs.Planes.{bit}
@@ -35,7 +37,12 @@ pub record IsEquippedFor (p : Analysis) (bench : Testbench) (planes : ℕ) (work
   pub simulator : worker.simulator ≡ simulator_of bench p.settings.ftti
   pub room : length worker.planes.items ≡ planes
 
--- each plane whose number leaves this worker's as its remainder, of so many workers, stands at its place
-pub record HasJudged (p : Analysis) (c : Chosen) (workers number : ℕ) (planes : List ℕ) : Type 0 where
-  pub count : length planes ≡ batches_for (pair_count c)
-  pub own : (q : ℕ) → q < batches_for (pair_count c) → q % workers ≡ number → slice_index planes q ≡ pair_plane p c q
+-- how often four planes are taken at once by each of so many workers
+abbrev pub rounds_for : Chosen → ℕ → ℕ
+rounds_for c workers = div_ceil (batches_for (pair_count c)) (4 * workers)
+
+-- the worker of a share is equipped; of the planes of so many of its rounds, each whose number leaves its own as the remainder is at its place
+pub record HasJudged (p : Analysis) (bench : Testbench) (c : Chosen) (share : WorkerShare) (rounds : ℕ) (worker : PairWorker) : Type 0 where
+  pub equipped : IsEquippedFor p bench (batches_for (pair_count c)) worker
+  pub own : (q : ℕ) → q < batches_for (pair_count c) → q % share.workers ≡ share.number → q < rounds * (4 * share.workers)
+      → slice_index worker.planes.items q ≡ pair_plane p c q

@@ -1,17 +1,18 @@
 // The crew that judges pairs.
-ghost use Rattle.std.specs.Prelude.{◌≡◌, ◌<◌, ◌≤◌, All, IfOk, length};
+ghost use Rattle.std.specs.Prelude.{◌≡◌, ◌<◌, ◌≤◌, IfOk};
 ghost use Rattle.circuit.specs.Order.{IsOrder};
 ghost use Rattle.pair_list.specs.Chosen.{AreFaults};
-ghost use Rattle.pair_campaign.specs.Work.{IsEquippedFor};
 
+use crate::fan_out::PairRounds;
 use crate::load::planes_for;
 use crate::worker::PairWorker;
+use batch_crew::hired;
 use campaign_plan::Plan;
 use classifier::Testbench;
 use fm_base::Seq;
 use netlist_levels::Order;
 use pair_list::Pairs;
-use room::{NoRoom, filled, push};
+use room::{NoRoom, filled};
 use std::alloc::Global;
 use std::marker::Model;
 use std::snapshot::Snapshot;
@@ -54,9 +55,13 @@ impl<'a> PairCrew<'a> {
         ensures { IfOk result (λ crew. crew ≡ record { plan = plan.now; pairs = pairs.now }) }
     {
         let bench = Testbench::of_plan(alloc, plan, order)?;
-        let planes = planes_for(pairs);
-        let workers = hired(alloc, plan, &bench, planes, workers)?;
-        let room = filled(alloc, 0, planes as usize)?;
+        let rounds = PairRounds {
+            plan,
+            bench: &bench,
+            pairs,
+        };
+        let workers = hired(alloc, &rounds, workers)?;
+        let room = filled(alloc, 0, planes_for(pairs) as usize)?;
         Ok(PairCrew {
             plan: Snapshot::of(plan),
             pairs: Snapshot::of(pairs),
@@ -65,22 +70,4 @@ impl<'a> PairCrew<'a> {
             planes: room,
         })
     }
-}
-
-// So many workers, each with room for so many planes.
-fn hired(
-    alloc: Global,
-    plan: &Plan,
-    bench: &Testbench<'_>,
-    planes: u32,
-    count: u32,
-) -> Result<Vec<PairWorker>, NoRoom>
-    ensures equipped { IfOk result (λ workers. All (IsEquippedFor plan.now bench.now planes) workers.items) }
-    ensures count { IfOk result (λ workers. length workers.items ≡ count) }
-{
-    let mut workers = Vec::new(alloc);
-    for _ in 0..count {
-        push(&mut workers, PairWorker::new(alloc, plan, bench, planes)?)?;
-    }
-    Ok(workers)
 }

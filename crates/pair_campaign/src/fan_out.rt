@@ -1,45 +1,57 @@
 // The workers, each in a thread, and their planes put together.
 ghost use Rattle.std.specs.Prelude.{◌≡◌, ◌<◌, ◌≤◌, ◌%◌, ℕ, All, length, slice_index, slice_index_or};
+ghost use Rattle.batch_crew.specs.Crew.{AreReady};
 ghost use Rattle.fault_list.specs.Faults.{batches_for};
 ghost use Rattle.pair_list.specs.Chosen.{AreFaults, pair_count};
 ghost use Rattle.pair_campaign.specs.declared.worker.PairWorker.{PairWorker as Worker};
 ghost use Rattle.pair_campaign.specs.PairPlanes.{pair_planes};
-ghost use Rattle.pair_campaign.specs.Work.{HasJudged, IsEquippedFor};
+ghost use Rattle.pair_campaign.specs.Work.{HasJudged};
 ghost use Rattle.classifier.specs.Testbench.{IsTestbenchFor};
 
 use crate::crew::{PairCrew, PairPlanes};
-use crate::worker::{PairWorker, work};
+use crate::load::planes_for;
+use crate::worker::{PairWorker, judge_round, rounds};
+use batch_crew::{Rounds, WorkerShare, work_all};
 use campaign_plan::Plan;
 use classifier::Testbench;
 use fm_base::Seq;
 use pair_list::Pairs;
-use std::thread;
+use room::NoRoom;
+use std::alloc::Global;
 use std::thread::Threads;
 
-// All workers at work, each in a thread.
-fn work_all<R: Threads + Sync>(
-    rt: &R,
-    plan: &Plan,
-    bench: &Testbench<'_>,
-    pairs: &Pairs,
-    workers: &mut [PairWorker],
-)
-    requires bench { IsTestbenchFor plan.now bench.now }
-    requires pairs { AreFaults plan.now pairs.now }
-    requires few { length workers.old ≤ 32 }
-    requires equipped { All (IsEquippedFor plan.now bench.now (batches_for (pair_count pairs.now))) workers.old }
-    ensures { (w : ℕ) (d : Worker) → w < length workers.old → HasJudged plan.now pairs.now (length workers.old) w (slice_index_or workers.new w d).planes.items }
-{
-    let count = workers.len();
-    thread::for_each_mut(
-        rt,
-        workers,
-        32,
-        &|number, worker: &mut PairWorker|
-            requires { IsEquippedFor plan.now bench.now (batches_for (pair_count pairs.now)) worker.now × IsTestbenchFor plan.now bench.now × AreFaults plan.now pairs.now × (number < count) × (count ≤ 32) }
-            ensures { HasJudged plan.entry.now pairs.entry.now count number worker.exit.now.planes.items }
-        { work(plan, bench, pairs, number as u32, count as u32, worker) },
-    );
+// The planes of all pairs of a plan: four in each round.
+#[derive(Clone, Copy)]
+pub(crate) struct PairRounds<'a> {
+    pub(crate) plan: &'a Plan,
+    pub(crate) bench: &'a Testbench<'a>,
+    pub(crate) pairs: &'a Pairs,
+}
+
+impl<'a> Rounds for PairRounds<'a> {
+    ghost use Rattle.classifier.specs.Testbench.{IsTestbenchFor};
+    ghost use Rattle.pair_list.specs.Chosen.{AreFaults};
+    ghost use Rattle.pair_campaign.specs.Work.{HasJudged, rounds_for};
+
+    type Worker = PairWorker;
+
+    ghost is_sound = { λ s. IsTestbenchFor s.plan.now s.bench.now × AreFaults s.plan.now s.pairs.now };
+
+    ghost round_count = { λ s. rounds_for s.pairs.now };
+
+    ghost has_done = { λ s. HasJudged s.plan.now s.bench.now s.pairs.now };
+
+    fn round_count(&self, workers: u32) -> u32 {
+        rounds(self.pairs, workers)
+    }
+
+    fn hire(&self, alloc: Global, _workers: u32) -> Result<PairWorker, NoRoom> {
+        PairWorker::new(alloc, self.plan, self.bench, planes_for(self.pairs))
+    }
+
+    fn round(&self, share: WorkerShare, round: u32, worker: &mut PairWorker) {
+        judge_round(self.plan, self.bench, self.pairs, share, round, worker);
+    }
 }
 
 // Takes each plane from the worker that judged it.
@@ -57,21 +69,19 @@ fn put_together(workers: &[PairWorker], planes: &mut [u64])
 // Judges all pairs, and puts the planes to their places.
 fn judge_all<R: Threads + Sync>(
     rt: &R,
-    plan: &Plan,
-    bench: &Testbench<'_>,
-    pairs: &Pairs,
+    rounds: &PairRounds<'_>,
     workers: &mut [PairWorker],
     planes: &mut [u64],
 )
-    requires bench { IsTestbenchFor plan.now bench.now }
-    requires pairs { AreFaults plan.now pairs.now }
+    requires bench { IsTestbenchFor rounds.now.plan.now rounds.now.bench.now }
+    requires pairs { AreFaults rounds.now.plan.now rounds.now.pairs.now }
     requires some { 0 < length workers.old }
     requires few { length workers.old ≤ 32 }
-    requires equipped { All (IsEquippedFor plan.now bench.now (batches_for (pair_count pairs.now))) workers.old }
-    requires room { length planes.old ≡ batches_for (pair_count pairs.now) }
-    ensures { planes.new ≡ pair_planes plan.now pairs.now }
+    requires ready { AreReady (HasJudged rounds.now.plan.now rounds.now.bench.now rounds.now.pairs.now) (length workers.old) workers.old }
+    requires room { length planes.old ≡ batches_for (pair_count rounds.now.pairs.now) }
+    ensures { planes.new ≡ pair_planes rounds.now.plan.now rounds.now.pairs.now }
 {
-    work_all(rt, plan, bench, pairs, workers);
+    work_all(rt, rounds, workers);
     put_together(workers, planes);
 }
 
@@ -92,11 +102,14 @@ pub fn judge<R: Threads + Sync>(
         mut planes,
         ..
     } = crew;
+    let rounds = PairRounds {
+        plan,
+        bench: &bench,
+        pairs,
+    };
     judge_all(
         rt,
-        plan,
-        &bench,
-        pairs,
+        &rounds,
         workers.as_mut_slice(),
         planes.as_mut_slice(),
     );

@@ -6,9 +6,10 @@ ghost use Rattle.classifier.specs.Simulator.{simulator_of};
 ghost use Rattle.classifier.specs.Testbench.{IsTestbenchFor};
 ghost use Rattle.pair_list.specs.Chosen.{AreFaults, pair_count};
 ghost use Rattle.pair_campaign.specs.PairPlanes.{pair_plane};
-ghost use Rattle.pair_campaign.specs.Work.{IsEquippedFor, HasJudged, ShowPlanes, ShowsPlane};
+ghost use Rattle.pair_campaign.specs.Work.{HasJudged, IsEquippedFor, ShowPlanes, ShowsPlane, rounds_for};
 
 use crate::load::{lists_of, planes_for, used_lanes};
+use batch_crew::WorkerShare;
 use campaign_plan::{Outcome, Plan};
 use classifier::{Simulator, Testbench};
 use pair_list::Pairs;
@@ -93,27 +94,33 @@ fn keep_planes(pairs: &Pairs, first: u32, apart: u32, found: &[Outcome; 4], work
     }
 }
 
-/// Judges the planes of one of so many workers, four at once: each whose number leaves the worker's as its remainder.
-pub(crate) fn work(
+/// How often four planes are taken at once by each of so many workers.
+pub(crate) fn rounds(pairs: &Pairs, workers: u32) -> u32
+    requires workers { (0 < workers) × (workers ≤ 32) }
+    ensures rounds { result ≡ rounds_for pairs.now workers }
+    ensures few { result ≤ 2 ^ 24 }
+{
+    planes_for(pairs).div_ceil(WORDS * workers)
+}
+
+/// Judges the four planes of a round of a share.
+pub(crate) fn judge_round(
     plan: &Plan,
     bench: &Testbench<'_>,
     pairs: &Pairs,
-    number: u32,
-    workers: u32,
+    share: WorkerShare,
+    round: u32,
     worker: &mut PairWorker,
 )
     requires bench { IsTestbenchFor plan.now bench.now }
     requires pairs { AreFaults plan.now pairs.now }
-    requires number { number < workers }
-    requires few { workers ≤ 32 }
-    requires equipped { IsEquippedFor plan.now bench.now (batches_for (pair_count pairs.now)) worker.old }
-    ensures { HasJudged plan.now pairs.now workers number worker.new.planes.items }
+    requires share { (share.number < share.workers) × (share.workers ≤ 32) }
+    requires few { round < 2 ^ 24 }
+    requires before { HasJudged plan.now bench.now pairs.now share round worker.old }
+    ensures { HasJudged plan.now bench.now pairs.now share (round + 1) worker.new }
 {
-    let stride = WORDS * workers;
-    for round in 0..planes_for(pairs).div_ceil(stride) {
-        let first = round * stride + number;
-        let simulator = &mut worker.simulator;
-        let found = outcomes_of(plan, bench, pairs, first, workers, simulator);
-        keep_planes(pairs, first, workers, &found, worker);
-    }
+    let WorkerShare { number, workers } = share;
+    let first = round * (WORDS * workers) + number;
+    let found = outcomes_of(plan, bench, pairs, first, workers, &mut worker.simulator);
+    keep_planes(pairs, first, workers, &found, worker);
 }

@@ -9,12 +9,12 @@ use Rattle.reading_planes.specs.Folded.{reading_at}
 use Rattle.reading_planes.specs.declared.reading.Reading.{Reading}
 use Rattle.metric_breakdown.specs.Text.{sums_at}
 use Rattle.metric_breakdown.specs.Turns.{HasSums, ShowsBatch, batch_of_turn, turn_sums}
-use Rattle.metric_breakdown.specs.declared.share.Share.{Share}
+use Rattle.batch_crew.specs.declared.rounds.WorkerShare.{WorkerShare}
 use Rattle.metric_breakdown.proofs.Adding.{turn_adds, turn_idle, turns_small}
 use Rattle.metric_breakdown.proofs.sums.add_turn.Goals as goal
 
 -- the sums by a reading with the batch of a turn
-one_more : (p : Analysis) (readings : List Reading) (share : Share) (turn batch : ℕ) (found : List Outcome) (sums : List Sums) → batch ≡ batch_of_turn share turn
+one_more : (p : Analysis) (readings : List Reading) (share : WorkerShare) (turn batch : ℕ) (found : List Outcome) (sums : List Sums) → batch ≡ batch_of_turn share turn
     → batch < batch_count p → ShowsBatch p readings (batch_of_turn share turn) found → HasSums p readings share turn sums → (r : ℕ) → r < length readings
     → plus (sums_at sums r) (own_sums p batch (outcome_at found r)) ≡ turn_sums p share (reading_at readings r) (turn + 1)
 one_more p readings share turn batch found sums same there shows has r lt =
