@@ -67,7 +67,7 @@ def words_of(words):
             raise USAGE
         said["of"] = number(said["of"], 1, MOST_PARTS)
         said["part"] = number(said["part"], 0, said["of"] - 1)
-    said = {"ftti": "0", "flips": "none", "pulses": "none", "workers": "1", "asil": "D", "intervals": "none", "every": "1", "run": "1", "fault": "", "nets": "", **said}
+    said = {"ftti": "0", "flips": "none", "pulses": "none", "workers": "1", "asil": "D", "intervals": "none", "every": "1", "run": "1", "fault": None, "nets": None, **said}
     said["ftti"], said["workers"] = number(said["ftti"], 0, 4096), number(said["workers"], 1, 32)
     said["run"] = number(said["run"], 1, 65536)
     said["every"] = number(said["every"], 1, 16384)
@@ -108,7 +108,8 @@ def trace(names, said):
         runs = tables.read_workload(c.held(names[1]), net)
     except tables.RowFault as fault:
         raise c.row_fault(fault)
-    return waves.trace(net, runs, c.faults_of(net, said["flips"], said["pulses"]), said["run"], said["fault"].encode(), said["nets"].encode())
+    name, wanted = (None if said[option] is None else said[option].encode() for option in ("fault", "nets"))
+    return waves.trace(net, runs, c.faults_of(net, said["flips"], said["pulses"]), said["run"], name, wanted)
 
 
 def check(plan):

@@ -17,9 +17,9 @@ def reference_of(name):
 
 
 def nets_shown(net, wanted, fault, traces):
-    if wanted == b"all" or not wanted and fault is None:
+    if wanted == b"all" or wanted is None and fault is None:
         return range(len(net.names))
-    if wanted == b"differing" or not wanted:
+    if wanted == b"differing" or wanted is None:
         return [n for n in range(len(net.names)) if any(cycle[n] & 1 != cycle[n] >> 1 for cycle in traces)]
     found = [n for n, name in enumerate(net.names) if (name.startswith(wanted[:-1]) if wanted.endswith(b"*") else name == wanted)]
     if not found:
@@ -31,7 +31,7 @@ def trace(net, runs, faults, number, name, wanted):
     if not 1 <= number <= len(runs):
         raise c.Refused(17, b"no such run")
     fault = next((f for f in faults if c.fault_name(net, f) == name), None)
-    if name and fault is None:
+    if name is not None and fault is None:
         raise c.Refused(17, b"no such fault")
     # In each value bit 1 is the golden run and bit 0 the one with the fault, where there is one.
     traces = list(c.simulated(net, [[] if fault is None else [fault]], runs[number - 1][2]))

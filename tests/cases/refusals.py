@@ -211,6 +211,8 @@ ROWS = {
         ("trace_of_a_flip_in_no_cycle_of_the_list", "late", "trace late.blif late.csv --fault e^1 --flips 2", None, None, "no such fault", 17),
         ("trace_of_a_flip_of_a_net_that_is_no_latch", "late", "trace late.blif late.csv --fault y^1 --flips 1", None, None, "no such fault", 17),
         ("trace_of_no_such_net", "late", "trace late.blif late.csv --nets 'q*'", None, None, "no such net", 17),
+        ("trace_of_a_fault_without_a_name", "late", "trace late.blif late.csv --fault ''", None, None, "no such fault", 17),
+        ("trace_of_a_net_without_a_name", "late", "trace late.blif late.csv --fault e/0 --nets=", None, None, "no such net", 17),
         ("trace_of_no_such_run_before_its_fault", "late", "trace late.blif late.csv --run 9 --fault x/0 --nets q", None, None, "no such run", 17),
         ("trace_has_no_ftti", "late", "trace late.blif late.csv --ftti 1", None, None, "usage", 2),
         ("trace_of_a_workload_that_is_refused", "late", "trace late.blif late.csv --run 9", "late.csv", "workload,kind,a\nm,drive,1\n", "workload row 2 BadKind", 9),

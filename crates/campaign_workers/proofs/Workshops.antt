@@ -10,7 +10,7 @@ use Rattle.claim_counter.specs.Crews.{MayDraw, IsCrew}
 use Rattle.campaign_workers.specs.declared.worker.Worker.{Worker}
 use Rattle.campaign_workers.specs.Workplaces.{AreFor, seats_of}
 use Rattle.classifier.specs.Simulator.{simulator_of}
-use Rattle.classifier.specs.Testbench.{Testbench}
+use Rattle.testbench.specs.Testbench.{Testbench}
 use Rattle.campaign_workers.proofs.Owing.{same_seat}
 
 module _ {F N : Type 0} where

@@ -2,7 +2,7 @@
 use Rattle.std.specs.Prelude.{◌≡◌, ◌<◌, [], true, false, List, length, map, All}
 use Rattle.campaign_plan.specs.Analysis.{Analysis}
 use Rattle.classifier.specs.Simulator.{simulator_of}
-use Rattle.classifier.specs.Testbench.{Testbench, IsTestbenchFor}
+use Rattle.testbench.specs.Testbench.{Testbench, IsTestbenchFor}
 use Rattle.claim_counter.specs.Seats.{Counter, Seated}
 use Rattle.claim_counter.specs.Crews.{IsCrew}
 use Rattle.campaign_workers.specs.declared.worker.Worker.{Worker}

@@ -8,13 +8,14 @@ ghost use Rattle.classifier.specs.Simulator.{simulator_of};
 use crate::worker::Worker;
 use campaign_board::{Board, Origin, Seat, Shared, missing_batches};
 use campaign_plan::Plan;
-use classifier::{Simulator, Testbench};
+use classifier::Simulator;
 use fm_shelf::shelf::Shelf;
 use netlist_levels::Order;
 use room::{NoRoom, push};
 use std::alloc::Global;
 use std::marker::Model;
 use std::snapshot::Snapshot;
+use testbench::Testbench;
 
 /// All that a campaign needs but the board: the testbench, the shared table, a seat that opens it, and the workers. Contracts
 /// see the plan that it was made for.

@@ -6,7 +6,7 @@ ghost use Rattle.claim_counter.specs.Crews.{MayDraw, IsDone, IsCrew, shares_of};
 ghost use Rattle.campaign_workers.specs.Truth.{HasTrueEntries};
 ghost use Rattle.campaign_workers.specs.Workplaces.{seats_of};
 ghost use Rattle.classifier.specs.Simulator.{simulator_of};
-ghost use Rattle.classifier.specs.Testbench.{IsTestbenchFor};
+ghost use Rattle.testbench.specs.Testbench.{IsTestbenchFor};
 ghost use Rattle.campaign_workers.specs.Finish.{IsFinished};
 
 use crate::crew::{Crew, Workshop};
@@ -14,10 +14,10 @@ use crate::worker::{Worker, work};
 use campaign_board::{Board, Origin, Seat, Shared};
 use campaign_plan::Plan;
 use claim_counter::{Alone, Turn};
-use classifier::Testbench;
 use fm_shelf::shelf::Shelf;
 use std::thread;
 use std::thread::Threads;
+use testbench::Testbench;
 use worker_gate::Gate;
 
 /// What a campaign leaves.

@@ -4,11 +4,12 @@ ghost use Rattle.campaign_plan.specs.Batches.{true_planes};
 ghost use Rattle.campaign_workers.specs.Rounds.{true_planes_in};
 ghost use Rattle.campaign_workers.specs.Truth.{true_entry};
 ghost use Rattle.classifier.specs.Simulator.{simulator_of};
-ghost use Rattle.classifier.specs.Testbench.{IsTestbenchFor};
+ghost use Rattle.testbench.specs.Testbench.{IsTestbenchFor};
 
 use campaign_board::Entry;
 use campaign_plan::{Outcome, Plan, own_sums};
-use classifier::{Simulator, Testbench};
+use classifier::Simulator;
+use testbench::Testbench;
 
 /// The planes that each of up to four batches truly has, simulated together.
 pub(crate) fn simulated_planes(

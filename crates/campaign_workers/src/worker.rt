@@ -4,15 +4,16 @@ ghost use Rattle.claim_counter.specs.Crews.{MayDraw, IsDone};
 ghost use Rattle.campaign_workers.specs.Rounds.{drawn_in, numbers_in, true_planes_in, Owes};
 ghost use Rattle.campaign_workers.specs.Truth.{HasTrueEntries};
 ghost use Rattle.classifier.specs.Simulator.{simulator_of};
-ghost use Rattle.classifier.specs.Testbench.{IsTestbenchFor};
+ghost use Rattle.testbench.specs.Testbench.{IsTestbenchFor};
 
 use crate::outcome::{entry_with, simulated_planes};
 use crate::round::{Round, draw_round};
 use campaign_board::{Origin, Posted, Seat, Shared};
 use campaign_plan::{Outcome, Plan};
 use claim_counter::Turn;
-use classifier::{Simulator, Testbench};
+use classifier::Simulator;
 use fm_shelf::shelf::Shelf;
+use testbench::Testbench;
 use worker_gate::Gate;
 
 /// A worker: its number, its seat at the shared board, and what it simulates four batches at once with.

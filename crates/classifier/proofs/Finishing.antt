@@ -13,11 +13,11 @@ use Rattle.alarm_points.specs.PointsKept.{ArePointsFor}
 use Rattle.alarm_points.specs.declared.Points.{Points}
 use Rattle.golden_difference.specs.Beside.{trace_differs}
 use Rattle.classifier.specs.InRun.{AreAllOver}
-use Rattle.classifier.specs.Load.{Load, in_lane, lane_faults}
+use Rattle.testbench.specs.Load.{Load, in_lane, lane_faults}
 use Rattle.classifier.specs.OutOfReach.{decided_at}
 use Rattle.classifier.specs.Seen.{AllBegin, Begins, HaveAllSeenRun}
 use Rattle.classifier.specs.Stretch.{AreAllWatched, IsUnderWay, UnderWay}
-use Rattle.classifier.specs.Testbench.{Testbench}
+use Rattle.testbench.specs.Testbench.{Testbench}
 use Rattle.classifier.specs.declared.decided.Decided.{Decided}
 use Rattle.classifier.proofs.Stillness.{over_still}
 

@@ -3,7 +3,6 @@ pub mod Views
 pub mod WindowCounts
 pub mod PointBits
 pub mod EachWord
-pub mod Kept
 pub mod OfPlan
 pub mod PlaneBits
 pub mod Simulators

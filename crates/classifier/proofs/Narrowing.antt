@@ -16,7 +16,7 @@ use Rattle.golden_difference.specs.Beside.{IsOver}
 use Rattle.golden_difference.specs.Lanes.{IsMadeFor}
 use Rattle.golden_difference.proofs.Exclusive.{either_same}
 use Rattle.lane_words.specs.Loads.{loaded_faults}
-use Rattle.classifier.specs.Load.{in_lane}
+use Rattle.testbench.specs.Load.{in_lane}
 use Rattle.classifier.specs.Narrowed.{AreNarrowFor, faults_at}
 use Rattle.classifier.specs.declared.narrow.Narrow.{Narrow}
 use Rattle.classifier.proofs.Stillness.{same_bits}

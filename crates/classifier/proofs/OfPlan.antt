@@ -6,7 +6,7 @@ use Rattle.workload.specs.declared.run.Run.{Run}
 use Rattle.alarm_points.specs.declared.Points.{Points}
 use Rattle.campaign_plan.specs.Analysis.{Analysis, all_faults}
 use Rattle.classifier.specs.Simulator.{Simulator, simulator_of}
-use Rattle.classifier.specs.Testbench.{Testbench, IsTestbenchFor, testbench_of}
+use Rattle.testbench.specs.Testbench.{Testbench, IsTestbenchFor, testbench_of}
 
 -- whatever is a function of what is simulated, and of the faults
 pub of_plan : {A : Type 0} (what : Circuit → Points → ℕ → List Run → List Fault → A) (p : Analysis) (bench : Testbench) (s : Simulator) (faults : List Fault)

@@ -7,7 +7,7 @@ use Rattle.alarm_points.specs.FourWatches.{AreFourMadeFor, FourWatches}
 use Rattle.golden_difference.specs.Lanes.{IsMadeFor, Lanes}
 use Rattle.lane_words.specs.declared.quad.Quad.{Quad}
 use Rattle.classifier.specs.Simulator.{Simulator, simulator_of}
-use Rattle.classifier.specs.Testbench.{Testbench}
+use Rattle.testbench.specs.Testbench.{Testbench}
 use Rattle.classifier.specs.Narrowed.{AreNarrowFor}
 use Rattle.classifier.specs.declared.narrow.Narrow.{Narrow}
 use Rattle.classifier.proofs.Narrowing.{one_narrow}

@@ -11,11 +11,11 @@ use Rattle.alarm_points.specs.Interval.{interval_of}
 use Rattle.alarm_points.specs.Watch.{AreMadeFor, KeepsIntervals, Watches}
 use Rattle.golden_difference.specs.Beside.{IsGoldenRow}
 use Rattle.classifier.specs.InRun.{IsForBench, IsLastCycle, KeepPlace, LanesInRun}
-use Rattle.classifier.specs.Load.{Load, in_lane}
+use Rattle.testbench.specs.Load.{Load, in_lane}
 use Rattle.classifier.specs.Narrowed.{GoOnIn}
 use Rattle.classifier.specs.Seen.{AllKeepIntervals, IsWatched, known_at, left_at}
 use Rattle.classifier.specs.Stretch.{AreAllWatched, AreForWords, IsStretch, IsUnderWay, UnderWay, under_way}
-use Rattle.classifier.specs.Testbench.{Testbench}
+use Rattle.testbench.specs.Testbench.{Testbench}
 use Rattle.classifier.specs.declared.decided.Decided.{Decided}
 use Rattle.classifier.proofs.Following.{followed_alike}
 

@@ -5,7 +5,7 @@ use Rattle.campaign_plan.specs.declared.Outcome.{Outcome}
 use Rattle.classifier.specs.Batch.{outcome_for}
 use Rattle.classifier.specs.Simulated.{Simulated}
 use Rattle.classifier.specs.Simulator.{Simulator, simulator_of}
-use Rattle.classifier.specs.Testbench.{Testbench}
+use Rattle.testbench.specs.Testbench.{Testbench}
 
 -- these faults on this testbench, with the simulator's interval
 abbrev pub what_is_simulated : Testbench → List Fault → Simulator → Simulated

@@ -6,8 +6,8 @@ use Rattle.workload.specs.declared.run.Run.{Run}
 use Rattle.workload.specs.Runs.{cycles_of}
 use Rattle.golden_difference.specs.Beside.{AreBeside, IsGoldenRow, IsOver}
 use Rattle.golden_difference.specs.Lanes.{Lanes}
-use Rattle.classifier.specs.Load.{Load, in_lane, load_of}
-use Rattle.classifier.specs.Testbench.{Testbench}
+use Rattle.testbench.specs.Load.{Load, in_lane, load_of}
+use Rattle.testbench.specs.Testbench.{Testbench}
 
 -- what the lanes were made for and loaded with, the faults that are in force in each lane of a word, the number of cycles since the start of
 -- the run, and the vectors with which they have run beside the golden run

@@ -1,5 +1,3 @@
-pub mod Testbench
-pub mod Load
 pub mod OutOfReach
 pub mod Seen
 pub mod Noise

@@ -9,7 +9,7 @@ use Rattle.golden_difference.specs.Beside.{AreBeside}
 use Rattle.golden_difference.specs.Lanes.{IsMadeFor}
 use Rattle.lane_words.specs.Loads.{loaded_faults}
 use Rattle.classifier.specs.InRun.{LanesInRun}
-use Rattle.classifier.specs.Load.{load_of}
+use Rattle.testbench.specs.Load.{load_of}
 use Rattle.classifier.specs.declared.narrow.Narrow.{Narrow}
 
 -- the faults in force at a place; none where there is no place

@@ -7,7 +7,7 @@ use Rattle.alarm_points.specs.declared.Points.{Points}
 use Rattle.fm_base.specs.Planes.{bit}
 use Rattle.campaign_plan.specs.Danger.{differs, is_raised, is_silenced}
 use Rattle.campaign_plan.specs.declared.Outcome.{Outcome}
-use Rattle.classifier.specs.Load.{Load, lane_faults}
+use Rattle.testbench.specs.Load.{Load, lane_faults}
 use Rattle.classifier.specs.Planes.{outcome_at}
 use Rattle.classifier.specs.declared.decided.Decided.{Decided}
 use Rattle.classifier.specs.declared.reached.OutOfReach.{OutOfReach}

@@ -9,7 +9,7 @@ use Rattle.alarm_points.specs.Watch.{Watches}
 use Rattle.fm_base.specs.Planes.{bit, plane_of}
 use Rattle.campaign_plan.specs.declared.Outcome.{Outcome}
 use Rattle.campaign_plan.specs.Danger.{is_dangerous, is_noticed}
-use Rattle.classifier.specs.Load.{Load, lane_faults}
+use Rattle.testbench.specs.Load.{Load, lane_faults}
 
 -- the planes of danger, and of notice, of the list of faults of each lane
 unfoldable pub planes_of : Circuit → Points → ℕ → List Run → (ℕ → List Fault) → Outcome

@@ -5,7 +5,7 @@ use Rattle.circuit.specs.declared.parts.NetId.{NetId}
 use Rattle.circuit.specs.Circuit.{Circuit}
 use Rattle.alarm_points.specs.declared.Points.{Points}
 use Rattle.lane_words.specs.Loads.{loaded_faults}
-use Rattle.classifier.specs.Testbench.{Testbench}
+use Rattle.testbench.specs.Testbench.{Testbench}
 
 -- the circuit with an order of its tables, the points, and the interval in cycles of goals without one of their own, that it was made for
 pub record Simulator : Type 0 where

@@ -9,10 +9,10 @@ use Rattle.alarm_points.specs.FourWatches.{AreAllMadeFor, windows_at}
 use Rattle.alarm_points.specs.Watch.{Watches}
 use Rattle.golden_difference.specs.Lanes.{IsMadeFor, Lanes}
 use Rattle.classifier.specs.InRun.{IsForBench, LanesInRun}
-use Rattle.classifier.specs.Load.{in_lane}
+use Rattle.testbench.specs.Load.{in_lane}
 use Rattle.classifier.specs.Narrowed.{AreNarrowFor}
 use Rattle.classifier.specs.Seen.{AllKeepIntervals, IsWatched, known_at, left_at}
-use Rattle.classifier.specs.Testbench.{Testbench}
+use Rattle.testbench.specs.Testbench.{Testbench}
 use Rattle.classifier.specs.declared.decided.Decided.{Decided}
 use Rattle.classifier.specs.declared.narrow.Narrow.{Narrow}
 

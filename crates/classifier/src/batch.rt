@@ -11,7 +11,7 @@ ghost use Rattle.campaign_plan.specs.Batches.{outcome_of};
 ghost use Rattle.golden_difference.specs.Lanes.{IsMadeFor};
 ghost use Rattle.lane_words.specs.Loads.{loaded_faults};
 ghost use Rattle.classifier.specs.Batch.{alone_in, batch_at, outcome_for};
-ghost use Rattle.classifier.specs.Load.{load_of};
+ghost use Rattle.testbench.specs.Load.{load_of};
 ghost use Rattle.classifier.specs.Narrowed.{AreNarrowFor};
 ghost use Rattle.classifier.specs.OutOfReach.{AreAllOutOfReach};
 ghost use Rattle.classifier.specs.Planes.{HasPlanes, outcome_at};
@@ -19,7 +19,6 @@ ghost use Rattle.classifier.specs.Planes.{HasPlanes, outcome_at};
 use crate::narrow::Narrow;
 use crate::outcome::{NOTHING, loaded_quad, word_outcome};
 use crate::reached::{OutOfReach, WITHIN_REACH, out_of_reach};
-use crate::testbench::Testbench;
 use alarm_points::windows::Windows;
 use alarm_points::windows4::Windows4;
 use campaign_plan::Outcome;
@@ -28,6 +27,7 @@ use differential_kernel::{DifferentialLanes, DifferentialLanes4};
 use fault_list::FaultList;
 use fm_base::Steps;
 use std::sync::ledger::Ledger;
+use testbench::Testbench;
 
 const LANES: u32 = 64;
 

@@ -6,7 +6,6 @@ ghost use Rattle.classifier.specs.Simulated.{planes_simulated, simulated_of};
 
 use crate::outcome::NOTHING;
 use crate::simulator::Simulator;
-use crate::testbench::Testbench;
 use campaign_plan::{Outcome, Plan};
 use circuit::netlist::Netlist;
 use fault_list::FaultList;
@@ -14,6 +13,7 @@ use netlist_levels::Order;
 use room::NoRoom;
 use std::alloc::Global;
 use std::marker::Model;
+use testbench::Testbench;
 
 /// What simulates batches of faults that are asked for one after the other: where one isn't at hand, it is simulated together with
 /// the three that are likely to be asked for next. No call but `new` and `of_plan` takes memory.

@@ -13,12 +13,12 @@ ghost use Rattle.classifier.specs.Noise.{IsNoiseOf, noise_at};
 
 use crate::noise::Noise;
 use crate::points::{differ_in, hear, noise_of, parts_of};
-use crate::testbench::Testbench;
 use circuit::parts::NetId;
 use differential_kernel::DifferentialLanes;
 use fm_base::Steps;
 use lane_words::Word;
 use std::sync::ledger::Ledger;
+use testbench::Testbench;
 
 /// Some words of 64 lanes each, of which each lane runs beside the golden run with its own faults.
 pub trait Followed {

@@ -13,11 +13,9 @@ mod reached;
 mod run;
 mod see;
 mod simulator;
-mod testbench;
 
 pub use batch::{batch_outcome, quad_outcomes};
 pub use batch_simulator::BatchSimulator;
 pub use outcome::loaded_outcome;
 pub use points::{differing, differs_at};
 pub use simulator::{LaneFaults, Simulator};
-pub use testbench::Testbench;

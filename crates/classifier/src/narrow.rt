@@ -11,7 +11,6 @@ ghost use Rattle.classifier.specs.Noise.{noise_at};
 use crate::followed::Followed;
 use crate::noise::{Heard, Noise, SILENT};
 use crate::points::{differ_in, hear};
-use crate::testbench::Testbench;
 use circuit::netlist::Netlist;
 use circuit::parts::NetId;
 use differential_kernel::{DifferentialLanes, Picks};
@@ -21,6 +20,7 @@ use netlist_levels::Order;
 use room::NoRoom;
 use std::alloc::Global;
 use std::sync::ledger::Ledger;
+use testbench::Testbench;
 
 // The planes of four words of lanes, of which the bits stand at their places.
 fn spread_bits(picks: &Picks, bits: u64) -> [u64; 4]

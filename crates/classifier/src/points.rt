@@ -10,7 +10,7 @@ ghost use Rattle.fm_base.specs.Planes.{bit};
 ghost use Rattle.golden_difference.specs.Beside.{IsGoldenRow, AreBeside};
 ghost use Rattle.lane_words.specs.Bits.{either};
 ghost use Rattle.lane_words.specs.Loads.{loaded_faults};
-ghost use Rattle.classifier.specs.Load.{in_lane};
+ghost use Rattle.testbench.specs.Load.{in_lane};
 ghost use Rattle.classifier.specs.Noise.{noise_at};
 
 use crate::noise::{Heard, Noise, SILENT};

@@ -7,10 +7,10 @@ ghost use Rattle.reach.specs.Paths.{CanChangeSome};
 ghost use Rattle.reach.specs.Reached.{nets_of};
 ghost use Rattle.classifier.specs.OutOfReach.{AreOutOfReach};
 
-use crate::testbench::Testbench;
 use circuit::parts::{Fault, Latch};
 use lane_words::Word;
 use reach::{Reach, Sort};
+use testbench::Testbench;
 
 const LANES: u32 = 64;
 

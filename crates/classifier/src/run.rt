@@ -8,7 +8,7 @@ ghost use Rattle.alarm_points.specs.FourWatches.{AreAllMadeFor, windows_at};
 ghost use Rattle.alarm_points.specs.PointsKept.{ArePointsFor};
 ghost use Rattle.fm_base.specs.Planes.{bit};
 ghost use Rattle.classifier.specs.InRun.{AreAllOver, IsLastCycle, KeepPlace, in_run};
-ghost use Rattle.classifier.specs.Load.{load_of};
+ghost use Rattle.testbench.specs.Load.{load_of};
 ghost use Rattle.classifier.specs.Narrowed.{AreNarrowFor, GoOnIn, narrow_in_run};
 ghost use Rattle.classifier.specs.declared.narrow.Narrow.{Narrow as NarrowValue};
 ghost use Rattle.classifier.specs.OutOfReach.{decided_at};
@@ -21,13 +21,13 @@ use crate::followed::Followed;
 use crate::narrow::Narrow;
 use crate::points::either_lanes;
 use crate::see::see_cycle;
-use crate::testbench::Testbench;
 use alarm_points::Points;
 use alarm_points::windows::Windows;
 use differential_kernel::DifferentialLanes;
 use fm_base::Steps;
 use lane_words::Word;
 use std::sync::ledger::Ledger;
+use testbench::Testbench;
 use workload::run::Kind;
 
 // After so many cycles it is looked whether few lanes are left.

@@ -3,7 +3,7 @@ ghost use Rattle.std.specs.Prelude.{◌≡◌, ◌<◌, ◌≤◌, ◌+◌, ◌*
 ghost use Rattle.workload.specs.Runs.{all_cycles};
 ghost use Rattle.golden_difference.specs.Lanes.{IsMadeFor};
 ghost use Rattle.classifier.specs.Batch.{outcome_for};
-ghost use Rattle.classifier.specs.Load.{lane_faults, load_of};
+ghost use Rattle.testbench.specs.Load.{lane_faults, load_of};
 ghost use Rattle.classifier.specs.OutOfReach.{AreAllOutOfReach};
 ghost use Rattle.classifier.specs.Planes.{outcome_at, planes_of};
 ghost use Rattle.classifier.specs.Simulator.{listed, simulator_of};
@@ -12,7 +12,6 @@ use crate::batch::narrowed_outcomes;
 use crate::narrow::Narrow;
 use crate::outcome::loaded_quad;
 use crate::reached::{OutOfReach, WITHIN_REACH, out_of_reach};
-use crate::testbench::Testbench;
 use alarm_points::Points;
 use alarm_points::windows4::Windows4;
 use campaign_plan::Outcome;
@@ -26,6 +25,7 @@ use std::marker::{Brand, Model};
 use std::slice::from_mut;
 use std::snapshot::Snapshot;
 use std::sync::ledger::{Blank, Ledger};
+use testbench::Testbench;
 
 /// Up to two faults for each of 64 lanes.
 pub type LaneFaults = [[Option<Fault>; 2]; 64];

@@ -1,6 +1,6 @@
 -- Words are one command at most.
 use Rattle.std.proofs.Common.{◌≡◌, ◌∙◌, ℕ, List, [], sym, refl, ap, subst, Option, arith, codes}
-use Rattle.std.specs.Prelude.{Some, bytes_eq, false, find}
+use Rattle.std.specs.Prelude.{None, Some, bytes_eq, false, find}
 use Rattle.fm_base.proofs.Distinct.{is_same}
 use Rattle.fm_base.proofs.Tests.{clash}
 use Rattle.clap.specs.Words.{Row, Text, subcommand_of}
@@ -47,7 +47,7 @@ plain (task.Shard k n) = task.Shard 0 0
 plain (task.Pairs n) = task.Pairs 0
 plain (task.Breakdown ns n) = task.Breakdown [] 0
 plain (task.Latencies n) = task.Latencies 0
-plain (task.Trace n f ns) = task.Trace 0 [] []
+plain (task.Trace n f ns) = task.Trace 0 None None
 plain other = other
 
 -- which the table has in one place alone, by its word

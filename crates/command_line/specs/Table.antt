@@ -1,5 +1,5 @@
 -- The table of commands, as `clap` states a simple command with one level of subcommands.
-use Rattle.std.specs.Prelude.{ℕ, List, [], ◌∷◌, ◌++◌, fold, map, codes, true, pos, Some}
+use Rattle.std.specs.Prelude.{ℕ, List, [], ◌∷◌, ◌++◌, fold, map, codes, true, pos, None, Some}
 use Rattle.clap.specs.Simple.{on_top}
 use Rattle.clap.specs.Words.{App, Rule, Text, new_app, new_rule, with_rule, with_subcommand}
 use Rattle.clap.specs.declared.builder.action.ArgAction.TheVariants.{SetTrue}
@@ -11,10 +11,11 @@ use Rattle.commands.specs.declared.command.Task.TheVariants as task
 -- the word of a task's command, and the arguments behind it, in this order
 abbrev pub row_of : Task → Text × List Rule
 row_of own =
-    -- an argument by its place, and an option, that must be given; an option with a default; a flag; what takes numbers within these bounds
+    -- an argument by its place, and an option, that must be given; an option with a default, and one without; a flag; what takes numbers within these bounds
     let place : Text → Rule = λ id. record (new_rule id) { required = true } in
     let needed : Text → Rule = λ id. record (new_rule id) { long = Some id; required = true } in
     let option : Text → Text → Rule = λ id value. record (new_rule id) { long = Some id; defaults = value ∷ [] } in
+    let free : Text → Rule = λ id. record (new_rule id) { long = Some id } in
     let flag : Text → Rule = λ id. record (new_rule id) { long = Some id; action = Some SetTrue } in
     let within : ℕ → ℕ → Rule → List Rule = λ low high rule. record rule { parser = Some (vp.Signed (pos low) (pos high)) } ∷ [] in
     let inputs : List Rule = map place (codes "netlist" ∷ codes "workload" ∷ codes "rates" ∷ codes "points" ∷ []) in
@@ -40,7 +41,7 @@ row_of own =
       | task.Progress ↦ (codes "progress", plan ++ asil)
       | task.Breakdown ns n ↦ (codes "breakdown", inputs ++ ftti ++ lists ++ asil ++ option (codes "intervals") (codes "none") ∷ workers)
       | task.Latencies n ↦ (codes "latencies", inputs ++ ftti ++ lists ++ asil ++ workers)
-      | task.Trace n f ns ↦ (codes "trace", map place (codes "netlist" ∷ codes "workload" ∷ []) ++ run ++ option (codes "fault") [] ∷ lists ++ option (codes "nets") [] ∷ [])
+      | task.Trace n f ns ↦ (codes "trace", map place (codes "netlist" ∷ codes "workload" ∷ []) ++ run ++ free (codes "fault") ∷ lists ++ free (codes "nets") ∷ [])
     ]
 
 abbrev pub word_of : Task → Text
@@ -50,7 +51,7 @@ word_of own = (row_of own).0
 abbrev pub tasks : List Task
 tasks =
     task.Classes ∷ task.Check ∷ task.Run 0 ∷ task.Resume 0 ∷ task.Audit 0 Lanes ∷ task.Gen 0 0 ∷ task.Report ∷ task.Shard 0 0 ∷ task.Merge ∷ task.Pairs 0
-    ∷ task.Parts ∷ task.Faults ∷ task.Progress ∷ task.Breakdown [] 0 ∷ task.Latencies 0 ∷ task.Trace 0 [] [] ∷ []
+    ∷ task.Parts ∷ task.Faults ∷ task.Progress ∷ task.Breakdown [] 0 ∷ task.Latencies 0 ∷ task.Trace 0 None None ∷ []
 
 -- the program, of which one command must be named
 abbrev pub fmeda_app : App

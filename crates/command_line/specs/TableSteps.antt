@@ -20,6 +20,10 @@ positional id = record (new_rule id) { required = true }
 abbrev pub option : Text → Text → Rule
 option id value = record (new_rule id) { long = Some id; defaults = value ∷ [] }
 
+-- an option without one, which may be left out
+abbrev pub free_option : Text → Rule
+free_option id = record (new_rule id) { long = Some id }
+
 -- an option that must be given
 abbrev pub required_option : Text → Rule
 required_option id = record (new_rule id) { long = Some id; required = true }
@@ -53,8 +57,8 @@ rule_for argument.Every = bounded (option (codes "every") (codes "1")) 1 16384
 rule_for argument.Alone = flag (codes "alone")
 rule_for argument.Intervals = option (codes "intervals") (codes "none")
 rule_for argument.Run = bounded (option (codes "run") (codes "1")) 1 65536
-rule_for argument.Fault = option (codes "fault") []
-rule_for argument.Nets = option (codes "nets") []
+rule_for argument.Fault = free_option (codes "fault")
+rule_for argument.Nets = free_option (codes "nets")
 
 -- a command with this argument behind its others
 abbrev pub with_argument : App → Argument → App

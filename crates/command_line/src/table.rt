@@ -1,8 +1,8 @@
 // The table of commands.
 ghost use Rattle.std.specs.Prelude.{◌≡◌, ◌≢◌, [], IfOk, codes, false, fold};
-ghost use Rattle.clap.specs.Words.{app_of, found_of, rows_of, rule_of};
+ghost use Rattle.clap.specs.Words.{app_of, first_of, found_of, rows_of, rule_of};
 ghost use Rattle.clap.specs.declared.builder.command.Command.TheViews.{out-Command};
-ghost use Rattle.command_line.specs.TableSteps.{HasCommandToo, app_of_row, bounded, flag, named_app, option, positional, required_option, rule_for, with_argument, with_row};
+ghost use Rattle.command_line.specs.TableSteps.{HasCommandToo, app_of_row, bounded, flag, free_option, named_app, option, positional, required_option, rule_for, with_argument, with_row};
 ghost use Rattle.command_line.specs.Table.{fmeda_app};
 ghost use Rattle.command_line.specs.Words.{HasNumber};
 ghost use Rattle.command_line.specs.WordsSteps.{Finds, IsRead, IsTaskOf};
@@ -73,6 +73,13 @@ fn option_arg<'a>(alloc: Global, id: &'a str, value: &'a str) -> Arg<'a>
     Arg::new(alloc, id).long(id).default_value(value)
 }
 
+fn free_arg<'a>(alloc: Global, id: &'a str) -> Arg<'a>
+    ensures rule { rule_of result ≡ free_option id.entry.now }
+    ensures local { result.global ≡ false }
+{
+    Arg::new(alloc, id).long(id)
+}
+
 fn required_arg<'a>(alloc: Global, id: &'a str) -> Arg<'a>
     ensures rule { rule_of result ≡ required_option id.entry.now }
     ensures local { result.global ≡ false }
@@ -112,8 +119,8 @@ fn arg_of<'a>(alloc: Global, argument: Argument) -> Arg<'a>
         Alone => flag_arg(alloc, "alone"),
         Intervals => option_arg(alloc, "intervals", "none"),
         Run => option_arg(alloc, "run", "1").value_parser(value_parser!(u32).range(1..=65536)),
-        Fault => option_arg(alloc, "fault", ""),
-        Nets => option_arg(alloc, "nets", ""),
+        Fault => free_arg(alloc, "fault"),
+        Nets => free_arg(alloc, "nets"),
     }
 }
 
@@ -295,14 +302,27 @@ fn name_of(alloc: Global, text: &str) -> Result<Name, NoRoom>
     Ok(Seq::from_vec(from_slice(alloc, text.as_bytes())?))
 }
 
+// The text of an option that was given; none where it wasn't.
+fn given_of(alloc: Global, matches: &ArgMatches, id: &str) -> Result<Option<Name>, NoRoom>
+    ensures { IfOk result (λ name. name ≡ first_of id.now (rows_of (found_of matches.now))) }
+{
+    match matches.get_str(id) {
+        Some(text) => {
+            let name = name_of(alloc, text)?;
+            Ok(Some(name))
+        }
+        None => Ok(None),
+    }
+}
+
 fn trace_of(alloc: Global, matches: &ArgMatches) -> Result<Task, WordsRefusal>
     ensures { IsRead (IsTaskOf (codes "trace") (rows_of (found_of matches.now))) result }
 {
     let Some(run) = number_of(matches, "run", "", 1, 65536) else {
         return Err(WordsRefusal::Usage);
     };
-    let fault = name_of(alloc, text_of(matches, "fault", ""))?;
-    let nets = name_of(alloc, text_of(matches, "nets", ""))?;
+    let fault = given_of(alloc, matches, "fault")?;
+    let nets = given_of(alloc, matches, "nets")?;
     Ok(Task::Trace { run, fault, nets })
 }
 

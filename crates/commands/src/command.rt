@@ -123,25 +123,49 @@ pub enum AuditBy {
 
 /// What a command does, with what is its own alone: 1 to 32 workers, 1 to 1,000 stages of generated texts, one of up to 1,024 parts of a
 /// campaign, which has the batches b with b mod `parts` = `part`, each N-th row to audit, 1 to 16,384, at most 16 rising intervals of up to
-/// 4,096 cycles, a run from 1 to 65,536, whether there is one or not, with the names of a fault and of nets, empty where none is asked for.
+/// 4,096 cycles, a run from 1 to 65,536, whether there is one or not, with the names of a fault and of nets where they were given.
 #[derive(Drop)]
 pub enum Task {
     Classes,
     Check,
-    Run { workers: u32 },
-    Resume { workers: u32 },
-    Audit { every: u32, by: AuditBy },
-    Gen { stages: u32, workers: u32 },
+    Run {
+        workers: u32,
+    },
+    Resume {
+        workers: u32,
+    },
+    Audit {
+        every: u32,
+        by: AuditBy,
+    },
+    Gen {
+        stages: u32,
+        workers: u32,
+    },
     Report,
-    Shard { part: u32, parts: u32 },
+    Shard {
+        part: u32,
+        parts: u32,
+    },
     Merge,
-    Pairs { workers: u32 },
+    Pairs {
+        workers: u32,
+    },
     Parts,
     Faults,
     Progress,
-    Breakdown { intervals: Seq<u32>, workers: u32 },
-    Latencies { workers: u32 },
-    Trace { run: u32, fault: Name, nets: Name },
+    Breakdown {
+        intervals: Seq<u32>,
+        workers: u32,
+    },
+    Latencies {
+        workers: u32,
+    },
+    Trace {
+        run: u32,
+        fault: Option<Name>,
+        nets: Option<Name>,
+    },
 }
 
 impl Task {

@@ -2,19 +2,20 @@
 ghost use Rattle.std.specs.Prelude.{◌≡◌, ◌≤◌, ◌+◌, ◌*◌, IfOk, length};
 ghost use Rattle.circuit.specs.Order.{IsOrder};
 ghost use Rattle.classifier.specs.Simulator.{simulator_of};
-ghost use Rattle.classifier.specs.Testbench.{IsTestbenchFor};
+ghost use Rattle.testbench.specs.Testbench.{IsTestbenchFor};
 ghost use Rattle.fault_collapse.specs.Outcomes.{all_planes, collapsed_of, most_steps};
 
 use crate::chosen::choose;
 use crate::simulate::{WORDS, simulate};
 use crate::spread::spread;
 use campaign_plan::{Outcome, Plan};
-use classifier::{Simulator, Testbench};
+use classifier::Simulator;
 use collapse_map::Collapse;
 use fm_base::{Seq, Steps};
 use room::{NoRoom, filled};
 use std::alloc::Global;
 use std::sync::ledger::Ledger;
+use testbench::Testbench;
 
 const LANES: usize = 64;
 

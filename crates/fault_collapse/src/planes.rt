@@ -1,12 +1,12 @@
 // The planes of all batches of a plan, with all that it takes to simulate them.
 ghost use Rattle.std.specs.Prelude.{◌≡◌, ◌<◌, IfOk};
 ghost use Rattle.circuit.specs.Order.{IsOrder};
-ghost use Rattle.classifier.specs.Testbench.{testbench_of};
+ghost use Rattle.testbench.specs.Testbench.{testbench_of};
 ghost use Rattle.fault_collapse.specs.Outcomes.{all_planes, collapsed_of};
 
 use crate::outcomes::{OutcomeList, collapsed_outcomes};
 use campaign_plan::Plan;
-use classifier::{Simulator, Testbench};
+use classifier::Simulator;
 use collapse_map::Collapse;
 use fm_base::Steps;
 use netlist_levels::Order;
@@ -14,6 +14,7 @@ use room::NoRoom;
 use std::alloc::Global;
 use std::marker::Brand;
 use std::sync::ledger::{Blank, Ledger};
+use testbench::Testbench;
 
 // The planes of all batches, by a simulator that is made here.
 fn simulated_planes<L: Ledger>(

@@ -2,17 +2,18 @@
 ghost use Rattle.std.specs.Prelude.{◌≡◌, ◌+◌, ◌*◌, ◌/◌, ◌%◌, ◌<◌, ◌≤◌, ◌^◌, ℕ, All, length};
 ghost use Rattle.campaign_plan.specs.Analysis.{all_faults};
 ghost use Rattle.classifier.specs.Simulator.{listed, simulator_of};
-ghost use Rattle.classifier.specs.Testbench.{IsTestbenchFor};
+ghost use Rattle.testbench.specs.Testbench.{IsTestbenchFor};
 ghost use Rattle.lane_words.specs.Loads.{loaded_faults};
 ghost use Rattle.workload.specs.Runs.{all_cycles};
 ghost use Rattle.fault_collapse.specs.Chosen.{AreSimulated, chosen_at, faults_in};
 
 use campaign_plan::{Outcome, Plan};
 use circuit::parts::Fault;
-use classifier::{LaneFaults, Simulator, Testbench};
+use classifier::{LaneFaults, Simulator};
 use fault_list::FaultList;
 use fm_base::Steps;
 use std::sync::ledger::Ledger;
+use testbench::Testbench;
 
 const LANES: usize = 64;
 

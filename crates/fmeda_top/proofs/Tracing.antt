@@ -1,6 +1,6 @@
 -- What `trace` tells of the waves that are asked for.
 use Rattle.std.proofs.Common.{◌≡◌, ◌∙◌, ap, subst, sym, ℕ, List, [], Ok, Err}
-use Rattle.std.specs.Prelude.{Some, None, Result}
+use Rattle.std.specs.Prelude.{Option, Some, None, Result}
 use Rattle.fm_base.specs.Names.{Bytes}
 use Rattle.circuit.specs.Circuit.{Circuit}
 use Rattle.workload.specs.declared.run.Run.{Run}
@@ -16,7 +16,7 @@ use Rattle.command_reads.specs.FirstRefusal.{Driven}
 use Rattle.fmeda_top.specs.TaskRefusals.{not_there, refusal_in, task_refusal}
 use Rattle.fmeda_top.specs.Ends.{text_of}
 
-module _ (c : Circuit) (runs : List Run) (set : Settings) (run : ℕ) (fault nets : Bytes) where
+module _ (c : Circuit) (runs : List Run) (set : Settings) (run : ℕ) (fault nets : Option Bytes) where
   -- nothing is refused, and the text is the dump of the waves
   pub waves_told : (waves : Waves) → waves_asked c runs set.flips set.pulses run fault nets ≡ Ok waves
       → (task_refusal (task.Trace run fault nets) (Driven c runs set) ≡ None) × (text_of (task.Trace run fault nets) (Driven c runs set) ≡ Some (dump_text waves))

@@ -90,10 +90,14 @@ fn print<R: Threads + Sync, O: Sink>(
             tell_breakdown(rt, alloc, judged.planned(), intervals, *workers, out)
         }
         Task::Latencies { workers } => tell_latencies(rt, alloc, judged.planned(), *workers, out),
-        Task::Trace { run, fault, nets } => {
-            let (fault, nets) = (fault.as_slice(), nets.as_slice());
-            tell_trace(alloc, judged.driven(), *run, fault, nets, out)
-        }
+        Task::Trace { run, fault, nets } => tell_trace(
+            alloc,
+            judged.driven(),
+            *run,
+            fault,
+            nets,
+            out,
+        ),
         Task::Run { .. }
         | Task::Resume { .. }
         | Task::Gen { .. }

@@ -7,7 +7,7 @@ ghost use Rattle.fmeda_top.specs.Doing.{TellsAs};
 ghost use Rattle.fmeda_top.specs.TaskRefusals.{not_there as not_there_of};
 
 use command_reads::driven::Driven;
-use fm_base::Refusal;
+use fm_base::{Name, Refusal};
 use fm_shelf::shelf::Sink;
 use refusals::refused::Refused;
 use refusals::status::{Status, after_text};
@@ -30,8 +30,8 @@ pub(crate) fn tell_trace<O: Sink>(
     alloc: Global,
     driven: &Driven,
     run: u32,
-    fault: &[u8],
-    nets: &[u8],
+    fault: &Option<Name>,
+    nets: &Option<Name>,
     out: &mut O,
 ) -> Result<Status, Refused>
     requires { IsOrder driven.now.ordered.net driven.now.ordered.order }

@@ -10,7 +10,7 @@ use Rattle.workload.specs.declared.run.Run.{Run}
 use Rattle.alarm_points.specs.declared.Points.{Points}
 use Rattle.campaign_plan.specs.Analysis.{Analysis}
 use Rattle.classifier.specs.Batch.{alone_in}
-use Rattle.classifier.specs.Testbench.{IsTestbenchFor, Testbench}
+use Rattle.testbench.specs.Testbench.{IsTestbenchFor, Testbench}
 use Rattle.latency_table.specs.declared.latency.Latency.{Latency}
 use Rattle.latency_table.specs.Latency.{IsLatencyOf}
 

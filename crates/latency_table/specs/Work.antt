@@ -4,7 +4,7 @@ use Rattle.std.specs.Int.{div_ceil}
 use Rattle.batch_crew.specs.Crew.{HaveWorked}
 use Rattle.batch_crew.specs.declared.rounds.WorkerShare.{WorkerShare}
 use Rattle.campaign_plan.specs.Analysis.{Analysis, fault_count}
-use Rattle.classifier.specs.Testbench.{Testbench}
+use Rattle.testbench.specs.Testbench.{Testbench}
 use Rattle.golden_difference.specs.Lanes.{IsMadeFor}
 use Rattle.shown_runs.specs.Beyond.{IsReachFor}
 use Rattle.shown_runs.specs.Record.{AreRecordsFor}

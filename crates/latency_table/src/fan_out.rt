@@ -1,7 +1,7 @@
 // All faults of a plan, shared among workers.
 ghost use Rattle.std.specs.Prelude.{◌≡◌, ◌<◌, ◌≤◌, IfOk};
 ghost use Rattle.campaign_plan.specs.Analysis.{fault_count};
-ghost use Rattle.classifier.specs.Testbench.{IsTestbenchFor};
+ghost use Rattle.testbench.specs.Testbench.{IsTestbenchFor};
 ghost use Rattle.latency_table.specs.Latency.{IsLatencyFor};
 ghost use Rattle.latency_table.specs.Work.{HaveKept};
 
@@ -9,12 +9,12 @@ use crate::latency::Latency;
 use crate::worker::{GROUP, LatencyWorker, simulate_round};
 use batch_crew::{Rounds, WorkerShare, hired, work_all};
 use campaign_plan::Plan;
-use classifier::Testbench;
 use room::NoRoom;
 use std::alloc::Global;
 use std::marker::Brand;
 use std::sync::ledger::Blank;
 use std::thread::Threads;
+use testbench::Testbench;
 
 /// What is kept of all faults of a plan, each simulated alone: a group of 256 faults in each round.
 #[derive(Clone, Copy)]
@@ -24,7 +24,7 @@ pub(crate) struct LatencyRounds<'a> {
 }
 
 impl<'a> Rounds for LatencyRounds<'a> {
-    ghost use Rattle.classifier.specs.Testbench.{IsTestbenchFor};
+    ghost use Rattle.testbench.specs.Testbench.{IsTestbenchFor};
     ghost use Rattle.latency_table.specs.Work.{HasKept, rounds_for};
 
     type Worker = LatencyWorker;

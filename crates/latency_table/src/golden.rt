@@ -15,11 +15,11 @@ ghost use Rattle.readings.specs.Latencies.{is_excited};
 ghost use Rattle.latency_table.specs.Golden.{AreSeenIn, HasSeenGolden, IsFaultIn, golden_of};
 
 use circuit::parts::{Fault, NetId};
-use classifier::Testbench;
 use place_set::value_in_words;
 use readings::{stuck_at_is_excited, transients_are_excited};
 use room::{NoRoom, filled};
 use std::alloc::Global;
+use testbench::Testbench;
 
 const LANES: usize = 64;
 

@@ -8,7 +8,7 @@ ghost use Rattle.fm_base.specs.declared.refusal.Refusal.TheVariants.{Fault as Fa
 ghost use Rattle.fm_shelf.specs.Sink.{Sends, Wrote, WrotePrefix};
 ghost use Rattle.fm_shelf.specs.declared.shelf.Failed.{Failed as FailedValue};
 ghost use Rattle.campaign_plan.specs.Analysis.{fault_count};
-ghost use Rattle.classifier.specs.Testbench.{IsTestbenchFor};
+ghost use Rattle.testbench.specs.Testbench.{IsTestbenchFor};
 ghost use Rattle.readings.specs.Latencies.{latencies, latency_row, least_interval};
 ghost use Rattle.latency_table.specs.Golden.{HasSeenGolden};
 ghost use Rattle.latency_table.specs.Work.{HaveKept};
@@ -18,7 +18,6 @@ use crate::golden::GoldenValues;
 use crate::row::write_row;
 use crate::worker::LatencyWorker;
 use campaign_plan::Plan;
-use classifier::Testbench;
 use fm_base::Refusal;
 use fm_shelf::shelf::{Failed, Sink};
 use fm_shelf::whole::write_all;
@@ -27,6 +26,7 @@ use readings::one_simulation_gives_all;
 use room::NoRoom;
 use std::alloc::Global;
 use std::thread::Threads;
+use testbench::Testbench;
 
 /// What is known of the faults of a plan.
 #[derive(Drop)]

@@ -1,7 +1,7 @@
 // A worker, and the faults that it simulates.
 ghost use Rattle.std.specs.Prelude.{◌≡◌, ◌+◌, ◌*◌, ◌<◌, ◌≤◌, ◌^◌, ℕ, IfOk, length};
 ghost use Rattle.golden_difference.specs.Lanes.{IsMadeFor};
-ghost use Rattle.classifier.specs.Testbench.{IsTestbenchFor};
+ghost use Rattle.testbench.specs.Testbench.{IsTestbenchFor};
 ghost use Rattle.latency_table.specs.Latency.{IsLatencyFor, latency_at};
 ghost use Rattle.campaign_plan.specs.Analysis.{fault_count};
 ghost use Rattle.shown_runs.specs.Beyond.{IsReachFor};
@@ -13,7 +13,6 @@ use crate::runs::follow_runs;
 use alarm_points::Points;
 use batch_crew::WorkerShare;
 use campaign_plan::Plan;
-use classifier::Testbench;
 use differential_kernel::DifferentialLanes4;
 use fm_base::Steps;
 use room::{NoRoom, filled, push};
@@ -22,6 +21,7 @@ use shown_runs::{PointReach, load_batches};
 use std::alloc::Global;
 use std::marker::Model;
 use std::sync::ledger::{Blank, Ledger};
+use testbench::Testbench;
 
 /// The number of batches that are simulated at once, one in each word of lanes.
 pub(crate) const WORDS: u32 = 4;

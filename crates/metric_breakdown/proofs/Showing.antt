@@ -20,7 +20,7 @@ use Rattle.campaign_plan.specs.Weights.{weight}
 use Rattle.campaign_plan.proofs.Lanes.{all_below, none_below, one_more_lane, sums_below, unused_lane}
 use Rattle.classifier.specs.Batch.{alone_in}
 use Rattle.classifier.specs.Planes.{HasPlanes}
-use Rattle.classifier.specs.Testbench.{IsTestbenchFor, Testbench}
+use Rattle.testbench.specs.Testbench.{IsTestbenchFor, Testbench}
 use Rattle.reading_planes.specs.Readings.{ftti_by, points_by}
 use Rattle.reading_planes.specs.declared.reading.Reading.{Reading}
 

@@ -3,7 +3,7 @@ ghost use Rattle.std.specs.Prelude.{◌<◌, ◌≤◌, IfOk, length};
 ghost use Rattle.batch_crew.specs.Crew.{AreReady, HaveWorked};
 ghost use Rattle.circuit.specs.Order.{IsOrder};
 ghost use Rattle.campaign_plan.specs.Kept.{IsPlan};
-ghost use Rattle.classifier.specs.Testbench.{IsTestbenchFor};
+ghost use Rattle.testbench.specs.Testbench.{IsTestbenchFor};
 ghost use Rattle.reading_planes.specs.Readings.{AreReadingsOf};
 ghost use Rattle.metric_breakdown.specs.Text.{AreReadingSums};
 ghost use Rattle.metric_breakdown.specs.Turns.{HaveSums, rounds_for, turns_for};
@@ -14,13 +14,13 @@ use crate::sums::{add_sums, no_sums};
 use crate::worker::{Worker, add_round};
 use batch_crew::{Rounds, WorkerShare, hired, work_all};
 use campaign_plan::Plan;
-use classifier::Testbench;
 use metric_sums::Sums;
 use netlist_levels::Order;
 use reading_planes::Reading;
 use room::NoRoom;
 use std::alloc::Global;
 use std::thread::Threads;
+use testbench::Testbench;
 
 // The sums by each of some readings of a plan: four batches in each round.
 #[derive(Clone, Copy)]
@@ -32,7 +32,7 @@ struct ReadingRounds<'a> {
 
 impl<'a> Rounds for ReadingRounds<'a> {
     ghost use Rattle.std.specs.Prelude.{◌≡◌};
-    ghost use Rattle.classifier.specs.Testbench.{IsTestbenchFor};
+    ghost use Rattle.testbench.specs.Testbench.{IsTestbenchFor};
     ghost use Rattle.reading_planes.specs.Readings.{AreReadingsOf};
     ghost use Rattle.metric_breakdown.specs.Turns.{rounds_for};
     ghost use Rattle.metric_breakdown.specs.Work.{HasAdded};

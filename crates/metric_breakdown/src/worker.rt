@@ -2,7 +2,7 @@
 ghost use Rattle.std.specs.Prelude.{◌≡◌, ◌<◌, ◌≤◌, ◌+◌, ◌^◌, ℕ, [], IfOk, length, slice_index_or};
 ghost use Rattle.batch_crew.specs.declared.rounds.WorkerShare.{WorkerShare as Share};
 ghost use Rattle.campaign_plan.specs.Analysis.{Analysis};
-ghost use Rattle.classifier.specs.Testbench.{IsTestbenchFor};
+ghost use Rattle.testbench.specs.Testbench.{IsTestbenchFor};
 ghost use Rattle.reading_planes.specs.Readings.{AreReadingsOf};
 ghost use Rattle.reading_planes.specs.Simulator.{IsSimulatorFor};
 ghost use Rattle.metric_breakdown.specs.Turns.{HasSums, ShowsBatch, batch_of_turn};
@@ -12,11 +12,11 @@ use crate::share::{WORDS, batch_of};
 use crate::sums::{add_turn, no_sums};
 use batch_crew::WorkerShare;
 use campaign_plan::Plan;
-use classifier::Testbench;
 use metric_sums::Sums;
 use reading_planes::{Reading, ReadingSimulator};
 use room::NoRoom;
 use std::alloc::Global;
+use testbench::Testbench;
 
 /// What a worker simulates with, and its sums by each reading.
 #[derive(Drop)]

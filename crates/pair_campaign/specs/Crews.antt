@@ -6,7 +6,7 @@ use Rattle.campaign_plan.specs.Analysis.{Analysis}
 use Rattle.pair_list.specs.Chosen.{Chosen, AreFaults, pair_count}
 use Rattle.pair_campaign.specs.declared.worker.PairWorker.{PairWorker}
 use Rattle.pair_campaign.specs.Work.{HasJudged}
-use Rattle.classifier.specs.Testbench.{Testbench, IsTestbenchFor}
+use Rattle.testbench.specs.Testbench.{Testbench, IsTestbenchFor}
 
 -- the plan and the pairs
 pub record MadeFor : Type 0 where

@@ -10,7 +10,7 @@ use Rattle.campaign_plan.specs.Danger.{is_dangerous}
 use Rattle.campaign_plan.specs.declared.Outcome.{Outcome}
 use Rattle.classifier.specs.Planes.{outcome_at}
 use Rattle.classifier.specs.Simulator.{simulator_of}
-use Rattle.classifier.specs.Testbench.{Testbench}
+use Rattle.testbench.specs.Testbench.{Testbench}
 use Rattle.pair_list.specs.Chosen.{Chosen, pair_count, pair_numbered}
 use Rattle.pair_campaign.specs.declared.worker.PairWorker.{PairWorker}
 use Rattle.pair_campaign.specs.PairPlanes.{pair_plane}

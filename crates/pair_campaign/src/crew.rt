@@ -8,7 +8,6 @@ use crate::load::planes_for;
 use crate::worker::PairWorker;
 use batch_crew::hired;
 use campaign_plan::Plan;
-use classifier::Testbench;
 use fm_base::Seq;
 use netlist_levels::Order;
 use pair_list::Pairs;
@@ -16,6 +15,7 @@ use room::{NoRoom, filled};
 use std::alloc::Global;
 use std::marker::Model;
 use std::snapshot::Snapshot;
+use testbench::Testbench;
 
 /// Planes of pairs: bit k of plane q says whether pair 64q + k is dangerous, and is 0 where there is none.
 pub type PairPlanes = Seq<u64>;

@@ -6,19 +6,19 @@ ghost use Rattle.pair_list.specs.Chosen.{AreFaults, pair_count};
 ghost use Rattle.pair_campaign.specs.declared.worker.PairWorker.{PairWorker as Worker};
 ghost use Rattle.pair_campaign.specs.PairPlanes.{pair_planes};
 ghost use Rattle.pair_campaign.specs.Work.{HasJudged};
-ghost use Rattle.classifier.specs.Testbench.{IsTestbenchFor};
+ghost use Rattle.testbench.specs.Testbench.{IsTestbenchFor};
 
 use crate::crew::{PairCrew, PairPlanes};
 use crate::load::planes_for;
 use crate::worker::{PairWorker, judge_round, rounds};
 use batch_crew::{Rounds, WorkerShare, work_all};
 use campaign_plan::Plan;
-use classifier::Testbench;
 use fm_base::Seq;
 use pair_list::Pairs;
 use room::NoRoom;
 use std::alloc::Global;
 use std::thread::Threads;
+use testbench::Testbench;
 
 // The planes of all pairs of a plan: four in each round.
 #[derive(Clone, Copy)]
@@ -29,7 +29,7 @@ pub(crate) struct PairRounds<'a> {
 }
 
 impl<'a> Rounds for PairRounds<'a> {
-    ghost use Rattle.classifier.specs.Testbench.{IsTestbenchFor};
+    ghost use Rattle.testbench.specs.Testbench.{IsTestbenchFor};
     ghost use Rattle.pair_list.specs.Chosen.{AreFaults};
     ghost use Rattle.pair_campaign.specs.Work.{HasJudged, rounds_for};
 
@@ -107,11 +107,6 @@ pub fn judge<R: Threads + Sync>(
         bench: &bench,
         pairs,
     };
-    judge_all(
-        rt,
-        &rounds,
-        workers.as_mut_slice(),
-        planes.as_mut_slice(),
-    );
+    judge_all(rt, &rounds, workers.as_mut_slice(), planes.as_mut_slice());
     Seq::from_vec(planes)
 }

@@ -3,7 +3,7 @@ ghost use Rattle.std.specs.Prelude.{◌≡◌, ◌+◌, ◌*◌, ◌<◌, ◌≤
 ghost use Rattle.fault_list.specs.Faults.{batches_for};
 ghost use Rattle.campaign_plan.specs.Analysis.{Analysis};
 ghost use Rattle.classifier.specs.Simulator.{simulator_of};
-ghost use Rattle.classifier.specs.Testbench.{IsTestbenchFor};
+ghost use Rattle.testbench.specs.Testbench.{IsTestbenchFor};
 ghost use Rattle.pair_list.specs.Chosen.{AreFaults, pair_count};
 ghost use Rattle.pair_campaign.specs.PairPlanes.{pair_plane};
 ghost use Rattle.pair_campaign.specs.Work.{HasJudged, IsEquippedFor, ShowPlanes, ShowsPlane, rounds_for};
@@ -11,10 +11,11 @@ ghost use Rattle.pair_campaign.specs.Work.{HasJudged, IsEquippedFor, ShowPlanes,
 use crate::load::{lists_of, planes_for, used_lanes};
 use batch_crew::WorkerShare;
 use campaign_plan::{Outcome, Plan};
-use classifier::{Simulator, Testbench};
+use classifier::Simulator;
 use pair_list::Pairs;
 use room::{NoRoom, filled};
 use std::alloc::Global;
+use testbench::Testbench;
 
 const WORDS: u32 = 4;
 

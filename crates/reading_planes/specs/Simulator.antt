@@ -4,7 +4,7 @@ use Rattle.circuit.specs.declared.parts.Fault.{Fault}
 use Rattle.golden_difference.specs.Lanes.{IsMadeFor}
 use Rattle.classifier.specs.Batch.{alone_in}
 use Rattle.classifier.specs.Planes.{HasPlanes}
-use Rattle.classifier.specs.Testbench.{Testbench}
+use Rattle.testbench.specs.Testbench.{Testbench}
 use Rattle.shown_runs.specs.Beyond.{IsReachFor}
 use Rattle.shown_runs.specs.Record.{AreRecordsFor}
 use Rattle.reading_planes.specs.Folded.{ArePlanesFor, IsLaneFor, planes_at, reading_at}

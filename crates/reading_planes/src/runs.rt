@@ -7,7 +7,7 @@ ghost use Rattle.workload.specs.Runs.{all_cycles, cycles_of, is_mission, run_at}
 ghost use Rattle.first_cycles.specs.Shown.{Shown};
 ghost use Rattle.fm_base.specs.Planes.{bit};
 ghost use Rattle.golden_difference.specs.Lanes.{IsMadeFor};
-ghost use Rattle.classifier.specs.Load.{lane_faults, load_of};
+ghost use Rattle.testbench.specs.Load.{lane_faults, load_of};
 ghost use Rattle.classifier.specs.Planes.{HasPlanes, outcome_at, planes_of};
 ghost use Rattle.shown_runs.specs.Beyond.{IsBeyond, beyond_at};
 ghost use Rattle.shown_runs.specs.Record.{AreRecordsFor, IsRecordFor, record_at};
@@ -23,13 +23,13 @@ use crate::planes::ReadingPlanes;
 use crate::reading::Reading;
 use alarm_points::Points;
 use campaign_plan::Outcome;
-use classifier::Testbench;
 use differential_kernel::DifferentialLanes;
 use fm_base::Steps;
 use lane_words::Word;
 use shown_runs::record::RunRecord;
 use shown_runs::{Beyond, follow_whole};
 use std::sync::ledger::Ledger;
+use testbench::Testbench;
 use workload::run::Kind;
 
 // Adds what a run of a kind has shown of danger: there is none but in the mission.

@@ -12,7 +12,6 @@ use crate::reading::Reading;
 use crate::runs::marked_readings;
 use alarm_points::Points;
 use campaign_plan::Outcome;
-use classifier::Testbench;
 use differential_kernel::DifferentialLanes4;
 use fault_list::FaultList;
 use fm_base::Steps;
@@ -22,6 +21,7 @@ use shown_runs::{PointReach, load_batches};
 use std::alloc::Global;
 use std::marker::Brand;
 use std::sync::ledger::{Blank, Ledger};
+use testbench::Testbench;
 
 const WORDS: u32 = 4;
 

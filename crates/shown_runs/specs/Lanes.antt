@@ -5,7 +5,7 @@ use Rattle.circuit.specs.Circuit.{Circuit}
 use Rattle.workload.specs.declared.run.Run.{Run}
 use Rattle.alarm_points.specs.declared.Points.{Points}
 use Rattle.fm_base.specs.Planes.{bit}
-use Rattle.classifier.specs.Load.{in_lane}
+use Rattle.testbench.specs.Load.{in_lane}
 use Rattle.shown_runs.specs.Record.{RunRecord}
 use Rattle.shown_runs.specs.Record.{record_at}
 use Rattle.shown_runs.specs.Seen.{HasSeen, MayLeave, WasLetGo}

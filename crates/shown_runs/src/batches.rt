@@ -3,7 +3,7 @@ ghost use Rattle.std.specs.Prelude.{◌≡◌, ◌<◌, ◌≤◌, ◌+◌, ◌*
 ghost use Rattle.golden_difference.specs.Lanes.{IsMadeFor};
 ghost use Rattle.lane_words.specs.Loads.{loaded_faults};
 ghost use Rattle.classifier.specs.Batch.{alone_in};
-ghost use Rattle.classifier.specs.Load.{lane_faults, load_of};
+ghost use Rattle.testbench.specs.Load.{lane_faults, load_of};
 
 use circuit::parts::Fault;
 use differential_kernel::DifferentialLanes;

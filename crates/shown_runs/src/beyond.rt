@@ -13,7 +13,6 @@ ghost use Rattle.shown_runs.specs.Beyond.{ArePathsTo, IsBeyond, IsReachFor, alar
 use alarm_points::Points;
 use circuit::netlist::Netlist;
 use circuit::parts::{Fault, Latch, NetId};
-use classifier::Testbench;
 use fault_list::FaultList;
 use fm_base::Seq;
 use lane_words::Word;
@@ -21,6 +20,7 @@ use reach::{Reach, Sort};
 use room::{NoRoom, filled, from_array, push};
 use std::alloc::Global;
 use std::marker::Model;
+use testbench::Testbench;
 
 const LANES: u32 = 64;
 

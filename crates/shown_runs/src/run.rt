@@ -8,7 +8,7 @@ ghost use Rattle.alarm_points.specs.PointsKept.{ArePointsFor};
 ghost use Rattle.fm_base.specs.Planes.{bit};
 ghost use Rattle.golden_difference.specs.Beside.{AreBeside, IsGoldenRow, IsOver};
 ghost use Rattle.golden_difference.specs.Lanes.{IsMadeFor};
-ghost use Rattle.classifier.specs.Load.{in_lane, lane_faults, load_of};
+ghost use Rattle.testbench.specs.Load.{in_lane, lane_faults, load_of};
 ghost use Rattle.shown_runs.specs.Record.{AreRecordsFor, record_at};
 ghost use Rattle.shown_runs.specs.Seen.{HasSeen, IsFollowed};
 ghost use Rattle.shown_runs.specs.Lanes.{AreFollowing};
@@ -17,11 +17,11 @@ use crate::leaving::LeavingRule;
 use crate::record::RunRecord;
 use crate::see::see_cycle;
 use alarm_points::Points;
-use classifier::Testbench;
 use differential_kernel::DifferentialLanes;
 use fm_base::Steps;
 use lane_words::Word;
 use std::sync::ledger::Ledger;
+use testbench::Testbench;
 use workload::run::Kind;
 
 // Forgets what was seen of earlier runs.

@@ -7,7 +7,7 @@ ghost use Rattle.alarm_points.specs.PointsKept.{ArePointsFor};
 ghost use Rattle.campaign_plan.specs.Danger.{differs};
 ghost use Rattle.fm_base.specs.Planes.{bit};
 ghost use Rattle.golden_difference.specs.Beside.{AreBeside, IsGoldenRow};
-ghost use Rattle.classifier.specs.Load.{in_lane};
+ghost use Rattle.testbench.specs.Load.{in_lane};
 ghost use Rattle.classifier.specs.Seen.{goal_at};
 ghost use Rattle.first_cycles.specs.FirstCycles.{is_raised_at};
 ghost use Rattle.first_cycles.specs.Shown.{is_silenced_at};

@@ -2,7 +2,7 @@
 ghost use Rattle.std.specs.Prelude.{◌≡◌, ◌<◌, ◌≤◌, ◌+◌, ◌*◌, ℕ, length};
 ghost use Rattle.workload.specs.Runs.{cycles_of, run_at};
 ghost use Rattle.golden_difference.specs.Lanes.{IsMadeFor};
-ghost use Rattle.classifier.specs.Load.{lane_faults, load_of};
+ghost use Rattle.testbench.specs.Load.{lane_faults, load_of};
 ghost use Rattle.shown_runs.specs.Beyond.{IsBeyond, beyond_at};
 ghost use Rattle.shown_runs.specs.Record.{AreRecordsFor, record_at};
 ghost use Rattle.shown_runs.specs.Seen.{HasSeenRun};
@@ -11,11 +11,11 @@ use crate::beyond::Beyond;
 use crate::leaving::AllSeen;
 use crate::record::RunRecord;
 use crate::run::follow_run;
-use classifier::Testbench;
 use differential_kernel::DifferentialLanes;
 use fm_base::Steps;
 use lane_words::Word;
 use std::sync::ledger::Ledger;
+use testbench::Testbench;
 
 const MOST_WORDS: usize = 4;
 

@@ -1,7 +1,6 @@
 -- What is answered of what is asked.
 use Rattle.std.proofs.Common.{◌≡◌, ◌∙◌, ap, refl, ℕ, ◌-◌, Bool, true, false, not, List, length, Ok, Err}
-use Rattle.std.specs.Prelude.{Option, is_none, Result, ◌&&◌, ◌==◌, nat_le, if◌then◌else◌, []}
-use Rattle.std.specs.Str.{bytes_eq}
+use Rattle.std.specs.Prelude.{Option, is_none, is_some, Result, ◌&&◌, ◌==◌, nat_le, if◌then◌else◌}
 use Rattle.circuit.specs.Circuit.{Circuit}
 use Rattle.circuit.specs.declared.parts.Fault.{Fault}
 use Rattle.fault_list.specs.Faults.{faults_of}
@@ -10,15 +9,15 @@ use Rattle.workload.specs.declared.run.Run.{Run}
 use Rattle.workload.specs.Runs.{run_at}
 use Rattle.wave_dump.specs.declared.DumpFault.{DumpFault}
 use Rattle.wave_dump.specs.declared.DumpFault.TheVariants.{NoRun, NoFault, NoNet}
-use Rattle.wave_dump.specs.Asked.{fault_named, is_pattern, nets_shown, waves_asked}
+use Rattle.wave_dump.specs.Asked.{fault_given, is_pattern, nets_shown, waves_asked}
 use Rattle.wave_dump.specs.Dump.{Waves}
 
 first_refusal : Bool → Bool → Bool → Waves → Result Waves DumpFault
 first_refusal a b c w = if a then Err NoRun else if b then Err NoFault else if c then Err NoNet else Ok w
 
-module _ (c : Circuit) (runs : List Run) (flips pulses : List ℕ) (number : ℕ) (name : Name) (word : Bytes) where
+module _ (c : Circuit) (runs : List Run) (flips pulses : List ℕ) (number : ℕ) (name : Option Name) (word : Option Bytes) where
   abbrev pub fault_asked : Option Fault
-  fault_asked = fault_named c (faults_of c flips pulses) name
+  fault_asked = fault_given c (faults_of c flips pulses) name
 
   abbrev pub nets_asked : List ℕ
   nets_asked = nets_shown c (run_at runs (number - 1)) fault_asked word
@@ -30,7 +29,7 @@ module _ (c : Circuit) (runs : List Run) (flips pulses : List ℕ) (number : ℕ
   is_late = not (nat_le 1 number && nat_le number (length runs))
 
   abbrev pub is_lost : Bool
-  is_lost = is_none fault_asked && not (bytes_eq name [])
+  is_lost = is_none fault_asked && is_some name
 
   abbrev pub is_empty : Bool
   is_empty = (length nets_asked == 0) && is_pattern fault_asked word

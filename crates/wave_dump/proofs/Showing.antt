@@ -11,13 +11,12 @@ use Rattle.circuit.specs.Circuit.{Circuit}
 use Rattle.circuit.specs.Names.{net_name}
 use Rattle.circuit.specs.declared.parts.Fault.{Fault}
 use Rattle.circuit.specs.Trace.{trace}
-use Rattle.rate_table.specs.Table.{matches}
 use Rattle.alarm_points.proofs.Settled.{some_below-suc, some_below-zero}
 use Rattle.fm_base.specs.Lists.{below, same_bit, some_below}
 use Rattle.fm_base.specs.Names.{Bytes}
 use Rattle.fm_base.proofs.Below.{below_push, below_small}
 use Rattle.workload.specs.declared.run.Run.{Run}
-use Rattle.wave_dump.specs.Asked.{changes_net, is_shown, nets_shown, name_pattern, wants_all, wants_changed}
+use Rattle.wave_dump.specs.Asked.{changes_net, is_matched, is_shown, nets_shown, wants_all, wants_changed}
 use Rattle.wave_dump.specs.Dump.{Waves, alone}
 use Rattle.wave_dump.specs.Steps.{AreMarks, MarksShown, has_changed}
 
@@ -42,7 +41,7 @@ filter_same f g (suc n) same =
     ∙ sym (ap (λ k. filter g (below k)) next ∙ filter_next g n)
 
 -- the marked nets are those that are shown
-pub marked_shown : (w : Waves) (word : Bytes) (marks : List Bool) → MarksShown w word marks
+pub marked_shown : (w : Waves) (word : Option Bytes) (marks : List Bool) → MarksShown w word marks
     → filter (λ n. get_or marks n false) (below (length marks)) ≡ nets_shown w.circuit w.run w.fault word
 unfolding nets_shown
 marked_shown w word marks are =
@@ -98,17 +97,17 @@ module _ (f : ℕ → Bool) (old marks : List Bool) (n : ℕ) (v : Bool) where
 
 -- ---- a pattern
 
-pub matching_shown : (w : Waves) (word : Bytes) (marks : List Bool) → length w.circuit.drivers ≤ 2 ^ 18 → length w.circuit.names ≡ length w.circuit.drivers
-    → wants_all w.fault word ≡ false → wants_changed w.fault word ≡ false → marks ≡ map (matches (name_pattern word)) w.circuit.names → MarksShown w word marks
+pub matching_shown : (w : Waves) (word : Option Bytes) (marks : List Bool) → length w.circuit.drivers ≤ 2 ^ 18 → length w.circuit.names ≡ length w.circuit.drivers
+    → wants_all w.fault word ≡ false → wants_changed w.fault word ≡ false → marks ≡ map (is_matched word) w.circuit.names → MarksShown w word marks
 matching_shown w word marks few named no_all no_changed are = record {
   few = few;
-  count = ap length are ∙ length-map w.circuit.names (matches (name_pattern word)) ∙ named;
+  count = ap length are ∙ length-map w.circuit.names (is_matched word) ∙ named;
   each = λ net lt.
       ap (λ (ms : List Bool). get_or ms net false) are
-      ∙ get_or-map (matches (name_pattern word)) w.circuit.names net [] false (omega (arith, lt, named))
+      ∙ get_or-map (is_matched word) w.circuit.names net [] false (omega (arith, lt, named))
       ∙ sym (
-      ap (λ b. if b then true else if wants_changed w.fault word then changes_net w.circuit w.run w.fault net else matches (name_pattern word) (net_name w.circuit net)) no_all
-      ∙ ap (λ b. if b then changes_net w.circuit w.run w.fault net else matches (name_pattern word) (net_name w.circuit net)) no_changed
+      ap (λ b. if b then true else if wants_changed w.fault word then changes_net w.circuit w.run w.fault net else is_matched word (net_name w.circuit net)) no_all
+      ∙ ap (λ b. if b then changes_net w.circuit w.run w.fault net else is_matched word (net_name w.circuit net)) no_changed
       );
 }
 
@@ -129,12 +128,12 @@ marked_skip marks n nets before here =
 pub no_nets : (n : ℕ) → All (λ k. k < n) []
 no_nets n i d lt = absurd (omega (arith, lt))
 
-pub shown_within : (c : Circuit) (run : Run) (fault : Option Fault) (word : Bytes) → All (λ n. n < length c.drivers) (nets_shown c run fault word)
+pub shown_within : (c : Circuit) (run : Run) (fault : Option Fault) (word : Option Bytes) → All (λ n. n < length c.drivers) (nets_shown c run fault word)
 unfolding nets_shown
 shown_within c run fault word =
     All-filter (is_shown c run fault word) (λ n. n < length c.drivers) (below (length c.drivers)) (below_small (length c.drivers))
 
-pub shown_few : (c : Circuit) (run : Run) (fault : Option Fault) (word : Bytes) → length (nets_shown c run fault word) ≤ length c.drivers
+pub shown_few : (c : Circuit) (run : Run) (fault : Option Fault) (word : Option Bytes) → length (nets_shown c run fault word) ≤ length c.drivers
 unfolding nets_shown below
 shown_few c run fault word =
     omega (

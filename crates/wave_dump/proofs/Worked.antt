@@ -1,6 +1,6 @@
 -- A dump that was worked by hand: a latch q that toggles where the input e is 1, with a flip of it in cycle 1. No function cites it.
 use Rattle.std.proofs.Common.{◌≡◌, refl, ℕ, true, false, [], ◌∷◌, codes, Ok, Err}
-use Rattle.std.specs.Prelude.{Some}
+use Rattle.std.specs.Prelude.{None, Some}
 use Rattle.std.specs.Fmt.{digits}
 use Rattle.circuit.specs.Circuit.{Circuit}
 use Rattle.circuit.specs.Trace.{raw_state}
@@ -46,19 +46,19 @@ unfolding net toggle run flipped digits raw_state val below code_within scope_va
 text = refl
 
 -- the flip by its name, which changes y and q
-pub asked : waves_asked toggle (run ∷ []) (1 ∷ []) [] 1 (codes "q^1") [] ≡ Ok flipped
+pub asked : waves_asked toggle (run ∷ []) (1 ∷ []) [] 1 (Some (codes "q^1")) None ≡ Ok flipped
 unfolding net toggle run flipped digits raw_state val below some_below faults_for nets_shown waves_asked
 asked = refl
 
-pub no_run : waves_asked toggle (run ∷ []) (1 ∷ []) [] 2 [] [] ≡ Err NoRun
+pub no_run : waves_asked toggle (run ∷ []) (1 ∷ []) [] 2 None None ≡ Err NoRun
 unfolding net toggle run waves_asked
 no_run = refl
 
 -- in cycle 2 there is no flip
-pub no_fault : waves_asked toggle (run ∷ []) (1 ∷ []) [] 1 (codes "q^2") [] ≡ Err NoFault
+pub no_fault : waves_asked toggle (run ∷ []) (1 ∷ []) [] 1 (Some (codes "q^2")) None ≡ Err NoFault
 unfolding net toggle run digits below faults_for waves_asked
 no_fault = refl
 
-pub no_net : waves_asked toggle (run ∷ []) (1 ∷ []) [] 1 (codes "q^1") (codes "z*") ≡ Err NoNet
+pub no_net : waves_asked toggle (run ∷ []) (1 ∷ []) [] 1 (Some (codes "q^1")) (Some (codes "z*")) ≡ Err NoNet
 unfolding net toggle run digits below faults_for nets_shown waves_asked
 no_net = refl

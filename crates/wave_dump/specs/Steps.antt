@@ -1,5 +1,5 @@
 -- Shapes of private steps: how a dump is written. Nothing public cites them.
-use Rattle.std.specs.Prelude.{◌≡◌, ℕ, ◌+◌, ◌<◌, ◌≤◌, ◌^◌, Bool, true, false, not, ◌||◌, List, [], ◌∷◌, ◌++◌, length, map, take, slice_get, slice_index, slice_index_or, All, if◌then◌else◌, ◌==◌, codes, decimal}
+use Rattle.std.specs.Prelude.{◌≡◌, ℕ, ◌+◌, ◌<◌, ◌≤◌, ◌^◌, Bool, true, false, not, ◌||◌, List, [], ◌∷◌, ◌++◌, length, map, take, slice_get, slice_index, slice_index_or, All, Option, if◌then◌else◌, ◌==◌, codes, decimal}
 use Rattle.std.specs.Option.{option_map_or}
 use Rattle.std.specs.Str.{byte, bytes_eq}
 use Rattle.circuit.specs.declared.parts.Fault.{Fault}
@@ -106,7 +106,7 @@ pub record AreMarks (w : Waves) (t : ℕ) (marks : List Bool) : Type 0 where
   pub each : (net : ℕ) → net < length w.circuit.drivers → slice_index_or marks net false ≡ has_changed w t net
 
 -- a mark for each net, which says whether it is shown
-pub record MarksShown (w : Waves) (word : Bytes) (marks : List Bool) : Type 0 where
+pub record MarksShown (w : Waves) (word : Option Bytes) (marks : List Bool) : Type 0 where
   pub few : length w.circuit.drivers ≤ 2 ^ 18
   pub count : length marks ≡ length w.circuit.drivers
   pub each : (net : ℕ) → net < length w.circuit.drivers → slice_index_or marks net false ≡ is_shown w.circuit w.run w.fault word net

@@ -1,6 +1,5 @@
 // The dump of a run.
-ghost use Rattle.std.specs.Prelude.{◌≡◌, ◌<◌, ◌≤◌, ◌&&◌, ◌==◌, [], IfOk, false, is_none, length, nat_le, not};
-ghost use Rattle.std.specs.Str.{bytes_eq};
+ghost use Rattle.std.specs.Prelude.{◌≡◌, ◌<◌, ◌≤◌, ◌&&◌, ◌==◌, IfOk, false, is_none, is_some, length, nat_le, not};
 ghost use Rattle.circuit.specs.Order.{IsOrder};
 ghost use Rattle.circuit.specs.Sound.{IsNetlist};
 ghost use Rattle.fm_base.specs.Answers.{Gives};
@@ -12,7 +11,7 @@ ghost use Rattle.wave_dump.specs.Dump.{dump_text};
 ghost use Rattle.wave_dump.specs.Steps.{HasLanes};
 
 use crate::header::write_scopes;
-use crate::named::{find_fault, is_pattern};
+use crate::named::{given_fault, is_pattern};
 use crate::scene::Scene;
 use crate::shown::nets_shown;
 use crate::values::{loaded_lanes, write_cycles};
@@ -20,7 +19,7 @@ use crate::words::write_moment;
 use crate::{Asked, DumpFault};
 use circuit::netlist::Netlist;
 use circuit::parts::Fault;
-use fm_base::{Refusal, Steps};
+use fm_base::{Name, Refusal, Steps};
 use fm_shelf::shelf::{Failed, Sink};
 use fm_shelf::whole::write_all;
 use lane_kernel::Lanes;
@@ -63,14 +62,14 @@ fn lacks_run(work: &Workload, number: u32) -> bool
 }
 
 // Whether a name is given that no fault has.
-fn lacks_fault(fault: Option<Fault>, name: &[u8]) -> bool
-    ensures { result ≡ (is_none fault && not (bytes_eq name.now [])) }
+fn lacks_fault(fault: Option<Fault>, name: &Option<Name>) -> bool
+    ensures { result ≡ (is_none fault && is_some name.now) }
 {
-    fault.is_none() && !name.is_empty()
+    fault.is_none() && name.is_some()
 }
 
 // Whether a pattern is given that no net matches.
-fn lacks_nets(scene: &Scene<'_>, word: &[u8]) -> bool
+fn lacks_nets(scene: &Scene<'_>, word: &Option<Name>) -> bool
     ensures { result ≡ ((length scene.now.nets == 0) && is_pattern_word scene.now.fault word.now) }
 {
     scene.nets().is_empty() && is_pattern(scene.fault(), word)
@@ -105,7 +104,7 @@ fn scene_of<'a>(
     work: &'a Workload,
     run: u32,
     fault: Option<Fault>,
-    word: &[u8],
+    word: &Option<Name>,
 ) -> Result<Scene<'a>, NoRoom>
     requires sound { IsNetlist net.now }
     requires order { IsOrder net.now order.now }
@@ -148,7 +147,7 @@ impl<'a> Dump<'a> {
         if lacks_run(work, asked.run) {
             return Err(Refusal::Fault(DumpFault::NoRun));
         }
-        let fault = find_fault(net, asked.flips, asked.pulses, asked.fault);
+        let fault = given_fault(net, asked.flips, asked.pulses, asked.fault);
         if lacks_fault(fault, asked.fault) {
             return Err(Refusal::Fault(DumpFault::NoFault));
         }

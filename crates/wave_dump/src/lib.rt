@@ -12,6 +12,7 @@ mod values;
 mod words;
 
 pub use dump::Dump;
+use fm_base::Name;
 pub use law::{codes_are_apart, prints_traces};
 
 /// Why there is no dump, in the order in which the causes are looked for.
@@ -30,12 +31,12 @@ pub enum DumpFault {
 pub struct Asked<'a> {
     /// The number of the run, from 1.
     pub run: u32,
-    /// The name of a fault, as a report has it; empty for none.
-    pub fault: &'a [u8],
+    /// The name of a fault, as a report has it, where one was given.
+    pub fault: &'a Option<Name>,
     /// The cycles of flips and of pulses that a fault may have.
     pub flips: &'a [u32],
     pub pulses: &'a [u32],
-    /// `all`; `differing`, for the nets that the fault changes at some cycle; or the pattern of a name, as a rates file has it. Empty it
-    /// is `differing` where there is a fault, and else `all`.
-    pub nets: &'a [u8],
+    /// `all`; `differing`, for the nets that the fault changes at some cycle; or the pattern of a name, as a rates file has it. Where none
+    /// was given it is `differing` with a fault, and else `all`.
+    pub nets: &'a Option<Name>,
 }

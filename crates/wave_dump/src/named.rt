@@ -5,13 +5,13 @@ ghost use Rattle.circuit.specs.Sound.{IsNetlist};
 ghost use Rattle.fault_list.specs.Faults.{fault_name, faults_of};
 ghost use Rattle.fm_base.specs.Lists.{below};
 ghost use Rattle.rate_table.specs.Table.{matches};
-ghost use Rattle.wave_dump.specs.Asked.{fault_named, name_pattern, is_pattern as is_pattern_word, wants_all, wants_changed};
+ghost use Rattle.wave_dump.specs.Asked.{fault_given, fault_named, name_pattern, is_matched as is_matched_by, is_pattern as is_pattern_word, wants_all, wants_changed};
 ghost use Rattle.wave_dump.specs.Steps.{is_fault_named, flips_of, pulses_on, stuck_faults, suffix};
 
 use circuit::netlist::Netlist;
 use circuit::parts::{Fault, NetId};
 use fault_list::net_of;
-use fm_base::Line;
+use fm_base::{Line, Name};
 
 // What stands behind the net in the name of a fault.
 fn suffix_of(fault: Fault) -> Line
@@ -124,8 +124,8 @@ fn find_pulse(net: &Netlist, cycles: &[u32], name: &[u8]) -> Option<Fault>
     None
 }
 
-/// The fault that has a name, of those of a netlist with flips and pulses in these cycles.
-pub(crate) fn find_fault(net: &Netlist, flips: &[u32], pulses: &[u32], name: &[u8]) -> Option<Fault>
+// The fault that has a name, of those of a netlist with flips and pulses in these cycles.
+fn find_fault(net: &Netlist, flips: &[u32], pulses: &[u32], name: &[u8]) -> Option<Fault>
     ensures value { result ≡ fault_named net.now (faults_of net.now flips.now pulses.now) name.now }
     ensures sound { IsNetlist net.now }
 {
@@ -136,6 +136,21 @@ pub(crate) fn find_fault(net: &Netlist, flips: &[u32], pulses: &[u32], name: &[u
         return Some(fault);
     }
     find_pulse(net, pulses, name)
+}
+
+/// The fault of the name that is given.
+pub(crate) fn given_fault(
+    net: &Netlist,
+    flips: &[u32],
+    pulses: &[u32],
+    name: &Option<Name>,
+) -> Option<Fault>
+    ensures { result ≡ fault_given net.now (faults_of net.now flips.now pulses.now) name.now }
+{
+    match name {
+        Some(name) => find_fault(net, flips, pulses, name.as_slice()),
+        None => None,
+    }
 }
 
 // Whether a pattern has a star at its end.
@@ -159,8 +174,8 @@ fn without_star(text: &[u8]) -> &[u8]
     }
 }
 
-/// Whether a pattern, as a rates file has it, matches the name of a net.
-pub(crate) fn is_match(pattern: &[u8], name: &[u8]) -> bool
+// Whether a pattern, as a rates file has it, matches the name of a net.
+fn is_match(pattern: &[u8], name: &[u8]) -> bool
     ensures { result ≡ matches (name_pattern pattern.now) name.now }
 {
     if has_star(pattern) {
@@ -170,22 +185,38 @@ pub(crate) fn is_match(pattern: &[u8], name: &[u8]) -> bool
     }
 }
 
+/// Whether the pattern that is given matches the name of a net.
+pub(crate) fn is_matched(word: &Option<Name>, name: &[u8]) -> bool
+    ensures { result ≡ is_matched_by word.now name.now }
+{
+    match word {
+        Some(pattern) => is_match(pattern.as_slice(), name),
+        None => false,
+    }
+}
+
 /// Whether all nets are to be shown.
-pub(crate) fn is_all(fault: Option<Fault>, word: &[u8]) -> bool
+pub(crate) fn is_all(fault: Option<Fault>, word: &Option<Name>) -> bool
     ensures { result ≡ wants_all fault word.now }
 {
-    word == b"all".as_slice() || (word.is_empty() && fault.is_none())
+    match word {
+        Some(word) => word.as_slice() == b"all".as_slice(),
+        None => fault.is_none(),
+    }
 }
 
 /// Whether the nets are to be shown that the fault changes.
-pub(crate) fn is_differing(fault: Option<Fault>, word: &[u8]) -> bool
+pub(crate) fn is_differing(fault: Option<Fault>, word: &Option<Name>) -> bool
     ensures { result ≡ wants_changed fault word.now }
 {
-    word == b"differing".as_slice() || (word.is_empty() && fault.is_some())
+    match word {
+        Some(word) => word.as_slice() == b"differing".as_slice(),
+        None => fault.is_some(),
+    }
 }
 
-/// Whether the word is the pattern of a name.
-pub(crate) fn is_pattern(fault: Option<Fault>, word: &[u8]) -> bool
+/// Whether a word is given that is the pattern of a name.
+pub(crate) fn is_pattern(fault: Option<Fault>, word: &Option<Name>) -> bool
     ensures { result ≡ is_pattern_word fault word.now }
 {
     !is_all(fault, word) && !is_differing(fault, word)

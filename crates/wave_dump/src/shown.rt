@@ -3,27 +3,27 @@ ghost use Rattle.std.specs.Prelude.{◌≡◌, ◌≤◌, ◌^◌, IfOk, false, 
 ghost use Rattle.circuit.specs.Order.{IsOrder};
 ghost use Rattle.circuit.specs.Sound.{IsNetlist};
 ghost use Rattle.fm_base.specs.Lists.{below};
-ghost use Rattle.rate_table.specs.Table.{matches};
-ghost use Rattle.wave_dump.specs.Asked.{nets_shown as shown_by, name_pattern};
+ghost use Rattle.wave_dump.specs.Asked.{is_matched as is_matched_by, nets_shown as shown_by};
 ghost use Rattle.wave_dump.specs.Steps.{MarksShown};
 
 use crate::changed::changed_nets;
-use crate::named::{is_all, is_differing, is_match};
+use crate::named::{is_all, is_differing, is_matched};
 use crate::scene::Scene;
 use circuit::netlist::Netlist;
+use fm_base::Name;
 use netlist_levels::Order;
 use room::{NoRoom, collect, filled, push};
 use std::alloc::Global;
 
-// For each net whether a pattern matches its name.
-fn matching_nets(alloc: Global, net: &Netlist, pattern: &[u8]) -> Result<Vec<bool>, NoRoom>
-    ensures marks { IfOk result (λ marks. marks.items ≡ map (matches (name_pattern pattern.now)) net.now.names) }
+// For each net whether the pattern that is given matches its name.
+fn matching_nets(alloc: Global, net: &Netlist, word: &Option<Name>) -> Result<Vec<bool>, NoRoom>
+    ensures marks { IfOk result (λ marks. marks.items ≡ map (is_matched_by word.now) net.now.names) }
     ensures sound { IsNetlist net.now }
 {
     collect(
         net.names()
             .iter()
-            .map(|name| is_match(pattern, name.as_slice())),
+            .map(|name| is_matched(word, name.as_slice())),
         alloc,
     )
 }
@@ -33,7 +33,7 @@ fn shown_marks(
     alloc: Global,
     scene: &Scene<'_>,
     order: &Order,
-    word: &[u8],
+    word: &Option<Name>,
 ) -> Result<Vec<bool>, NoRoom>
     requires { IsOrder scene.now.circuit order.now }
     ensures { IfOk result (λ marks. MarksShown scene.now word.now marks.items) }
@@ -66,7 +66,7 @@ pub(crate) fn nets_shown(
     alloc: Global,
     scene: &Scene<'_>,
     order: &Order,
-    word: &[u8],
+    word: &Option<Name>,
 ) -> Result<Vec<u32>, NoRoom>
     requires { IsOrder scene.now.circuit order.now }
     ensures { IfOk result (λ nets. nets.items ≡ shown_by scene.now.circuit scene.now.run scene.now.fault word.now) }

@@ -1,7 +1,7 @@
 use Rattle.std.proofs.Common.{◌≡◌, ◌+◌, ◌*◌, ap, sym, ◌∙◌, subst, arith}
 use Rattle.campaign_plan.specs.declared.Outcome.{Outcome}
 use Rattle.lane_words.specs.Loads.{loaded_faults}
-use Rattle.classifier.specs.Load.{lane_faults, load_of}
+use Rattle.testbench.specs.Load.{lane_faults, load_of}
 use Rattle.classifier.specs.Planes.{HasPlanes}
 use Rattle.classifier.proofs.PlaneBits.{planes_have}
 use Rattle.classifier.proofs.batch.batch_outcome.Goals as goal

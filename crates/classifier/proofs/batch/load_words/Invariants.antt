@@ -2,7 +2,7 @@ use Rattle.std.proofs.Common.{◌≡◌, ◌+◌, ◌*◌, ◌<◌, ℕ, length}
 use Rattle.golden_difference.specs.Lanes.{IsMadeFor}
 use Rattle.lane_words.specs.Loads.{loaded_faults}
 use Rattle.classifier.specs.Batch.{alone_in, batch_at}
-use Rattle.classifier.specs.Load.{lane_faults, load_of}
+use Rattle.testbench.specs.Load.{lane_faults, load_of}
 use Rattle.classifier.specs.OutOfReach.{AreOutOfReach, reach_at}
 use Rattle.classifier.proofs.batch.load_words.Given as goal
 

@@ -2,7 +2,7 @@ use Rattle.std.proofs.Common.{◌≡◌, ◌<◌, [], length, map, sym, ◌∙�
 use Rattle.std.specs.Prelude.{None}
 use Rattle.std.proofs.lemmas.List.{ext_get_or, get_or-map, length-map}
 use Rattle.campaign_plan.specs.declared.Outcome.{Outcome}
-use Rattle.classifier.specs.Load.{lane_faults, load_of}
+use Rattle.testbench.specs.Load.{lane_faults, load_of}
 use Rattle.classifier.specs.Batch.{outcome_for}
 use Rattle.classifier.specs.Planes.{HasPlanes, outcome_at}
 use Rattle.classifier.proofs.PlaneBits.{planes_have}

@@ -3,7 +3,7 @@ use Rattle.std.proofs.lemmas.List.{get_or_default}
 use Rattle.alarm_points.specs.Watch.{Watches}
 use Rattle.campaign_plan.specs.declared.Outcome.{Outcome}
 use Rattle.campaign_plan.specs.Danger.{is_dangerous_in}
-use Rattle.classifier.specs.Load.{in_lane, lane_faults}
+use Rattle.testbench.specs.Load.{in_lane, lane_faults}
 use Rattle.classifier.specs.Planes.{HasPlanes, outcome_at}
 use Rattle.alarm_points.specs.FourWatches.{windows_at}
 use Rattle.classifier.specs.Seen.{HaveSeenRun, known_at, left_at}

@@ -3,7 +3,7 @@ use Rattle.circuit.specs.Circuit.{Circuit}
 use Rattle.workload.specs.declared.run.Run.{Run}
 use Rattle.alarm_points.specs.declared.Points.{Points}
 use Rattle.alarm_points.specs.FourWatches.{windows_at}
-use Rattle.classifier.specs.Load.{Load, lane_faults}
+use Rattle.testbench.specs.Load.{Load, lane_faults}
 use Rattle.classifier.specs.Planes.{HasPlanes, HaveAllPlanes, outcome_at}
 use Rattle.classifier.specs.Seen.{HasBeenRun}
 use Rattle.classifier.specs.OutOfReach.{AreAllDecidedBy, AreAllOutOfReach}

@@ -6,7 +6,7 @@ use Rattle.workload.specs.declared.run.Kind.TheVariants.{Mission}
 use Rattle.workload.specs.declared.run.Run.{Run}
 use Rattle.workload.specs.Runs.{all_cycles, cycles_of, run_at}
 use Rattle.campaign_plan.specs.declared.Outcome.{Outcome}
-use Rattle.classifier.specs.Load.{Load, lane_faults, load_of}
+use Rattle.testbench.specs.Load.{Load, lane_faults, load_of}
 use Rattle.classifier.specs.Planes.{HasPlanes, outcome_at}
 use Rattle.alarm_points.specs.FourWatches.{windows_at}
 use Rattle.classifier.specs.OutOfReach.{AreAllOutOfReach}

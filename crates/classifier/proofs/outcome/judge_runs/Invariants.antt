@@ -1,7 +1,7 @@
 use Rattle.std.proofs.Common.{◌≡◌, ◌+◌, ◌*◌, ◌≤◌, length, take}
 use Rattle.workload.specs.Runs.{all_cycles}
 use Rattle.alarm_points.specs.FourWatches.{AreAllMadeFor}
-use Rattle.classifier.specs.Load.{load_of}
+use Rattle.testbench.specs.Load.{load_of}
 use Rattle.classifier.specs.Narrowed.{AreNarrowFor}
 use Rattle.classifier.specs.Planes.{HaveAllPlanes}
 use Rattle.classifier.specs.Seen.{AllKeepIntervals}

@@ -1,4 +1,4 @@
-use Rattle.classifier.specs.Load.{lane_faults, load_of}
+use Rattle.testbench.specs.Load.{lane_faults, load_of}
 use Rattle.classifier.proofs.PlaneBits.{none_marked}
 use Rattle.classifier.proofs.outcome.loaded_outcome.Goals as goal
 

@@ -1,5 +1,5 @@
 use Rattle.alarm_points.specs.FourWatches.{windows_at}
-use Rattle.classifier.specs.Load.{lane_faults, load_of}
+use Rattle.testbench.specs.Load.{lane_faults, load_of}
 use Rattle.classifier.specs.Planes.{outcome_at}
 use Rattle.classifier.proofs.PlaneBits.{planes_are}
 use Rattle.classifier.proofs.outcome.loaded_outcomes.Goals as goal

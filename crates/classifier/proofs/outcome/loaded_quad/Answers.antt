@@ -1,7 +1,7 @@
 use Rattle.std.proofs.Common.{◌≡◌, List, length, ap, sym, ◌∙◌, subst}
 use Rattle.alarm_points.specs.FourWatches.{AreAllMadeFor, windows_at}
 use Rattle.alarm_points.specs.Watch.{Watches}
-use Rattle.classifier.specs.Load.{lane_faults, load_of}
+use Rattle.testbench.specs.Load.{lane_faults, load_of}
 use Rattle.classifier.specs.Planes.{planes_of}
 use Rattle.classifier.proofs.outcome.loaded_quad.Goals as goal
 

@@ -3,7 +3,7 @@ use Rattle.circuit.specs.declared.parts.Fault.{Fault}
 use Rattle.alarm_points.specs.FourWatches.{AreAllMadeFor, windows_at}
 use Rattle.alarm_points.specs.Watch.{Watches}
 use Rattle.lane_words.specs.Loads.{loaded_faults}
-use Rattle.classifier.specs.Load.{lane_faults, load_of}
+use Rattle.testbench.specs.Load.{lane_faults, load_of}
 use Rattle.classifier.specs.OutOfReach.{AreOutOfReach, reach_at}
 use Rattle.classifier.specs.Planes.{planes_of}
 use Rattle.classifier.proofs.Stretches.{one_word}

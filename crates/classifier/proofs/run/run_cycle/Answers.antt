@@ -7,7 +7,7 @@ use Rattle.workload.specs.Runs.{run_at}
 use Rattle.alarm_points.specs.declared.Points.{Points}
 use Rattle.alarm_points.specs.PointsKept.{ArePointsFor}
 use Rattle.golden_difference.specs.Beside.{IsGoldenRow}
-use Rattle.classifier.specs.Load.{Load}
+use Rattle.testbench.specs.Load.{Load}
 use Rattle.classifier.specs.Stretch.{AreAllWatched, AreForWords, under_way}
 use Rattle.classifier.proofs.Finishing.{few_cycles}
 use Rattle.classifier.proofs.Stretches.{watched_alike, words_still}

@@ -1,7 +1,7 @@
 use Rattle.std.proofs.Common.{◌≡◌, ◌+◌, ℕ, subst, sym}
 use Rattle.alarm_points.specs.FourWatches.{windows_at}
 use Rattle.fm_base.specs.Planes.{bit}
-use Rattle.classifier.specs.Load.{Load, in_lane}
+use Rattle.testbench.specs.Load.{Load, in_lane}
 use Rattle.classifier.specs.Seen.{IsWatched, is_dropped, known_at, left_at}
 use Rattle.classifier.proofs.Following.{followed_more, seen_left}
 use Rattle.classifier.proofs.run.see_words.Goals as goal

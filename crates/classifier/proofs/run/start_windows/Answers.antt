@@ -2,7 +2,7 @@ use Rattle.std.proofs.Common.{◌≡◌, ◌<◌, ℕ, [], length, map, get_or, 
 use Rattle.std.proofs.lemmas.List.{get_or_default}
 use Rattle.alarm_points.specs.Interval.{interval_of}
 use Rattle.alarm_points.specs.Watch.{AreMadeFor, KeepsIntervals, Watches, intervals}
-use Rattle.classifier.specs.Load.{in_lane}
+use Rattle.testbench.specs.Load.{in_lane}
 use Rattle.alarm_points.specs.FourWatches.{windows_at}
 use Rattle.classifier.specs.Seen.{HaveSeen, known_at}
 use Rattle.classifier.proofs.EachWord.{each_set, each_set_one}

@@ -3,7 +3,7 @@ use Rattle.std.specs.Prelude.{Option}
 use Rattle.circuit.specs.declared.parts.Fault.{Fault}
 use Rattle.circuit.specs.Circuit.{Circuit}
 use Rattle.workload.specs.declared.run.Run.{Run}
-use Rattle.classifier.specs.Load.{in_lane}
+use Rattle.testbench.specs.Load.{in_lane}
 use Rattle.alarm_points.specs.FourWatches.{AreAllMadeFor, windows_at}
 use Rattle.classifier.specs.Seen.{AllKeepIntervals, HaveSeen, known_at, left_at}
 use Rattle.classifier.specs.declared.decided.Decided.{Decided}

@@ -4,13 +4,13 @@ use Rattle.workload.specs.Runs.{run_at}
 use Rattle.alarm_points.specs.FourWatches.{AreAllMadeFor}
 use Rattle.alarm_points.specs.declared.Points.{Points}
 use Rattle.classifier.specs.InRun.{in_run}
-use Rattle.classifier.specs.Load.{Load, load_of}
+use Rattle.testbench.specs.Load.{Load, load_of}
 use Rattle.classifier.specs.Narrowed.{AreNarrowFor, narrow_in_run}
 use Rattle.classifier.specs.Seen.{HaveAllSeen}
 use Rattle.classifier.specs.Stretch.{AreForWords, IsUnderWay, under_way}
 use Rattle.classifier.specs.declared.narrow.Narrow.{Narrow}
 use Rattle.classifier.proofs.Finishing.{begun, cost_more, seen_to_end}
-use Rattle.classifier.proofs.Kept.{load_kept}
+use Rattle.testbench.proofs.LoadIsKept.{load_kept}
 use Rattle.classifier.proofs.Narrowing.{narrow_for}
 use Rattle.classifier.proofs.Stretches.{intervals_more, narrow_under_way, stretch_more, stretch_none, watched_alike, words_still}
 use Rattle.classifier.proofs.run.watch_run.Goals as goal

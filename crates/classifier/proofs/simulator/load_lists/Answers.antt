@@ -1,6 +1,6 @@
 use Rattle.std.proofs.Common.{◌≡◌, ◌≢◌, ◌+◌, ◌*◌, ◌<◌, ℕ, [], length, inl, inr, ap, sym, ◌∙◌, arith, length-set}
 use Rattle.std.proofs.lemmas.Bool.{cases_eq}
-use Rattle.classifier.specs.Load.{lane_faults, load_of}
+use Rattle.testbench.specs.Load.{lane_faults, load_of}
 use Rattle.classifier.specs.Simulator.{listed}
 use Rattle.classifier.specs.OutOfReach.{AreOutOfReach, reach_at}
 use Rattle.classifier.specs.declared.reached.OutOfReach.{OutOfReach}

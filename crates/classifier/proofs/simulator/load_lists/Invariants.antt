@@ -1,6 +1,6 @@
 use Rattle.std.proofs.Common.{◌≡◌, ◌<◌, ℕ, length}
 use Rattle.golden_difference.specs.Lanes.{IsMadeFor}
-use Rattle.classifier.specs.Load.{lane_faults, load_of}
+use Rattle.testbench.specs.Load.{lane_faults, load_of}
 use Rattle.classifier.specs.OutOfReach.{AreOutOfReach, reach_at}
 use Rattle.classifier.specs.Simulator.{listed}
 use Rattle.classifier.proofs.simulator.load_lists.Given as goal

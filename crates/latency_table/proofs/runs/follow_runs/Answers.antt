@@ -2,7 +2,7 @@ use Rattle.std.proofs.Common.{◌≡◌, ◌+◌, ◌*◌, ◌/◌, ◌%◌, ◌
 use Rattle.circuit.specs.declared.parts.Fault.{Fault}
 use Rattle.alarm_points.specs.declared.Points.{Points}
 use Rattle.workload.specs.Runs.{run_at}
-use Rattle.classifier.specs.Load.{Load, lane_faults}
+use Rattle.testbench.specs.Load.{Load, lane_faults}
 use Rattle.lane_words.specs.Loads.{loaded_faults}
 use Rattle.shown_runs.specs.Beyond.{IsBeyond, beyond_at}
 use Rattle.shown_runs.specs.Record.{record_at}

@@ -1,5 +1,5 @@
 use Rattle.std.proofs.Common.{◌≡◌, ◌<◌, ℕ}
-use Rattle.classifier.specs.Load.{load_of}
+use Rattle.testbench.specs.Load.{load_of}
 use Rattle.lane_words.specs.Loads.{loaded_faults}
 use Rattle.shown_runs.specs.Record.{AreRecordsFor}
 use Rattle.latency_table.specs.Latency.{IsLatencyOf, latency_at}

@@ -2,7 +2,7 @@ use Rattle.std.proofs.Common.{◌≡◌, ◌+◌, ◌*◌, ◌/◌, ◌%◌, ◌
 use Rattle.circuit.specs.declared.parts.Fault.{Fault}
 use Rattle.campaign_plan.specs.Analysis.{all_faults, fault_numbered}
 use Rattle.classifier.specs.Batch.{alone_in}
-use Rattle.classifier.specs.Load.{Load, lane_faults, load_of}
+use Rattle.testbench.specs.Load.{Load, lane_faults, load_of}
 use Rattle.fm_base.proofs.Lists.{written_whole}
 use Rattle.lane_words.specs.Loads.{loaded_faults}
 use Rattle.shown_runs.specs.Beyond.{Beyond, IsBeyond, beyond_at}

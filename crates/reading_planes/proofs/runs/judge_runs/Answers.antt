@@ -7,7 +7,7 @@ use Rattle.workload.specs.declared.run.Run.{Run}
 use Rattle.workload.specs.Runs.{all_cycles, cycles_of, run_at}
 use Rattle.alarm_points.specs.declared.Points.{Points}
 use Rattle.campaign_plan.specs.declared.Outcome.{Outcome}
-use Rattle.classifier.specs.Load.{Load, lane_faults, load_of}
+use Rattle.testbench.specs.Load.{Load, lane_faults, load_of}
 use Rattle.classifier.specs.Planes.{HasPlanes}
 use Rattle.classifier.proofs.RunByRun.{planes_none}
 use Rattle.shown_runs.specs.Beyond.{IsBeyond, beyond_at}

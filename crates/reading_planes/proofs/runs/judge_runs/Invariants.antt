@@ -1,6 +1,6 @@
 use Rattle.std.proofs.Common.{◌≡◌, ◌+◌, ◌*◌, ◌<◌, ◌≤◌, ℕ, length, take}
 use Rattle.workload.specs.Runs.{all_cycles}
-use Rattle.classifier.specs.Load.{lane_faults, load_of}
+use Rattle.testbench.specs.Load.{lane_faults, load_of}
 use Rattle.classifier.specs.Planes.{HasPlanes}
 use Rattle.shown_runs.specs.Record.{AreRecordsFor}
 use Rattle.reading_planes.specs.Folded.{ArePlanesFor, IsLaneFor, planes_at, reading_at}

@@ -1,5 +1,5 @@
 use Rattle.std.proofs.Common.{◌<◌, length, sym, subst, arith}
-use Rattle.classifier.specs.Load.{lane_faults, load_of}
+use Rattle.testbench.specs.Load.{lane_faults, load_of}
 use Rattle.classifier.proofs.PlaneBits.{planes_are}
 use Rattle.reading_planes.specs.Folded.{planes_at, reading_at}
 use Rattle.reading_planes.specs.Readings.{ftti_by, points_by}

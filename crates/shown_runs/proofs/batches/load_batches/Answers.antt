@@ -2,7 +2,7 @@ use Rattle.std.proofs.Common.{◌≡◌, ◌+◌, ◌*◌, ℕ, inl, inr, ap, sy
 use Rattle.std.specs.Prelude.{Some}
 use Rattle.std.proofs.lemmas.Bool.{cases_eq}
 use Rattle.classifier.specs.Batch.{alone_in}
-use Rattle.classifier.specs.Load.{lane_faults, load_of}
+use Rattle.testbench.specs.Load.{lane_faults, load_of}
 use Rattle.classifier.proofs.Following.{elsewhere}
 use Rattle.shown_runs.proofs.batches.load_batches.Goals as goal
 

@@ -2,7 +2,7 @@ use Rattle.std.proofs.Common.{◌≡◌, ◌+◌, ◌*◌, ◌<◌, ℕ}
 use Rattle.std.specs.Prelude.{Some}
 use Rattle.golden_difference.specs.Lanes.{IsMadeFor}
 use Rattle.classifier.specs.Batch.{alone_in}
-use Rattle.classifier.specs.Load.{lane_faults, load_of}
+use Rattle.testbench.specs.Load.{lane_faults, load_of}
 use Rattle.shown_runs.proofs.batches.load_batches.Given as goal
 
 -- the words so far hold their batches

@@ -2,7 +2,7 @@ use Rattle.std.proofs.Common.{◌≡◌, ◌<◌, ℕ, Bool, false, List}
 use Rattle.std.specs.Prelude.{slice_index}
 use Rattle.fm_base.specs.Planes.{bit}
 use Rattle.golden_difference.specs.Beside.{AreBeside}
-use Rattle.classifier.specs.Load.{in_lane, load_of}
+use Rattle.testbench.specs.Load.{in_lane, load_of}
 use Rattle.shown_runs.proofs.run.drop_out.Given as goal
 
 -- the lanes that are followed are as they were

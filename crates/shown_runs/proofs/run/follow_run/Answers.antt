@@ -9,8 +9,8 @@ use Rattle.golden_difference.specs.Beside.{trace_differs}
 use Rattle.workload.specs.Runs.{all_cycles, cycles_of, run_at}
 use Rattle.alarm_points.specs.declared.Points.{Points}
 use Rattle.fm_base.specs.Planes.{bit}
-use Rattle.classifier.specs.Load.{Load, in_lane, load_of}
-use Rattle.classifier.proofs.Kept.{load_kept}
+use Rattle.testbench.specs.Load.{Load, in_lane, load_of}
+use Rattle.testbench.proofs.LoadIsKept.{load_kept}
 use Rattle.shown_runs.specs.Record.{AreRecordsFor, record_at}
 use Rattle.shown_runs.specs.Seen.{HasSeen}
 use Rattle.shown_runs.specs.Lanes.{StandsAt}

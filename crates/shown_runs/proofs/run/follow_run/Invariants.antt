@@ -1,7 +1,7 @@
 use Rattle.std.proofs.Common.{◌≡◌, ◌≤◌, ◌+◌, ◌-◌, ◌*◌, length, take}
 use Rattle.workload.specs.Runs.{cycles_of, run_at}
 use Rattle.golden_difference.specs.Beside.{AreBeside}
-use Rattle.classifier.specs.Load.{load_of}
+use Rattle.testbench.specs.Load.{load_of}
 use Rattle.shown_runs.specs.Record.{AreRecordsFor}
 use Rattle.shown_runs.specs.Lanes.{AreFollowing}
 use Rattle.shown_runs.proofs.run.follow_run.Given as goal

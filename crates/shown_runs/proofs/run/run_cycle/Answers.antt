@@ -10,7 +10,7 @@ use Rattle.workload.specs.Runs.{run_at}
 use Rattle.alarm_points.specs.declared.Points.{Points}
 use Rattle.alarm_points.specs.PointsKept.{ArePointsFor}
 use Rattle.golden_difference.specs.Beside.{AreBeside, IsGoldenRow}
-use Rattle.classifier.specs.Load.{Load}
+use Rattle.testbench.specs.Load.{Load}
 use Rattle.shown_runs.specs.Record.{RunRecord}
 use Rattle.shown_runs.specs.Record.{AreRecordsFor}
 use Rattle.shown_runs.specs.Lanes.{AreFollowing}

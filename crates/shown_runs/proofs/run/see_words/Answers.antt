@@ -8,7 +8,7 @@ use Rattle.workload.specs.Runs.{cycles_of}
 use Rattle.alarm_points.specs.PointsKept.{ArePointsFor}
 use Rattle.fm_base.specs.Planes.{bit}
 use Rattle.golden_difference.specs.Beside.{AreBeside, IsGoldenRow}
-use Rattle.classifier.specs.Load.{Load, in_lane, load_of}
+use Rattle.testbench.specs.Load.{Load, in_lane, load_of}
 use Rattle.classifier.proofs.EachWord.{each_set_one}
 use Rattle.shown_runs.specs.Record.{RunRecord}
 use Rattle.shown_runs.specs.Record.{IsRecordFor, record_at}

@@ -5,7 +5,7 @@ use Rattle.workload.specs.declared.run.Run.{Run}
 use Rattle.workload.specs.Runs.{cycles_of}
 use Rattle.fm_base.specs.Planes.{bit}
 use Rattle.golden_difference.specs.Beside.{AreBeside, IsGoldenRow}
-use Rattle.classifier.specs.Load.{in_lane, load_of}
+use Rattle.testbench.specs.Load.{in_lane, load_of}
 use Rattle.shown_runs.specs.Record.{AreRecordsFor, record_at}
 use Rattle.shown_runs.specs.Lanes.{AreFollowing, StandsAt}
 use Rattle.shown_runs.proofs.run.see_words.Given as goal

@@ -3,7 +3,7 @@ use Rattle.std.proofs.lemmas.List.{get_or_default}
 use Rattle.circuit.specs.declared.parts.NetId.{NetId}
 use Rattle.campaign_plan.specs.Danger.{golden, with_faults}
 use Rattle.fm_base.specs.Planes.{bit}
-use Rattle.classifier.specs.Load.{in_lane}
+use Rattle.testbench.specs.Load.{in_lane}
 use Rattle.classifier.proofs.PointBits.{raised_where, silenced_where}
 use Rattle.first_cycles.specs.FirstCycles.{is_raised_at}
 use Rattle.first_cycles.specs.Shown.{is_silenced_at}

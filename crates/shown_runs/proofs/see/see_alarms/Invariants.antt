@@ -3,7 +3,7 @@ use Rattle.workload.specs.declared.run.Run.{Run}
 use Rattle.workload.specs.Runs.{cycles_of}
 use Rattle.fm_base.specs.Planes.{bit}
 use Rattle.golden_difference.specs.Beside.{AreBeside, IsGoldenRow}
-use Rattle.classifier.specs.Load.{in_lane}
+use Rattle.testbench.specs.Load.{in_lane}
 use Rattle.first_cycles.specs.FirstCycles.{is_raised_at}
 use Rattle.first_cycles.specs.Shown.{is_silenced_at}
 use Rattle.shown_runs.specs.First.{first_in, first_with}

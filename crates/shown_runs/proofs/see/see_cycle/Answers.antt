@@ -7,7 +7,7 @@ use Rattle.circuit.specs.Sound.{IsNet}
 use Rattle.alarm_points.specs.declared.Goal.{Goal}
 use Rattle.campaign_plan.specs.Danger.{differs}
 use Rattle.fm_base.specs.Planes.{bit}
-use Rattle.classifier.specs.Load.{in_lane}
+use Rattle.testbench.specs.Load.{in_lane}
 use Rattle.classifier.specs.Seen.{goal_at}
 use Rattle.first_cycles.specs.FirstCycles.{is_raised_at}
 use Rattle.first_cycles.specs.Shown.{is_silenced_at}

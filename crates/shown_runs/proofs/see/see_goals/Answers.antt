@@ -6,7 +6,7 @@ use Rattle.circuit.specs.Sound.{IsNet}
 use Rattle.alarm_points.specs.declared.Goal.{Goal}
 use Rattle.campaign_plan.specs.Danger.{differs, golden, with_faults}
 use Rattle.fm_base.specs.Lists.{same_bit}
-use Rattle.classifier.specs.Load.{in_lane}
+use Rattle.testbench.specs.Load.{in_lane}
 use Rattle.classifier.specs.Seen.{goal_at}
 use Rattle.shown_runs.specs.declared.first.FirstCycles.{FirstCycles}
 use Rattle.shown_runs.specs.First.{first_in, first_with}

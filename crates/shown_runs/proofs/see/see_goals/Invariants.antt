@@ -3,7 +3,7 @@ use Rattle.workload.specs.declared.run.Run.{Run}
 use Rattle.workload.specs.Runs.{cycles_of}
 use Rattle.campaign_plan.specs.Danger.{differs}
 use Rattle.golden_difference.specs.Beside.{AreBeside}
-use Rattle.classifier.specs.Load.{in_lane}
+use Rattle.testbench.specs.Load.{in_lane}
 use Rattle.classifier.specs.Seen.{goal_at}
 use Rattle.shown_runs.specs.First.{first_in, first_with}
 use Rattle.shown_runs.specs.Record.{goal_cycles}

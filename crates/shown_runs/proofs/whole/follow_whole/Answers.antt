@@ -1,6 +1,6 @@
 use Rattle.std.proofs.Common.{arith}
 use Rattle.workload.specs.Runs.{run_at}
-use Rattle.classifier.specs.Load.{lane_faults, load_of}
+use Rattle.testbench.specs.Load.{lane_faults, load_of}
 use Rattle.shown_runs.specs.Beyond.{IsBeyond, beyond_at}
 use Rattle.shown_runs.specs.Record.{record_at}
 use Rattle.shown_runs.proofs.LetGo.{followed_whole, none_out}

@@ -3,8 +3,7 @@ use Rattle.std.specs.Prelude.{Option}
 use Rattle.std.proofs.lemmas.Result.{IfOk-weaker}
 use Rattle.circuit.specs.Circuit.{Circuit}
 use Rattle.circuit.specs.declared.parts.Fault.{Fault}
-use Rattle.rate_table.specs.Table.{matches}
-use Rattle.wave_dump.specs.Asked.{name_pattern, wants_all, wants_changed}
+use Rattle.wave_dump.specs.Asked.{is_matched, wants_all, wants_changed}
 use Rattle.wave_dump.proofs.Showing.{matching_shown}
 use Rattle.wave_dump.proofs.shown.shown_marks.Goals as goal
 
@@ -19,4 +18,4 @@ returns-else-is_differing c =
     (omega (arith, c.matching_nets.ensures.sound.named, ap (λ (x : Circuit). length x.drivers) net, ap (λ (x : Circuit). length x.names) net))
     (ap (λ (f : Option Fault). wants_all f word) (sym c.fault.ensures) ∙ sym c.is_all.ensures ∙ c.if-is_all.false)
     (ap (λ (f : Option Fault). wants_changed f word) (sym c.fault-else-is_all.ensures) ∙ sym c.is_differing.ensures ∙ c.if-is_differing.false)
-    (are ∙ ap (λ (x : Circuit). map (matches (name_pattern word)) x.names) net)) c.matching_nets.ensures.marks
+    (are ∙ ap (λ (x : Circuit). map (is_matched word) x.names) net)) c.matching_nets.ensures.marks

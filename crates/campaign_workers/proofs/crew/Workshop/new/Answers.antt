@@ -1,6 +1,6 @@
 use Rattle.std.proofs.Common.{◌<◌, length, ap, ◌∙◌, arith}
 use Rattle.claim_counter.specs.declared.view.View.{View}
-use Rattle.classifier.specs.Testbench.{Testbench}
+use Rattle.testbench.specs.Testbench.{Testbench}
 use Rattle.campaign_workers.proofs.crew.Workshop.new.Goals as goal
 
 pub invariant_of-result : goal.invariant_of-result

@@ -1,4 +1,4 @@
-use Rattle.classifier.proofs.Kept.{load_kept}
+use Rattle.testbench.proofs.LoadIsKept.{load_kept}
 use Rattle.classifier.proofs.followed.DifferentialLanesFollowed.drop_lanes.Goals as goal
 
 pub returns-clause-place : goal.returns-clause-place

@@ -1,7 +1,7 @@
 use Rattle.std.proofs.Common.{◌≡◌, ◌+◌, ◌*◌, List, [], inr, refl, sym, ◌∙◌, arith}
 use Rattle.circuit.specs.declared.parts.Fault.{Fault}
 use Rattle.differential_kernel.specs.Picked.{place_in}
-use Rattle.classifier.proofs.Kept.{load_kept}
+use Rattle.testbench.proofs.LoadIsKept.{load_kept}
 use Rattle.classifier.proofs.Narrowing.{holds_at, in_first, same_at}
 use Rattle.classifier.proofs.narrow.NarrowFollowed.drop_lanes.Goals as goal
 

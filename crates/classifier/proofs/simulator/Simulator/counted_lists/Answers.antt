@@ -1,6 +1,6 @@
 use Rattle.std.proofs.Common.{◌<◌, length, arith, List, ap, sym, subst, ◌∙◌}
 use Rattle.std.specs.Prelude.{slice_index_or}
-use Rattle.classifier.specs.Load.{lane_faults, load_of}
+use Rattle.testbench.specs.Load.{lane_faults, load_of}
 use Rattle.classifier.specs.Narrowed.{AreNarrowFor}
 use Rattle.classifier.specs.Planes.{planes_of}
 use Rattle.classifier.specs.declared.narrow.Narrow.{Narrow}

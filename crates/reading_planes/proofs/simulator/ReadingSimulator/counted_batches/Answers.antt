@@ -4,7 +4,7 @@ use Rattle.circuit.specs.declared.parts.Fault.{Fault}
 use Rattle.fm_base.proofs.Lists.{written_whole}
 use Rattle.campaign_plan.specs.declared.Outcome.{Outcome}
 use Rattle.classifier.specs.Batch.{alone_in}
-use Rattle.classifier.specs.Load.{lane_faults, load_of}
+use Rattle.testbench.specs.Load.{lane_faults, load_of}
 use Rattle.classifier.specs.Planes.{HasPlanes, planes_of}
 use Rattle.classifier.proofs.PlaneBits.{planes_alike, planes_have}
 use Rattle.shown_runs.specs.Beyond.{Beyond, IsBeyond, beyond_at}

@@ -5,8 +5,8 @@ ghost use Rattle.workload.specs.Runs.{cycles_of, run_at};
 ghost use Rattle.workload.specs.RunsKept.{AreRuns};
 ghost use Rattle.alarm_points.specs.PointsKept.{ArePointsFor};
 ghost use Rattle.golden_difference.specs.Beside.{IsGoldenRow, AreBeside};
-ghost use Rattle.classifier.specs.Load.{load_of};
-ghost use Rattle.classifier.specs.Testbench.{testbench_of};
+ghost use Rattle.testbench.specs.Load.{load_of};
+ghost use Rattle.testbench.specs.Testbench.{testbench_of};
 ghost use Rattle.golden_difference.specs.Lanes.{IsMadeFor};
 
 use alarm_points::Points;
@@ -40,7 +40,7 @@ impl<'a> Model for Testbench<'a> {
     ghost use Rattle.std.specs.Prelude.{◌≡◌};
     ghost use Rattle.circuit.specs.Order.{IsOrder};
     ghost use Rattle.alarm_points.specs.PointsKept.{ArePointsFor};
-    ghost use Rattle.classifier.specs.Testbench.{Testbench};
+    ghost use Rattle.testbench.specs.Testbench.{Testbench};
 
     ghost Value = { Testbench };
 

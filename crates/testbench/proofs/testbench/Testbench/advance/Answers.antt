@@ -1,8 +1,8 @@
 use Rattle.std.proofs.Common.{◌++◌, ◌∷◌, [], length, subst, sym}
 use Rattle.golden_difference.specs.Beside.{IsGoldenRow}
-use Rattle.classifier.specs.Testbench.{Testbench}
-use Rattle.classifier.proofs.Kept.{load_kept}
-use Rattle.classifier.proofs.testbench.Testbench.advance.Goals as goal
+use Rattle.testbench.specs.Testbench.{Testbench}
+use Rattle.testbench.proofs.LoadIsKept.{load_kept}
+use Rattle.testbench.proofs.testbench.Testbench.advance.Goals as goal
 
 pub returns-clause-keeps : goal.returns-clause-keeps
 returns-clause-keeps g c = load_kept c.args.lanes.now c.cycle.new.self c.cycle.ensures.keeps

@@ -1,0 +1,2 @@
+pub mod Testbench
+pub mod Load

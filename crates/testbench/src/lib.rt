@@ -1,0 +1,6 @@
+// What faults are simulated on.
+#![tactic(auto)]
+
+mod testbench;
+
+pub use testbench::Testbench;
