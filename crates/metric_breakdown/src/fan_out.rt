@@ -50,7 +50,8 @@ impl<'a> Rounds for ReadingRounds<'a> {
     }
 
     fn hire(&self, alloc: Global, _workers: u32) -> Result<Worker, NoRoom> {
-        Worker::new(alloc, self.bench, self.readings)
+        let worker = Worker::new(alloc, self.bench, self.readings)?;
+        Ok(worker)
     }
 
     fn round(&self, share: WorkerShare, round: u32, worker: &mut Worker) {

@@ -46,7 +46,8 @@ impl<'a> Rounds for PairRounds<'a> {
     }
 
     fn hire(&self, alloc: Global, _workers: u32) -> Result<PairWorker, NoRoom> {
-        PairWorker::new(alloc, self.plan, self.bench, planes_for(self.pairs))
+        let worker = PairWorker::new(alloc, self.plan, self.bench, planes_for(self.pairs))?;
+        Ok(worker)
     }
 
     fn round(&self, share: WorkerShare, round: u32, worker: &mut PairWorker) {

@@ -1,5 +1,5 @@
 -- What is dumped, by the words of a command: the number of the run, from 1; the fault by its name; and which nets are shown. Both may not be given.
-use Rattle.std.specs.Prelude.{ℕ, ◌-◌, Bool, true, false, not, ◌&&◌, List, [], length, take, filter, find, Option, None, is_none, is_some, Result, Ok, Err, if◌then◌else◌, ◌==◌, nat_le, codes}
+use Rattle.std.specs.Prelude.{ℕ, ◌-◌, Bool, true, false, not, ◌&&◌, List, [], length, take, filter, find, Option, None, is_none, is_some, Result, Ok, Err, if◌then◌else◌, ◌==◌, nat_le, codes, Some}
 use Rattle.std.specs.List.{last_or}
 use Rattle.std.specs.Option.{option_map_or}
 use Rattle.std.specs.Str.{bytes_eq, byte}

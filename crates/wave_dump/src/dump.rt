@@ -151,6 +151,7 @@ impl<'a> Dump<'a> {
         if lacks_fault(fault, asked.fault) {
             return Err(Refusal::Fault(DumpFault::NoFault));
         }
+        let _sound = net.nets();
         let scene = scene_of(alloc, net, order, work, asked.run - 1, fault, asked.nets)?;
         if lacks_nets(&scene, asked.nets) {
             return Err(Refusal::Fault(DumpFault::NoNet));

@@ -20,43 +20,43 @@ one_more p readings workers turns first sums own added have has same r lt =
 
 pub add_sums-requires-clause-small : goal.add_sums-requires-clause-small
 add_sums-requires-clause-small c = λ r lt.
-    let p = c.args.plan.now in
+    let p = c.args.rounds.now.plan.now in
     let workers : ℕ = length c.args.workers.now in
     let first : ℕ = c.loop-worker.worker-index in
     let inv = c.loop-worker.invariant in
-    let small : r < length c.args.readings.now = omega (arith, lt, inv.count) in
+    let small : r < length c.args.rounds.now.readings.now = omega (arith, lt, inv.count) in
     let next : first + 1 ≤ workers = omega (arith, c.loop-worker-test.true) in
-    let has = subst (λ (one : Worker). HasSums p c.args.readings.now (record { number = first; workers = workers }) (turns_for p workers) one.sums.items) (sym c.worker-item.is)
-    (c.requires.worked first c.worker-item.result c.loop-worker-test.true) in
-    subst AreSmall (sym (one_more p c.args.readings.now workers (turns_for p workers) first c.loop-worker.sums c.worker-item.result.sums.items c.as_slice.result.now inv has c.as_slice.ensures.value r small))
-    (crews_small p c.requires.plan (reading_at c.args.readings.now r) workers (turns_for p workers) (first + 1) next)
+    let has = subst (λ (one : Worker). HasSums p c.args.rounds.now.readings.now (record { number = first; workers = workers }) (turns_for p workers) one.sums.items) (sym c.worker-item.is)
+    (c.requires.worked first c.worker-item.result c.loop-worker-test.true).sums in
+    subst AreSmall (sym (one_more p c.args.rounds.now.readings.now workers (turns_for p workers) first c.loop-worker.sums c.worker-item.result.sums.items c.as_slice.result.now inv has c.as_slice.ensures.value r small))
+    (crews_small p c.requires.plan (reading_at c.args.rounds.now.readings.now r) workers (turns_for p workers) (first + 1) next)
 
 pub loop-worker-preserved : goal.loop-worker-preserved
 loop-worker-preserved c =
-    let p = c.args.plan.now in
+    let p = c.args.rounds.now.plan.now in
     let workers : ℕ = length c.args.workers.now in
     let first : ℕ = c.loop-worker.worker-index in
     let inv = c.loop-worker.invariant in
-    let has = subst (λ (one : Worker). HasSums p c.args.readings.now (record { number = first; workers = workers }) (turns_for p workers) one.sums.items) (sym c.worker-item.is)
-    (c.requires.worked first c.worker-item.result c.loop-worker-test.true) in
+    let has = subst (λ (one : Worker). HasSums p c.args.rounds.now.readings.now (record { number = first; workers = workers }) (turns_for p workers) one.sums.items) (sym c.worker-item.is)
+    (c.requires.worked first c.worker-item.result c.loop-worker-test.true).sums in
     record {
       count = c.add_sums.auto.sums ∙ inv.count;
       each = λ r small.
           let lt : r < length c.loop-worker.sums = omega (arith, small, inv.count) in
           c.add_sums.ensures r lt
-          ∙ one_more p c.args.readings.now workers (turns_for p workers) first c.loop-worker.sums c.worker-item.result.sums.items c.as_slice.result.now inv has c.as_slice.ensures.value r small;
+          ∙ one_more p c.args.rounds.now.readings.now workers (turns_for p workers) first c.loop-worker.sums c.worker-item.result.sums.items c.as_slice.result.now inv has c.as_slice.ensures.value r small;
     }
 
 pub returns : goal.returns
 returns c =
-    let p = c.args.plan.now in
+    let p = c.args.rounds.now.plan.now in
     let workers : ℕ = length c.args.workers.now in
     let inv = c.loop-worker.invariant in
     let end : c.loop-worker.worker-index ≡ workers = omega (arith, c.loop-worker-test.false, c.loop-worker.auto.worker-index-end) in
     record {
       count = inv.count;
       each = λ r small.
-          let reading = reading_at c.args.readings.now r in
+          let reading = reading_at c.args.rounds.now.readings.now r in
           inv.each r small ∙ ap (crew_sums p reading workers (turns_for p workers)) end
           ∙ crew_total p reading workers (turns_for p workers) (turns_enough (fault_count p) workers c.requires.some);
     }

@@ -4,4 +4,4 @@ use Rattle.metric_breakdown.proofs.fan_out.gather.Given as goal
 
 -- the sums of the workers so far
 abbrev pub invariant-loop-worker : goal.invariant-loop-worker
-invariant-loop-worker l = HaveSums l.plan l.readings (length l.workers) (turns_for l.plan (length l.workers)) l.worker-index l.sums
+invariant-loop-worker l = HaveSums l.rounds.plan.now l.rounds.readings.now (length l.workers) (turns_for l.rounds.plan.now (length l.workers)) l.worker-index l.sums

@@ -1,19 +1,20 @@
 use Rattle.std.proofs.Common.{◌≡◌, ℕ, List, length, ap, sym, ◌∙◌, subst}
-use Rattle.std.specs.List.{All}
+use Rattle.batch_crew.specs.Crew.{AreReady}
 use Rattle.fm_base.proofs.Lists.{written_whole}
 use Rattle.metric_sums.specs.declared.Sums.{Sums}
 use Rattle.reading_planes.specs.Folded.{reading_at}
 use Rattle.metric_breakdown.specs.Text.{AreReadingSums, sums_at}
 use Rattle.metric_breakdown.specs.Turns.{turns_for}
-use Rattle.metric_breakdown.specs.Work.{IsEquippedFor}
+use Rattle.metric_breakdown.specs.Work.{HasAdded}
 use Rattle.metric_breakdown.specs.declared.worker.Worker.{Worker}
 use Rattle.metric_breakdown.proofs.Adding.{crew_none}
 use Rattle.metric_breakdown.proofs.fan_out.reading_sums.Goals as goal
 
-pub sums_by_crew-requires-clause-equipped : goal.sums_by_crew-requires-clause-equipped
-sums_by_crew-requires-clause-equipped g c κs within =
-    subst (λ (crew : List Worker). All (IsEquippedFor c.args.plan.now c.in_ok-bench.bench c.args.readings.now) crew) (sym c.as_mut_slice.ensures.value)
-    (c.in_ok-crew.ensures.equipped c.args.plan.now)
+pub sums_by_crew-requires-clause-ready : goal.sums_by_crew-requires-clause-ready
+sums_by_crew-requires-clause-ready g c κs within =
+    let has_done = HasAdded c.args.plan.now c.in_ok-bench.bench c.args.readings.now in
+    subst (λ (crew : List Worker). AreReady has_done (length crew) crew) (sym c.as_mut_slice.ensures.value)
+    (subst (λ n. AreReady has_done n c.in_ok-crew.crew.items) (sym c.in_ok-crew.ensures.count) c.in_ok-crew.ensures.ready)
 
 pub sums_by_crew-requires-clause-none : goal.sums_by_crew-requires-clause-none
 sums_by_crew-requires-clause-none g c κs within =

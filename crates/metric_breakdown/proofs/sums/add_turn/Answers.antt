@@ -26,26 +26,26 @@ add_batch-requires-clause-small c = λ r lt.
     let p = c.args.plan.now in
     let share = c.args.share in
     let small : r < length c.args.readings.now = omega (arith, lt, c.requires.sums.count) in
-    let there : c.batch-batch.result < batch_count p = omega (arith, c.if-batch-batches.true, c.batches.ensures.count) in
-    subst AreSmall (sym (one_more p c.args.readings.now share c.args.turn c.batch-batch.result c.args.found.now c.args.sums.now c.batch-batch.ensures there c.requires.found c.requires.sums r small))
+    let there : c.batch_of-batch.result < batch_count p = omega (arith, c.if-batch-batches.true, c.batches.ensures.count) in
+    subst AreSmall (sym (one_more p c.args.readings.now share c.args.turn c.batch_of-batch.result c.args.found.now c.args.sums.now c.batch_of-batch.ensures there c.requires.found c.requires.sums r small))
     (turns_small p c.batches.ensures.plan (reading_at c.args.readings.now r) share.workers share.number (c.args.turn + 1) c.requires.workers.0)
 
 pub returns-then-batch-batches : goal.returns-then-batch-batches
 returns-then-batch-batches c =
     let p = c.args.plan.now in
-    let there : c.batch-batch.result < batch_count p = omega (arith, c.if-batch-batches.true, c.batches.ensures.count) in
+    let there : c.batch_of-batch.result < batch_count p = omega (arith, c.if-batch-batches.true, c.batches.ensures.count) in
     record {
       count = c.add_batch.auto.sums ∙ c.requires.sums.count;
       each = λ r small.
           let lt : r < length c.args.sums.now = omega (arith, small, c.requires.sums.count) in
           c.add_batch.ensures r lt
-          ∙ one_more p c.args.readings.now c.args.share c.args.turn c.batch-batch.result c.args.found.now c.args.sums.now c.batch-batch.ensures there c.requires.found c.requires.sums r small;
+          ∙ one_more p c.args.readings.now c.args.share c.args.turn c.batch_of-batch.result c.args.found.now c.args.sums.now c.batch_of-batch.ensures there c.requires.found c.requires.sums r small;
     }
 
 pub returns-else-batch-batches : goal.returns-else-batch-batches
 returns-else-batch-batches c =
     let p = c.args.plan.now in
-    let behind : batch_count p ≤ batch_of_turn c.args.share c.args.turn = omega (arith, c.if-batch-batches.false, c.batches.ensures.count, c.batch-batch.ensures) in
+    let behind : batch_count p ≤ batch_of_turn c.args.share c.args.turn = omega (arith, c.if-batch-batches.false, c.batches.ensures.count, c.batch_of-batch.ensures) in
     record {
       count = c.requires.sums.count;
       each = λ r small. c.requires.sums.each r small ∙ sym (turn_idle p (reading_at c.args.readings.now r) c.args.share c.args.turn behind);

@@ -26,7 +26,7 @@ returns-clause-shown c = λ word lt.
           let reading = reading_at c.args.readings.now r in
           adds_truly p (plan_by p reading) batch (planes_at planes word r) refl
           (found_of p reading c.args.bench.now c.requires.bench c.settings.result.now.ftti (ap (λ (s : Settings). s.ftti) c.settings.ensures.value)
-          c.faults.result.now c.faults.ensures.value (c.batch-first.result + word * c.args.share.workers) batch
-          (some_words c.args.turn c.args.share.workers c.args.share.number word c.batch-first.result c.batch-first.ensures)
+          c.faults.result.now c.faults.ensures.value (c.batch_of-first.result + word * c.args.share.workers) batch
+          (some_words c.args.turn c.args.share.workers c.args.share.number word c.batch_of-first.result c.batch_of-first.ensures)
           (planes_at planes word r) (c.batches.ensures.found word r lt small));
     }
