@@ -4,9 +4,11 @@ pub mod Places
 pub mod ReadPlaces
 pub mod Cutting
 pub mod Watching
+pub mod OwnPlaces
 pub mod Narrowing
 pub mod Latches
 pub mod Placing
 pub mod Tables
+pub mod CutSets
 pub mod Made
 pub mod Ending

@@ -8,5 +8,5 @@ mod watch;
 
 pub use frames::FrameSets;
 pub use law::{cuts_keep_search, settled_sets};
-pub use search::Search;
+pub use search::{Search, TablePlace};
 pub use watch::Watchers;
