@@ -5,6 +5,8 @@ pub mod ReadPlaces
 pub mod Cutting
 pub mod Watching
 pub mod OwnPlaces
+pub mod RowDigits
+pub mod ReadsOnce
 pub mod Narrowing
 pub mod Latches
 pub mod Placing
@@ -12,3 +14,4 @@ pub mod Tables
 pub mod CutSets
 pub mod Made
 pub mod Ending
+pub mod PlacedTables
