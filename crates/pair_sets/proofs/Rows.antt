@@ -4,7 +4,7 @@ use Rattle.std.proofs.Math.Nat.{le-mul_of_pos_right, mul-le-mul_right, mul_assoc
 use Rattle.std.proofs.lemmas.Nat.{pow_pos}
 use Rattle.pair_sets.specs.Steps.{digit_behind}
 
-doubled : (row n : ℕ) → (2 * row + 1 + 1) * 2 ^ n ≡ (row + 1) * 2 ^ (n + 1)
+pub doubled : (row n : ℕ) → (2 * row + 1 + 1) * 2 ^ n ≡ (row + 1) * 2 ^ (n + 1)
 doubled row n =
     let twice : 2 * row + 1 + 1 ≡ (row + 1) * 2 = omega arith in
     ap (λ x. x * 2 ^ n) twice ∙ mul_assoc (row + 1) 2 (2 ^ n) ∙ ap (λ x. (row + 1) * x) (mul_comm 2 (2 ^ n) ∙ sym (pow-suc 2 n) ∙ ap (λ k. 2 ^ k) (sym (add-one n)))

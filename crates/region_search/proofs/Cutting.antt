@@ -10,12 +10,13 @@ use Rattle.circuit.specs.declared.parts.Driver.TheVariants.{Table as FromTable}
 use Rattle.circuit.specs.declared.parts.Latch.{Latch}
 use Rattle.circuit.specs.declared.parts.NetId.{NetId}
 use Rattle.coverage_claim.proofs.Ruling.{not_had}
+use Rattle.coverage_claim.specs.Largest.{AreAmong}
 use Rattle.coverage_claim.specs.Rules.{AgreeOver, Sets}
 use Rattle.coverage_claim.specs.Stretch.{Stretch}
 use Rattle.region_search.proofs.ReadPlaces.{latch_read, table_read}
-use Rattle.fanout.specs.Readers.{IsReadAt}
-use Rattle.place_set.specs.Places.{has as waits}
-use Rattle.region_search.specs.Search.{CutsKeepSearch, IsByRules, IsElsewhere, place_in}
+use Rattle.fanout.specs.Readers.{IsReadAt, Ordered}
+use Rattle.place_set.specs.Places.{Places, has as waits}
+use Rattle.region_search.specs.Search.{CutsKeepSearch, IsByRules, IsElsewhere, IsSearch, Wakes, place_in}
 use Rattle.region_search.specs.Settled.{HoldsAll, IsLatchSettled, IsTableSettled}
 
 -- a step by the rules loses no runs
@@ -85,10 +86,12 @@ module _ (frame net : ℕ) (q left : Sets) (elsewhere : IsElsewhere frame net q 
     | inl same ↦ elsewhere i n (inr (apart same))
   ]
 
-pub cuts_keep : CutsKeepSearch
-cuts_keep o s bounds q left waiting more frame net same search step elsewhere wakes = record {
-  holds = still_holds s bounds q left search.holds step;
-  alone = λ i n a b le e. search.alone i n a b le (step.among i n a b le e);
+-- A CUT KEEPS what is settled and doesn't wait, whatever the runs that are held from then on
+pub cuts_keep_anew : (o : Ordered) (s : Stretch) (bounds others q left : Sets) (waiting more : Places) (frame net : ℕ) → s.circuit ≡ o.circuit → IsSearch o s bounds q waiting
+    → AreAmong s left q → HoldsAll s others left → IsElsewhere frame net q left → Wakes o frame net waiting more → IsSearch o s others left more
+cuts_keep_anew o s bounds others q left waiting more frame net same search among holds elsewhere wakes = record {
+  holds = holds;
+  alone = λ i n a b le e. search.alone i n a b le (among i n a b le e);
   tables = λ i p k le lt driver none.
       kept_table s q left i k (net_at o.order p) (other_same frame net q left elsewhere i (net_at o.order p).0 (λ e f. quiet i p none e (wakes.own p lt f)))
       (λ m there. other_same frame net q left elsewhere i m.0 (λ e f. quiet i p none e (wakes.readers p (subst (λ n. IsReadAt o n p) f (table_reads p k m lt driver there)))))
@@ -114,3 +117,7 @@ cuts_keep o s bounds q left waiting more frame net same search step elsewhere wa
 
     quiet : (i p : ℕ) → waits more (place_in o i p) ≡ false → i ≡ frame → waits more (place_in o frame p) ≡ true → ⊥
     quiet i p none e woken = clash (waits more (place_in o i p)) (ap (λ j. waits more (place_in o j p)) e ∙ woken) none
+
+pub cuts_keep : CutsKeepSearch
+cuts_keep o s bounds q left waiting more frame net same search step elsewhere wakes =
+    cuts_keep_anew o s bounds bounds q left waiting more frame net same search step.among (still_holds s bounds q left search.holds step) elsewhere wakes

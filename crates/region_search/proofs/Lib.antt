@@ -4,9 +4,14 @@ pub mod Places
 pub mod ReadPlaces
 pub mod Cutting
 pub mod Watching
+pub mod OwnPlaces
+pub mod RowDigits
+pub mod ReadsOnce
 pub mod Narrowing
 pub mod Latches
 pub mod Placing
 pub mod Tables
+pub mod CutSets
 pub mod Made
 pub mod Ending
+pub mod PlacedTables

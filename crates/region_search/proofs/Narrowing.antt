@@ -10,8 +10,9 @@ use Rattle.fanout.specs.Readers.{Ordered}
 use Rattle.pair_sets.specs.Pairs.{has}
 use Rattle.pair_sets.specs.declared.pairs.PairSet.{PairSet}
 use Rattle.place_set.specs.Places.{Places}
-use Rattle.region_search.proofs.Cutting.{cuts_keep}
-use Rattle.region_search.specs.Going.{IsGoing, IsSomeEmpty, MayAllGo}
+use Rattle.region_search.proofs.Cutting.{cuts_keep, cuts_keep_anew}
+use Rattle.region_search.specs.Going.{IsGoing, IsNoted, IsSomeEmpty, MayAllGo}
+use Rattle.region_search.specs.Settled.{HoldsAll}
 use Rattle.region_search.specs.Search.{IsByRules, IsElsewhere, Wakes}
 
 -- a set that has a pair, where it isn't empty
@@ -68,6 +69,31 @@ module _ (q left : Sets) (frame net : ℕ) (to : Pairs) (cut : (i n : ℕ) (a b 
         | inr other ↦ other there
       ]))
 
+-- and it is noted where none is left
+module _ (s : Stretch) (now left : Sets) (empty next : Bool) (frame net : ℕ) (to : Pairs) (le : frame ≤ s.last)
+    (cut : (i n : ℕ) (a b : Bool) → left i n a b ≡ only now frame net to i n a b) where
+  pub noted_cut : IsNoted s now empty → (next ≡ false → (empty ≡ false) × ((a : Bool) × (b : Bool) × (left frame net a b ≡ true)))
+      → (next ≡ true → (empty ≡ true) ⊎ ((a b : Bool) → left frame net a b ≡ false)) → IsNoted s left next
+  noted_cut noted some none = record {
+    some = λ e i n within. (let both = some e in each both.1 i n (noted.some both.0 i n within));
+    none = λ e. elim (none e) as (λ _. IsSomeEmpty s left) [
+      | inr here ↦ (frame, net, le, here)
+      | inl before ↦ (
+          let was = noted.none before in
+          (was.0, was.1, was.2, λ a b. false_of (left was.0 was.1 a b) (λ f. clash (now was.0 was.1 a b) (cut_among now left frame net to cut was.0 was.1 a b f) (was.3 a b))))
+    ];
+  }
+    where
+      each : ((a : Bool) × (b : Bool) × (left frame net a b ≡ true)) → (i n : ℕ) → ((a : Bool) × (b : Bool) × (now i n a b ≡ true)) → (a : Bool) × (b : Bool) × (left i n a b ≡ true)
+      each here i n old = elim (cases_Bool (i == frame && n == net)) as (λ _. (a : Bool) × (b : Bool) × (left i n a b ≡ true)) [
+        | inr other ↦ (old.0, old.1, cut_other now left frame net to cut i n old.0 old.1 other ∙ old.2)
+        | inl it ↦ (
+            let parts = and_both (i == frame) (n == net) it in
+            let first : i ≡ frame = eqb-true i frame parts.0 in
+            let second : n ≡ net = eqb-true n net parts.1 in
+            (here.0, here.1, ap₂ (λ j m. left j m here.0 here.1) first second ∙ here.2))
+      ]
+
 module _ (o : Ordered) (s : Stretch) (bounds q now left : Sets) (waiting more : Places) (empty next : Bool) (frame net : ℕ) (to : Pairs) (le : frame ≤ s.last)
     (cut : (i n : ℕ) (a b : Bool) → left i n a b ≡ only now frame net to i n a b) (going : IsGoing o s bounds q now waiting empty)
     (may : MayAllGo s q frame net (now frame net) to) where
@@ -105,23 +131,35 @@ module _ (o : Ordered) (s : Stretch) (bounds q now left : Sets) (waiting more : 
         | inl still ↦ gone_now i n a b still gone
       ];
     };
-    noted = record {
-      some = λ e i n within. (let both = some e in each both.1 i n (going.noted.some both.0 i n within));
-      none = λ e. elim (none e) as (λ _. IsSomeEmpty s left) [
-        | inr here ↦ (frame, net, le, here)
-        | inl before ↦ (
-            let was = going.noted.none before in
-            (was.0, was.1, was.2, λ a b. false_of (left was.0 was.1 a b) (λ f. clash (now was.0 was.1 a b) (cut_among now left frame net to cut was.0 was.1 a b f) (was.3 a b))))
-      ];
-    };
+    noted = noted_cut s now left empty next frame net to le cut going.noted some none;
   }
-    where
-      each : ((a : Bool) × (b : Bool) × (left frame net a b ≡ true)) → (i n : ℕ) → ((a : Bool) × (b : Bool) × (now i n a b ≡ true)) → (a : Bool) × (b : Bool) × (left i n a b ≡ true)
-      each here i n old = elim (cases_Bool (i == frame && n == net)) as (λ _. (a : Bool) × (b : Bool) × (left i n a b ≡ true)) [
-        | inr other ↦ (old.0, old.1, cut_other now left frame net to cut i n old.0 old.1 other ∙ old.2)
-        | inl it ↦ (
-            let parts = and_both (i == frame) (n == net) it in
-            let first : i ≡ frame = eqb-true i frame parts.0 in
-            let second : n ≡ net = eqb-true n net parts.1 in
-            (here.0, here.1, ap₂ (λ j m. left j m here.0 here.1) first second ∙ here.2))
-      ]
+
+-- where no pair goes, none goes wrongly
+pub nothing_goes : (s : Stretch) (q : Sets) → IsByRules s q q
+nothing_goes s q = record {
+  among = λ i n a b _ e. e;
+  rightly = λ i n a b _ had gone. absurd (clash (q i n a b) had gone);
+}
+
+-- A SEARCH GOES ON FROM WHAT IS LEFT, with the runs that lie in others
+pub goes_anew : (o : Ordered) (s : Stretch) (bounds others q left : Sets) (waiting : Places) (empty : Bool) → IsGoing o s bounds q left waiting empty → HoldsAll s others left
+    → IsGoing o s others left left waiting empty
+goes_anew o s bounds others q left waiting empty going holds = record {
+  circuit = going.circuit;
+  search = record { holds = holds; alone = going.search.alone; tables = going.search.tables; latches = going.search.latches };
+  by_rules = nothing_goes s left;
+  noted = going.noted;
+}
+
+module _ (o : Ordered) (s : Stretch) (bounds q now left : Sets) (waiting more : Places) (empty next : Bool) (frame net : ℕ) (to : Pairs) (le : frame ≤ s.last)
+    (cut : (i n : ℕ) (a b : Bool) → left i n a b ≡ only now frame net to i n a b) (going : IsGoing o s bounds q now waiting empty) where
+  -- and so it does after a step at one net, whatever goes
+  pub narrow_anew : (others : Sets) → HoldsAll s others left → Wakes o frame net waiting more → (next ≡ false → (empty ≡ false) × ((a : Bool) × (b : Bool) × (left frame net a b ≡ true)))
+      → (next ≡ true → (empty ≡ true) ⊎ ((a b : Bool) → left frame net a b ≡ false)) → IsGoing o s others left left more next
+  narrow_anew others holds wakes some none = record {
+    circuit = going.circuit;
+    search = cuts_keep_anew o s bounds others now left waiting more frame net going.circuit going.search (λ i n a b _ e. cut_among now left frame net to cut i n a b e) holds
+        (cut_elsewhere now left frame net to cut) wakes;
+    by_rules = nothing_goes s left;
+    noted = noted_cut s now left empty next frame net to le cut going.noted some none;
+  }

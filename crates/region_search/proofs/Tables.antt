@@ -19,39 +19,6 @@ use Rattle.region_search.specs.declared.search.Search.{Search}
 use Rattle.region_search.specs.Settled.{IsTableSettled}
 use Rattle.region_search.specs.Steps.{AreCut}
 
--- at first nothing has gone
-pub none_cut : (frame : ℕ) (nets : List NetId) (lefts : List PairSet) (q : Sets) → AreCut frame nets lefts 0 q q
-none_cut frame nets lefts q = record {
-  among = λ i n a b e. e;
-  done = λ j lt. absurd (omega (arith, lt));
-  kept = λ i n a b e passes. e;
-}
-
--- and one net more
-pub cut_more : (frame : ℕ) (nets : List NetId) (lefts : List PairSet) (count : ℕ) (q half left : Sets) → AreCut frame nets lefts count q half
-    → ((i n : ℕ) (a b : Bool) → left i n a b ≡ only half frame (net_at nets count).0 (has (set_at lefts count)) i n a b) → AreCut frame nets lefts (count + 1) q left
-cut_more frame nets lefts count q half left are cut = record {
-  among = λ i n a b e. are.among i n a b (cut_among half left frame (net_at nets count).0 (has (set_at lefts count)) cut i n a b e);
-  done = λ j lt a b e. elim (cases_lt j count) as (λ _. has (set_at lefts j) a b ≡ true) [
-    | inl before ↦ are.done j before a b (cut_among half left frame (net_at nets count).0 (has (set_at lefts count)) cut frame (net_at nets j).0 a b e)
-    | inr last ↦ (
-        let same : j ≡ count = omega (arith, lt, last) in
-        let there : left frame (net_at nets count).0 a b ≡ true = ap (λ k. left frame (net_at nets k).0 a b) (sym same) ∙ e in
-        ap (λ k. has (set_at lefts k) a b) same ∙ (and_both (half frame (net_at nets count).0 a b) (has (set_at lefts count) a b) (sym (cut_there half left frame (net_at nets count).0 (has (set_at lefts count)) cut a b) ∙ there)).1)
-  ];
-  kept = λ i n a b e passes. (
-      let still : half i n a b ≡ true = are.kept i n a b e (λ j lt. passes j (omega (arith, lt))) in
-      elim (cases_Bool (i == frame && n == (net_at nets count).0)) as (λ _. left i n a b ≡ true) [
-        | inr other ↦ cut_other half left frame (net_at nets count).0 (has (set_at lefts count)) cut i n a b other ∙ still
-        | inl it ↦ (
-            let parts = and_both (i == frame) (n == (net_at nets count).0) it in
-            let here : i ≡ frame = eqb-true i frame parts.0 in
-            let there : n ≡ (net_at nets count).0 = eqb-true n (net_at nets count).0 parts.1 in
-            ap₂ (λ k m. left k m a b) here there ∙ cut_there half left frame (net_at nets count).0 (has (set_at lefts count)) cut a b
-            ∙ both_true (half frame (net_at nets count).0 a b) (has (set_at lefts count) a b) (sym (ap₂ (λ k m. half k m a b) here there) ∙ still) (passes count (omega arith) here (sym there)))
-      ]);
-}
-
 -- what is left to do grows less and less
 pub further_more : (old middle new : Search) → IsFurther old middle → IsFurther middle new → IsFurther old new
 further_more old middle new first second = record {
@@ -87,7 +54,7 @@ left_again truth site reads own left own_left is = record {
 
 -- q: the sets before; half: without what the nets that are read lose; left: and without what the own net loses
 module _ (s : Stretch) (q half left : Sets) (frame k : ℕ) (own : NetId) (reads : List NetId) (truth : ℕ) (lefts : List PairSet) (own_left : PairSet)
-    (of : IsLeftOf s q frame k own reads truth lefts own_left) (are : AreCut frame reads lefts (length reads) q half)
+    (of : IsLeftOf s q frame k own reads truth lefts own_left) (are : AreCut frame (λ i. (net_at reads i).0) (λ i. has (set_at lefts i)) (length reads) q half)
     (cut : (i n : ℕ) (a b : Bool) → left i n a b ≡ only half frame own.0 (has own_left) i n a b) where
   apart : (i : ℕ) → i < length reads → (net_at reads i).0 ≢ own.0
   apart i lt = of.is_truth.apart i (record { 0 = 0 }) lt

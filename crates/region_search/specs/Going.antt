@@ -1,11 +1,13 @@
 -- A search that goes on: what each step of it keeps.
 use Rattle.std.specs.Prelude.{◌≡◌, ◌+◌, ◌*◌, ◌<◌, ◌≤◌, ℕ, Bool, true, false, List, length, take, All, Some}
 use Rattle.std.specs.List.{slice_get}
+use Rattle.circuit.specs.Circuit.{Circuit}
 use Rattle.circuit.specs.Order.{IsOrder, net_at}
 use Rattle.circuit.specs.Sound.{IsNet, IsNetlist}
 use Rattle.circuit.specs.Value.{driver_at, table_at}
 use Rattle.circuit.specs.declared.parts.Driver.TheVariants.{Table as FromTable}
 use Rattle.circuit.specs.declared.parts.Latch.{Latch}
+use Rattle.circuit.specs.declared.parts.NetId.{NetId}
 use Rattle.coverage_claim.specs.declared.parts.Site.{Site}
 use Rattle.pair_sets.specs.Tables.{IsTruth}
 use Rattle.region_search.specs.declared.search.TablePlace.{TablePlace}
@@ -67,13 +69,17 @@ pub record IsLookedAt (old new : Search) (place : ℕ) : Type 0 where
 
 -- ---- all tables and latches
 
--- the table of a place in the order: its own net, the nets that it reads, each once, and its truth table, where it reads few
+-- the table of a net: the nets that it reads, each once, and its truth table, where it reads few
 -- wide: else it reads too many nets to be looked into
-pub record IsPlaced (o : Ordered) (place : ℕ) (table : TablePlace) : Type 0 where
-  pub own : table.own ≡ net_at o.order place
-  pub nets : All (IsNet o.circuit) (take table.count table.reads)
-  pub truth : (k : ℕ) → driver_at o.circuit table.own.0 ≡ FromTable k → table.count ≤ 6 → IsTruth o.circuit k table.own (take table.count table.reads) table.truth
-  pub wide : (k : ℕ) → driver_at o.circuit table.own.0 ≡ FromTable k → 6 < table.count → most_inputs < length (table_at o.circuit.tables k).ins
+pub record IsPlacedTable (c : Circuit) (net : NetId) (table : TablePlace) : Type 0 where
+  pub own : table.own ≡ net
+  pub nets : All (IsNet c) (take table.count table.reads)
+  pub truth : (k : ℕ) → driver_at c table.own.0 ≡ FromTable k → table.count ≤ 6 → IsTruth c k table.own (take table.count table.reads) table.truth
+  pub wide : (k : ℕ) → driver_at c table.own.0 ≡ FromTable k → 6 < table.count → most_inputs < length (table_at c.tables k).ins
+
+-- that of a place in the order
+abbrev pub IsPlaced : Ordered → ℕ → TablePlace → Type 0
+IsPlaced o place table = IsPlacedTable o.circuit (net_at o.order place) table
 
 -- THE TABLES of a netlist, by their places in the order
 pub record ArePlaced (o : Ordered) (tables : List TablePlace) : Type 0 where

@@ -4,3 +4,4 @@ pub mod Work
 pub mod Watch
 pub mod Going
 pub mod Steps
+pub mod Truth

@@ -3,8 +3,17 @@ use Rattle.std.specs.Prelude.{◌≡◌, ◌+◌, ◌<◌, ◌≤◌, ◌^◌, �
 use Rattle.std.specs.List.{slice_get}
 use Rattle.circuit.specs.Order.{net_at}
 use Rattle.circuit.specs.declared.parts.Latch.{Latch}
+use Rattle.circuit.specs.declared.parts.NetId.{NetId}
 use Rattle.fanout.specs.Readers.{Ordered}
 use Rattle.region_search.specs.Search.{places_of}
+
+-- the net of each table has its place in the order
+abbrev pub AreOwnOfTables : List NetId → List ℕ → Type 0
+AreOwnOfTables order own = (p : ℕ) → p < length order → slice_index own (net_at order p).0 ≡ p
+
+-- and that of each latch its number behind so many places
+abbrev pub AreOwnOfLatches : ℕ → List Latch → List ℕ → Type 0
+AreOwnOfLatches first latches own = (l : ℕ) (latch : Latch) → slice_get latches l ≡ Some latch → slice_index own latch.to.0 ≡ first + l
 
 -- WHAT WATCHERS KEEP: the numbers of tables and of places in a frame, and the place of each net's own table or latch
 -- own_tables, own_latches: the place in a frame; that of an input is anything
@@ -13,5 +22,5 @@ pub record AreWatchers (o : Ordered) (tables places : ℕ) (own : List ℕ) : Ty
   pub few : places ≤ 2 ^ 20
   pub all_tables : tables ≡ length o.order
   pub all : places ≡ places_of o
-  pub own_tables : (p : ℕ) → p < length o.order → slice_index own (net_at o.order p).0 ≡ p
-  pub own_latches : (l : ℕ) (latch : Latch) → slice_get o.circuit.latches l ≡ Some latch → slice_index own latch.to.0 ≡ length o.order + l
+  pub own_tables : AreOwnOfTables o.order own
+  pub own_latches : AreOwnOfLatches (length o.order) o.circuit.latches own

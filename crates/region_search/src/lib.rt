@@ -4,9 +4,11 @@
 mod frames;
 mod law;
 mod search;
+mod truth;
 mod watch;
 
 pub use frames::FrameSets;
 pub use law::{cuts_keep_search, settled_sets};
-pub use search::Search;
+pub use search::{Search, TablePlace};
+pub use truth::placed_tables;
 pub use watch::Watchers;

@@ -39,8 +39,9 @@ pub struct Search {
 }
 
 impl Search {
+    ghost use Rattle.coverage_claim.specs.Largest.{AreAmong};
     ghost use Rattle.region_search.specs.Search.{place_in};
-    ghost use Rattle.region_search.specs.Settled.{IsLatchSettled, IsTableSettled, NothingWaits};
+    ghost use Rattle.region_search.specs.Settled.{HoldsAll, IsLatchSettled, IsTableSettled, NothingWaits};
     ghost use Rattle.region_search.specs.Steps.{AreCut};
     ghost use Rattle.region_search.specs.Going.{AreSites, GoesOn, IsFor, IsFurther, IsLookedAt, IsMade, MayAllGo, sets_of};
 
@@ -54,6 +55,8 @@ impl Search {
         ensures sets { (i n : ℕ) (a b : Bool) → sets_of self.new.sets i n a b ≡ only (sets_of self.old.sets) frame net.0 (has to) i n a b }
         ensures goes_on { (s : Stretch) (bounds q : Sets) → GoesOn watchers.now s bounds q self.old
             → MayAllGo s q frame net.0 (sets_of self.old.sets frame net.0) (has to) → GoesOn watchers.now s bounds q self.new }
+        ensures anew { (s : Stretch) (bounds others q : Sets) → GoesOn watchers.now s bounds q self.old → HoldsAll s others (sets_of self.new.sets)
+            → GoesOn watchers.now s others (sets_of self.new.sets) self.new }
         ensures further { IsFurther self.old self.new }
     {
         if !self.sets.cut(frame as usize, net, to) {
@@ -130,7 +133,7 @@ impl Search {
         requires size { length lefts.now ≡ length nets.now }
         ensures fits { IsFor watchers.now self.new }
         ensures frames { self.new.sets.frames ≡ self.old.sets.frames }
-        ensures sets { AreCut frame nets.now lefts.now (length nets.now) (sets_of self.old.sets) (sets_of self.new.sets) }
+        ensures sets { AreCut frame (λ i. (net_at nets.now i).0) (λ i. has (set_at lefts.now i)) (length nets.now) (sets_of self.old.sets) (sets_of self.new.sets) }
         ensures goes_on { (s : Stretch) (bounds q : Sets) → GoesOn watchers.now s bounds q self.old
             → ((i : ℕ) → i < length nets.now → (a b : Bool) → has (set_at lefts.now i) a b ≡ false → MayGo s q frame (net_at nets.now i).0 a b)
             → GoesOn watchers.now s bounds q self.new }
@@ -320,6 +323,8 @@ impl Search {
         ensures frames { self.new.sets.frames ≡ self.old.sets.frames }
         ensures goes_on { (s : Stretch) (bounds : Sets) → AreSites watchers.now s.region sites.now → GoesOn watchers.now s bounds (sets_of self.old.sets) self.old
             → GoesOn watchers.now s bounds (sets_of self.new.sets) self.new }
+        ensures among { (s : Stretch) (bounds : Sets) → AreSites watchers.now s.region sites.now → GoesOn watchers.now s bounds (sets_of self.old.sets) self.old
+            → AreAmong s (sets_of self.new.sets) (sets_of self.old.sets) }
         ensures settled { self.new.empty ≡ false → (s : Stretch) (bounds : Sets) → AreSites watchers.now s.region sites.now
             → GoesOn watchers.now s bounds (sets_of self.old.sets) self.old → NothingWaits s (sets_of self.new.sets) }
     {

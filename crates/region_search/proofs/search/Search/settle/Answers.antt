@@ -13,4 +13,7 @@ places-preserved c = record {
   frames = c.look_at.ensures.frames ∙ c.places.invariant.frames;
   goes_on = λ s bounds sites goes.
       again c.args.watchers.now s bounds (sets_of c.places.self.sets) c.look_at.new.self (c.look_at.ensures.goes_on s bounds sites (c.places.invariant.goes_on s bounds sites goes));
+  among = λ s bounds sites goes i n a b le e.
+      c.places.invariant.among s bounds sites goes i n a b le
+      ((c.look_at.ensures.goes_on s bounds sites (c.places.invariant.goes_on s bounds sites goes)).going.by_rules.among i n a b le e);
 }

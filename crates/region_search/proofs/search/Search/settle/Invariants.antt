@@ -1,4 +1,5 @@
 use Rattle.std.proofs.Common.{◌≡◌}
+use Rattle.coverage_claim.specs.Largest.{AreAmong}
 use Rattle.coverage_claim.specs.Rules.{Sets}
 use Rattle.coverage_claim.specs.Stretch.{Stretch}
 use Rattle.region_search.specs.Going.{AreSites, GoesOn, IsFor, sets_of}
@@ -11,6 +12,8 @@ invariant-places l = record {
   frames : l.self.sets.frames ≡ l.initial.self.sets.frames;
   goes_on : (s : Stretch) (bounds : Sets) → AreSites l.watchers s.region l.sites → GoesOn l.watchers s bounds (sets_of l.initial.self.sets) l.initial.self
       → GoesOn l.watchers s bounds (sets_of l.self.sets) l.self;
+  among : (s : Stretch) (bounds : Sets) → AreSites l.watchers s.region l.sites → GoesOn l.watchers s bounds (sets_of l.initial.self.sets) l.initial.self
+      → AreAmong s (sets_of l.self.sets) (sets_of l.initial.self.sets);
 }
 
 abbrev pub decreases-places : goal.decreases-places
