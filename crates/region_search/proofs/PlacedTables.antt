@@ -6,7 +6,7 @@ use Rattle.std.proofs.lemmas.Bool.{cases_lt}
 use Rattle.std.proofs.lemmas.List.{get_or-take, get_or_append_left, get_or_default, get_or_push, length-append, length-take-le}
 use Rattle.std.proofs.lemmas.List.Elements.{All-contains}
 use Rattle.std.proofs.lemmas.Option.{get_or_from_slice_get, slice_get-get_or, slice_get_within}
-use Rattle.circuit.proofs.OrderApart.{order_apart}
+use Rattle.golden_difference.proofs.Apart.{order_apart}
 use Rattle.circuit.specs.Circuit.{Circuit}
 use Rattle.circuit.specs.Order.{IsOrder, net_at}
 use Rattle.circuit.specs.Sound.{IsNet, IsNetlist, IsTable}

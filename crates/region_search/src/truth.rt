@@ -163,7 +163,11 @@ fn placed_table(alloc: Global, netlist: &Netlist, own: NetId) -> Result<TablePla
 
 /// The tables of a netlist by their places in an order, each with its truth table. The time of a table is that of looking, in each
 /// row of its truth table, at each of its own rows.
-pub fn placed_tables(alloc: Global, netlist: &Netlist, order: &Order) -> Result<Vec<TablePlace>, NoRoom>
+pub fn placed_tables(
+    alloc: Global,
+    netlist: &Netlist,
+    order: &Order,
+) -> Result<Vec<TablePlace>, NoRoom>
     requires { IsOrder netlist.now order.now }
     ensures { IfOk result (λ tables. ArePlaced (record { circuit = netlist.now; order = order.now }) tables.items) }
 {

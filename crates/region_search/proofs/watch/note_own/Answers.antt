@@ -1,7 +1,7 @@
 use Rattle.std.proofs.Common.{◌≡◌, ◌≢◌, ◌+◌, ◌<◌, List, Some, length, ap, sym, subst, ◌∙◌, arith}
 use Rattle.std.specs.Prelude.{All}
 use Rattle.std.specs.List.{slice_get}
-use Rattle.circuit.proofs.OrderApart.{order_apart}
+use Rattle.golden_difference.proofs.Apart.{order_apart}
 use Rattle.circuit.specs.Order.{net_at}
 use Rattle.circuit.specs.declared.parts.Latch.{Latch}
 use Rattle.region_search.proofs.OwnPlaces.{few_places, latch_nets, latches_apart, tables_apart}
