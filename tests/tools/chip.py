@@ -47,23 +47,23 @@ def _refusal(folder, text, *words):
 
 
 def the_chip_of_the_example(folder, _):
-    """4 × 24840000 + 9150000 + 25000000 = 133510000; 4 × 191785 + 42000 + 200000 = 1009140; 4 × 997931 + 4167 + 300000 = 4295891;
-    4 × 62000000 + 15230000 + 400000000 = 663230000; 0 + 18000 + 1200000 = 1218000. So 133510000 - 1009140 = 132500860 are not harmful, of which
-    132500860 - 4295891 = 128204969 are not latent; 663230000 - 1218000 = 662012000; 1009140 + 1218000 = 2227140, which is 2.2 FIT."""
+    """4 × 24840000 + 9150000 + 25000000 = 133510000; 4 × 189760 + 42000 + 200000 = 1001040; 4 × 1010512 + 4167 + 300000 = 4346215;
+    4 × 62000000 + 15230000 + 400000000 = 663230000; 0 + 18000 + 1200000 = 1218000. So 133510000 - 1001040 = 132508960 are not harmful, of which
+    132508960 - 4346215 = 128162745 are not latent; 663230000 - 1218000 = 662012000; 1001040 + 1218000 = 2219040, which is 2.2 FIT."""
     for name in ("chip", "lockstep", "voter"):
         shutil.copytree(EXAMPLES / name, pathlib.Path(folder, name))
     text, _ = tool("chip", "chip/list.csv", folder=folder)
     assert text.splitlines() == [
         "fmeda-chip 1", "blocks 2 elements 1 asil D goal -",
-        "block torque instances 4 permanent 99360000 danger 767140 latent 3991724 transient 248000000 danger 0",
+        "block torque instances 4 permanent 99360000 danger 759040 latent 4042048 transient 248000000 danger 0",
         "block pwm instances 1 permanent 9150000 danger 42000 latent 4167 transient 15230000 danger 18000",
         "element sram instances 1 permanent 25000000 danger 200000 latent 300000 transient 400000000 danger 1200000",
-        "permanent all 133510000 danger 1009140 latent 4295891", "transient all 663230000 danger 1218000",
-        "spfm permanent 132500860/133510000", "spfm transient 662012000/663230000", "lfm 128204969/132500860", "term 2227140",
+        "permanent all 133510000 danger 1001040 latent 4346215", "transient all 663230000 danger 1218000",
+        "spfm permanent 132508960/133510000", "spfm transient 662012000/663230000", "lfm 128162745/132508960", "term 2219040",
         "target spfm permanent met", "target spfm transient met", "target lfm met", "target term met",
-        "share torque permanent 99360000/133510000 danger 767140/1009140 latent 3991724/4295891 transient 248000000/663230000 danger 0/1218000 term 767140/2227140",
-        "share pwm permanent 9150000/133510000 danger 42000/1009140 latent 4167/4295891 transient 15230000/663230000 danger 18000/1218000 term 60000/2227140",
-        "share sram permanent 25000000/133510000 danger 200000/1009140 latent 300000/4295891 transient 400000000/663230000 danger 1200000/1218000 term 1400000/2227140",
+        "share torque permanent 99360000/133510000 danger 759040/1001040 latent 4042048/4346215 transient 248000000/663230000 danger 0/1218000 term 759040/2219040",
+        "share pwm permanent 9150000/133510000 danger 42000/1001040 latent 4167/4346215 transient 15230000/663230000 danger 18000/1218000 term 60000/2219040",
+        "share sram permanent 25000000/133510000 danger 200000/1001040 latent 300000/4346215 transient 400000000/663230000 danger 1200000/1218000 term 1400000/2219040",
         "end"], text
 
 
@@ -174,7 +174,7 @@ class _Cells(html.parser.HTMLParser):
 
 
 def the_page_of_a_chip(folder, _):
-    """767140 / 1009140 is 76.019 %; 400 FIT of 663.23 stand as they are; SPFM 99.244 % and LFM 96.757 %."""
+    """759040 / 1001040 is 75.825 %; 400 FIT of 663.23 stand as they are; SPFM 99.250 % and LFM 96.720 %."""
     for name in ("chip", "lockstep", "voter"):
         shutil.copytree(EXAMPLES / name, pathlib.Path(folder, name))
     tool("chip", "chip/list.csv", "--page", "chip.html", "--title", "an <inverter>", folder=folder)
@@ -182,7 +182,7 @@ def the_page_of_a_chip(folder, _):
     cells = _Cells()
     cells.feed(text)
     assert not cells.fetched and "@import" not in text and "an <inverter>" in cells.text, cells.fetched
-    for wanted in ("99.24 %", "96.75 %", "99.81 %", "128204969/132500860", "76.01 %", "2.22714 FIT", "|400|", "sheet of the SRAM with ECC", "intervals 0, 4"):
+    for wanted in ("99.25 %", "96.72 %", "99.81 %", "128162745/132508960", "75.82 %", "2.21904 FIT", "|400|", "sheet of the SRAM with ECC", "intervals 0, 4"):
         assert wanted in cells.text, wanted
     assert text.count("verdict met") == 4
 

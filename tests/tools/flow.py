@@ -621,7 +621,7 @@ def from_verilog_to_the_page(folder, program):
         raise Skipped(f"another yosys, {made.splitlines()[0]}: the report is not compared")
     assert made == kept and copy.joinpath("flow", "report.txt").read_bytes() == copy.joinpath("report.txt").read_bytes()
     page = copy.joinpath("flow", "page.html").read_text()
-    for wanted in ("99.22 %", "24648215/24840000", "95.95 %", "0.191785 FIT", "Two cores in lockstep"):
+    for wanted in ("99.23 %", "24650240/24840000", "95.90 %", "0.18976 FIT", "Two cores in lockstep"):
         assert wanted in page, wanted
     copy.joinpath("design.v").write_text("module lockstep (input clk; endmodule\n")
     _, said = _flow(copy, program, status=3)

@@ -44,7 +44,7 @@ def a_page_of_each_example(folder, _):
 
 def what_the_page_says(folder, _):
     text = _made_page(folder, "bridge").read_text()
-    for wanted in ("85.42 %", "at least 90 %", "3638933/4260000", "without the 22 heaviest faults", "u_control", "2 outputs of the netlist are no point: rparity, pparity."):
+    for wanted in ("85.50 %", "at least 90 %", "3642359/4260000", "without the 22 heaviest faults", "u_control", "2 outputs of the netlist are no point: rparity, pparity."):
         assert wanted in text, wanted
     text = _made_page(folder, "watchdog").read_text()
     assert "2 safety goals" in text
