@@ -39,7 +39,7 @@ compared p entries planes agree =
 -- ---- each metric between its ends
 
 module _ (e : EndSums) (s : Sums) (moved : ℕ) (are : Compared e.best e.worst e.most_latent s moved) where
-  permanent_between : (value : Fraction) → spfm_permanent s ≡ Some value → IsBetween (spfm_permanent_ends e) value
+  pub permanent_between : (value : Fraction) → spfm_permanent s ≡ Some value → IsBetween (spfm_permanent_ends e) value
   permanent_between value is =
       let q = fraction_is (s.permanent_all - s.permanent_danger) s.permanent_all value is in
       let best : 0 < e.best.permanent_all = omega (arith, q.some, are.all_best) in
@@ -55,7 +55,7 @@ module _ (e : EndSums) (s : Sums) (moved : ℕ) (are : Compared e.best e.worst e
             (lost_more s.permanent_all s.permanent_danger e.best.permanent_all e.best.permanent_danger are.danger_best (omega (arith, are.all_best)));
       })
 
-  transient_between : (value : Fraction) → spfm_transient s ≡ Some value → IsBetween (spfm_transient_ends e) value
+  pub transient_between : (value : Fraction) → spfm_transient s ≡ Some value → IsBetween (spfm_transient_ends e) value
   transient_between value is =
       let q = fraction_is (s.transient_all - s.transient_danger) s.transient_all value is in
       let best : 0 < e.best.transient_all = omega (arith, q.some, are.transient_best) in
@@ -105,7 +105,7 @@ module _ (e : EndSums) (s : Sums) (moved : ℕ) (are : Compared e.best e.worst e
       let no : s.latent ≡ 0 = omega (arith, none, fits_most, are.latent_most) in
       more_left rest_best e.best.latent rest s.latent (rw no (omega arith))
 
-  lfm_between : (value : Fraction) → lfm s ≡ Some value → IsBetween (lfm_ends e) value
+  pub lfm_between : (value : Fraction) → lfm s ≡ Some value → IsBetween (lfm_ends e) value
   lfm_between value is =
       let q = fraction_is (rest - s.latent) rest value is in
       let best : 0 < rest_best = (let some = q.some in omega (arith, some, grows)) in
@@ -135,10 +135,10 @@ module _ (e : EndSums) (s : Sums) (moved : ℕ) (are : Compared e.best e.worst e
             below = latent_below;
           }
 
-  term_above : term e.best ≤ term s
+  pub term_above : term e.best ≤ term s
   term_above = omega (arith, are.danger_best, are.upset_best)
 
-  term_below : term s ≤ term e.worst
+  pub term_below : term s ≤ term e.worst
   term_below = omega (arith, are.danger_worst, are.upset_worst)
 
 -- ---- the ends are reached

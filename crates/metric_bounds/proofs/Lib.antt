@@ -1,9 +1,9 @@
-mod Comparing
-mod Sharing
+pub mod Comparing
+pub mod Sharing
 mod Ratios
-mod Bounding
+pub mod Bounding
 mod Narrowing
-mod Targeting
+pub mod Targeting
 mod Rowing
 mod Ending
 pub mod Grouping

@@ -27,7 +27,7 @@ use Rattle.metric_bounds.proofs.Comparing.{Compared, subst_four}
 
 -- ---- whether a mechanism covers the part is no matter to the sums
 
-same_share : (d n : Bool) (role : Role) (covered permanent : Bool) (w : ℕ)
+pub same_share : (d n : Bool) (role : Role) (covered permanent : Bool) (w : ℕ)
     → share_of (class_of d n role false permanent) permanent w ≡ share_of (class_of d n role covered permanent) permanent w
 same_share d n role false permanent w = refl
 same_share d n Other true permanent w = refl
@@ -38,7 +38,7 @@ same_share false n Mechanism true permanent w = refl
 
 -- ---- a fault of a missing batch
 
-missing_compared : (d n : Bool) (role : Role) (permanent : Bool) (w : ℕ) → (moved : ℕ) × Compared
+pub missing_compared : (d n : Bool) (role : Role) (permanent : Bool) (w : ℕ) → (moved : ℕ) × Compared
     (share_of (class_of false true role false permanent) permanent w) (share_of (class_of true false role false permanent) permanent w)
     (share_of (class_of (not (is_mechanism role)) false role false permanent) permanent w) (share_of (class_of d n role false permanent) permanent w) moved
 missing_compared d n Other true w = (
@@ -324,7 +324,7 @@ missing_compared false false Mechanism false w = (
 
 -- ---- a fault of a kept batch
 
-kept_compared : (class : Class) (permanent : Bool) (w : ℕ)
+pub kept_compared : (class : Class) (permanent : Bool) (w : ℕ)
     → Compared (share_of class permanent w) (share_of class permanent w) (share_of class permanent w) (share_of class permanent w) 0
 kept_compared Safe true w = record {
   all_best = refl;

@@ -22,7 +22,7 @@ use Rattle.metric_bounds.proofs.Ratios.{fraction_is}
 
 -- ---- a percentage that a fraction meets is met by each greater one
 
-met_above : (percent : ℕ) (low high : Fraction) → 0 < low.den → AtMost low high → meets percent low ≡ true → meets percent high ≡ true
+pub met_above : (percent : ℕ) (low high : Fraction) → 0 < low.den → AtMost low high → meets percent low ≡ true → meets percent high ≡ true
 met_above percent low high some at_most met =
     let a : percent * low.den ≤ 100 * low.num = grind (arith, met) in
     let b : percent * low.den * high.den ≤ 100 * low.num * high.den = mul-le-mul_right high.den a in
@@ -32,7 +32,7 @@ met_above percent low high some at_most met =
     let e : percent * high.den ≤ 100 * high.num = le_of_mul-le-mul_right d some in
     grind (arith, e)
 
-missed_below : (percent : ℕ) (low high : Fraction) → 0 < low.den → AtMost low high → meets percent high ≡ false → meets percent low ≡ false
+pub missed_below : (percent : ℕ) (low high : Fraction) → 0 < low.den → AtMost low high → meets percent high ≡ false → meets percent low ≡ false
 missed_below percent low high some at_most missed = by_test (meets percent low) refl
   where
     by_test : (b : Bool) → meets percent low ≡ b → meets percent low ≡ false
@@ -41,17 +41,17 @@ missed_below percent low high some at_most missed = by_test (meets percent low) 
 
 -- ---- what a standing says of the worst and the best value
 
-when_met : (a b : Bool) → Some (standing a b) ≡ Some Met → a ≡ true
+pub when_met : (a b : Bool) → Some (standing a b) ≡ Some Met → a ≡ true
 when_met true b e = refl
 when_met false true e = absurd (cc)
 when_met false false e = absurd (cc)
 
-when_missed : (a b : Bool) → Some (standing a b) ≡ Some Missed → b ≡ false
+pub when_missed : (a b : Bool) → Some (standing a b) ≡ Some Missed → b ≡ false
 when_missed true b e = absurd (cc)
 when_missed false true e = absurd (cc)
 when_missed false false e = refl
 
-when_open : (a b : Bool) → Some (standing a b) ≡ Some Open → (a ≡ false) × (b ≡ true)
+pub when_open : (a b : Bool) → Some (standing a b) ≡ Some Open → (a ≡ false) × (b ≡ true)
 when_open true b e = absurd (cc)
 when_open false true e = (refl, refl)
 when_open false false e = absurd (cc)
@@ -107,7 +107,7 @@ module _ (p : Analysis) (entries : List Entry) (metric : Sums → Option Fractio
   stands : StandsSo p entries metric percent (ratio_standing percent ends.least ends.greatest)
   stands = by_ends ends.least ends.greatest refl refl
 
-some_den : (num den : ℕ) (q : Fraction) → fraction num den ≡ Some q → 0 < q.den
+pub some_den : (num den : ℕ) (q : Fraction) → fraction num den ≡ Some q → 0 < q.den
 some_den num den q e =
     let is = fraction_is num den q e in
     subst (λ (r : Fraction). 0 < r.den) (sym is.is) is.some
@@ -123,10 +123,10 @@ targets p entries percent =
 
 -- ---- the limit of the term
 
-less_is_below : (limit low high : ℕ) → low ≤ high → nat_lt high limit ≡ true → nat_lt low limit ≡ true
+pub less_is_below : (limit low high : ℕ) → low ≤ high → nat_lt high limit ≡ true → nat_lt low limit ≡ true
 less_is_below limit low high le e = (let lt = ltb-true high limit e in lt-ltb low limit (omega (arith, le, lt)))
 
-more_is_above : (limit low high : ℕ) → low ≤ high → nat_lt low limit ≡ false → nat_lt high limit ≡ false
+pub more_is_above : (limit low high : ℕ) → low ≤ high → nat_lt low limit ≡ false → nat_lt high limit ≡ false
 more_is_above limit low high le e =
     false_of (nat_lt high limit) (λ below. let from = ltb-false low limit e in let lt = ltb-true high limit below in absurd (omega (arith, le, from, lt)))
 

@@ -34,6 +34,7 @@ fn write_reading<O: Sink>(plan: &Plan, reading: Reading, out: &mut O) -> Result<
     let alarms = points.alarm.as_slice();
     match reading {
         Reading::Whole => write_line(out, &[b"reading", b"all"]),
+        Reading::Bare | Reading::BareGoal(_) => write_line(out, &[b"reading", b"bare"]),
         Reading::Goal(g) => write_line(out, &[b"reading", b"goal", goal_word(&goals[g as usize])]),
         Reading::Without(a) => {
             write_line(

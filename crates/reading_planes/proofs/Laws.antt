@@ -1,9 +1,9 @@
 -- The list of readings is that of the plan.
-use Rattle.std.proofs.Common.{◌≡◌, ℕ, List, [], ◌∷◌, ◌++◌, length, map, refl, ap, ap₂, ◌∙◌}
-use Rattle.std.specs.Prelude.{None, codes, decimal}
+use Rattle.std.proofs.Common.{◌≡◌, ℕ, ◌<◌, Bool, true, false, arith, List, [], ◌∷◌, ◌++◌, length, map, refl, ap, ap₂, ◌∙◌}
+use Rattle.std.specs.Prelude.{None, codes, decimal, flat_map, nat_lt, if◌then◌else◌}
 use Rattle.std.specs.List.{All}
 use Rattle.std.proofs.lemmas.List.{map-append}
-use Rattle.std.proofs.lemmas.List.Elements.{All-append, All-cons, All-from_get_or, All-map}
+use Rattle.std.proofs.lemmas.List.Elements.{All-append, All-cons, All-from_get_or, All-head, All-map, All-nil, All-tail}
 use Rattle.circuit.specs.declared.parts.NetId.{NetId}
 use Rattle.circuit.specs.Names.{net_name}
 use Rattle.fm_base.specs.Lists.{below}
@@ -11,9 +11,9 @@ use Rattle.fm_base.proofs.Below.{below_small}
 use Rattle.alarm_points.specs.declared.Goal.{Goal}
 use Rattle.readings.specs.Breakdown.{Reading as PlanReading, goal_word, readings, with_alarms, with_goals, other_alarms}
 use Rattle.campaign_plan.specs.Analysis.{with_interval}
-use Rattle.reading_planes.specs.Readings.{IsReadingOf, ListGivesReadings, ListIsSound, reading_by}
+use Rattle.reading_planes.specs.Readings.{IsReadingOf, ListGivesReadings, ListIsSound, PairsAreSound, PairsGivePlans, pair_of, reading_by}
 use Rattle.reading_planes.specs.declared.reading.Reading.{Reading}
-use Rattle.reading_planes.specs.declared.reading.Reading.TheVariants.{Goal as GoalAlone, Interval, Only, Whole, Without}
+use Rattle.reading_planes.specs.declared.reading.Reading.TheVariants.{Bare, BareGoal, Goal as GoalAlone, Interval, Only, Whole, Without}
 use Rattle.reading_planes.proofs.Lists.{by_numbers}
 
 map_twice : {X Y Z : Type 0} (f : Y → Z) (g : X → Y) (xs : List X) → map f (map g xs) ≡ map (λ x. f (g x)) xs
@@ -76,3 +76,29 @@ list_sound points intervals =
 
     all_true : (ns : List ℕ) → All (λ cycles. IsReadingOf points (Interval cycles)) ns
     all_true ns = All-from_get_or (λ cycles. IsReadingOf points (Interval cycles)) ns 0 (λ i lt. tt)
+
+-- the readings of coverage
+pub pairs_sound : PairsAreSound
+pairs_sound points =
+    All-cons (IsReadingOf points) Whole (Bare ∷ flat_map pair_of (below several)) tt
+    (All-cons (IsReadingOf points) Bare (flat_map pair_of (below several)) tt (each (below several) few))
+  where
+    several : ℕ
+    several = if nat_lt 1 (length points.goals) then length points.goals else 0
+
+    few : All (λ g. g < length points.goals) (below several)
+    few = by_test (nat_lt 1 (length points.goals))
+      where
+        by_test : (b : Bool) → All (λ g. g < length points.goals) (below (if b then length points.goals else 0))
+        by_test true = below_small (length points.goals)
+        by_test false = λ k d lt. (let small : All (λ g. g < 0) (below 0) = below_small 0 in absurd (omega (arith, small k d lt)))
+
+    each : (gs : List ℕ) → All (λ g. g < length points.goals) gs → All (IsReadingOf points) (flat_map pair_of gs)
+    each [] all = All-nil (IsReadingOf points)
+    each (g ∷ gs) all =
+        All-cons (IsReadingOf points) (GoalAlone g) (BareGoal g ∷ flat_map pair_of gs) (All-head (λ h. h < length points.goals) g gs all)
+        (All-cons (IsReadingOf points) (BareGoal g) (flat_map pair_of gs) (All-head (λ h. h < length points.goals) g gs all)
+        (each gs (All-tail (λ h. h < length points.goals) g gs all)))
+
+pub pairs_plans : PairsGivePlans
+pairs_plans p g = record { whole = refl; bare = refl; goal = refl; bare_goal = refl }

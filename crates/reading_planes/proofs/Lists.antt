@@ -1,11 +1,12 @@
 -- Lists by the numbers of their items.
 use Rattle.std.proofs.Common.{◌≡◌, ℕ, zero, suc, ◌+◌, ◌<◌, ◌≤◌, Bool, true, false, ◌&&◌, ◌||◌, List, [], ◌∷◌, ◌++◌, length, map, take, filter, get_or, cond, refl, ap, sym, ◌∙◌, arith, append-nil, append_assoc, take_all, add-one}
-use Rattle.std.specs.List.{list_any}
+use Rattle.std.specs.List.{flat_map, list_any}
 use Rattle.std.proofs.lemmas.List.{map-append, take_more}
 use Rattle.std.proofs.lemmas.List.Folds.{list_any_more}
 use Rattle.circuit.specs.declared.parts.NetId.{NetId}
 use Rattle.fm_base.specs.Lists.{below}
-use Rattle.fm_base.proofs.Below.{map-below}
+use Rattle.std.proofs.lemmas.List.Concat.{flat_map-append}
+use Rattle.fm_base.proofs.Below.{below_push, map-below}
 use Rattle.std.specs.Prelude.{Option, None}
 use Rattle.reading_planes.specs.Readings.{is_other, others}
 
@@ -18,6 +19,17 @@ none_below f start = sym (append-nil start)
 pub pushed_below : {X : Type 0} (f : ℕ → X) (start items : List X) (n : ℕ) → items ≡ start ++ map f (below n) → items ++ f n ∷ [] ≡ start ++ map f (below (n + 1))
 pushed_below f start items n e =
     ap (λ xs. xs ++ f n ∷ []) e ∙ append_assoc start (map f (below n)) (f n ∷ []) ∙ ap (λ xs. start ++ xs) (sym (ap (λ k. map f (below k)) (add-one n) ∙ map-below f n))
+
+-- the same of several for each number
+pub none_flat : {X : Type 0} (f : ℕ → List X) (start : List X) → start ≡ start ++ flat_map f (below 0)
+unfolding below
+none_flat f start = sym (append-nil start)
+
+pub pushed_flat : {X : Type 0} (f : ℕ → List X) (start items : List X) (n : ℕ) → items ≡ start ++ flat_map f (below n) → items ++ f n ≡ start ++ flat_map f (below (n + 1))
+pushed_flat f start items n e =
+    ap (λ xs. xs ++ f n) e ∙ append_assoc start (flat_map f (below n)) (f n)
+    ∙ ap (λ xs. start ++ xs)
+    (sym (ap (λ k. flat_map f (below k)) (add-one n) ∙ ap (flat_map f) (below_push n) ∙ flat_map-append f (below n) (n ∷ []) ∙ ap (λ xs. flat_map f (below n) ++ xs) (append-nil (f n))))
 
 -- one item more
 pub pushed_item : {X Y : Type 0} (f : X → Y) (start items : List Y) (xs : List X) (i : ℕ) (none : X) → i < length xs → items ≡ start ++ map f (take i xs)

@@ -10,7 +10,7 @@ use Rattle.first_cycles.specs.Shown.{Shown}
 use Rattle.reading_planes.specs.Folded.{IsLaneOf, LaneCycles, differences_by, late_by}
 use Rattle.reading_planes.specs.Readings.{IsReadingOf, points_by}
 use Rattle.reading_planes.specs.declared.reading.Reading.{Reading}
-use Rattle.reading_planes.specs.declared.reading.Reading.TheVariants.{Goal as GoalAlone, Interval, Only, Whole, Without}
+use Rattle.reading_planes.specs.declared.reading.Reading.TheVariants.{Bare, BareGoal, Goal as GoalAlone, Interval, Only, Whole, Without}
 
 -- those of the goals of a reading
 pub differences_are : (points : Points) (s : Shown) (lane : LaneCycles) (reading : Reading) → IsReadingOf points reading → IsLaneOf points s lane
@@ -24,6 +24,12 @@ differences_are points s lane (GoalAlone h) is of = λ g lt. one g lt
 differences_are points s lane (Without a) is of = of.difference
 differences_are points s lane (Only a) is of = of.difference
 differences_are points s lane (Interval cycles) is of = of.difference
+differences_are points s lane Bare is of = of.difference
+differences_are points s lane (BareGoal h) is of = λ g lt. one g lt
+  where
+    one : (g : ℕ) → g < 1 → get_or (get_or lane.differences h None ∷ []) g None ≡ s.difference (goal_at (goal_at points.goals h ∷ []) g)
+    one zero lt = of.difference h is
+    one (suc g) lt = absurd (omega (arith, lt))
 
 -- none is late where no goal differs
 none_late : (ftti : ℕ) (s : Shown) (alarm : Option ℕ) (goals : List Goal) → ((g : ℕ) → g < length goals → s.difference (goal_at goals g) ≡ None)
@@ -45,3 +51,9 @@ late_by_none points ftti s (GoalAlone h) is none = none_late ftti s _ (goal_at p
 late_by_none points ftti s (Without a) is none = none_late ftti s _ points.goals none
 late_by_none points ftti s (Only a) is none = none_late ftti s _ points.goals none
 late_by_none points ftti s (Interval cycles) is none = none_late cycles s _ points.goals none
+late_by_none points ftti s Bare is none = none_late ftti s None points.goals none
+late_by_none points ftti s (BareGoal h) is none = none_late ftti s None (goal_at points.goals h ∷ []) one
+  where
+    one : (g : ℕ) → g < 1 → s.difference (goal_at (goal_at points.goals h ∷ []) g) ≡ None
+    one zero lt = none h is
+    one (suc g) lt = absurd (omega (arith, lt))

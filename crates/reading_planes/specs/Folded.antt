@@ -17,7 +17,7 @@ use Rattle.shown_runs.specs.First.{first_in}
 use Rattle.shown_runs.specs.Record.{RunRecord, alarm_at, alarm_cycles, goal_cycles}
 use Rattle.reading_planes.specs.Readings.{ftti_by, points_by}
 use Rattle.reading_planes.specs.declared.reading.Reading.{Reading}
-use Rattle.reading_planes.specs.declared.reading.Reading.TheVariants.{Goal, Interval, Only, Whole, Without}
+use Rattle.reading_planes.specs.declared.reading.Reading.TheVariants.{Bare, BareGoal, Goal, Interval, Only, Whole, Without}
 
 -- the record has in lane k what counts of what a run shows: a silenced alarm counts in a test alone
 pub record HasShown (points : Points) (s : Shown) (k : ℕ) (r : RunRecord) : Type 0 where
@@ -76,6 +76,8 @@ differences_by differences (Goal g) = slice_index_or differences g None ∷ []
 differences_by differences (Without a) = differences
 differences_by differences (Only a) = differences
 differences_by differences (Interval cycles) = differences
+differences_by differences Bare = differences
+differences_by differences (BareGoal g) = slice_index_or differences g None ∷ []
 
 -- the record of an alarm point gives notice in a lane, in a run of a kind
 abbrev pub point_gives_notice : Kind → AlarmCycles → ℕ → Bool

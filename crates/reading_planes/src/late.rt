@@ -65,6 +65,7 @@ fn first_alarm(points: &Points, reading: Reading, lane: &LaneCycles) -> Option<u
 {
     match reading {
         Reading::Only(a) => lane.alarms.as_slice()[a as usize],
+        Reading::Bare | Reading::BareGoal(_) => None,
         Reading::Without(a) => first_without(points.alarm.as_slice(), lane, a),
         _ => lane.first,
     }
@@ -77,7 +78,7 @@ fn goals_of(points: &Points, reading: Reading) -> &[Goal]
 {
     let goals = points.goals.as_slice();
     match reading {
-        Reading::Goal(g) => &goals[g as usize..g as usize + 1],
+        Reading::Goal(g) | Reading::BareGoal(g) => &goals[g as usize..g as usize + 1],
         _ => goals,
     }
 }
@@ -90,7 +91,7 @@ fn differences_of<'a>(points: &Points, reading: Reading, lane: &'a LaneCycles) -
 {
     let differences = lane.differences.as_slice();
     match reading {
-        Reading::Goal(g) => &differences[g as usize..g as usize + 1],
+        Reading::Goal(g) | Reading::BareGoal(g) => &differences[g as usize..g as usize + 1],
         _ => differences,
     }
 }

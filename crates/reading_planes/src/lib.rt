@@ -12,8 +12,8 @@ mod runs;
 mod simulator;
 
 pub use lane::LaneCycles;
-pub use law::list_gives_readings;
+pub use law::{list_gives_readings, pairs_give_plans};
 pub use planes::ReadingPlanes;
-pub use reading::{Reading, reading_list};
+pub use reading::{Reading, coverage_list, reading_list};
 pub use runs::loaded_readings;
 pub use simulator::ReadingSimulator;

@@ -59,6 +59,7 @@ fn noticed_in(kind: Kind, points: &Points, reading: Reading, kept: &RunRecord, a
     match reading {
         Reading::Only(a) => noticed_at(kind, &alarms[a as usize]),
         Reading::Without(a) => noticed_by_others(kind, nets, alarms, Some(nets[a as usize])),
+        Reading::Bare | Reading::BareGoal(_) => 0,
         _ => all,
     }
 }

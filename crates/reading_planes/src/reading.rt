@@ -1,7 +1,7 @@
 // The readings of a plan.
-ghost use Rattle.std.specs.Prelude.{◌≡◌, ◌≤◌, ◌++◌, IfOk, length, map};
+ghost use Rattle.std.specs.Prelude.{◌≡◌, ◌≤◌, ◌++◌, IfOk, flat_map, length, map};
 ghost use Rattle.fm_base.specs.Lists.{below};
-ghost use Rattle.reading_planes.specs.Readings.{ftti_by, is_other as is_other_of, reading_list as list_of};
+ghost use Rattle.reading_planes.specs.Readings.{coverage_list as pairs_of, ftti_by, is_other as is_other_of, pair_of, reading_list as list_of};
 ghost use Rattle.reading_planes.specs.declared.reading.Reading.TheVariants.{Goal, Interval, Only, Whole, Without};
 
 use alarm_points::Points;
@@ -23,6 +23,10 @@ pub enum Reading {
     Only(u32),
     /// Another fault tolerant time interval in cycles, for the goals without one of their own.
     Interval(u32),
+    /// The plan itself, without any alarm point.
+    Bare,
+    /// One safety goal alone, without any alarm point.
+    BareGoal(u32),
 }
 
 // Each goal alone.
@@ -31,6 +35,17 @@ fn push_goals(list: &mut Vec<Reading>, count: u32) -> Result<(), NoRoom>
 {
     for g in 0..count {
         push(list, Reading::Goal(g))?;
+    }
+    Ok(())
+}
+
+// Each goal alone, with the alarm points and without any.
+fn push_pairs(list: &mut Vec<Reading>, count: u32) -> Result<(), NoRoom>
+    ensures { IfOk result (λ _. list.new.items ≡ list.old.items ++ flat_map pair_of (below count)) }
+{
+    for g in 0..count {
+        push(list, Reading::Goal(g))?;
+        push(list, Reading::BareGoal(g))?;
     }
     Ok(())
 }
@@ -84,6 +99,21 @@ pub fn reading_list(
     push_without(&mut list, alarms)?;
     push_only(&mut list, alarms)?;
     push_intervals(&mut list, intervals)?;
+    Ok(list)
+}
+
+/// The readings of coverage with these points: the plan itself, and it without any alarm point; where there are several goals, the same
+/// of each goal alone.
+pub fn coverage_list(alloc: Global, points: &Points) -> Result<Vec<Reading>, NoRoom>
+    requires goals { length points.now.goals ≤ 4 }
+    ensures { IfOk result (λ list. list.items ≡ pairs_of points.now) }
+{
+    let goals = points.goals.as_slice().len() as u32;
+    let several = if goals > 1 { goals } else { 0 };
+    let mut list = Vec::new(alloc);
+    push(&mut list, Reading::Whole)?;
+    push(&mut list, Reading::Bare)?;
+    push_pairs(&mut list, several)?;
     Ok(list)
 }
 

@@ -2,9 +2,9 @@ mod Telling
 pub mod Intervals
 mod Exciting
 mod Pulsing
-mod Transients
+pub mod Transients
 mod Rows
 mod Files
 mod AlarmRows
 mod GoalRows
-mod Seeing
+pub mod Seeing

@@ -38,13 +38,13 @@ use Rattle.readings.proofs.Pulsing.{inverts}
 not_yet : (t u : ℕ) → u < t → (t == u) ≡ false
 not_yet t u lt = ne_eqb t u (omega (arith, lt))
 
-flip_idle : (l t u : ℕ) → u < t → DoNothing (Flip l t ∷ []) u
+pub flip_idle : (l t u : ℕ) → u < t → DoNothing (Flip l t ∷ []) u
 flip_idle l t u lt = record {
   nets = λ net own. refl;
   latches = λ bits. flipped_same (Flip l t ∷ []) u 0 bits (λ m. ap (λ b. (l == m && b) || false) (not_yet t u lt) ∙ ap (λ b. b || false) (and-false (l == m)));
 }
 
-pulse_idle : (n : NetId) (t u : ℕ) → u < t → DoNothing (Pulse n t ∷ []) u
+pub pulse_idle : (n : NetId) (t u : ℕ) → u < t → DoNothing (Pulse n t ∷ []) u
 pulse_idle n t u lt = record {
   nets = λ net own. ap (λ b. if (n.0 == net && b) || false then not own else own) (not_yet t u lt) ∙ ap (λ b. if b || false then not own else own) (and-false (n.0 == net));
   latches = λ bits. flipped_same (Pulse n t ∷ []) u 0 bits (λ m. refl);
@@ -53,7 +53,7 @@ pulse_idle n t u lt = record {
 -- ---- so nothing differs before it, and the latches hold the same at its start
 
 module _ (c : Circuit) (sound : IsNetlist c) (f : Fault) where
-  before : (t : ℕ) → ((u : ℕ) → u < t → DoNothing (f ∷ []) u) → (vectors : List (List Bool)) (u net : ℕ) → u < t → net < length c.drivers
+  pub before : (t : ℕ) → ((u : ℕ) → u < t → DoNothing (f ∷ []) u) → (vectors : List (List Bool)) (u net : ℕ) → u < t → net < length c.drivers
       → trace c (f ∷ []) vectors u net ≡ trace c [] vectors u net
   before t idle vectors u net lt within =
       same_of_none _ _ (is_over_after c (f ∷ []) [] t
@@ -70,7 +70,7 @@ module _ (c : Circuit) (sound : IsNetlist c) (f : Fault) where
 
 -- ---- in its cycle its net differs
 
-unflipped : (t : ℕ) (bits : List Bool) → flipped [] t bits ≡ bits
+pub unflipped : (t : ℕ) (bits : List Bool) → flipped [] t bits ≡ bits
 unflipped t bits = flipped_same [] t 0 bits (λ l. refl)
 
 pulse_differs : (c : Circuit) (order : List NetId) → IsNetlist c → IsOrder c order → (n : NetId) (t : ℕ) → IsNet c n → (vectors : List (List Bool))
