@@ -1,0 +1,5 @@
+pub mod Seeing
+pub mod EachItem
+pub mod FirstMore
+pub mod PointBits
+pub mod Standing

@@ -1,0 +1,5 @@
+pub mod First
+pub mod Points
+pub mod Records
+pub mod Shown
+pub mod Stretch
