@@ -3,3 +3,4 @@ pub mod EachItem
 pub mod FirstMore
 pub mod PointBits
 pub mod Standing
+pub mod Groups

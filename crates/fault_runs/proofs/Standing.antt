@@ -1,5 +1,5 @@
 -- What faults have shown, cycle by cycle.
-use Rattle.std.proofs.Common.{◌≡◌, ℕ, ◌+◌, ◌-◌, ◌*◌, ◌≤◌, List, refl, ap, ◌∙◌, arith}
+use Rattle.std.proofs.Common.{◌≡◌, ℕ, ◌+◌, ◌-◌, ◌*◌, ◌≤◌, List, take, refl, ap, sym, subst, ◌∙◌, arith}
 use Rattle.std.proofs.Math.Nat.{add-mul}
 use Rattle.circuit.specs.declared.parts.Fault.{Fault}
 use Rattle.circuit.specs.Circuit.{Circuit}
@@ -12,6 +12,10 @@ use Rattle.fault_runs.specs.First.{first_with}
 use Rattle.fault_runs.specs.Points.{alarm_at, goal_at}
 use Rattle.fault_runs.specs.Records.{IsSameRecord, RunShown}
 use Rattle.fault_runs.specs.Shown.{HasShown, SeesCycle}
+use Rattle.fault_runs.specs.Followed.{IsFollowed, MayLeave}
+use Rattle.fault_runs.specs.Stretch.{Stands}
+use Rattle.golden_difference.specs.Beside.{IsStateOf}
+use Rattle.place_set.specs.Places.{Places}
 use Rattle.fault_runs.proofs.FirstMore.{first_more}
 
 pub same_self : (r : RunShown) → IsSameRecord r r
@@ -54,3 +58,15 @@ cost_more start before now from t tables le b n =
     let one : 1 * tables ≡ tables = omega arith in
     let whole : (t + 1 - from) * tables ≡ (t - from) * tables + tables = ap (λ m. m * tables) next ∙ split ∙ ap (λ m. (t - from) * tables + m) one in
     omega (arith, b, n, whole)
+
+module _ (c : Circuit) (points : Points) (run : Run) (x : List Fault) where
+  -- what is left as it was stands as before
+  pub stands_same : (t : ℕ) (s p : Places) (r q : RunShown) → p ≡ s → IsSameRecord r q → Stands c points run x t s r → Stands c points run x t p q
+  stands_same t s p r q same_state same_record stands = record {
+    latches = subst (λ (m : Places). IsStateOf c x (take t run.vectors) m) (sym same_state) stands.latches;
+    shown = shown_same c points run x t r q same_record stands.shown;
+  }
+
+  pub followed_same : (may_leave : MayLeave) (r q : RunShown) → IsSameRecord r q → IsFollowed c points run x may_leave r → IsFollowed c points run x may_leave q
+  followed_same may_leave r q same so =
+      record { n = so.n; within = so.within; shown = shown_same c points run x so.n r q same so.shown; enough = so.enough }

@@ -3,3 +3,4 @@ pub mod Points
 pub mod Records
 pub mod Shown
 pub mod Stretch
+pub mod Followed

@@ -22,7 +22,7 @@ use std::sync::ledger::Ledger;
 use testbench::Testbench;
 
 /// The most cycles of a stretch, between which faults are put into groups anew.
-const STRETCH: u32 = 256;
+pub const STRETCH: u32 = 256;
 
 // The number of lanes that a group takes.
 fn lanes_of<W: Word>(group: &[u32]) -> u32
