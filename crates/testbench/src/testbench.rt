@@ -4,7 +4,7 @@ ghost use Rattle.circuit.specs.Order.{IsOrder};
 ghost use Rattle.workload.specs.Runs.{cycles_of, run_at};
 ghost use Rattle.workload.specs.RunsKept.{AreRuns};
 ghost use Rattle.alarm_points.specs.PointsKept.{ArePointsFor};
-ghost use Rattle.golden_difference.specs.Beside.{IsGoldenRow, AreBeside};
+ghost use Rattle.golden_difference.specs.Beside.{AreBeside, AreBetween, IsGoldenRow};
 ghost use Rattle.testbench.specs.Load.{load_of};
 ghost use Rattle.testbench.specs.Testbench.{testbench_of};
 ghost use Rattle.golden_difference.specs.Lanes.{IsMadeFor};
@@ -160,6 +160,8 @@ impl<'a> Testbench<'a> {
         ensures in_force { lanes.new.in_force ≡ lanes.old.in_force }
         ensures cycles { lanes.new.cycle ≡ lanes.old.cycle + 1 }
         ensures step { (vectors : List (List Bool)) (inputs : List Bool) → AreBeside W.lanes W.lane_bit vectors lanes.old
+            → IsGoldenRow self.now.circuit (vectors ++ inputs ∷ []) (length vectors) row.now → AreBeside W.lanes W.lane_bit (vectors ++ inputs ∷ []) lanes.new }
+        ensures from_state { (vectors : List (List Bool)) (inputs : List Bool) → AreBetween W.lanes W.lane_bit vectors lanes.old
             → IsGoldenRow self.now.circuit (vectors ++ inputs ∷ []) (length vectors) row.now → AreBeside W.lanes W.lane_bit (vectors ++ inputs ∷ []) lanes.new }
         ensures cost { steps.new ≤ steps.old + length self.now.circuit.tables }
     {

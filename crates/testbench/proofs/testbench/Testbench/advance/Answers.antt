@@ -11,3 +11,8 @@ pub returns-clause-step : goal.returns-clause-step
 returns-clause-step g c = λ vectors inputs after golden.
     c.cycle.ensures.step vectors inputs (λ k lt. (after k lt).between)
     (subst (λ (bench : Testbench). IsGoldenRow bench.circuit (vectors ++ inputs ∷ []) (length vectors) c.args.row.now) (sym c.self.view_is) golden)
+
+pub returns-clause-from_state : goal.returns-clause-from_state
+returns-clause-from_state g c = λ vectors inputs after golden.
+    c.cycle.ensures.step vectors inputs after
+    (subst (λ (bench : Testbench). IsGoldenRow bench.circuit (vectors ++ inputs ∷ []) (length vectors) c.args.row.now) (sym c.self.view_is) golden)

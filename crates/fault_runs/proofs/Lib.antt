@@ -1,0 +1,6 @@
+pub mod Seeing
+pub mod EachItem
+pub mod FirstMore
+pub mod PointBits
+pub mod Standing
+pub mod Groups

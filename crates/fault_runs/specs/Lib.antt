@@ -1,0 +1,6 @@
+pub mod First
+pub mod Points
+pub mod Records
+pub mod Shown
+pub mod Stretch
+pub mod Followed
