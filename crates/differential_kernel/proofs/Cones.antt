@@ -138,4 +138,12 @@ module _ (o : Ordered) where
       };
     };
     gates = record { room = new.gate_room; each = λ i lt. absurd (omega (arith, lt, new.count)) };
+    stretches = record {
+      room = new.stretch_room;
+      ends = record {
+        least = λ i lt. absurd (omega (arith, lt, new.count));
+        most = λ i lt. absurd (omega (arith, lt, new.count));
+        each = λ i lt. absurd (omega (arith, lt, new.count));
+      };
+    };
   }

@@ -16,4 +16,5 @@ pub mod Ends
 pub mod Told
 pub mod Valued
 pub mod Swept
+pub mod Sweeping
 pub mod Sends

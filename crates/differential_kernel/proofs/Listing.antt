@@ -2,11 +2,7 @@
 use Rattle.std.proofs.Common.{◌≡◌, ◌≢◌, inl, inr, ℕ, ◌+◌, ◌<◌, ◌≤◌, ltb, cond, Bool, true, false, List, length, get_or, set, refl, ap, sym, subst, ◌∙◌, arith}
 use Rattle.std.proofs.lemmas.Bool.{cases_eq, cases_lt, false_from_ne_true, le-ltb, lt-ltb, true≢false}
 use Rattle.std.proofs.lemmas.List.{get_or-set_same, get_or-set_other}
-use Rattle.differential_kernel.specs.Places.{AreThose}
-
--- the number at a place of the list, or behind the last one the bound
-abbrev pub next_in : List ℕ → ℕ → ℕ → ℕ → ℕ
-next_in list count bound i = cond (ltb i count) (get_or list i 0) bound
+use Rattle.differential_kernel.specs.Places.{AreThose, next_in}
 
 pub next_here : (list : List ℕ) (count bound i : ℕ) → i < count → next_in list count bound i ≡ get_or list i 0
 next_here list count bound i lt = ap (λ b. cond b (get_or list i 0) bound) (lt-ltb i count lt)

@@ -90,6 +90,27 @@ pub record AreTablesIn (o : Ordered) (cone : Cone) : Type 0 where
   pub room : length cone.gates.items ≡ length o.order
   pub each : (i : ℕ) → i < cone.table_count → IsConeTable o cone.named (slice_index cone.tables.items i) (cone_table cone.gates.items i)
 
+-- the table has this operation on at most two inputs, and its net wasn't named
+pub record IsPlain (op : ℕ) (table : ConeTable) : Type 0 where
+  pub narrow : op < 16
+  pub same : table.gate.op ≡ op
+  pub free : table.forced ≡ false
+
+-- all tables from one place up to another have this operation, and no force
+abbrev pub IsStretch : List ConeTable → ℕ → ℕ → ℕ → Type 0
+IsStretch tables op from to = (i : ℕ) → from ≤ i → i < to → IsPlain op (cone_table tables i)
+
+-- of so many tables the place where the stretch ends that begins with each; its own place where it begins none
+pub record AreStretches (tables : List ConeTable) (count : ℕ) (ends : List ℕ) : Type 0 where
+  pub least : (i : ℕ) → i < count → i ≤ slice_index ends i
+  pub most : (i : ℕ) → i < count → slice_index ends i ≤ count
+  pub each : (i : ℕ) → i < count → IsStretch tables (cone_table tables i).gate.op i (slice_index ends i)
+
+-- so of the tables of a cone
+pub record AreStretchesOf (tables : ℕ) (cone : Cone) : Type 0 where
+  pub room : length cone.stretches.items ≡ tables
+  pub ends : AreStretches cone.gates.items cone.table_count cone.stretches.items
+
 -- a cone of a circuit, with the places of the tables that drive its nets, and the latches
 pub record IsConeOf (o : Ordered) (cone : Cone) : Type 0 where
   pub nets : cone.nets.bound ≡ length o.circuit.drivers
@@ -101,6 +122,7 @@ pub record IsConeOf (o : Ordered) (cone : Cone) : Type 0 where
   pub reads : AreReads o cone
   pub sources : AreSources o cone
   pub gates : AreTablesIn o cone
+  pub stretches : AreStretchesOf (length o.order) cone
 
 -- what is forced was named when the cone was made, and what differs before a cycle is in the cone
 pub record Holds {W : Type 0} (cone : Cone) (forces : Forces W) (latches : LatchDifferences W) (nets : NetDifferences W) : Type 0 where
@@ -130,3 +152,4 @@ pub record IsNewCone (nets tables latches : ℕ) (cone : Cone) : Type 0 where
   pub source_room : length cone.sources.items ≡ nets
   pub source_count : cone.source_count ≡ 0
   pub gate_room : length cone.gates.items ≡ tables
+  pub stretch_room : length cone.stretches.items ≡ tables

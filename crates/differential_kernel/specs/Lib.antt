@@ -10,3 +10,4 @@ pub mod Cycle
 pub mod Picked
 pub mod Cone
 pub mod Kernel
+pub mod Sweeps

@@ -6,7 +6,7 @@ ghost use Rattle.circuit.specs.Sound.{IsNet};
 ghost use Rattle.circuit.specs.Value.{driver_at};
 ghost use Rattle.lane_words.specs.Gates.{IsProgram, gate_at, latch_at};
 ghost use Rattle.place_set.specs.Places.{has};
-ghost use Rattle.differential_kernel.specs.Cone.{Holds, IsClosed, IsClosedBut, IsConeOf, IsNewCone, IsUnread, Spreads, cone_table, driven_at, is_source};
+ghost use Rattle.differential_kernel.specs.Cone.{AreStretches, Holds, IsClosed, IsClosedBut, IsConeOf, IsNewCone, IsPlain, IsStretch, IsUnread, Spreads, cone_table, driven_at, is_source};
 ghost use Rattle.differential_kernel.specs.Places.{AreThose};
 ghost use Rattle.differential_kernel.specs.Cycle.{IsGoldenCycle};
 ghost use Rattle.differential_kernel.specs.Differences.{Grows, IsEmptySet};
@@ -50,6 +50,8 @@ pub struct Cone {
     pub source_count: usize,
     /// The tables at its places, one behind the other.
     pub gates: Vec<ConeTable>,
+    /// For each of these where the stretch ends that begins with it: tables of one operation, none of them of a net that was named.
+    pub stretches: Vec<u32>,
 }
 
 /// A table of a cone, and whether its net was named when the cone was made.
@@ -95,6 +97,7 @@ impl Cone {
             sources: filled(alloc, 0, nets)?,
             source_count: 0,
             gates: filled(alloc, no_table(), tables)?,
+            stretches: filled(alloc, 0, tables)?,
         })
     }
 }
@@ -409,6 +412,46 @@ fn copy_tables(
     }
 }
 
+// Whether a table can stand in a stretch.
+fn is_plain(table: &ConeTable) -> bool
+    ensures { result ≡ true → IsPlain table.now.gate.op table.now }
+{
+    !table.forced && table.gate.op < 16
+}
+
+// Where the stretch ends that begins with a table, where the one behind it begins a stretch up to `next`.
+fn stretch_end(tables: &[ConeTable], at: usize, next: usize) -> usize
+    requires next { next ≤ length tables.now }
+    requires behind { at + 1 ≤ next }
+    requires stretch { IsStretch tables.now (cone_table tables.now (at + 1)).gate.op (at + 1) next }
+    ensures least { at ≤ result }
+    ensures most { result ≤ next }
+    ensures stretch { IsStretch tables.now (cone_table tables.now at).gate.op at result }
+{
+    if !is_plain(&tables[at]) {
+        return at;
+    }
+    if at + 1 < next && tables[at].gate.op == tables[at + 1].gate.op {
+        return next;
+    }
+    at + 1
+}
+
+// Finds where the stretches end that begin with each of so many tables.
+fn find_stretches(tables: &[ConeTable], count: usize, ends: &mut [u32])
+    requires few { count < 2 ^ 32 }
+    requires tables { count ≤ length tables.now }
+    requires room { count ≤ length ends.old }
+    ensures { AreStretches tables.now count ends.new }
+{
+    let mut next = count;
+    for back in 0..count {
+        let at = count - 1 - back;
+        next = stretch_end(tables, at, next);
+        ends[at] = next as u32;
+    }
+}
+
 /// Makes a cone of what is forced, what differs, and what faults flip. `gates` are those of all tables.
 pub fn make(
     cycle: &GoldenCycle<'_>,
@@ -441,6 +484,7 @@ pub fn make(
         &cone.named,
         &mut cone.gates,
     );
+    find_stretches(&cone.gates, cone.table_count, &mut cone.stretches);
 }
 
 /// Whether what is forced was named when a cone was made, and what differs before a cycle is in it, looked at a word at a time.

@@ -1,5 +1,5 @@
 // A cycle in which every table of a cone is evaluated on values. Where much differs, that is quicker than to find out what does.
-ghost use Rattle.std.specs.Prelude.{◌≡◌, ◌≢◌, ◌<◌, ◌≤◌, ◌+◌, ℕ, [], false, true, length, slice_index_or};
+ghost use Rattle.std.specs.Prelude.{◌≡◌, ◌≢◌, ◌<◌, ◌≤◌, ◌+◌, ◌-◌, ℕ, [], false, true, length, slice_index_or};
 ghost use Rattle.circuit.specs.Value.{Cycle, bit_at, net_value};
 ghost use Rattle.golden_difference.proofs.Walked.{Walked};
 ghost use Rattle.lane_words.specs.Bits.{either};
@@ -7,18 +7,19 @@ ghost use Rattle.lane_words.specs.Forces.{AreForces, force_value};
 ghost use Rattle.lane_words.specs.Gates.{latch_at, plane};
 ghost use Rattle.place_set.specs.Places.{has, value_in};
 ghost use Rattle.lane_words.specs.declared.force.Force.{Force as ForceValue};
-ghost use Rattle.differential_kernel.specs.Cone.{AreEnds};
+ghost use Rattle.differential_kernel.specs.Cone.{AreEnds, IsStretch};
 ghost use Rattle.differential_kernel.specs.Places.{AreThose};
 ghost use Rattle.differential_kernel.specs.Cycle.{CanSweep};
 ghost use Rattle.differential_kernel.specs.Differences.{DifferOnlyIn, read_in};
 ghost use Rattle.differential_kernel.specs.Shown.{ReadGolden, valued_in};
+ghost use Rattle.differential_kernel.specs.Sweeps.{SweepsOn};
 ghost use Rattle.differential_kernel.specs.Walk.{IsPair};
 
 use crate::cone::Cone;
 use crate::difference::{golden_word, set_word, value_word};
 use crate::force::Forces;
 use crate::golden_cycle::GoldenCycle;
-use crate::values::table_word;
+use crate::values::{table_word, word_by_op};
 use circuit::netlist::Netlist;
 use fm_base::Steps;
 use lane_words::force::forced_at;
@@ -74,6 +75,131 @@ pub fn force_sources<W: Word>(cone: &Cone, forces: &Forces<W>, values: &mut [W])
     }
 }
 
+// Evaluates a table of a cone, whatever it is.
+fn sweep_one<W: Word, L: Ledger>(
+    cycle: &GoldenCycle<'_>,
+    forces: &Forces<W>,
+    cone: &Cone,
+    at: usize,
+    values: &mut [W],
+    steps: &mut Steps<L>,
+)
+    requires fit { CanSweep W.lanes W.lane_bit cycle.now forces.now cone.now }
+    requires room { length values.old ≡ length cycle.now.netlist.now.drivers }
+    requires read { ReadGolden W.lanes W.lane_bit cycle.now.row.now cone.now values.old }
+    requires at { at < cone.now.table_count }
+    ensures values { SweepsOn W.lanes W.lane_bit cycle.now forces.now cone.now at (at + 1) values.old values.new }
+    ensures read { ReadGolden W.lanes W.lane_bit cycle.now.row.now cone.now values.new }
+    ensures cost { steps.new ≡ steps.old + 1 }
+{
+    let tables = cone.gates.as_slice();
+    let table = &tables[at];
+    values[table.gate.to as usize] = table_word(cycle.netlist, table, forces, values);
+    steps.tick();
+}
+
+// Evaluates the tables of a cone from one place up to another, which have this operation and no force. The operation is a constant, so
+// that nothing in the loop asks for it.
+fn sweep_stretch<W: Word, L: Ledger, const OP: u8>(
+    cycle: &GoldenCycle<'_>,
+    forces: &Forces<W>,
+    cone: &Cone,
+    from: usize,
+    to: usize,
+    values: &mut [W],
+    steps: &mut Steps<L>,
+)
+    requires fit { CanSweep W.lanes W.lane_bit cycle.now forces.now cone.now }
+    requires room { length values.old ≡ length cycle.now.netlist.now.drivers }
+    requires read { ReadGolden W.lanes W.lane_bit cycle.now.row.now cone.now values.old }
+    requires from { from ≤ to }
+    requires to { to ≤ cone.now.table_count }
+    requires stretch { IsStretch cone.now.gates.items OP from to }
+    ensures values { SweepsOn W.lanes W.lane_bit cycle.now forces.now cone.now from to values.old values.new }
+    ensures read { ReadGolden W.lanes W.lane_bit cycle.now.row.now cone.now values.new }
+    ensures cost { steps.new ≡ steps.old + (to - from) }
+{
+    let tables = cone.gates.as_slice();
+    for at in from..to {
+        let gate = &tables[at].gate;
+        values[gate.to as usize] = word_by_op(OP, gate, values);
+        steps.tick();
+    }
+}
+
+// So by the loop of their operation.
+fn sweep_by_op<W: Word, L: Ledger>(
+    cycle: &GoldenCycle<'_>,
+    forces: &Forces<W>,
+    cone: &Cone,
+    op: u8,
+    from: usize,
+    to: usize,
+    values: &mut [W],
+    steps: &mut Steps<L>,
+)
+    requires fit { CanSweep W.lanes W.lane_bit cycle.now forces.now cone.now }
+    requires room { length values.old ≡ length cycle.now.netlist.now.drivers }
+    requires read { ReadGolden W.lanes W.lane_bit cycle.now.row.now cone.now values.old }
+    requires from { from ≤ to }
+    requires to { to ≤ cone.now.table_count }
+    requires stretch { IsStretch cone.now.gates.items op from to }
+    ensures values { SweepsOn W.lanes W.lane_bit cycle.now forces.now cone.now from to values.old values.new }
+    ensures read { ReadGolden W.lanes W.lane_bit cycle.now.row.now cone.now values.new }
+    ensures cost { steps.new ≡ steps.old + (to - from) }
+{
+    match op {
+        0 => sweep_stretch::<W, L, 0>(cycle, forces, cone, from, to, values, steps),
+        1 => sweep_stretch::<W, L, 1>(cycle, forces, cone, from, to, values, steps),
+        2 => sweep_stretch::<W, L, 2>(cycle, forces, cone, from, to, values, steps),
+        3 => sweep_stretch::<W, L, 3>(cycle, forces, cone, from, to, values, steps),
+        4 => sweep_stretch::<W, L, 4>(cycle, forces, cone, from, to, values, steps),
+        5 => sweep_stretch::<W, L, 5>(cycle, forces, cone, from, to, values, steps),
+        6 => sweep_stretch::<W, L, 6>(cycle, forces, cone, from, to, values, steps),
+        7 => sweep_stretch::<W, L, 7>(cycle, forces, cone, from, to, values, steps),
+        8 => sweep_stretch::<W, L, 8>(cycle, forces, cone, from, to, values, steps),
+        9 => sweep_stretch::<W, L, 9>(cycle, forces, cone, from, to, values, steps),
+        10 => sweep_stretch::<W, L, 10>(cycle, forces, cone, from, to, values, steps),
+        11 => sweep_stretch::<W, L, 11>(cycle, forces, cone, from, to, values, steps),
+        12 => sweep_stretch::<W, L, 12>(cycle, forces, cone, from, to, values, steps),
+        13 => sweep_stretch::<W, L, 13>(cycle, forces, cone, from, to, values, steps),
+        14 => sweep_stretch::<W, L, 14>(cycle, forces, cone, from, to, values, steps),
+        _ => sweep_stretch::<W, L, 15>(cycle, forces, cone, from, to, values, steps),
+    }
+}
+
+// Evaluates the stretch that begins with a table, or where none does the table, and answers which is next.
+fn sweep_next<W: Word, L: Ledger>(
+    cycle: &GoldenCycle<'_>,
+    forces: &Forces<W>,
+    cone: &Cone,
+    at: usize,
+    values: &mut [W],
+    steps: &mut Steps<L>,
+) -> usize
+    requires fit { CanSweep W.lanes W.lane_bit cycle.now forces.now cone.now }
+    requires room { length values.old ≡ length cycle.now.netlist.now.drivers }
+    requires read { ReadGolden W.lanes W.lane_bit cycle.now.row.now cone.now values.old }
+    requires at { at < cone.now.table_count }
+    ensures on { at < result }
+    ensures most { result ≤ cone.now.table_count }
+    ensures values { SweepsOn W.lanes W.lane_bit cycle.now forces.now cone.now at result values.old values.new }
+    ensures read { ReadGolden W.lanes W.lane_bit cycle.now.row.now cone.now values.new }
+    ensures cost { steps.new ≡ steps.old + (result - at) }
+{
+    let tables = cone.gates.as_slice();
+    let ends = cone.stretches.as_slice();
+    let end = ends[at] as usize;
+    if at < end {
+        let op = tables[at].gate.op;
+        sweep_by_op(cycle, forces, cone, op, at, end, values, steps);
+        end
+    } else {
+        sweep_one(cycle, forces, cone, at, values, steps);
+        at + 1
+    }
+}
+
 /// Evaluates the tables of a cone on values, in the order's sequence, with one step for each. The loop has the registers to itself
 /// where this is called.
 #[inline(never)]
@@ -93,11 +219,9 @@ pub fn sweep<W: Word, L: Ledger>(
     ensures read { ReadGolden W.lanes W.lane_bit cycle.now.row.now cone.now values.new }
     ensures cost { steps.new ≤ steps.old + length cycle.now.order.now }
 {
-    let tables = cone.gates.as_slice();
-    for at in 0..cone.table_count {
-        let table = &tables[at];
-        values[table.gate.to as usize] = table_word(cycle.netlist, table, forces, values);
-        steps.tick();
+    let mut at = 0;
+    'stretches: while at < cone.table_count {
+        at = sweep_next(cycle, forces, cone, at, values, steps);
     }
 }
 

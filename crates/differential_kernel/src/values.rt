@@ -65,6 +65,17 @@ fn op_word<W: Word>(op: u8, a: W, b: W) -> W
     }
 }
 
+/// What an operation gives of the nets that a gate reads.
+#[inline(always)]
+pub fn word_by_op<W: Word>(op: u8, gate: &Gate, values: &[W]) -> W
+    requires narrow { op < 16 }
+    requires inside { IsInside (length values.now) gate.now }
+    ensures { (k : ℕ) → k < W.lanes
+        → W.lane_bit result k ≡ op_value op (bit_at (plane W.lane_bit k values.now) gate.now.a) (bit_at (plane W.lane_bit k values.now) gate.now.b) }
+{
+    op_word(op, values[gate.a as usize], values[gate.b as usize])
+}
+
 // What a gate gives.
 #[inline(always)]
 fn gate_word<W: Word>(gate: &Gate, values: &[W]) -> W
@@ -72,7 +83,7 @@ fn gate_word<W: Word>(gate: &Gate, values: &[W]) -> W
     requires inside { IsInside (length values.now) gate.now }
     ensures { (k : ℕ) → k < W.lanes → W.lane_bit result k ≡ gate_value gate.now (bit_at (plane W.lane_bit k values.now)) }
 {
-    op_word(gate.op, values[gate.a as usize], values[gate.b as usize])
+    word_by_op(gate.op, gate, values)
 }
 
 // What a table of more inputs gives. It stays out of the loops over those of fewer.

@@ -8,7 +8,7 @@ use Rattle.fanout.specs.Readers.{Ordered}
 use Rattle.lane_words.specs.declared.gate.Gate.{Gate}
 use Rattle.lane_words.specs.Gates.{IsGate, gate_at, latch_at}
 use Rattle.place_set.specs.Places.{has}
-use Rattle.differential_kernel.specs.Cone.{IsClosed, IsConeOf, IsUnread, cone_table}
+use Rattle.differential_kernel.specs.Cone.{AreStretches, IsClosed, IsConeOf, IsUnread, cone_table}
 use Rattle.differential_kernel.specs.Places.{AreThose}
 use Rattle.differential_kernel.specs.declared.cone.Cone.{Cone}
 use Rattle.differential_kernel.specs.declared.cone.ConeTable.{ConeTable}
@@ -40,6 +40,26 @@ copy_tables-requires-clause-below c = λ i lt.
     let tables : (with_items cone.tables c.list_tables-cone.new.tables).items ≡ c.list_tables-cone.new.tables = grind (arith, common_steps) in
     omega (arith, ap (λ (list : List ℕ). get_or list i 0) (c.deref.ensures.value ∙ tables), c.list_tables-cone.ensures.below i lt, c.requires.gates.count)
 
+pub find_stretches-requires-clause-few : goal.find_stretches-requires-clause-few
+find_stretches-requires-clause-few c =
+    let sound = c.requires.golden.sound in
+    omega (arith, few_tables c.args.cycle.now.netlist.now sound, c.requires.golden.ordered.count, c.list_tables-cone.ensures.few)
+
+pub find_stretches-requires-clause-tables : goal.find_stretches-requires-clause-tables
+find_stretches-requires-clause-tables c =
+    let cone = c.args.cone.now in
+    let gates : (with_items cone.gates c.copy_tables.new.tables).items ≡ c.copy_tables.new.tables = grind (arith, common_steps) in
+    let size : length c.deref-2.result.now ≡ length c.args.cycle.now.order.now =
+    ap (λ (list : List ConeTable). length list) (c.deref-2.ensures.value ∙ gates) ∙ c.copy_tables.auto.tables ∙ ap (λ (list : List ConeTable). length list) c.deref_mut-5.ensures.value
+    ∙ c.requires.cone.gates.room ∙ ap (λ (o : Ordered). length o.order) c.requires.golden.fanout in
+    omega (arith, size, c.list_tables-cone.ensures.few)
+
+pub find_stretches-requires-clause-room : goal.find_stretches-requires-clause-room
+find_stretches-requires-clause-room c =
+    let size : length c.deref_mut-6.result.now ≡ length c.args.cycle.now.order.now =
+    ap (λ (list : List ℕ). length list) c.deref_mut-6.ensures.value ∙ c.requires.cone.stretches.room ∙ ap (λ (o : Ordered). length o.order) c.requires.golden.fanout in
+    omega (arith, size, c.list_tables-cone.ensures.few)
+
 pub returns : goal.returns
 returns c =
     let cone = c.args.cone.now in
@@ -50,6 +70,7 @@ returns c =
     let reads : (with_items cone.reads c.list_all-cone-2.new.list).items ≡ c.list_all-cone-2.new.list = grind (arith, common_steps) in
     let sources : (with_items cone.sources c.list_all-cone-3.new.list).items ≡ c.list_all-cone-3.new.list = grind (arith, common_steps) in
     let gates : (with_items cone.gates c.copy_tables.new.tables).items ≡ c.copy_tables.new.tables = grind (arith, common_steps) in
+    let stretches : (with_items cone.stretches c.find_stretches.new.ends).items ≡ c.find_stretches.new.ends = grind (arith, common_steps) in
     let fanout = c.requires.golden.fanout in
     let drivers = ap (λ (o : Ordered). length o.circuit.drivers) fanout in
     let source_bound : c.find_sources.new.set.bound ≡ length circuit.drivers = c.find_sources.ensures.bound ∙ c.requires.cone.sources.bound ∙ drivers in
@@ -84,6 +105,7 @@ returns c =
       sources = with_items cone.sources c.list_all-cone-3.new.list;
       source_count = c.list_all-cone-3.result;
       gates = with_items cone.gates c.copy_tables.new.tables;
+      stretches = with_items cone.stretches c.find_stretches.new.ends;
     } in
     subst (λ (o : Ordered). IsConeOf o made) (sym fanout)
     (record {
@@ -135,5 +157,12 @@ returns c =
           to = ap (λ (gate : Gate). gate.to) (gate_is i lt) ∙ c.requires.gates.nets (get_or places i 0) (program_has i lt);
           forced = forced_is i lt ∙ ap (λ (gate : Gate). has named gate.to) (sym (gate_is i lt));
         };
+      };
+      stretches = record {
+        room =
+            ap (λ (list : List ℕ). length list) stretches ∙ c.find_stretches.auto.ends ∙ ap (λ (list : List ℕ). length list) c.deref_mut-6.ensures.value
+            ∙ c.requires.cone.stretches.room ∙ ap (λ (o : Ordered). length o.order) fanout;
+        ends = subst (λ list. AreStretches listed c.list_tables-cone.result list) (sym stretches)
+            (subst (λ (ts : List ConeTable). AreStretches ts c.list_tables-cone.result c.find_stretches.new.ends) c.deref-2.ensures.value c.find_stretches.ensures);
       };
     })
