@@ -123,14 +123,14 @@ prefix_push : {X : Type 0} (xs ys : List X) (y : X) → IsPrefix xs ys → IsPre
 prefix_push xs ys y pre = (pre.0 ++ y ∷ [], sym (append_assoc xs pre.0 (y ∷ [])) ∙ ap (λ l. l ++ y ∷ []) pre.1)
 
 -- the row of a batch that the rows lack was added
-pub headed_push : {F : Type 0} (o : Start) (before now : BoardState F) (started batch : ℕ) → IsHeaded o before started → batch < length o.entries → Lacks (batches_of before.rows) batch
+pub headed_push : {F : Type 0} (o : Start) (before now : BoardState F) (started batch : ℕ) → IsHeaded o before started → batch < length o.entries → Lacks (batches_of before.rows) batch → o.takes batch ≡ true
     → now.rows ≡ before.rows ++ next_row o.entries before.rows batch ∷ [] → now.written ≡ true → IsHeaded o now started
-headed_push o before now started batch h lt lacks e written = record {
+headed_push o before now started batch h lt lacks own e written = record {
   written = written;
   starts = subst (λ rs. IsPrefix o.rows rs) (sym e) (prefix_push o.rows before.rows (next_row o.entries before.rows batch) h.starts);
   many = h.many;
   entries = h.entries;
-  rows_are = subst (AreRows o) (sym e) (rows_push o before.rows batch h.entries h.rows_are lt lacks);
+  rows_are = subst (AreRows o) (sym e) (rows_push o before.rows batch h.entries h.rows_are lt lacks own);
 }
 
 -- nothing was added

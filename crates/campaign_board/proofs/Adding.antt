@@ -1,5 +1,5 @@
 -- A board gets one more row, or fails.
-use Rattle.std.proofs.Common.{◌≡◌, ◌⊎◌, inl, inr, ℕ, ◌+◌, ◌<◌, ◌≤◌, List, [], ◌∷◌, ◌++◌, length, take, get_or, ap, sym, subst, ◌∙◌, arith, length-append, append_assoc, append-nil}
+use Rattle.std.proofs.Common.{◌≡◌, ◌⊎◌, inl, inr, true, ℕ, ◌+◌, ◌<◌, ◌≤◌, List, [], ◌∷◌, ◌++◌, length, take, get_or, ap, sym, subst, ◌∙◌, arith, length-append, append_assoc, append-nil}
 use Rattle.std.specs.Prelude.{flat_map}
 use Rattle.std.specs.List.{All, sum_by}
 use Rattle.std.proofs.lemmas.List.{map-append, take-append-le, take_all, length-map}
@@ -69,8 +69,8 @@ due_last entries batches batch k e =
     ∙ ap (λ bs. row_with (board_entry entries batch) (sums_over entries bs)) all
 
 pub rows_push : (o : Start) (rows : List Row) (batch : ℕ) → AreEntries o.entries → AreRows o rows → batch < length o.entries → Lacks (batches_of rows) batch
-    → AreRows o (rows ++ next_row o.entries rows batch ∷ [])
-rows_push o rows batch are h lt lacks =
+    → o.takes batch ≡ true → AreRows o (rows ++ next_row o.entries rows batch ∷ [])
+rows_push o rows batch are h lt lacks own =
     let row : Row = next_row o.entries rows batch in
     let batches : List ℕ = batches_of rows in
     let now : batches_of (rows ++ row ∷ []) ≡ batches ++ batch ∷ [] = batches_push o rows batch are lt in
@@ -87,6 +87,7 @@ rows_push o rows batch are h lt lacks =
           ]));
       once = subst IsOnce (sym now) (once_push batches batch h.once lacks);
       within = subst (All (λ b. b < length o.entries)) (sym now) (All-push (λ b. b < length o.entries) batches batch h.within lt);
+      own = subst (All (λ b. o.takes b ≡ true)) (sym now) (All-push (λ b. o.takes b ≡ true) batches batch h.own own);
     }
 
 -- there is room for one more

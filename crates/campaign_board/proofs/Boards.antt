@@ -31,11 +31,11 @@ is_more (Held bytes) (Held now) text piece P h unknown m f = f now m.0 (m.2 ∙ 
 
 -- the row was appended
 pub added_row : (o : Start) (rows : List Row) (sums now_sums : Sums) (before now : ShelfState) (batch : ℕ) → IsBoard o rows sums false true before
-    → batch < length o.entries → Lacks (batches_of rows) batch → OnlyWrites before now o.name
+    → batch < length o.entries → Lacks (batches_of rows) batch → o.takes batch ≡ true → OnlyWrites before now o.name
     → Appends before now o.name (row_text (next_row o.entries rows batch)) → Takes before now o.name (row_text (next_row o.entries rows batch))
     → now_sums ≡ sums_over o.entries (batches_of rows ++ batch ∷ [])
     → IsBoard o (rows ++ next_row o.entries rows batch ∷ []) now_sums false true now
-added_row o rows sums now_sums before now batch h lt lacks writes has takes e =
+added_row o rows sums now_sums before now batch h lt lacks own writes has takes e =
     let g = h.grows in
     let grown = writes.counts.grows o.name in
     let row : Row = next_row o.entries rows batch in
@@ -43,7 +43,7 @@ added_row o rows sums now_sums before now batch h lt lacks writes has takes e =
     let pushed : file_text o.header (rows ++ row ∷ []) ≡ text ++ row_text row = text_push o.header rows row in
     record {
       entries = h.entries;
-      rows_are = rows_push o rows batch h.entries h.rows_are lt lacks;
+      rows_are = rows_push o rows batch h.entries h.rows_are lt lacks own;
       added = e ∙ ap (sums_over o.entries) (sym (batches_push o rows batch h.entries lt));
       file = λ _ _.
           subst (HasIfKnown (now.content o.name)) (sym (text_push o.header rows (next_row o.entries rows batch)))
@@ -63,10 +63,10 @@ added_row o rows sums now_sums before now batch h lt lacks writes has takes e =
 
 -- the append failed
 pub failed_row : (o : Start) (rows : List Row) (sums : Sums) (before now : ShelfState) (batch : ℕ) → IsBoard o rows sums false true before
-    → batch < length o.entries → Lacks (batches_of rows) batch → OnlyWrites before now o.name
+    → batch < length o.entries → Lacks (batches_of rows) batch → o.takes batch ≡ true → OnlyWrites before now o.name
     → MayAppend before now o.name (row_text (next_row o.entries rows batch)) → Tears before now o.name (row_text (next_row o.entries rows batch))
     → IsBoard o rows sums true true now
-failed_row o rows sums before now batch h lt lacks writes more tears =
+failed_row o rows sums before now batch h lt lacks own writes more tears =
     let g = h.grows in
     let grown = writes.counts.grows o.name in
     let row : Row = next_row o.entries rows batch in
@@ -77,7 +77,7 @@ failed_row o rows sums before now batch h lt lacks writes more tears =
       file = λ _ f. absurd (false≢true (sym f));
       torn = λ _ _.
           is_more (before.content o.name) (now.content o.name) (file_text o.header rows) (row_text (next_row o.entries rows batch)) (IsTorn o rows) (h.file refl refl) writes.unknown more.1
-          (λ bytes n e. record { batch = batch; within = lt; lacks = lacks; taken = n; is = e });
+          (λ bytes n e. record { batch = batch; within = lt; lacks = lacks; own = own; taken = n; is = e });
       kept = h.kept;
       unwritten = λ w _. absurd (false≢true (sym w));
       wrote = λ _ f. absurd (false≢true (sym f));
@@ -85,6 +85,7 @@ failed_row o rows sums before now batch h lt lacks writes more tears =
         batch = batch;
         within = lt;
         lacks = lacks;
+        own = own;
         stops = subst (λ t. StopsOn o.whole t (o.shelf.given o.name) (o.shelf.changed o.name) (now.changed o.name)) (sym (text_push o.header rows row))
             (stops_more o.whole (file_text o.header rows) (row_text row) (o.shelf.given o.name) (o.shelf.changed o.name) (before.changed o.name) (now.changed o.name) (h.kept refl) (h.wrote refl refl) tears);
       };

@@ -27,6 +27,7 @@ on_ok (Err x) e h = absurd (cc)
 pub record IsAsked (o : Start) (rows : List Row) (entry : Entry) : Type 0 where
   pub within : entry.batch < length o.entries
   pub lacks : Lacks (batches_of rows) entry.batch
+  pub taken : o.takes entry.batch ≡ true
   pub own : entry ≡ board_entry o.entries entry.batch
 
 pub now_small : (o : Start) (rows : List Row) (sums : Sums) (failed written : Bool) (shelf : ShelfState) (entry : Entry)
@@ -63,7 +64,7 @@ post_kept o rows sums now_sums failed written before now entry name h f w asked 
     let has_o : Appends before now o.name (row_text (row_of_entry entry now_sums)) = subst (λ n. Appends before now n (row_text (row_of_entry entry now_sums))) named has in
     let takes_o : Takes before now o.name (row_text (row_of_entry entry now_sums)) = subst (λ n. Takes before now n (row_text (row_of_entry entry now_sums))) named takes in
     let board : IsBoard o (rows ++ next_row o.entries rows entry.batch ∷ []) now_sums false true now =
-    added_row o rows sums now_sums before now entry.batch start asked.within asked.lacks (subst (OnlyWrites before now) named writes)
+    added_row o rows sums now_sums before now entry.batch start asked.within asked.lacks asked.taken (subst (OnlyWrites before now) named writes)
     (subst (λ r. Appends before now o.name (row_text r)) row has_o) (subst (λ r. Takes before now o.name (row_text r)) row takes_o) (e ∙ sums_now o rows sums failed written before entry h asked) in
     subst (λ r. IsBoard o (rows ++ r ∷ []) now_sums failed written now) (sym row)
     (subst (λ a. IsBoard o (rows ++ next_row o.entries rows entry.batch ∷ []) now_sums a written now) (sym f)
@@ -80,5 +81,5 @@ post_stopped o rows sums now_sums failed written before now entry name h f w ask
     let more_o : MayAppend before now o.name (row_text (row_of_entry entry now_sums)) = subst (λ n. MayAppend before now n (row_text (row_of_entry entry now_sums))) named more in
     let tears_o : Tears before now o.name (row_text (row_of_entry entry now_sums)) = subst (λ n. Tears before now n (row_text (row_of_entry entry now_sums))) named tears in
     subst (λ b. IsBoard o rows sums true b now) (sym w)
-    (failed_row o rows sums before now entry.batch start asked.within asked.lacks (subst (OnlyWrites before now) named writes)
+    (failed_row o rows sums before now entry.batch start asked.within asked.lacks asked.taken (subst (OnlyWrites before now) named writes)
     (subst (λ r. MayAppend before now o.name (row_text r)) row more_o) (subst (λ r. Tears before now o.name (row_text r)) row tears_o))

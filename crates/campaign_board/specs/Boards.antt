@@ -1,5 +1,5 @@
 -- What a board began with, and the rows that are due.
-use Rattle.std.specs.Prelude.{◌≡◌, ℕ, ◌+◌, ◌<◌, ◌≤◌, List, [], ◌∷◌, ◌++◌, map, flat_map, length, take, slice_index_or}
+use Rattle.std.specs.Prelude.{◌≡◌, ℕ, Bool, ◌+◌, ◌<◌, ◌≤◌, List, [], ◌∷◌, ◌++◌, map, flat_map, length, take, slice_index_or}
 use Rattle.fm_shelf.specs.Shelf.{ShelfState}
 use Rattle.metric_sums.specs.declared.Sums.{Sums}
 use Rattle.metric_sums.specs.Totals.{AreSmall, no_sums, sums_by}
@@ -7,10 +7,11 @@ use Rattle.result_file.specs.declared.Row.{Row}
 use Rattle.result_file.specs.ResultText.{row_text}
 use Rattle.campaign_board.specs.declared.entry.Entry.{Entry}
 
--- the entries, one for each batch; the header line; the file's name; the rows at the start, and how many bytes of the file are kept for them;
--- and what was seen of the shelf then
+-- the entries, one for each batch; of which batches the board takes rows; the header line; the file's name; the rows at the start, and how many
+-- bytes of the file are kept for them; and what was seen of the shelf then
 pub record Start : Type 0 where
   pub entries : List Entry
+  pub takes : ℕ → Bool
   pub header : List ℕ
   pub name : List ℕ
   pub rows : List Row

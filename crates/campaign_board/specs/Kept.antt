@@ -9,25 +9,28 @@ use Rattle.fm_shelf.specs.Shelf.{ShelfState, CountRose, KeepsOthers}
 use Rattle.fm_base.specs.Once.{Lacks, IsOnce}
 use Rattle.campaign_board.specs.Boards.{Start, AreEntries, batches_of, sums_over, row_due, next_row, row_at_place, file_text}
 
--- rows of distinct batches, each with its entry's planes and the sums of the entries up to it
+-- rows of distinct batches that the board takes, each with its entry's planes and the sums of the entries up to it
 pub record AreRows (o : Start) (rows : List Row) : Type 0 where
   pub due : (k : ℕ) → k < length rows → row_at_place rows k ≡ row_due o.entries (batches_of rows) k
   pub once : IsOnce (batches_of rows)
   pub within : All (λ batch. batch < length o.entries) (batches_of rows)
+  pub own : All (λ batch. o.takes batch ≡ true) (batches_of rows)
 
--- header and rows, and a prefix of the row of one more batch
+-- header and rows, and a prefix of the row of one more batch that the board takes
 pub record IsTorn (o : Start) (rows : List Row) (bytes : List ℕ) : Type 0 where
   pub batch : ℕ
   pub within : batch < length o.entries
   pub lacks : Lacks (batches_of rows) batch
+  pub own : o.takes batch ≡ true
   pub taken : ℕ
   pub is : bytes ≡ file_text o.header rows ++ take taken (row_text (next_row o.entries rows batch))
 
--- the file was written on up to an append that failed, of the row of one more batch
+-- the file was written on up to an append that failed, of the row of one more batch that the board takes
 pub record StopsAtRow (o : Start) (rows : List Row) (now : List Change) : Type 0 where
   pub batch : ℕ
   pub within : batch < length o.entries
   pub lacks : Lacks (batches_of rows) batch
+  pub own : o.takes batch ≡ true
   pub stops : StopsOn o.whole (file_text o.header (rows ++ next_row o.entries rows batch ∷ [])) (o.shelf.given o.name) (o.shelf.changed o.name) now
 
 -- kept: no more bytes are kept than the header and the rows have

@@ -24,10 +24,10 @@ pub trait Origin {
 }
 
 impl Origin for Brand {
-    ghost use Rattle.std.specs.Prelude.{[]};
+    ghost use Rattle.std.specs.Prelude.{[], true};
     ghost use Rattle.fm_shelf.specs.Entries.{known_files};
 
-    ghost start = { record { entries = []; header = []; name = []; rows = []; whole = 0; shelf = known_files [] } };
+    ghost start = { record { entries = []; takes = λ _. true; header = []; name = []; rows = []; whole = 0; shelf = known_files [] } };
 }
 
 /// Rows with their sums, over the entries of the origin, and the file that they are appended to. There is room for all rows.
@@ -126,6 +126,7 @@ impl<F: Shelf + Drop, N: Origin> Board<F, N> {
     pub(crate) fn add(&mut self, entry: &Entry) -> Posted
         requires written { self.old.written ≡ true }
         requires batch { (entry.now.batch < length N.start.entries) × Lacks (batches_of self.old.rows) entry.now.batch }
+        requires own { N.start.takes entry.now.batch ≡ true }
         requires entry { entry.now ≡ board_entry N.start.entries entry.now.batch }
         ensures posted { TellsPost N.start.entries self.old self.new entry.now.batch result }
         ensures written { self.new.written ≡ true }

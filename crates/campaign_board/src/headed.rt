@@ -61,6 +61,7 @@ impl<F: Shelf + Drop, N: Origin> Headed<F, N> {
     pub(crate) fn add(&mut self, entry: &Entry) -> Posted
         requires due { IsMissing N.start entry.now.batch }
         requires new { times (claim_number N.start entry.now.batch) (numbers_of N.start self.old.rows) ≡ 0 }
+        requires own { N.start.takes entry.now.batch ≡ true }
         requires entry { entry.now ≡ board_entry N.start.entries entry.now.batch }
         ensures { Adds N.start self.old self.new entry.now.batch result }
     {

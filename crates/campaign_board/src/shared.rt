@@ -143,12 +143,13 @@ impl<F: Shelf + Drop, N: Origin> Shared<F, N> {
 
     /// Takes the turn, and appends the row of a batch that the seat drew to the file and to the rows. Its planes and sums are
     /// those of the batch's entry in the origin. Stopped comes exactly where a cut or an append on this board has failed, now or
-    /// before: then nothing is posted.
+    /// before: then nothing is posted. The batch is one of which the board takes rows.
     pub fn post<T: Turn>(&self, turn: &T, seat: &mut Seat<F, N>, entry: &Entry) -> Posted
         requires table { IsOf self.now seat.old }
         requires free { seat.old.view.holds ≡ false }
         requires admitted { T.admits seat.old.view.share }
         requires drawn { MayPost N.start seat.old.view entry.now.batch }
+        requires own { N.start.takes entry.now.batch ≡ true }
         requires entry { entry.now ≡ board_entry N.start.entries entry.now.batch }
         ensures table { seat.new.table ≡ seat.old.table }
         ensures posted { TellsSeat N.start seat.old.view seat.new.view entry.now.batch result }

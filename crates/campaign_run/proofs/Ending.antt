@@ -38,7 +38,7 @@ starts c shelf batches plan many start count = record {
   shelf_same = refl;
   many = count ∙ sym (length_entries c.p (campaign_planes c));
   entries = are_entries c.p (campaign_planes c) plan;
-  rows_are = kept_rows_due c.p c.k (origin_of c shelf) refl (starts_kept c.own c.p (shelf.content c.name) c.k many start);
+  rows_are = kept_rows_due c.p c.k (origin_of c shelf) refl (λ batch. refl) (starts_kept c.own c.p (shelf.content c.name) c.k many start);
 }
 
 -- the workers of a board that hasn't failed have ended
@@ -101,12 +101,13 @@ leaves c before now sums board many start (worked, kept) bad =
       | inl finished ↦
           (let torn = kept.torn finished.0 bad in
           inr (
-            left_torn c.p (campaign_planes c) o board.rows (now.content c.name) refl kept.entries kept.rows_are torn,
+            (left_torn c.p (campaign_planes c) o board.rows (now.content c.name) refl kept.entries kept.rows_are torn).0,
             begins_torn o c.k.rows board.rows (now.content c.name) (take c.k.whole (bytes_of (before.content c.name))) from finished.1.starts torn,
           ))
       | inr torn ↦
-          left_header c.p (campaign_planes c) o c.k.rows c.k.whole (before.content c.name) (now.content c.name) refl kept.entries
-          (kept_rows_due c.p c.k o refl (starts_kept c.own c.p (before.content c.name) c.k many start)) from torn.1
+          elim (left_header c.p (campaign_planes c) o c.k.rows c.k.whole (before.content c.name) (now.content c.name) refl kept.entries
+          (kept_rows_due c.p c.k o refl (λ batch. refl) (starts_kept c.own c.p (before.content c.name) c.k many start)) from torn.1)
+          as (λ _. IsTruncatedResult c before now) [ inl same ↦ inl same | inr left ↦ inr (left.0.0, left.1) ]
     ]
 
 -- what was told of it then
@@ -116,11 +117,11 @@ stops c before now sums board many start (worked, kept) bad =
     let o : Start = origin_of c before in
     elim worked as (λ _. HasStopped c before now) [
       | inl finished ↦
-          stopped_row c.p (campaign_planes c) o c.k.rows board.rows now refl kept.entries kept.rows_are finished.1.starts kept.given
-          (kept.stopped finished.0 bad)
+          (stopped_row c.p (campaign_planes c) o c.k.rows board.rows now refl kept.entries kept.rows_are finished.1.starts kept.given
+          (kept.stopped finished.0 bad)).0
       | inr torn ↦
-          stopped_header c.p (campaign_planes c) o now refl kept.entries
-          (kept_rows_due c.p c.k o refl (starts_kept c.own c.p (before.content c.name) c.k many start)) kept.given torn.2
+          (stopped_header c.p (campaign_planes c) o now refl kept.entries
+          (kept_rows_due c.p c.k o refl (λ batch. refl) (starts_kept c.own c.p (before.content c.name) c.k many start)) kept.given torn.2).0
     ]
 
 -- by how it ended

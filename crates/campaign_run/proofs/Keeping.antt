@@ -87,8 +87,9 @@ entry_kept p k h i d lt =
     ∙ ap (λ (planes : Outcome). entry_with p (λ _. planes) row.batch) (found_kept p k once i d lt)
 
 -- THE ROWS THAT ARE KEPT ARE ROWS OF THE BOARD
-pub kept_rows_due : (p : Analysis) (k : KeptRows) (o : Start) → o.entries ≡ entries_for p (checkpointed_or_true p k) → AreKept p k.rows → AreRows o k.rows
-kept_rows_due p k o e h =
+pub kept_rows_due : (p : Analysis) (k : KeptRows) (o : Start) → o.entries ≡ entries_for p (checkpointed_or_true p k) → ((batch : ℕ) → o.takes batch ≡ true) → AreKept p k.rows
+    → AreRows o k.rows
+kept_rows_due p k o e takes h =
     let entries : List BoardEntry = entries_for p (checkpointed_or_true p k) in
     let many = length-map k.rows (λ (r : Row). r.batch) in
     let own : All (λ (row : Row). (board_entry entries row.batch).own ≡ own_sums p (planed row).0 (planed row).1) k.rows =
@@ -113,6 +114,7 @@ kept_rows_due p k o e h =
       within = λ i d lt. (
           let all = subst (All (λ batch. batch < batch_count p)) (same_batches k.rows) h.distinct.within i d lt in
           omega (arith, all, ap length e, length_entries p (checkpointed_or_true p k)));
+      own = λ i d lt. takes (get_or (batches_of k.rows) i d);
     }
 
 -- ---- what a campaign starts from

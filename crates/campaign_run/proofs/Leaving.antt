@@ -1,18 +1,18 @@
 -- What a campaign leaves of its file when a write has failed.
-use Rattle.std.proofs.Common.{◌≡◌, ◌≢◌, ℕ, ◌+◌, ◌⊎◌, inl, inr, min, List, [], ◌∷◌, ◌++◌, map, length, take, refl, ap, sym, subst, ◌∙◌, arith, append_assoc, append-nil}
-use Rattle.std.specs.Prelude.{flat_map}
+use Rattle.std.proofs.Common.{◌≡◌, ◌≢◌, true, ℕ, ◌+◌, ◌⊎◌, inl, inr, min, List, [], ◌∷◌, ◌++◌, map, length, take, refl, ap, sym, subst, ◌∙◌, arith, append_assoc, append-nil}
+use Rattle.std.specs.Prelude.{All, flat_map}
 use Rattle.std.proofs.lemmas.Bool.{cases_eq}
 use Rattle.std.proofs.lemmas.List.{take-append-le, take_min}
 use Rattle.std.proofs.lemmas.List.Concat.{flat_map-append}
 use Rattle.std.proofs.Math.Seq.{take-append_seam, take-append-add, take-length}
 use mathlib.Core.List.{IsPrefix}
 use Rattle.fm_shelf.specs.Content.{Content, Unknown, Absent, Held, IsIfKnown, bytes_of}
-use Rattle.fm_shelf.specs.Past.{StopsOn}
+use Rattle.fm_shelf.specs.Past.{Change, Given, StopsOn}
 use Rattle.fm_shelf.specs.Shelf.{ShelfState}
 use Rattle.fm_shelf.proofs.Written.{stops_unread}
 use Rattle.campaign_plan.specs.declared.Outcome.{Outcome}
 use Rattle.campaign_plan.specs.Analysis.{Analysis}
-use Rattle.campaign_plan.specs.Batches.{Entry}
+use Rattle.campaign_plan.specs.Batches.{Entry, batches}
 use Rattle.result_file.specs.declared.Row.{Row}
 use Rattle.result_file.specs.ResultText.{result_text, row_text}
 use Rattle.result_file.specs.KeptRows.{entry_of as planed}
@@ -22,7 +22,26 @@ use Rattle.campaign_board.proofs.Adding.{rows_push, text_push}
 use Rattle.campaign_run.specs.Reported.{BeginsWith}
 use Rattle.campaign_run.specs.Left.{LeftPrefix, BeginsAs, StoppedRows}
 use Rattle.campaign_run.specs.Origins.{entries_for}
+use Rattle.campaign_run.proofs.Keeping.{same_batches}
 use Rattle.campaign_run.proofs.Reporting.{are_part, begin_kept, text_result}
+
+-- ---- rows that the board takes
+
+-- the batches of these entries are such that the board takes rows of them
+abbrev pub AreTaken : Start → List Entry → Type 0
+AreTaken o entries = All (λ batch. o.takes batch ≡ true) (batches entries)
+
+taken_planed : (o : Start) (rows : List Row) → AreRows o rows → AreTaken o (map planed rows)
+taken_planed o rows h = subst (All (λ batch. o.takes batch ≡ true)) (sym (same_batches rows)) h.own
+
+-- a byte prefix of a result file of such entries
+abbrev pub LeavesTaken : Start → Analysis → (ℕ → Outcome) → Content → Type 0
+LeavesTaken o p planes held = (left : LeftPrefix o.header p planes held) × AreTaken o left.entries
+
+-- what was told of the file, up to the call that failed, of such entries
+abbrev pub StopsTaken : Start → Analysis → (ℕ → Outcome) → List Entry → List Given → List Change → Type 0
+StopsTaken o p planes kept_rows given now =
+    (stopped : StoppedRows o.header p planes o.whole kept_rows given (o.shelf.changed o.name) now) × AreTaken o stopped.entries
 
 -- ---- prefixes
 
@@ -46,24 +65,26 @@ text_more own k rows pre =
 
 -- a part of one more row is a part of the result file with it
 torn_prefix : (p : Analysis) (planes : ℕ → Outcome) (o : Start) (rows : List Row) (bytes : List ℕ) → o.entries ≡ entries_for p planes → AreEntries o.entries → AreRows o rows
-    → IsTorn o rows bytes → LeftPrefix o.header p planes (Held bytes)
+    → IsTorn o rows bytes → LeavesTaken o p planes (Held bytes)
 torn_prefix p planes o rows bytes e are h torn =
     let row : Row = next_row o.entries rows torn.batch in
-    let more : AreRows o (rows ++ row ∷ []) = rows_push o rows torn.batch are h torn.within torn.lacks in
-    let text : List ℕ = file_text o.header rows in
-    record {
-      entries = map planed (rows ++ row ∷ []);
-      part = are_part p planes o (rows ++ row ∷ []) e more;
-      prefix = (
-        length text + torn.taken,
-        torn.is ∙ sym (take-append-add text (row_text row) torn.taken)
-            ∙ ap (take (length text + torn.taken)) (sym (text_push o.header rows row) ∙ text_result p planes o (rows ++ row ∷ []) e are more),
-      );
-    }
+    let more : AreRows o (rows ++ row ∷ []) = rows_push o rows torn.batch are h torn.within torn.lacks torn.own in
+    let text : List ℕ = file_text o.header rows in (
+      record {
+        entries = map planed (rows ++ row ∷ []);
+        part = are_part p planes o (rows ++ row ∷ []) e more;
+        prefix = (
+          length text + torn.taken,
+          torn.is ∙ sym (take-append-add text (row_text row) torn.taken)
+              ∙ ap (take (length text + torn.taken)) (sym (text_push o.header rows row) ∙ text_result p planes o (rows ++ row ∷ []) e are more),
+        );
+      },
+      taken_planed o (rows ++ row ∷ []) more,
+    )
 
 pub left_torn : (p : Analysis) (planes : ℕ → Outcome) (o : Start) (rows : List Row) (now : Content) → o.entries ≡ entries_for p planes → AreEntries o.entries → AreRows o rows
-    → IsIfKnown now (IsTorn o rows) → LeftPrefix o.header p planes now
-left_torn p planes o rows Unknown e are h torn = record { entries = map planed rows; part = are_part p planes o rows e h; prefix = tt }
+    → IsIfKnown now (IsTorn o rows) → LeavesTaken o p planes now
+left_torn p planes o rows Unknown e are h torn = (record { entries = map planed rows; part = are_part p planes o rows e h; prefix = tt }, taken_planed o rows h)
 left_torn p planes o rows Absent e are h torn = absurd torn
 left_torn p planes o rows (Held bytes) e are h torn = torn_prefix p planes o rows bytes e are h torn
 
@@ -93,24 +114,27 @@ header_prefix header start more bytes n whole from none is cut = elim (cases_eq 
 
 pub left_header : (p : Analysis) (planes : ℕ → Outcome) (o : Start) (rows : List Row) (whole : ℕ) (before now : Content) → o.entries ≡ entries_for p planes → AreEntries o.entries
     → AreRows o rows → (take whole (bytes_of before) ≡ []) ⊎ (take whole (bytes_of before) ≡ file_text o.header rows) → IsHeaderTorn o.header whole before now
-    → (now ≡ before) ⊎ (LeftPrefix o.header p planes now × BeginsAs now (take whole (bytes_of before)))
-left_header p planes o rows whole before now e are h from torn = elim torn as (λ _. (now ≡ before) ⊎ (LeftPrefix o.header p planes now × BeginsAs now (take whole (bytes_of before)))) [
+    → (now ≡ before) ⊎ (LeavesTaken o p planes now × BeginsAs now (take whole (bytes_of before)))
+left_header p planes o rows whole before now e are h from torn = elim torn as (λ _. (now ≡ before) ⊎ (LeavesTaken o p planes now × BeginsAs now (take whole (bytes_of before)))) [
   | inl same ↦ inl same
   | inr is ↦ inr (go now is)
 ]
   where
     go : (held : Content) → IsIfKnown held (λ bytes. (n : ℕ) × (bytes ≡ take whole (bytes_of before) ++ take n o.header) × (whole ≢ 0 → n ≡ 0))
-        → LeftPrefix o.header p planes held × BeginsAs held (take whole (bytes_of before))
-    go Unknown is = (record { entries = map planed rows; part = are_part p planes o rows e h; prefix = tt }, tt)
+        → LeavesTaken o p planes held × BeginsAs held (take whole (bytes_of before))
+    go Unknown is = ((record { entries = map planed rows; part = are_part p planes o rows e h; prefix = tt }, taken_planed o rows h), tt)
     go Absent is = absurd is
     go (Held bytes) is =
         let start : List ℕ = take whole (bytes_of before) in
         let part = header_prefix o.header start (flat_map row_text rows) bytes is.0 whole from (λ none. ap (λ n. take n (bytes_of before)) none) is.1 is.2 in (
-          record {
-            entries = map planed rows;
-            part = are_part p planes o rows e h;
-            prefix = (part.0, part.1 ∙ ap (take part.0) (text_result p planes o rows e are h));
-          },
+          (
+            record {
+              entries = map planed rows;
+              part = are_part p planes o rows e h;
+              prefix = (part.0, part.1 ∙ ap (take part.0) (text_result p planes o rows e are h));
+            },
+            taken_planed o rows h,
+          ),
           ap (take (length start)) is.1 ∙ take-append_seam start (take is.0 o.header),
         )
 
@@ -119,28 +143,33 @@ left_header p planes o rows whole before now e are h from torn = elim torn as (�
 -- a row was torn, behind others
 pub stopped_row : (p : Analysis) (planes : ℕ → Outcome) (o : Start) (k rows : List Row) (now : ShelfState) → o.entries ≡ entries_for p planes → AreEntries o.entries
     → AreRows o rows → IsPrefix k rows → now.given ≡ o.shelf.given → StopsAtRow o rows (now.changed o.name)
-    → StoppedRows o.header p planes o.whole (map planed k) (now.given o.name) (o.shelf.changed o.name) (now.changed o.name)
+    → StopsTaken o p planes (map planed k) (now.given o.name) (now.changed o.name)
 stopped_row p planes o k rows now e are h pre unread torn =
     let row : Row = next_row o.entries rows torn.batch in
-    let more : AreRows o (rows ++ row ∷ []) = rows_push o rows torn.batch are h torn.within torn.lacks in
-    let entries : List Entry = map planed (rows ++ row ∷ []) in
-    record {
-      entries = entries;
-      part = are_part p planes o (rows ++ row ∷ []) e more;
-      first = begin_kept k (rows ++ row ∷ []) (pre.0 ++ row ∷ [], sym (append_assoc k pre.0 (row ∷ [])) ∙ ap (λ front. front ++ row ∷ []) pre.1);
-      stops = stops_unread o.whole (result_text o.header p entries) o.shelf.given now.given o.name (o.shelf.changed o.name) (now.changed o.name) unread
-          (subst (λ text. StopsOn o.whole text (o.shelf.given o.name) (o.shelf.changed o.name) (now.changed o.name))
-          (text_result p planes o (rows ++ row ∷ []) e are more) torn.stops);
-    }
+    let more : AreRows o (rows ++ row ∷ []) = rows_push o rows torn.batch are h torn.within torn.lacks torn.own in
+    let entries : List Entry = map planed (rows ++ row ∷ []) in (
+      record {
+        entries = entries;
+        part = are_part p planes o (rows ++ row ∷ []) e more;
+        first = begin_kept k (rows ++ row ∷ []) (pre.0 ++ row ∷ [], sym (append_assoc k pre.0 (row ∷ [])) ∙ ap (λ front. front ++ row ∷ []) pre.1);
+        stops = stops_unread o.whole (result_text o.header p entries) o.shelf.given now.given o.name (o.shelf.changed o.name) (now.changed o.name) unread
+            (subst (λ text. StopsOn o.whole text (o.shelf.given o.name) (o.shelf.changed o.name) (now.changed o.name))
+            (text_result p planes o (rows ++ row ∷ []) e are more) torn.stops);
+      },
+      taken_planed o (rows ++ row ∷ []) more,
+    )
 
 -- the header was torn, or the file couldn't be cut
 pub stopped_header : (p : Analysis) (planes : ℕ → Outcome) (o : Start) (now : ShelfState) → o.entries ≡ entries_for p planes → AreEntries o.entries → AreRows o o.rows
     → now.given ≡ o.shelf.given → StopsOn o.whole (file_text o.header o.rows) (o.shelf.given o.name) (o.shelf.changed o.name) (now.changed o.name)
-    → StoppedRows o.header p planes o.whole (map planed o.rows) (now.given o.name) (o.shelf.changed o.name) (now.changed o.name)
-stopped_header p planes o now e are h unread stops = record {
-  entries = map planed o.rows;
-  part = are_part p planes o o.rows e h;
-  first = take-length (map planed o.rows);
-  stops = stops_unread o.whole (result_text o.header p (map planed o.rows)) o.shelf.given now.given o.name (o.shelf.changed o.name) (now.changed o.name) unread
-      (subst (λ text. StopsOn o.whole text (o.shelf.given o.name) (o.shelf.changed o.name) (now.changed o.name)) (text_result p planes o o.rows e are h) stops);
-}
+    → StopsTaken o p planes (map planed o.rows) (now.given o.name) (now.changed o.name)
+stopped_header p planes o now e are h unread stops = (
+  record {
+    entries = map planed o.rows;
+    part = are_part p planes o o.rows e h;
+    first = take-length (map planed o.rows);
+    stops = stops_unread o.whole (result_text o.header p (map planed o.rows)) o.shelf.given now.given o.name (o.shelf.changed o.name) (now.changed o.name) unread
+        (subst (λ text. StopsOn o.whole text (o.shelf.given o.name) (o.shelf.changed o.name) (now.changed o.name)) (text_result p planes o o.rows e are h) stops);
+  },
+  taken_planed o o.rows h,
+)

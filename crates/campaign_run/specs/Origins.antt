@@ -1,5 +1,5 @@
 -- What a campaign's board begins with.
-use Rattle.std.specs.Prelude.{ℕ, List, map}
+use Rattle.std.specs.Prelude.{ℕ, true, List, map}
 use Rattle.fm_shelf.specs.Shelf.{ShelfState}
 use Rattle.campaign_plan.specs.declared.Outcome.{Outcome}
 use Rattle.campaign_plan.specs.Analysis.{Analysis, batch_count}
@@ -22,10 +22,11 @@ entry_with p planes batch = record {
 abbrev pub entries_for : Analysis → (ℕ → Outcome) → List Entry
 entries_for p planes = map (entry_with p planes) (below (batch_count p))
 
--- what the board of a campaign begins with, on a shelf of which this is seen
+-- what the board of a campaign begins with, on a shelf of which this is seen: it takes rows of all batches
 abbrev pub origin_of : Campaign → ShelfState → Start
 origin_of c shelf = record {
   entries = entries_for c.p (campaign_planes c);
+  takes = λ _. true;
   header = c.own;
   name = c.name;
   rows = c.k.rows;

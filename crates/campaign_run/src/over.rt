@@ -2,7 +2,7 @@ ghost use Rattle.std.specs.Prelude.{ℕ, ◌≡◌, ◌≢◌, ◌<◌, ◌≤�
 ghost use Rattle.circuit.specs.Order.{IsOrder};
 ghost use Rattle.campaign_plan.specs.Analysis.{batch_count};
 ghost use Rattle.campaign_board.specs.Kept.{IsStart, AreKeptBytes};
-ghost use Rattle.campaign_workers.specs.Truth.{HasTrueEntries};
+ghost use Rattle.campaign_workers.specs.Truth.{HasTrueEntries, TakesAll};
 ghost use Rattle.fmeda_report.specs.Rooms.{room_for};
 ghost use Rattle.campaign_run.specs.Origins.{origin_of};
 ghost use Rattle.campaign_run.specs.Starting.{StartsFrom};
@@ -90,6 +90,7 @@ fn worked<
     requires own { own.now ≡ N.start.header }
     requires whole { (whole ≡ N.start.whole) × AreKeptBytes N.start crew.board.rows whole ((F.seen crew.board.shelf).content N.start.name) }
     requires entries { HasTrueEntries plan.now N.start }
+    requires takes { TakesAll N.start }
     ensures { HasWorked N.start whole (F.seen crew.entry.board.shelf) (F.seen result.shelf) result }
 {
     if crew.board().append_header(whole, own).is_err() {

@@ -1,9 +1,8 @@
 -- How a part has ended.
-use Rattle.std.proofs.Common.{◌≡◌, ℕ, zero, suc, ◌<◌, ◌≤◌, ◌==◌, ◌⊎◌, inl, inr, Bool, true, false, cond, List, [], ◌∷◌, map, length, get_or, refl, ap, sym, subst, ◌∙◌, arith}
+use Rattle.std.proofs.Common.{◌≡◌, ℕ, ◌<◌, ◌≤◌, ◌⊎◌, inl, inr, true, false, List, [], map, length, refl, ap, sym, subst, ◌∙◌, arith}
 use Rattle.std.specs.Prelude.{All, Contains}
-use Rattle.std.proofs.lemmas.Bool.{false≢true, eq-eqb}
+use Rattle.std.proofs.lemmas.Bool.{false≢true}
 use Rattle.std.proofs.lemmas.List.{length-map}
-use Rattle.std.proofs.lemmas.List.Sums.{sum_by-cons}
 use Rattle.metric_sums.specs.declared.Sums.{Sums}
 use Rattle.fm_shelf.specs.Content.{HasIfKnown}
 use Rattle.fm_shelf.specs.Past.{WritesOn}
@@ -27,64 +26,56 @@ use Rattle.campaign_run.specs.declared.run.End.{End}
 use Rattle.campaign_run.specs.declared.run.End.TheVariants.{Done, NoMemory, ResultFault, OutFault}
 use Rattle.campaign_run.specs.Outside.{had_written}
 use Rattle.campaign_run.specs.Starting.{no_kept_rows}
-use Rattle.campaign_run.specs.Left.{LeftPrefix, StoppedRows}
 use Rattle.campaign_run.specs.Steps.{TellsEnd}
 use Rattle.campaign_run.proofs.Entries.{length_entries}
 use Rattle.campaign_run.proofs.Keeping.{same_batches}
 use Rattle.campaign_run.proofs.Finding.{have_true}
 use Rattle.campaign_run.proofs.Reporting.{are_part, text_result}
-use Rattle.campaign_run.proofs.Leaving.{left_torn, left_header, stopped_row, stopped_header}
+use Rattle.campaign_run.proofs.Leaving.{LeavesTaken, StopsTaken, left_torn, left_header, stopped_row, stopped_header}
 use Rattle.campaign_run.proofs.Ending.{starts as campaign_starts}
 use Rattle.refusals.specs.Texts.{shard_line}
 use Rattle.result_merge.specs.Parts.{is_of_part, HasPart}
+use Rattle.campaign_shard.specs.LeftPart.{LeftPart, StoppedPart}
 use Rattle.campaign_shard.specs.PartSeats.{IsPartDone}
 use Rattle.campaign_shard.specs.RanPart.{PartCampaign, IsPartTold, EndsPartAs, HasRunPart}
 use Rattle.campaign_shard.specs.PartSteps.{whole_campaign, part_origin, HasPartWorked}
 use Rattle.campaign_workers.proofs.Ends.{counted}
 
--- ---- numbers in a list
-
-counted_later : (y : ℕ) (ys : List ℕ) (x : ℕ) → 0 < times x ys → 0 < times x (y ∷ ys)
-counted_later y ys x h = omega (arith, sum_by-cons (λ z. cond {A = ℕ} (z == x) 1 0) y ys, h)
-
--- each number of a list is counted
-each_counted : (xs : List ℕ) → All (λ x. 0 < times x xs) xs
-each_counted [] i d lt = absurd (omega (arith, lt))
-each_counted (y ∷ ys) zero d lt =
-    let here : cond {A = ℕ} (y == y) 1 0 ≡ 1 = ap (λ (t : Bool). cond {A = ℕ} t 1 0) (eq-eqb y y refl) in
-    omega (arith, sum_by-cons (λ z. cond {A = ℕ} (z == y) 1 0) y ys, here)
-each_counted (y ∷ ys) (suc i) d lt = counted_later y ys (get_or ys i d) (each_counted ys i d (omega (arith, lt)))
-
 -- ---- what a part begins with
 
-pub starts : (name own : Bytes) (p : Analysis) (shelf : ShelfState) (batches : ℕ) → IsPlan p → length own ≡ 89 → batches ≡ batch_count p
-    → IsStart (part_origin name own p shelf) name [] batches shelf
-starts name own p shelf batches plan many count = campaign_starts (whole_campaign name own p) shelf batches plan many (inl refl) count
+-- no row is there yet
+none : (o : Start) → AreRows o []
+none o = record {
+  due = λ k lt. absurd (omega (arith, lt));
+  once = tt;
+  within = λ i d lt. absurd (omega (arith, lt));
+  own = λ i d lt. absurd (omega (arith, lt));
+}
 
-pub all_true : (name own : Bytes) (p : Analysis) (shelf : ShelfState) → HasTrueEntries p (part_origin name own p shelf)
-all_true name own p shelf = have_true p no_kept_rows (part_origin name own p shelf) refl refl
+module _ (name own : Bytes) (p : Analysis) (part parts : ℕ) (shelf : ShelfState) where
+  abbrev origin : Start
+  origin = part_origin name own p part parts shelf
 
-pub many_entries : (name own : Bytes) (p : Analysis) (shelf : ShelfState) → length (part_origin name own p shelf).entries ≡ batch_count p
-many_entries name own p shelf = length_entries p (true_planes p)
+  pub starts : (batches : ℕ) → IsPlan p → length own ≡ 89 → batches ≡ batch_count p → IsStart origin name [] batches shelf
+  starts batches plan many count =
+      let whole = campaign_starts (whole_campaign name own p) shelf batches plan many (inl refl) count in
+      record { named = refl; rows_same = refl; shelf_same = refl; many = whole.many; entries = whole.entries; rows_are = none origin }
+
+  pub all_true : HasTrueEntries p origin
+  all_true = have_true p no_kept_rows origin refl refl
+
+  pub many_entries : length origin.entries ≡ batch_count p
+  many_entries = length_entries p (true_planes p)
 
 -- ---- the rows of a part
 
 module _ (c : PartCampaign) (before : ShelfState) where
   abbrev start : Start
-  start = part_origin c.name c.own c.p before
+  start = part_origin c.name c.own c.p c.part c.parts before
 
   -- each batch of the plan is to do
   due_below : (batch : ℕ) → batch < batch_count c.p → IsMissing start batch
-  due_below batch lt = let many = many_entries c.name c.own c.p before in (omega (arith, lt, many), tt)
-
-  own_batches : (rows : List Row) → IsPartDone start c.part c.parts rows false → All (λ batch. is_of_part c.part c.parts batch ≡ true) (batches_of rows)
-  own_batches rows done i d lt = by_test (get_or (batches_of rows) i d) (each_counted (batches_of rows) i d lt) (done.due i d lt) (is_of_part c.part c.parts (get_or (batches_of rows) i d)) refl
-    where
-      by_test : (batch : ℕ) → 0 < times batch (batches_of rows) → IsMissing start batch → (own : Bool) → is_of_part c.part c.parts batch ≡ own → is_of_part c.part c.parts batch ≡ true
-      by_test batch some due true t = t
-      by_test batch some due false t =
-          let none : times batch (batches_of rows) ≡ 0 = done.own refl batch due ∙ rw t refl in
-          absurd (omega (arith, some, none))
+  due_below batch lt = let many = many_entries c.name c.own c.p c.part c.parts before in (omega (arith, lt, many), tt)
 
   each_batch : (rows : List Row) → IsPartDone start c.part c.parts rows false → (batch : ℕ) → batch < batch_count c.p → is_of_part c.part c.parts batch ≡ true
       → Contains (batches_of rows) batch
@@ -97,7 +88,7 @@ module _ (c : PartCampaign) (before : ShelfState) where
       let part = are_part c.p (true_planes c.p) start rows refl kept in
       record {
         distinct = part.distinct;
-        own = subst (All (λ batch. is_of_part c.part c.parts batch ≡ true)) (sym (same_batches rows)) (own_batches rows done);
+        own = subst (All (λ batch. is_of_part c.part c.parts batch ≡ true)) (sym (same_batches rows)) kept.own;
         each = λ batch lt own. subst (λ bs. Contains bs batch) (sym (same_batches rows)) (each_batch rows done batch lt own);
         have = part.have;
       }
@@ -127,33 +118,40 @@ module _ (c : PartCampaign) (before : ShelfState) where
           wrote = out ∙ ap (λ n. with_more old.written (shard_line c.part c.parts n)) (sym (length-map board.rows planed));
         }
 
-    none : AreRows start []
-    none = record { due = λ k lt. absurd (omega (arith, lt)); once = tt; within = λ i d lt. absurd (omega (arith, lt)) }
+    -- the board takes rows of the part alone
+    left_part : LeavesTaken start c.p (true_planes c.p) (now.content c.name) → LeftPart c.part c.parts c.own c.p (now.content c.name)
+    left_part left = record { left = left.0; own_rows = left.1 }
+
+    stopped_part : StopsTaken start c.p (true_planes c.p) [] (now.given c.name) (now.changed c.name)
+        → StoppedPart c.part c.parts c.own c.p (now.given c.name) (before.changed c.name) (now.changed c.name)
+    stopped_part stopped = record { stopped = stopped.0; own_rows = stopped.1 }
 
     -- what was told of the file, up to the call that failed
     stops : HasPartWorked start c.part c.parts before now board → IsBoard start board.rows sums board.failed board.written now → board.failed ≡ true
-        → StoppedRows c.own c.p (true_planes c.p) 0 [] (now.given c.name) (before.changed c.name) (now.changed c.name)
-    stops worked kept bad = elim worked as (λ _. StoppedRows c.own c.p (true_planes c.p) 0 [] (now.given c.name) (before.changed c.name) (now.changed c.name)) [
-      | inl done ↦ stopped_row c.p (true_planes c.p) start [] board.rows now refl kept.entries kept.rows_are (board.rows, refl) kept.given (kept.stopped done.0 bad)
-      | inr torn ↦ stopped_header c.p (true_planes c.p) start now refl kept.entries none kept.given torn.2
+        → StoppedPart c.part c.parts c.own c.p (now.given c.name) (before.changed c.name) (now.changed c.name)
+    stops worked kept bad = elim worked as (λ _. StoppedPart c.part c.parts c.own c.p (now.given c.name) (before.changed c.name) (now.changed c.name)) [
+      | inl done ↦
+          stopped_part
+          (stopped_row c.p (true_planes c.p) start [] board.rows now refl kept.entries kept.rows_are (board.rows, refl) kept.given (kept.stopped done.0 bad))
+      | inr torn ↦ stopped_part (stopped_header c.p (true_planes c.p) start now refl kept.entries (none start) kept.given torn.2)
     ]
 
     leaves : HasPartWorked start c.part c.parts before now board → IsBoard start board.rows sums board.failed board.written now → board.failed ≡ true
-        → (now.content c.name ≡ before.content c.name) ⊎ LeftPrefix c.own c.p (true_planes c.p) (now.content c.name)
-    leaves worked kept bad = elim worked as (λ _. (now.content c.name ≡ before.content c.name) ⊎ LeftPrefix c.own c.p (true_planes c.p) (now.content c.name)) [
-      | inl done ↦ inr (left_torn c.p (true_planes c.p) start board.rows (now.content c.name) refl kept.entries kept.rows_are (kept.torn done.0 bad))
+        → (now.content c.name ≡ before.content c.name) ⊎ LeftPart c.part c.parts c.own c.p (now.content c.name)
+    leaves worked kept bad = elim worked as (λ _. (now.content c.name ≡ before.content c.name) ⊎ LeftPart c.part c.parts c.own c.p (now.content c.name)) [
+      | inl done ↦ inr (left_part (left_torn c.p (true_planes c.p) start board.rows (now.content c.name) refl kept.entries kept.rows_are (kept.torn done.0 bad)))
       | inr torn ↦ header torn.1
     ]
       where
         header : IsHeaderTorn start.header 0 (before.content c.name) (now.content c.name)
-            → (now.content c.name ≡ before.content c.name) ⊎ LeftPrefix c.own c.p (true_planes c.p) (now.content c.name)
+            → (now.content c.name ≡ before.content c.name) ⊎ LeftPart c.part c.parts c.own c.p (now.content c.name)
         header torn =
-            elim (left_header c.p (true_planes c.p) start [] 0 (before.content c.name) (now.content c.name) refl kept.entries none (inl refl) torn)
-            as (λ _. (now.content c.name ≡ before.content c.name) ⊎ LeftPrefix c.own c.p (true_planes c.p) (now.content c.name)) [ inl same ↦ inl same | inr left ↦ inr left.0 ]
+            elim (left_header c.p (true_planes c.p) start [] 0 (before.content c.name) (now.content c.name) refl kept.entries (none start) (inl refl) torn)
+            as (λ _. (now.content c.name ≡ before.content c.name) ⊎ LeftPart c.part c.parts c.own c.p (now.content c.name)) [ inl same ↦ inl same | inr left ↦ inr (left_part left.0) ]
 
 ends : {F : Type 0} (end : End) (c : PartCampaign) (before after : Outside) (sums : Sums) (board : Board F)
-    → HasPartWorked (part_origin c.name c.own c.p before.shelf) c.part c.parts before.shelf after.shelf board
-    → IsBoard (part_origin c.name c.own c.p before.shelf) board.rows sums board.failed board.written after.shelf
+    → HasPartWorked (part_origin c.name c.own c.p c.part c.parts before.shelf) c.part c.parts before.shelf after.shelf board
+    → IsBoard (part_origin c.name c.own c.p c.part c.parts before.shelf) board.rows sums board.failed board.written after.shelf
     → TellsEnd end board.failed (shard_line c.part c.parts (length board.rows)) before.out after.out → EndsPartAs end c before after
 ends Done c before after sums board worked kept told = tells c before.shelf board sums after.shelf worked kept told.0 before.out after.out told.1
 ends (NoMemory no_room) c before after sums board worked kept told = absurd told
@@ -168,8 +166,8 @@ ends OutFault c before after sums board worked kept told =
     (line, tells c before.shelf board sums after.shelf worked kept told.0 before.out (had_written before after line).out refl, told.1)
 
 pub has_run : {F : Type 0} (end : End) (c : PartCampaign) (before after : Outside) (sums : Sums) (board : Board F)
-    → HasPartWorked (part_origin c.name c.own c.p before.shelf) c.part c.parts before.shelf after.shelf board
-    → IsBoard (part_origin c.name c.own c.p before.shelf) board.rows sums board.failed board.written after.shelf
+    → HasPartWorked (part_origin c.name c.own c.p c.part c.parts before.shelf) c.part c.parts before.shelf after.shelf board
+    → IsBoard (part_origin c.name c.own c.p c.part c.parts before.shelf) board.rows sums board.failed board.written after.shelf
     → TellsEnd end board.failed (shard_line c.part c.parts (length board.rows)) before.out after.out → before.out.faults ≤ after.out.faults
     → HasRunPart end c before after
 has_run end c before after sums board worked kept told grows = record {

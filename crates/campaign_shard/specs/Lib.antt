@@ -1,4 +1,5 @@
 pub mod PartSeats
+pub mod LeftPart
 pub mod RanPart
 pub mod PartSteps
 pub mod MergedParts

@@ -12,15 +12,16 @@ use Rattle.campaign_run.specs.Starting.{no_kept_rows}
 use Rattle.campaign_run.specs.Ran.{Campaign}
 use Rattle.campaign_run.specs.Origins.{origin_of}
 use Rattle.campaign_run.specs.Steps.{HeaderStops}
+use Rattle.result_merge.specs.Parts.{is_of_part}
 use Rattle.campaign_shard.specs.PartSeats.{IsPartDone}
 
 -- the whole campaign of the plan, which keeps nothing of its file; no board knows what it writes at its end
 abbrev pub whole_campaign : (name own : Bytes) → Analysis → Campaign
 whole_campaign name own p = record { name = name; own = own; p = p; k = no_kept_rows; text = Report }
 
--- what the board of a part begins with: the same as that of the whole campaign
-abbrev pub part_origin : (name own : Bytes) → Analysis → ShelfState → Start
-part_origin name own p shelf = origin_of (whole_campaign name own p) shelf
+-- what the board of a part begins with: the same as that of the whole campaign, but that it takes rows of the part alone
+abbrev pub part_origin : (name own : Bytes) → Analysis → (part parts : ℕ) → ShelfState → Start
+part_origin name own p part parts shelf = record (origin_of (whole_campaign name own p) shelf) { takes = is_of_part part parts }
 
 -- the one seat of a table; it holds the turn, with no board behind it yet
 pub record IsOpening (c : Counter) (p : Seated) : Type 0 where

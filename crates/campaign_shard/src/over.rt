@@ -9,6 +9,7 @@ ghost use Rattle.campaign_workers.specs.Truth.{HasTrueEntries};
 ghost use Rattle.campaign_run.specs.Steps.{IsNewBoard, TellsEnd};
 ghost use Rattle.classifier.specs.Simulated.{simulated_of};
 ghost use Rattle.refusals.specs.Texts.{shard_line};
+ghost use Rattle.result_merge.specs.Parts.{is_of_part};
 ghost use Rattle.campaign_shard.specs.RanPart.{HasRunPart};
 ghost use Rattle.campaign_shard.specs.PartSteps.{part_origin, HasPartWorked, IsOpening};
 
@@ -123,6 +124,7 @@ fn worked<F: Shelf + Drop, N: Origin>(
     requires simulator { prepared.place.simulator ≡ simulated_of plan.now }
     requires seat { IsOpening prepared.place.shared prepared.place.seat }
     requires entries { HasTrueEntries plan.now N.start × (length N.start.entries ≡ batch_count plan.now) }
+    requires takes { N.start.takes ≡ is_of_part shard.part shard.parts }
     ensures { HasPartWorked N.start shard.part shard.parts (F.seen prepared.entry.board.shelf) (F.seen result.shelf) result }
 {
     let Prepared { mut board, place } = prepared;
@@ -177,7 +179,7 @@ pub(crate) fn run_over<F: Shelf + Drop, N: Origin, O: Sink>(
     shelf: F,
     out: &mut O,
 ) -> Ran<F>
-    requires origin { N.start ≡ part_origin campaign.name campaign.own campaign.p (F.seen shelf) }
+    requires origin { N.start ≡ part_origin campaign.name campaign.own campaign.p campaign.part campaign.parts (F.seen shelf) }
     ensures run { HasRunPart result.end campaign.entry (record { shelf = F.seen shelf; out = O.seen out.old }) (record { shelf = F.seen result.shelf; out = O.seen out.new }) }
     ensures untouched { (no_room : NoRoom) → result.end ≡ End.NoMemory no_room → (result.shelf ≡ shelf) × (out.new ≡ out.old) }
 {

@@ -35,7 +35,8 @@ fn entry_with(plan: &Plan, batch: u32, planes: Outcome) -> Entry
     }
 }
 
-/// Draws each batch to do until a draw gives none, and simulates and posts those of the part; or until a post is stopped.
+/// Draws each batch to do until a draw gives none, and simulates and posts those of the part, of which alone the board takes rows; or
+/// until a post is stopped.
 pub(crate) fn work_part<F: Shelf + Drop, N: Origin>(
     plan: &Plan,
     simulator: &mut BatchSimulator<'_>,
@@ -48,6 +49,7 @@ pub(crate) fn work_part<F: Shelf + Drop, N: Origin>(
     requires seat { IsAtPart shared.now N.start part parts seat.old × (seat.old.view.nones ≡ 0) }
     requires simulator { simulator.old ≡ simulated_of plan.now }
     requires entries { HasTrueEntries plan.now N.start × (length N.start.entries ≡ batch_count plan.now) }
+    requires takes { N.start.takes ≡ is_of_part part parts }
     ensures { HasWorkedPart shared.now N.start part parts seat.new }
 {
     'draws: loop {

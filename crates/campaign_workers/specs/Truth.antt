@@ -1,5 +1,5 @@
 -- What each batch of a campaign is truly found to be.
-use Rattle.std.specs.Prelude.{◌≡◌, ℕ}
+use Rattle.std.specs.Prelude.{◌≡◌, ℕ, true}
 use Rattle.campaign_plan.specs.Analysis.{Analysis}
 use Rattle.campaign_plan.specs.Batches.{true_planes, own_sums}
 use Rattle.campaign_board.specs.declared.entry.Entry.{Entry}
@@ -18,3 +18,7 @@ true_entry p batch = record {
 -- each batch to do has its true entry in the origin
 abbrev pub HasTrueEntries : Analysis → Start → Type 0
 HasTrueEntries p o = (batch : ℕ) → IsMissing o batch → board_entry o.entries batch ≡ true_entry p batch
+
+-- the board takes rows of each batch
+abbrev pub TakesAll : Start → Type 0
+TakesAll o = (batch : ℕ) → o.takes batch ≡ true

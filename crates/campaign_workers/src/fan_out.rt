@@ -3,7 +3,7 @@ ghost use Rattle.campaign_plan.specs.Analysis.{batch_count};
 ghost use Rattle.campaign_core.specs.Machines.{times};
 ghost use Rattle.claim_counter.specs.Seats.{IsOf};
 ghost use Rattle.claim_counter.specs.Crews.{MayDraw, IsDone, IsCrew, shares_of};
-ghost use Rattle.campaign_workers.specs.Truth.{HasTrueEntries};
+ghost use Rattle.campaign_workers.specs.Truth.{HasTrueEntries, TakesAll};
 ghost use Rattle.campaign_workers.specs.Workplaces.{seats_of};
 ghost use Rattle.classifier.specs.Simulator.{simulator_of};
 ghost use Rattle.testbench.specs.Testbench.{IsTestbenchFor};
@@ -46,6 +46,7 @@ fn work_all<
     requires ready { All (λ w. MayDraw shared.now w.seat × (w.simulator ≡ simulator_of bench.now plan.now.settings.ftti)) workers.old }
     requires bench { IsTestbenchFor plan.now bench.now }
     requires entries { HasTrueEntries plan.now N.start × (length N.start.entries ≡ batch_count plan.now) }
+    requires takes { TakesAll N.start }
     ensures done { All (λ w. IsDone shared.now w.seat) workers.new }
     ensures shares { shares_of (seats_of workers.new) ≡ shares_of (seats_of workers.old) }
 {
@@ -54,7 +55,7 @@ fn work_all<
         workers,
         32,
         &|_, worker: &mut Worker<F, N>|
-            requires { ((share : ℕ) → T.admits share) × MayDraw shared.now worker.now.seat × (worker.now.simulator ≡ simulator_of bench.now plan.now.settings.ftti) × IsTestbenchFor plan.now bench.now × HasTrueEntries plan.now N.start × (length N.start.entries ≡ batch_count plan.now) }
+            requires { ((share : ℕ) → T.admits share) × MayDraw shared.now worker.now.seat × (worker.now.simulator ≡ simulator_of bench.now plan.now.settings.ftti) × IsTestbenchFor plan.now bench.now × HasTrueEntries plan.now N.start × (length N.start.entries ≡ batch_count plan.now) × TakesAll N.start }
             ensures { IsDone shared.entry.now worker.exit.now.seat × (worker.exit.now.seat.view.share ≡ worker.entry.now.seat.view.share) }
         { work(turn, plan, bench, shared, gate, worker) },
     );
@@ -105,6 +106,7 @@ fn campaign_of_several<
     requires admitted { (share : ℕ) → T.admits share }
     requires made { crew.workshop ≡ plan.now }
     requires entries { HasTrueEntries plan.now N.start }
+    requires takes { TakesAll N.start }
     requires written { crew.board.written ≡ true }
     requires rows { crew.board.rows ≡ N.start.rows }
     ensures finished { IsFinished N.start result.board.rows result.board.failed }
@@ -142,6 +144,7 @@ fn campaign_of_one<F: Shelf + Drop, N: Origin, G: Gate>(
 ) -> Finished<F, N>
     requires made { crew.workshop ≡ plan.now }
     requires entries { HasTrueEntries plan.now N.start }
+    requires takes { TakesAll N.start }
     requires written { crew.board.written ≡ true }
     requires rows { crew.board.rows ≡ N.start.rows }
     ensures finished { IsFinished N.start result.board.rows result.board.failed }
@@ -192,6 +195,7 @@ pub fn campaign<
     requires admitted { workers ≢ 1 → (share : ℕ) → T.admits share }
     requires made { crew.workshop ≡ plan.now }
     requires entries { HasTrueEntries plan.now N.start }
+    requires takes { TakesAll N.start }
     requires written { crew.board.written ≡ true }
     requires rows { crew.board.rows ≡ N.start.rows }
     ensures finished { IsFinished N.start result.board.rows result.board.failed }

@@ -2,7 +2,7 @@ ghost use Rattle.std.specs.Prelude.{◌≡◌, ◌++◌, [], OnOk, OnErr, length
 ghost use Rattle.campaign_plan.specs.Analysis.{batch_count};
 ghost use Rattle.claim_counter.specs.Crews.{MayDraw, IsDone};
 ghost use Rattle.campaign_workers.specs.Rounds.{drawn_in, numbers_in, true_planes_in, Owes};
-ghost use Rattle.campaign_workers.specs.Truth.{HasTrueEntries};
+ghost use Rattle.campaign_workers.specs.Truth.{HasTrueEntries, TakesAll};
 ghost use Rattle.classifier.specs.Simulator.{simulator_of};
 ghost use Rattle.testbench.specs.Testbench.{IsTestbenchFor};
 
@@ -50,6 +50,7 @@ fn post_round<T: Turn, F: Shelf + Drop, N: Origin>(
     requires owes { Owes shared.now N.start seat.old (drawn_in round.now.batches) }
     requires planes { planes.now ≡ true_planes_in plan.now round.now.batches }
     requires entries { HasTrueEntries plan.now N.start × (length N.start.entries ≡ batch_count plan.now) }
+    requires takes { TakesAll N.start }
     ensures owes { OnOk result (Owes shared.now N.start seat.new []) }
     ensures posts { OnOk result (seat.new.view.posts ≡ seat.old.view.posts ++ numbers_in N.start round.now.batches) }
     ensures nones { OnOk result (seat.new.view.nones ≡ seat.old.view.nones) }
@@ -80,6 +81,7 @@ fn finish_round<T: Turn, F: Shelf + Drop, N: Origin>(
     requires bench { IsTestbenchFor plan.now bench.now }
     requires simulator { worker.old.simulator ≡ simulator_of bench.now plan.now.settings.ftti }
     requires entries { HasTrueEntries plan.now N.start × (length N.start.entries ≡ batch_count plan.now) }
+    requires takes { TakesAll N.start }
     ensures owes { OnOk result (Owes shared.now N.start worker.new.seat []) }
     ensures posts { OnOk result (worker.new.seat.view.posts ≡ worker.old.seat.view.posts ++ numbers_in N.start round.now.batches) }
     ensures nones { OnOk result (worker.new.seat.view.nones ≡ worker.old.seat.view.nones) }
@@ -109,6 +111,7 @@ pub(crate) fn work<T: Turn, F: Shelf + Drop, N: Origin, G: Gate>(
     requires bench { IsTestbenchFor plan.now bench.now }
     requires simulator { worker.old.simulator ≡ simulator_of bench.now plan.now.settings.ftti }
     requires entries { HasTrueEntries plan.now N.start × (length N.start.entries ≡ batch_count plan.now) }
+    requires takes { TakesAll N.start }
     ensures done { IsDone shared.now worker.new.seat }
     ensures share { worker.new.seat.view.share ≡ worker.old.seat.view.share }
 {

@@ -148,13 +148,16 @@ module _ (planned : PlannedOf) (reads : Reads) (name : Bytes) (workers : ℕ) (b
 
   anew_left : (text : Text) (after : Outside) → IsTruncatedResult (begun_anew planned name text) before.shelf after.shelf
       → (after.shelf.content name ≡ before.shelf.content name)
-      ⊎ MayLeave (Planned planned.plan) reads (before.shelf.content name) (after.shelf.content name)
+      ⊎ MayLeave (task_of_text text workers) (Planned planned.plan) reads (before.shelf.content name) (after.shelf.content name)
   anew_left text after (inl same) = inl same
-  anew_left text after (inr left) = inr (subst (λ own. LeftPrefix own planned.plan (true_planes planned.plan) (after.shelf.content name)) sound.own left.0)
+  anew_left Report after (inr left) = inr (subst (λ own. LeftPrefix own planned.plan (true_planes planned.plan) (after.shelf.content name)) sound.own left.0)
+  anew_left (Summary stages) after (inr left) = inr (subst (λ own. LeftPrefix own planned.plan (true_planes planned.plan) (after.shelf.content name)) sound.own left.0)
 
   anew_stopped : (text : Text) (after : Outside) → HasStopped (begun_anew planned name text) before.shelf after.shelf
-      → MayStop (Planned planned.plan) reads (after.shelf.given name) (before.shelf.changed name) (after.shelf.changed name)
-  anew_stopped text after stopped =
+      → MayStop (task_of_text text workers) (Planned planned.plan) reads (after.shelf.given name) (before.shelf.changed name) (after.shelf.changed name)
+  anew_stopped Report after stopped =
+      subst (λ own. StoppedRows own planned.plan (true_planes planned.plan) 0 [] (after.shelf.given name) (before.shelf.changed name) (after.shelf.changed name)) sound.own stopped
+  anew_stopped (Summary stages) after stopped =
       subst (λ own. StoppedRows own planned.plan (true_planes planned.plan) 0 [] (after.shelf.given name) (before.shelf.changed name) (after.shelf.changed name)) sound.own stopped
 
   pub anew_ended : (how : End) (text : Text) (after : Outside) → HasRun how (begun_anew planned name text) before after
@@ -209,12 +212,12 @@ module _ (law : StoppedAreTakenUp) (begun : BegunOf) (reads : Reads) (name : Byt
 
   on_left : (after : Outside) → IsTruncatedResult (going_on begun name) before.shelf after.shelf
       → (after.shelf.content name ≡ before.shelf.content name)
-      ⊎ MayLeave (Begun p begun.kept) reads (before.shelf.content name) (after.shelf.content name)
+      ⊎ MayLeave (task.Resume workers) (Begun p begun.kept) reads (before.shelf.content name) (after.shelf.content name)
   on_left after (inl same) = inl same
   on_left after (inr left) = inr (subst (λ own. LeftPrefix own p planes (after.shelf.content name)) sound.own left.0, left.1)
 
   on_stopped : (after : Outside) → HasStopped (going_on begun name) before.shelf after.shelf
-      → MayStop (Begun p begun.kept) reads (after.shelf.given name) (before.shelf.changed name) (after.shelf.changed name)
+      → MayStop (task.Resume workers) (Begun p begun.kept) reads (after.shelf.given name) (before.shelf.changed name) (after.shelf.changed name)
   on_stopped after stopped =
       subst (λ own. StoppedRows own p planes begun.kept.whole (kept_entries begun.kept) (after.shelf.given name) (before.shelf.changed name) (after.shelf.changed name)) sound.own stopped
 
@@ -274,12 +277,12 @@ module _ (it : MergedOf) (reads : Reads) (name : Bytes) (before : Outside) (soun
   )
 
   pub merge_stopped : (after : Outside) → StopsOn 0 (rows_file it.planned.own it.rows) (after.shelf.given name) (before.shelf.changed name) (after.shelf.changed name)
-      → MayStop (Merged it.planned.plan it.rows) reads (after.shelf.given name) (before.shelf.changed name) (after.shelf.changed name)
+      → MayStop task.Merge (Merged it.planned.plan it.rows) reads (after.shelf.given name) (before.shelf.changed name) (after.shelf.changed name)
   merge_stopped after stopped = subst (λ text. StopsOn 0 text (after.shelf.given name) (before.shelf.changed name) (after.shelf.changed name)) file_is stopped
 
   pub merge_left : (after : Outside)
       → (after.shelf.content name ≡ before.shelf.content name) ⊎ IsPrefixOf (after.shelf.content name) (rows_file it.planned.own it.rows)
       → (after.shelf.content name ≡ before.shelf.content name)
-      ⊎ MayLeave (Merged it.planned.plan it.rows) reads (before.shelf.content name) (after.shelf.content name)
+      ⊎ MayLeave task.Merge (Merged it.planned.plan it.rows) reads (before.shelf.content name) (after.shelf.content name)
   merge_left after (inl same) = inl same
   merge_left after (inr prefix) = inr (subst (IsPrefixOf (after.shelf.content name)) file_is prefix)

@@ -71,9 +71,9 @@ EndsWith end.Done own made reads name before after = HasWritten own made reads n
 EndsWith (end.NoMemory no_room) own made reads name before after = after ≡ before
 EndsWith end.ResultFault own made reads name before after =
     CountRose (before.shelf.write_faults name) (after.shelf.write_faults name)
-    × ((after.shelf.content name ≡ before.shelf.content name) ⊎ MayLeave made reads (before.shelf.content name) (after.shelf.content name))
+    × ((after.shelf.content name ≡ before.shelf.content name) ⊎ MayLeave own made reads (before.shelf.content name) (after.shelf.content name))
     × (after.out ≡ before.out)
-    × MayStop made reads (after.shelf.given name) (before.shelf.changed name) (after.shelf.changed name)
+    × MayStop own made reads (after.shelf.given name) (before.shelf.changed name) (after.shelf.changed name)
 EndsWith end.OutFault own made reads name before after =
     (text : Bytes) × HasWritten own made reads name before (had_written before after text) × WrotePrefix before.out after.out text
 

@@ -32,6 +32,7 @@ use Rattle.campaign_run.specs.Outside.{had_written}
 use Rattle.campaign_run.specs.Found.{checkpointed_or_true}
 use Rattle.campaign_run.specs.Reported.{BeginsWith, HasReported, ResumedAs}
 use Rattle.campaign_run.specs.Left.{IsPrefixOf, LeftPrefix, StoppedRows}
+use Rattle.campaign_shard.specs.LeftPart.{LeftPart, StoppedPart}
 use Rattle.commands.specs.declared.command.AuditBy.{AuditBy}
 use Rattle.commands.specs.declared.command.AuditBy.TheVariants.{Lanes, Alone}
 use Rattle.commands.specs.declared.command.Task.{Task}
@@ -108,20 +109,23 @@ HasWritten (task.Shard part parts) (Planned p) reads = HasShard part parts (own_
 HasWritten task.Merge (Merged p both) reads = HasMerged (own_header reads p) p both
 HasWritten _ _ reads = λ name before after. ⊥
 
--- what may be left of a result file that can't be written: a byte prefix of one of the plan, or of that of `merge`, with the bytes that were kept
-abbrev pub MayLeave : Judged → Reads → (before after : Content) → Type 0
-MayLeave (Planned p) reads before after = LeftPrefix (own_header reads p) p (true_planes p) after
-MayLeave (Begun p k) reads before after =
+-- what may be left of a result file that can't be written: a byte prefix of one of the plan, of a part's own rows, or of that of `merge`, with the
+-- bytes that were kept
+abbrev pub MayLeave : Task → Judged → Reads → (before after : Content) → Type 0
+MayLeave (task.Shard part parts) (Planned p) reads before after = LeftPart part parts (own_header reads p) p after
+MayLeave _ (Planned p) reads before after = LeftPrefix (own_header reads p) p (true_planes p) after
+MayLeave _ (Begun p k) reads before after =
     LeftPrefix (own_header reads p) p (checkpointed_or_true p k) after × IsIfKnown after (λ bytes. BeginsWith bytes (take k.whole (bytes_of before)))
-MayLeave (Merged p both) reads before after = IsPrefixOf after (own_header reads p ++ flat_map row_text both)
-MayLeave _ reads before after = ⊥
+MayLeave _ (Merged p both) reads before after = IsPrefixOf after (own_header reads p ++ flat_map row_text both)
+MayLeave _ _ reads before after = ⊥
 
 -- ROWS THAT WERE WRITTEN STAY: known or not, up to the call that failed it was written so from the kept bytes on, and was not cut again
-abbrev pub MayStop : Judged → Reads → List Given → (before after : List Change) → Type 0
-MayStop (Planned p) reads = StoppedRows (own_header reads p) p (true_planes p) 0 []
-MayStop (Begun p k) reads = StoppedRows (own_header reads p) p (checkpointed_or_true p k) k.whole (kept_entries k)
-MayStop (Merged p both) reads = StopsOn 0 (own_header reads p ++ flat_map row_text both)
-MayStop _ reads = λ given before after. ⊥
+abbrev pub MayStop : Task → Judged → Reads → List Given → (before after : List Change) → Type 0
+MayStop (task.Shard part parts) (Planned p) reads = StoppedPart part parts (own_header reads p) p
+MayStop _ (Planned p) reads = StoppedRows (own_header reads p) p (true_planes p) 0 []
+MayStop _ (Begun p k) reads = StoppedRows (own_header reads p) p (checkpointed_or_true p k) k.whole (kept_entries k)
+MayStop _ (Merged p both) reads = StopsOn 0 (own_header reads p ++ flat_map row_text both)
+MayStop _ _ reads = λ given before after. ⊥
 
 -- a command that writes the result file of this name: files of other names are as before. All was written; or `out` failed, and all is as
 -- then but for a part of a text; or a write to the file failed: it is as before, or so, what was written stays, and the line of this fault went out
@@ -130,8 +134,8 @@ pub data WritesAs (own : Task) (made : Judged) (reads : Reads) (name : Bytes) (b
   OutFailed : (text : Bytes) → WrotePrefix before.out after.out text → HasWritten own made reads name before (had_written before after text)
       → WritesAs own made reads name before after status.OutFault
   ResultFailed : CountRose (before.shelf.write_faults name) (after.shelf.write_faults name)
-      → (after.shelf.content name ≡ before.shelf.content name) ⊎ MayLeave made reads (before.shelf.content name) (after.shelf.content name)
-      → MayStop made reads (after.shelf.given name) (before.shelf.changed name) (after.shelf.changed name)
+      → (after.shelf.content name ≡ before.shelf.content name) ⊎ MayLeave own made reads (before.shelf.content name) (after.shelf.content name)
+      → MayStop own made reads (after.shelf.given name) (before.shelf.changed name) (after.shelf.changed name)
       → WroteOrFailed before.out after.out (line (codes "refused: cannot write" ∷ name ∷ []))
       → WritesAs own made reads name before after status.ResultFault
 

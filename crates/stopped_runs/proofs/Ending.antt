@@ -119,7 +119,7 @@ module _ (workers : ℕ) (p : Analysis) (k : KeptRows) (same : checkpointed_or_t
   )
   resume_writes after (ResultFailed rose left stops said) = (by_left left, λ done. absurd (cc))
     where
-      by_left : (after.shelf.content name ≡ before.shelf.content name) ⊎ MayLeave (Begun p k) reads (before.shelf.content name) (after.shelf.content name)
+      by_left : (after.shelf.content name ≡ before.shelf.content name) ⊎ MayLeave (task.Resume workers) (Begun p k) reads (before.shelf.content name) (after.shelf.content name)
           → (after.shelf.content name ≡ before.shelf.content name) ⊎ LeftPrefix own p (true_planes p) (after.shelf.content name)
       by_left (inl stayed) = inl stayed
       by_left (inr may) = inr (subst (λ (planes : ℕ → Outcome). LeftPrefix own p planes (after.shelf.content name)) same may.0)

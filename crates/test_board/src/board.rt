@@ -1,5 +1,5 @@
 // What no clause says: that calls find memory, and what a worked campaign of two batches shows.
-ghost use Rattle.std.specs.Prelude.{◌≡◌, true, false, [], length, IfSome};
+ghost use Rattle.std.specs.Prelude.{ℕ, ◌≡◌, true, false, [], length, IfSome};
 ghost use Rattle.std.specs.String.{string_bytes};
 ghost use Rattle.claim_counter.specs.Views.{starting_view, giving};
 ghost use Rattle.claim_counter.specs.Seats.{IsOf};
@@ -49,6 +49,7 @@ fn post_and_look<F: Shelf + Drop, N: Origin, R: Wait>(
     requires seat { IsOf shared.now seat.old × (seat.old.view.holds ≡ false) }
     requires drawn { MayPost N.start seat.old.view entry.now.batch }
     requires entry { entry.now ≡ board_entry N.start.entries entry.now.batch }
+    requires takes { (batch : ℕ) → N.start.takes batch ≡ true }
     ensures seat { IsOf shared.now seat.new × (seat.new.view.holds ≡ false) × (seat.new.view.share ≡ seat.old.view.share) }
 {
     let turn = Waiting::new(rt);
@@ -67,6 +68,7 @@ fn post_both<F: Shelf + Drop, N: Origin, R: Wait>(
     requires first { IsOf shared.now first.old × (first.old.view.holds ≡ false) × (first.old.view.nones ≡ 0) × (first.old.view.claims ≡ []) × (first.old.view.posts ≡ []) }
     requires second { IsOf shared.now second.old × (second.old.view.holds ≡ false) × (second.old.view.nones ≡ 0) × (second.old.view.claims ≡ []) × (second.old.view.posts ≡ []) }
     requires entries { AreEntries entries.now × (entries.now ≡ N.start.entries) }
+    requires takes { (batch : ℕ) → N.start.takes batch ≡ true }
     ensures first { IsOf shared.now first.new × (first.new.view.holds ≡ false) × (first.new.view.share ≡ first.old.view.share) }
     ensures second { IsOf shared.now second.new × (second.new.view.holds ≡ false) × (second.new.view.share ≡ second.old.view.share) }
 {
@@ -87,6 +89,7 @@ fn play_shared<F: Shelf + Drop, N: Origin, R: Wait>(
     requires table { first.table ≡ shared.table }
     requires view { first.view ≡ giving (starting_view shared.todo) false }
     requires entries { AreEntries entries.now × (entries.now ≡ N.start.entries) }
+    requires takes { (batch : ℕ) → N.start.takes batch ≡ true }
 {
     let mut second = shared.split(&mut first);
     let looks = post_both(rt, &shared, &mut first, &mut second, entries);
@@ -128,6 +131,7 @@ fn play_over<F: Shelf + Drop, N: Origin, R: Wait>(
     requires start { IsStart N.start (string_bytes name.now) [] (length entries.now) (F.seen shelf) }
     requires own { (own.now ≡ N.start.header) × (N.start.whole ≡ 0) }
     requires entries { entries.now ≡ N.start.entries }
+    requires takes { (batch : ℕ) → N.start.takes batch ≡ true }
 {
     let batches = entries.len() as u32;
     let made = Board::<F, N>::new(alloc, shelf, name.as_str(), batches, Seq::new(alloc));

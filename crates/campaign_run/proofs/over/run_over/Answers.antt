@@ -33,6 +33,11 @@ worked-board-requires-clause-entries g c κs within =
     (origin_of (record { name = c.campaign.inside.name.now; own = c.campaign.inside.own.now; p = c.campaign.inside.plan.now; k = c.campaign.inside.kept; text = c.campaign.inside.text }) (g.F.Shelf.seen c.args.shelf))
     refl refl)
 
+pub worked-board-requires-clause-takes : goal.worked-board-requires-clause-takes
+worked-board-requires-clause-takes g c κs within =
+    let origin = rw (← c.campaign.view_is) at c.requires.origin in
+    rw origin (λ batch. refl)
+
 pub tell-requires-clause-rows : goal.tell-requires-clause-rows
 tell-requires-clause-rows g c =
     have_all g.N.Origin.start c.campaign.inside.kept.whole (g.F.Shelf.seen c.in-Ok.prepared.crew.board.shelf) (g.F.Shelf.seen c.worked-board.result.shelf)

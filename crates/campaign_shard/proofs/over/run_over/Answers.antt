@@ -1,3 +1,4 @@
+use Rattle.std.proofs.Common.{refl}
 use Rattle.campaign_shard.proofs.Ending.{starts, all_true, many_entries, has_run}
 use Rattle.campaign_shard.proofs.over.run_over.Goals as goal
 
@@ -5,16 +6,22 @@ pub prepare-requires-clause-start : goal.prepare-requires-clause-start
 prepare-requires-clause-start g c =
     let origin = rw (← c.campaign.view_is) at c.requires.origin in
     rw origin
-    (starts c.campaign.inside.name.now c.campaign.inside.own.now c.campaign.inside.plan.now (g.F.Shelf.seen c.args.shelf) c.batches-batches.result
+    (starts c.campaign.inside.name.now c.campaign.inside.own.now c.campaign.inside.plan.now c.campaign.inside.shard.part c.campaign.inside.shard.parts (g.F.Shelf.seen c.args.shelf)
+    c.batches-batches.result
     c.batches-batches.ensures.plan c.campaign.invariant.1 c.batches-batches.ensures.count)
 
 pub worked-board-requires-clause-entries : goal.worked-board-requires-clause-entries
 worked-board-requires-clause-entries g c =
     let origin = rw (← c.campaign.view_is) at c.requires.origin in
     rw origin (
-      all_true c.campaign.inside.name.now c.campaign.inside.own.now c.campaign.inside.plan.now (g.F.Shelf.seen c.args.shelf),
-      many_entries c.campaign.inside.name.now c.campaign.inside.own.now c.campaign.inside.plan.now (g.F.Shelf.seen c.args.shelf),
+      all_true c.campaign.inside.name.now c.campaign.inside.own.now c.campaign.inside.plan.now c.campaign.inside.shard.part c.campaign.inside.shard.parts (g.F.Shelf.seen c.args.shelf),
+      many_entries c.campaign.inside.name.now c.campaign.inside.own.now c.campaign.inside.plan.now c.campaign.inside.shard.part c.campaign.inside.shard.parts (g.F.Shelf.seen c.args.shelf),
     )
+
+pub worked-board-requires-clause-takes : goal.worked-board-requires-clause-takes
+worked-board-requires-clause-takes g c =
+    let origin = rw (← c.campaign.view_is) at c.requires.origin in
+    rw origin refl
 
 pub returns-in-Ok-clause-run : goal.returns-in-Ok-clause-run
 returns-in-Ok-clause-run g c =

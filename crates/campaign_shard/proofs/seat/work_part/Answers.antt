@@ -8,6 +8,11 @@ use Rattle.campaign_shard.proofs.seat.work_part.Goals as goal
 pub post-requires-clause-admitted : goal.post-requires-clause-admitted
 post-requires-clause-admitted g c = ap (λ (v : View). v.share) c.in-Some.ensures.some.view ∙ c.draws.invariant.at.all
 
+pub post-requires-clause-own : goal.post-requires-clause-own
+post-requires-clause-own g c =
+    let batch : c.entry_with-entry.result.batch ≡ c.in-Some.batch = ap (λ (e : Entry). e.batch) c.entry_with-entry.ensures in
+    rw (c.requires.takes, batch) (sym c.is_own.ensures ∙ c.if-is_own.true)
+
 pub draws-smaller : goal.draws-smaller
 draws-smaller g c = draws_less g.N.Origin.start c.draws.seat.view c.draw.new.seat.view c.draw.new.seat.view.claims c.in-Some.batch c.in-Some.ensures.some refl
 

@@ -20,6 +20,9 @@ post-requires-clause-entry g c =
     let may = may_post_at c.args.shared.now g.N.Origin.start c.args.seat.now c.loop-word.seat c.args.round.now.batches c.loop-word.word c.in-Some.batch c.loop-word.invariant c.in-Some.is in
     (posts_entry c.args.plan.now g.N.Origin.start c.loop-word.seat.view c.in-Some.batch c.entry_with-entry.result may c.requires.entries.0 c.entry_with-entry.ensures).1
 
+pub post-requires-clause-own : goal.post-requires-clause-own
+post-requires-clause-own g c = c.requires.takes c.entry_with-entry.result.batch
+
 pub loop-word-preserved : goal.loop-word-preserved
 loop-word-preserved g c =
     let posted = c.in_default-post.ensures in

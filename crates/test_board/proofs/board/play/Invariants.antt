@@ -1,4 +1,4 @@
-use Rattle.std.proofs.Common.{[]}
+use Rattle.std.proofs.Common.{[], true}
 use Rattle.std.specs.String.{string_bytes}
 use Rattle.test_board.proofs.board.play.Given as goal
 
@@ -7,6 +7,7 @@ abbrev pub ghosts-play_over : goal.ghosts-play_over
 ghosts-play_over g a = record {
   start = record {
     entries = a.entries.now;
+    takes = λ _. true;
     header = a.own.now;
     name = string_bytes a.name.now;
     rows = [];

@@ -8,7 +8,7 @@ use Rattle.campaign_board.proofs.board.Board.add.Goals as goal
 pub plus-sums-requires : goal.plus-sums-requires
 plus-sums-requires g c =
     let batch = rw (← c.self.view_is) at c.requires.batch in
-    let asked : IsAsked g.N.Origin.start c.self.inside.rows.items c.args.entry.now = record { within = batch.0; lacks = batch.1; own = c.requires.entry } in
+    let asked : IsAsked g.N.Origin.start c.self.inside.rows.items c.args.entry.now = record { within = batch.0; lacks = batch.1; taken = c.requires.own; own = c.requires.entry } in
     now_small g.N.Origin.start _ _ _ _ (g.F.Shelf.seen c.self.inside.shelf) c.args.entry.now c.self.invariant.0 asked
 
 pub push_reserved-requires : goal.push_reserved-requires
@@ -26,7 +26,7 @@ invariant_of-self g c =
     let now = g.F.Shelf.seen c.append_all.new.shelf in
     let batch = rw (← c.self.view_is) at c.requires.batch in
     let written = rw (← c.self.view_is) at c.requires.written in
-    let asked : IsAsked o c.self.inside.rows.items entry = record { within = batch.0; lacks = batch.1; own = c.requires.entry } in
+    let asked : IsAsked o c.self.inside.rows.items entry = record { within = batch.0; lacks = batch.1; taken = c.requires.own; own = c.requires.entry } in
     let err = sym c.is_err.ensures.value ∙ c.if-is_err.true in
     let text = c.bytes.ensures ∙ c.row_line.ensures.text in
     let torn = on_err c.append_all.result err c.append_all.ensures.failed in
@@ -48,7 +48,7 @@ invariant_of-self-2 g c =
     let now = g.F.Shelf.seen c.append_all.new.shelf in
     let batch = rw (← c.self.view_is) at c.requires.batch in
     let written = rw (← c.self.view_is) at c.requires.written in
-    let asked : IsAsked o c.self.inside.rows.items entry = record { within = batch.0; lacks = batch.1; own = c.requires.entry } in
+    let asked : IsAsked o c.self.inside.rows.items entry = record { within = batch.0; lacks = batch.1; taken = c.requires.own; own = c.requires.entry } in
     let ok = sym c.is_err.ensures.value ∙ c.if-is_err.false in
     let text = c.bytes.ensures ∙ c.row_line.ensures.text in
     let has = on_ok c.append_all.result ok c.append_all.ensures.ok in

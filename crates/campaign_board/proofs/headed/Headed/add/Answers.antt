@@ -10,11 +10,11 @@ pub invariant_of-self : goal.invariant_of-self
 invariant_of-self g c =
     let new = rw (← c.self.view_is) at c.requires.new in
     let lacks = lacks_row g.N.Origin.start c.self.inside.board.rows c.args.entry.now.batch c.self.invariant.starts c.requires.due new in
-    still_headed g.N.Origin.start c.self.inside.board c.add.new.self c.self.inside.started c.args.entry.now.batch c.add.result c.self.invariant c.requires.due.0 lacks c.add.ensures.posted c.add.ensures.written
+    still_headed g.N.Origin.start c.self.inside.board c.add.new.self c.self.inside.started c.args.entry.now.batch c.add.result c.self.invariant c.requires.due.0 lacks c.requires.own c.add.ensures.posted c.add.ensures.written
 
 pub returns : goal.returns
 returns g c =
     let new = rw (← c.self.view_is) at c.requires.new in
     let lacks = lacks_row g.N.Origin.start c.self.inside.board.rows c.args.entry.now.batch c.self.invariant.starts c.requires.due new in
     rw (← c.self.view_is)
-    (adds_of g.N.Origin.start c.self.inside.board c.add.new.self c.self.inside.started c.args.entry.now.batch c.add.result c.self.invariant c.requires.due.0 lacks c.add.ensures.posted c.add.ensures.written)
+    (adds_of g.N.Origin.start c.self.inside.board c.add.new.self c.self.inside.started c.args.entry.now.batch c.add.result c.self.invariant c.requires.due.0 lacks c.requires.own c.add.ensures.posted c.add.ensures.written)
