@@ -25,7 +25,7 @@ use Rattle.blif_flatten.specs.declared.flat.NumberedAct.TheVariants.{PortNets, T
 use Rattle.blif_flatten.specs.declared.flat.NumberedLatch.{NumberedLatch}
 use Rattle.blif_flatten.specs.declared.flat.NumberedStep.{NumberedStep}
 use Rattle.blif_flatten.specs.Flat.{AreBelow, IsFlat, act_by, all_names, ids_in, mentioned, name_at, step_by, steps_by}
-use Rattle.blif_flatten.specs.Numbering.{AreNumbered, HaveNumbers, IsKept, IsNumberedAs, own_step}
+use Rattle.blif_flatten.specs.Numbering.{AreNumbered, HaveNumbers, IsKept, IsNumberedAs}
 use Rattle.blif_flatten.specs.Ports.{own_act, some_nets}
 use Rattle.blif_flatten.specs.Thinned.{kept_of, some_visits, thinned, unseen, with_step, with_steps}
 
@@ -141,8 +141,13 @@ pub new_next : {old mid new : List Name} {ids js : List NameId} (net_of : Name �
 new_next {old} {mid} net_of tokens i token lt is before one =
     let xs = map net_of (texts_of (take i tokens)) in
     let seen : mid ≡ fold with_name old xs = before.names ∙ unseen_names old xs in
-    rw (map_more (λ (t : Token). t.text.now) tokens i token lt, ← is, map-append net_of (texts_of (take i tokens)) (token.text.now ∷ []),
-    unseen_append old xs (net_of token.text.now ∷ []), ← seen)
+    rw (
+      map_more (λ (t : Token). t.text.now) tokens i token lt,
+      ← is,
+      map-append net_of (texts_of (take i tokens)) (token.text.now ∷ []),
+      unseen_append old xs (net_of token.text.now ∷ []),
+      ← seen,
+    )
     (numbered_both before one)
 
 -- ---- the names of a line

@@ -20,7 +20,6 @@ kept_of seen (visits names) = some_visits (unseen seen names)
 kept_of seen act = act ∷ []
 
 -- steps, and behind them what is kept of one more
--- steps, and behind them what is kept of one more
 abbrev pub with_step : List Step → Step → List Step
 with_step steps s = steps ++ map (λ act. record { line = s.line; act = act }) (kept_of (all_names steps) s.act)
 
@@ -28,5 +27,6 @@ with_step steps s = steps ++ map (λ act. record { line = s.line; act = act }) (
 unfoldable pub with_steps : List Step → List Step → List Step
 with_steps steps more = fold with_step steps more
 
+-- what is kept of the steps of a walk, each behind those before it
 unfoldable pub thinned : List Step → List Step
 thinned steps = with_steps [] steps

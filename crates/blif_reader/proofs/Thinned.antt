@@ -1,5 +1,5 @@
 -- What a walk gives, it gives without the visits of nets that were mentioned before.
-use Rattle.std.proofs.Common.{◌≡◌, ℕ, Bool, true, false, cond, not, ◌||◌, ◌&&◌, List, [], ◌∷◌, ◌++◌, inl, inr, refl, ap, sym, ◌∙◌, append_assoc, fold, length, map}
+use Rattle.std.proofs.Common.{◌≡◌, ℕ, Bool, true, false, cond, not, ◌||◌, ◌&&◌, List, [], ◌∷◌, ◌++◌, inl, inr, refl, ap, sym, ◌∙◌, append_assoc, fold, map}
 use Rattle.std.specs.Prelude.{Option, Some, None, Ok, bytes_eq, filter, filter_map, find, flat_map}
 use Rattle.std.specs.List.{cons_option, list_any}
 use Rattle.std.specs.Option.{option_map, option_or}
@@ -7,7 +7,6 @@ use Rattle.std.proofs.lemmas.Grind.{flat_map-append}
 use Rattle.std.proofs.lemmas.List.{append-nil}
 use Rattle.std.proofs.lemmas.List.Elements.{filter-append}
 use Rattle.std.proofs.lemmas.List.Folds.{find-append}
-use Rattle.circuit.specs.Circuit.{Circuit}
 use Rattle.fm_base.specs.Firsts.{first_after, first_answer, first_where, given}
 use Rattle.fm_base.specs.Index.{with_name}
 use Rattle.fm_base.specs.Lists.{firsts}

@@ -1,4 +1,4 @@
-use Rattle.std.proofs.Common.{◌≡◌, ◌^◌, List, ap, length, refl, sym, ◌∙◌}
+use Rattle.std.proofs.Common.{◌^◌, List, ap, length, refl, sym, ◌∙◌}
 use Rattle.std.proofs.lemmas.Bool.{lt-ltb}
 use Rattle.blif_model.specs.Walk.{Step, nets_of, walk}
 use Rattle.blif_reader.specs.Stages.{walk_gives}
