@@ -1,14 +1,14 @@
 -- Names that get numbers.
-use Rattle.std.proofs.Common.{◌≡◌, ℕ, ◌+◌, ◌<◌, ◌≤◌, List, [], ◌∷◌, ◌++◌, length, get_or, take, fold, map, refl, ap, sym, ◌∙◌, append_assoc, arith}
+use Rattle.std.proofs.Common.{◌≡◌, ℕ, ◌+◌, ◌<◌, ◌≤◌, Bool, true, false, cond, List, [], ◌∷◌, ◌++◌, length, get_or, take, fold, map, refl, ap, sym, ◌∙◌, append_assoc, arith}
 use Rattle.std.specs.Prelude.{Option, Some, None, flat_map, slice_get}
 use Rattle.std.specs.Option.{option_map, option_to_list}
 use Rattle.std.specs.Borrow.{Bor}
-use Rattle.std.proofs.lemmas.List.{append-nil, map-append, map_more}
+use Rattle.std.proofs.lemmas.List.{append-nil, length-append, map-append, map_more}
 use Rattle.std.proofs.lemmas.List.Elements.{All-nil, All-cons, All-append}
 use Rattle.std.proofs.lemmas.List.Sums.{fold-append}
 use Rattle.std.proofs.lemmas.Grind.{common_steps, flat_map-append}
 use Rattle.std.proofs.lemmas.Option.{get_or_from_slice_get, slice_get_within}
-use Rattle.fm_base.specs.Names.{Name, distinct}
+use Rattle.fm_base.specs.Names.{Name, distinct, is_one_of}
 use Rattle.fm_base.specs.Index.{with_name}
 use Rattle.fm_base.proofs.Distinct.{distinct-snoc, distinct-found, distinct-nil}
 use Rattle.blif_text.specs.declared.token.Token.{Token}
@@ -16,14 +16,18 @@ use Rattle.blif_model.specs.LineFault.{Said}
 use Rattle.blif_model.specs.Models.{rows_below}
 use Rattle.blif_model.specs.Tokens.{texts_of}
 use Rattle.blif_model.specs.Statement.{LatchLine}
-use Rattle.blif_model.specs.Walk.{Act, Step, flat_latch, flat_table}
+use Rattle.blif_model.specs.Walk.{Act, Step, flat_latch, flat_table, visits}
+use Rattle.blif_flatten.specs.declared.acts.Port.{Port}
+use Rattle.blif_flatten.specs.declared.acts.Port.TheVariants.{In, Out, Clocking}
 use Rattle.blif_flatten.specs.declared.flat.NameId.{NameId}
 use Rattle.blif_flatten.specs.declared.flat.NumberedAct.{NumberedAct}
-use Rattle.blif_flatten.specs.declared.flat.NumberedAct.TheVariants.{Table, Latch}
+use Rattle.blif_flatten.specs.declared.flat.NumberedAct.TheVariants.{PortNets, Table, Latch}
 use Rattle.blif_flatten.specs.declared.flat.NumberedLatch.{NumberedLatch}
 use Rattle.blif_flatten.specs.declared.flat.NumberedStep.{NumberedStep}
 use Rattle.blif_flatten.specs.Flat.{AreBelow, IsFlat, act_by, all_names, ids_in, mentioned, name_at, step_by, steps_by}
-use Rattle.blif_flatten.specs.Numbering.{AreNumbered, HaveNumbers, IsNumberedAs, own_step}
+use Rattle.blif_flatten.specs.Numbering.{AreNumbered, HaveNumbers, IsKept, IsNumberedAs}
+use Rattle.blif_flatten.specs.Ports.{own_act, some_nets}
+use Rattle.blif_flatten.specs.Thinned.{kept_of, some_visits, thinned, unseen, with_step, with_steps}
 
 -- ---- names that grow
 
@@ -79,6 +83,71 @@ pub numbered_next : {old mid new : List Name} {ids : List NameId} {id : NameId} 
     → HaveNumbers old new (map net_of (texts_of (take (i + 1) tokens))) (ids ++ id ∷ [])
 numbered_next net_of tokens i token lt is before one =
     rw (map_more (λ (t : Token). t.text.now) tokens i token lt, ← is, map-append net_of (texts_of (take i tokens)) (token.text.now ∷ []))
+    (numbered_both before one)
+
+-- ---- names that are new
+
+-- taken alone they make the same names of those that were there
+unseen_names : (seen names : List Name) → fold with_name seen (unseen seen names) ≡ fold with_name seen names
+unfolding unseen
+unseen_names seen [] = refl
+unseen_names seen (name ∷ names) = by_cases (is_one_of seen name) refl (unseen_names seen names) (unseen_names (seen ++ name ∷ []) names)
+  where
+    by_cases : (b : Bool) → is_one_of seen name ≡ b → fold with_name seen (unseen seen names) ≡ fold with_name seen names
+        → fold with_name (seen ++ name ∷ []) (unseen (seen ++ name ∷ []) names) ≡ fold with_name (seen ++ name ∷ []) names
+        → fold with_name seen (cond b (unseen seen names) (name ∷ unseen (seen ++ name ∷ []) names)) ≡ fold with_name (cond b seen (seen ++ name ∷ [])) names
+    by_cases true e there new = there
+    by_cases false e there new = ap (λ c. fold with_name (cond c seen (seen ++ name ∷ [])) (unseen (seen ++ name ∷ []) names)) e ∙ new
+
+unseen_append : (seen xs ys : List Name) → unseen seen (xs ++ ys) ≡ unseen seen xs ++ unseen (fold with_name seen xs) ys
+unfolding unseen
+unseen_append seen [] ys = refl
+unseen_append seen (x ∷ xs) ys = by_cases (is_one_of seen x) (unseen_append seen xs ys) (unseen_append (seen ++ x ∷ []) xs ys)
+  where
+    by_cases : (b : Bool) → unseen seen (xs ++ ys) ≡ unseen seen xs ++ unseen (fold with_name seen xs) ys
+        → unseen (seen ++ x ∷ []) (xs ++ ys) ≡ unseen (seen ++ x ∷ []) xs ++ unseen (fold with_name (seen ++ x ∷ []) xs) ys
+        → cond b (unseen seen (xs ++ ys)) (x ∷ unseen (seen ++ x ∷ []) (xs ++ ys))
+        ≡ cond b (unseen seen xs) (x ∷ unseen (seen ++ x ∷ []) xs) ++ unseen (fold with_name (cond b seen (seen ++ x ∷ [])) xs) ys
+    by_cases true there new = there
+    by_cases false there new = ap (λ (names : List Name). x ∷ names) new
+
+pub unseen_none : (names : List Name) → HaveNumbers names names (unseen names []) []
+unfolding unseen
+unseen_none names = numbered_none names
+
+-- a name is new where there are more names than before
+module _ (old new : List Name) (text : Name) (id : NameId) (have : HaveNumbers old new (text ∷ []) (id ∷ [])) where
+  pub new_one : length old < length new → HaveNumbers old new (unseen old (text ∷ [])) (id ∷ [])
+  unfolding unseen
+  new_one more = by_cases (is_one_of old text) have.names
+    where
+      by_cases : (b : Bool) → new ≡ cond b old (old ++ text ∷ []) → HaveNumbers old new (cond b [] (text ∷ [])) (id ∷ [])
+      by_cases true e = absurd (omega (arith, ap length e, more))
+      by_cases false e = have
+
+  pub new_none : length new ≤ length old → HaveNumbers old new (unseen old (text ∷ [])) []
+  unfolding unseen
+  new_none few = by_cases (is_one_of old text) have.names
+    where
+      by_cases : (b : Bool) → new ≡ cond b old (old ++ text ∷ []) → HaveNumbers old new (cond b [] (text ∷ [])) []
+      by_cases true e = rw e (numbered_none old)
+      by_cases false e = absurd (omega (arith, ap length e, length-append old (text ∷ []), few))
+
+-- the loop over names of which those that are new are kept
+pub new_next : {old mid new : List Name} {ids js : List NameId} (net_of : Name → Name) (tokens : List Token) (i : ℕ)
+    (token : Token) → i < length tokens → token ≡ get_or tokens i token → HaveNumbers old mid (unseen old (map net_of (texts_of (take i tokens)))) ids
+    → HaveNumbers mid new (unseen mid (net_of token.text.now ∷ [])) js
+    → HaveNumbers old new (unseen old (map net_of (texts_of (take (i + 1) tokens)))) (ids ++ js)
+new_next {old} {mid} net_of tokens i token lt is before one =
+    let xs = map net_of (texts_of (take i tokens)) in
+    let seen : mid ≡ fold with_name old xs = before.names ∙ unseen_names old xs in
+    rw (
+      map_more (λ (t : Token). t.text.now) tokens i token lt,
+      ← is,
+      map-append net_of (texts_of (take i tokens)) (token.text.now ∷ []),
+      unseen_append old xs (net_of token.text.now ∷ []),
+      ← seen,
+    )
     (numbered_both before one)
 
 -- ---- the names of a line
@@ -156,11 +225,48 @@ steps_both {old} {mid} {new} {xs} {ys} a b =
       all [],
     )
 
--- the step of a line, and the act that it stands for
-pub step_of_line : (f : NameId → Name) (line : ℕ) (act : Option NumberedAct)
-    → map (step_by f) (own_step line act) ≡ map (λ a. record { line = line; act = a }) (map (act_by f) (option_to_list act))
-step_of_line f line None = refl
-step_of_line f line (Some act) = refl
+-- ---- what is kept of a line
+
+abbrev steps_at : ℕ → List Act → List Step
+steps_at line acts = map (λ act. record { line = line; act = act }) acts
+
+pub kept_none : (names : List Name) → IsKept names names [] None
+unfolding with_steps
+kept_none names = (λ before line e. sym (append-nil before), λ line. steps_none names)
+
+-- a line that does more than to visit nets
+pub kept_whole : {old new : List Name} (act : Act) (numbered : NumberedAct) → ((seen : List Name) → kept_of seen act ≡ act ∷ [])
+    → IsNumberedAs old new act numbered → IsKept old new (act ∷ []) (Some numbered)
+unfolding with_steps
+kept_whole {old} {new} act numbered whole is = (
+  λ before line e. ap (λ (acts : List Act). before ++ steps_at line acts) (whole (all_names before)) ∙ ap (λ (a : Act). before ++ one_step line a) (sym is.0),
+  is.1,
+)
+
+pub own_whole : (port : Port) (texts seen : List Name) → kept_of seen (own_act port texts) ≡ own_act port texts ∷ []
+own_whole In texts seen = refl
+own_whole Out texts seen = refl
+own_whole Clocking texts seen = refl
+
+-- one that visits nets
+pub kept_visits : {old new : List Name} (texts : List Name) (ids : List NameId) → HaveNumbers old new (unseen old texts) ids
+    → IsKept old new (visits texts ∷ []) (some_nets ids)
+unfolding with_steps
+kept_visits {old} {new} texts [] have =
+    let none : unseen old texts ≡ [] = sym (have.same []) in
+    let same : new ≡ old = have.names ∙ ap (fold with_name old) none in (
+      λ before line e.
+          ap (λ (seen : List Name). before ++ steps_at line (some_visits (unseen seen texts))) e
+          ∙ ap (λ (names : List Name). before ++ steps_at line (some_visits names)) none,
+      λ line. rw same (steps_none old),
+    )
+kept_visits {old} {new} texts (id ∷ ids) have =
+    let some : unseen old texts ≡ name_at new id ∷ map (name_at new) ids = sym (have.same []) in (
+      λ before line e.
+          ap (λ (seen : List Name). before ++ steps_at line (some_visits (unseen seen texts))) e
+          ∙ ap (λ (names : List Name). before ++ steps_at line (some_visits names)) some,
+      (ports_numbered visits (PortNets (id ∷ ids)) have refl refl (λ f. refl)).1,
+    )
 
 -- ---- the names of all steps
 
@@ -174,9 +280,41 @@ names_more : (steps more : List Step) → all_names (steps ++ more) ≡ fold wit
 unfolding all_names
 names_more steps more = rw (flat_map-append (λ (s : Step). mentioned s.act) steps more) (distinct_more (names_in steps) (names_in more))
 
+-- what is kept of a line has the names that the line brings
+kept_names : (seen : List Name) (line : ℕ) (act : Act) → fold with_name seen (names_in (steps_at line (kept_of seen act))) ≡ fold with_name seen (mentioned act)
+kept_names seen line (visits names) =
+    ap (fold with_name seen) (by_cases (unseen seen names)) ∙ unseen_names seen names ∙ ap (fold with_name seen) (sym (append-nil names))
+  where
+    by_cases : (new : List Name) → names_in (steps_at line (some_visits new)) ≡ new
+    by_cases [] = refl
+    by_cases (name ∷ new) = append-nil ((name ∷ new) ++ []) ∙ append-nil (name ∷ new)
+kept_names seen line act = ap (fold with_name seen) (append-nil (mentioned act))
+
+pub names_with : (steps : List Step) (s : Step) → all_names (with_step steps s) ≡ fold with_name (all_names steps) (mentioned s.act)
+names_with steps s = names_more steps (steps_at s.line (kept_of (all_names steps) s.act)) ∙ kept_names (all_names steps) s.line s.act
+
+names_kept : (before steps : List Step) → all_names (with_steps before steps) ≡ fold with_name (all_names before) (names_in steps)
+unfolding with_steps
+names_kept before [] = refl
+names_kept before (s ∷ steps) =
+    names_kept (with_step before s) steps
+    ∙ rw (names_with before s, fold-append with_name (all_names before) (mentioned s.act) (names_in steps)) refl
+
+-- what is kept of the steps has all their names
+pub names_thinned : (steps : List Step) → all_names (thinned steps) ≡ all_names steps
+unfolding thinned
+names_thinned steps = names_kept [] steps ∙ sym (names_more [] steps)
+
+-- steps, and steps behind them
+pub steps_with : (before steps more : List Step) → with_steps before (steps ++ more) ≡ with_steps (with_steps before steps) more
+unfolding with_steps
+steps_with before steps more = fold-append with_step before steps more
+
 -- more steps have no fewer names
-pub names_longer : (steps more : List Step) → length (all_names steps) ≤ length (all_names (steps ++ more))
-names_longer steps more = rw (names_more steps more) (longer (all_names steps) (names_in more))
+pub names_longer : (before steps more : List Step) → length (all_names (with_steps before steps)) ≤ length (all_names (with_steps before (steps ++ more)))
+names_longer before steps more =
+    let kept = with_steps before steps in
+    rw (steps_with before steps more, names_kept kept more) (longer (all_names kept) (names_in more))
 
 pub all_are : {names : List Name} {steps : List NumberedStep} → AreNumbered [] names steps → names ≡ all_names (steps_by names steps)
 unfolding all_names

@@ -1,10 +1,8 @@
 -- How the walk goes on, line by line.
-use Rattle.std.proofs.Common.{◌≡◌, ℕ, zero, suc, ◌<◌, ◌-◌, List, [], ◌∷◌, ◌++◌, length, map, get_or, take, drop, refl, ap, ◌∙◌, append_assoc, arith}
+use Rattle.std.proofs.Common.{◌≡◌, ℕ, zero, suc, ◌<◌, ◌-◌, List, [], ◌∷◌, ◌++◌, length, map, get_or, take, drop, refl, ap, sym, ◌∙◌, arith}
 use Rattle.std.specs.Prelude.{Option, Some, None}
-use Rattle.std.specs.Option.{option_to_list}
 use Rattle.std.specs.List.{slice_get}
 use Rattle.std.proofs.Math.Seq.{take-length}
-use Rattle.std.proofs.lemmas.List.{append-nil}
 use Rattle.fm_base.specs.Names.{Name}
 use Rattle.blif_model.specs.LineFault.{Said}
 use Rattle.blif_model.specs.Models.{Model, items_of, model_named, rows_below}
@@ -12,33 +10,34 @@ use Rattle.blif_model.specs.Walk.{Act, Scope, Step, enter, steps_from, top, walk
 use Rattle.blif_model.specs.WalkSteps.{next, steps_of}
 use Rattle.blif_flatten.specs.declared.walked.Walked.{Walked}
 use Rattle.blif_flatten.specs.declared.flat.NumberedAct.{NumberedAct}
-use Rattle.blif_flatten.specs.Flat.{act_by, name_at, steps_by}
-use Rattle.blif_flatten.specs.Numbering.{AreNumbered, IsLineNumbered, own_step}
+use Rattle.blif_flatten.specs.Flat.{steps_by}
+use Rattle.blif_flatten.specs.Numbering.{AreNumbered, IsKept, own_step}
+use Rattle.blif_flatten.specs.Thinned.{with_steps}
 use Rattle.blif_flatten.specs.Walked.{IsWalkedOn, walked_steps}
-use Rattle.blif_flatten.proofs.Numbering.{names_longer, step_of_line, steps_both}
+use Rattle.blif_flatten.proofs.Numbering.{all_are, names_longer, steps_both, steps_with}
 
 -- by no steps
 pub walked_none : (a : Walked) (xs : List Step) → xs ≡ [] → IsWalkedOn a xs (Some a)
-walked_none a xs e = (refl, rw (e, append-nil (walked_steps a)))
+unfolding with_steps
+walked_none a xs e = (refl, rw e refl)
 
 -- by steps, and by steps behind them
 pub walked_then : (a b : Walked) (xs ys : List Step) (o : Option Walked) → IsWalkedOn a xs (Some b) → IsWalkedOn b ys o
     → IsWalkedOn a (xs ++ ys) o
-walked_then a b xs ys None one two = rw (← append_assoc (walked_steps a) xs ys, ← one.1, ← one.0) two
-walked_then a b xs ys (Some c) one two = (two.0 ∙ one.0, two.1 ∙ rw one.1 (append_assoc (walked_steps a) xs ys))
+walked_then a b xs ys None one two = rw (steps_with (walked_steps a) xs ys, ← one.1, ← one.0) two
+walked_then a b xs ys (Some c) one two = (two.0 ∙ one.0, rw (steps_with (walked_steps a) xs ys, ← one.1) two.1)
 
 -- a name too many stays one
 pub walked_past : (a : Walked) (xs ys : List Step) → IsWalkedOn a xs None → IsWalkedOn a (xs ++ ys) None
-walked_past a xs ys past = rw (← append_assoc (walked_steps a) xs ys) (past.0, omega (arith, past.1, names_longer (walked_steps a ++ xs) ys))
+walked_past a xs ys past = (past.0, omega (arith, past.1, names_longer (walked_steps a) xs ys))
 
 -- by the step of a line
 pub line_walked : (w : Walked) (new : List Name) (line : ℕ) (act : Option NumberedAct) (acts : List Act)
-    → IsLineNumbered w.names.index new act → acts ≡ map (act_by (name_at new)) (option_to_list act)
-    → AreNumbered [] new (w.steps.items ++ own_step line act)
-    × (steps_by new (w.steps.items ++ own_step line act) ≡ walked_steps w ++ map (λ a. record { line = line; act = a }) acts)
-line_walked w new line act acts numbered e =
-    let both = steps_both w.numbered (numbered line) in
-    (both.0, rw (e, ← step_of_line (name_at new) line act) both.1)
+    → IsKept w.names.index new acts act → AreNumbered [] new (w.steps.items ++ own_step line act)
+    × (steps_by new (w.steps.items ++ own_step line act) ≡ with_steps (walked_steps w) (map (λ a. record { line = line; act = a }) acts))
+line_walked w new line act acts kept =
+    let both = steps_both w.numbered (kept.1 line) in
+    (both.0, both.1 ∙ sym (kept.0 (walked_steps w) line (sym (all_are w.numbered))))
 
 -- the lines below the first
 abbrev pub below : List Said → List Said

@@ -3,6 +3,7 @@ pub mod Seen
 pub mod Ports
 pub mod Flat
 pub mod Flattened
+pub mod Thinned
 pub mod Numbering
 pub mod Walked
 pub mod Sorts

@@ -35,7 +35,7 @@ pub enum NumberedAct<'m, 'a> {
     Outputs(Seq<NameId>),
     /// A `.clock` line of the main model.
     Clocks(Seq<NameId>),
-    /// Such a line of an instance, or the actuals of a `.subckt` line.
+    /// New names on such a line of an instance, or of the actuals of a `.subckt` line.
     PortNets(Seq<NameId>),
     Table(NumberedTable<'m, 'a>),
     Latch(NumberedLatch<'a>),

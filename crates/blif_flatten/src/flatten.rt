@@ -3,6 +3,7 @@ ghost use Rattle.std.specs.Prelude.{◌≡◌, ◌<◌, ◌≤◌, ◌-◌, ◌^
 ghost use Rattle.blif_model.specs.Walk.{walk};
 ghost use Rattle.blif_flatten.specs.Flat.{all_names};
 ghost use Rattle.blif_flatten.specs.Flattened.{flat_steps};
+ghost use Rattle.blif_flatten.specs.Thinned.{thinned};
 ghost use Rattle.blif_flatten.specs.Walked.{IsWalkedOn};
 
 use crate::flat::FlatModel;
@@ -35,7 +36,7 @@ pub fn flatten<'m, 'a>(
     models: &ModelTable<'m, 'a>,
     most: usize,
 ) -> Result<Option<FlatModel<'m, 'a>>, NoRoom>
-    ensures steps { IfOk result (λ o. MatchOption o ((most < 2 ^ 64 - 1) × (most < length (all_names (walk models.now)))) (λ f. flat_steps f ≡ walk models.now)) }
+    ensures steps { IfOk result (λ o. MatchOption o ((most < 2 ^ 64 - 1) × (most < length (all_names (walk models.now)))) (λ f. flat_steps f ≡ thinned (walk models.now))) }
     ensures fits { IfOk result (λ o. IfSome o (λ f. length f.names ≤ most)) }
 {
     let names = NetNames {

@@ -25,7 +25,7 @@ use Rattle.blif_reader.specs.Passes.{settled}
 use Rattle.blif_reader.proofs.Finding.{find_alike}
 
 -- the answer of the first that passes
-given_found : {X Y : Type 0} (p : X → Bool) (f : X → Y) (xs : List X) → first_where (λ x. given (p x) (f x)) xs ≡ option_map f (find p xs)
+pub given_found : {X Y : Type 0} (p : X → Bool) (f : X → Y) (xs : List X) → first_where (λ x. given (p x) (f x)) xs ≡ option_map f (find p xs)
 unfolding first_where
 given_found p f [] = refl
 given_found {X} {Y} p f (x ∷ xs) = by_cases (p x) (given_found p f xs)

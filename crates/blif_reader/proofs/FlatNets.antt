@@ -55,7 +55,7 @@ visited_all (s ∷ steps) =
     ∙ rw (names_at-names s.line (visited s.act), visited_all steps) refl
 
 -- a control is a clock name
-control_clocked : (act : Act) (q : Name) → is_one_of (control_of act) q ≡ true → is_one_of (clocked act) q ≡ true
+pub control_clocked : (act : Act) (q : Name) → is_one_of (control_of act) q ≡ true → is_one_of (clocked act) q ≡ true
 control_clocked (flat_latch s) q h = h
 control_clocked act q h = cc
 

@@ -10,3 +10,4 @@ pub mod Finding
 pub mod Driving
 pub mod ClockMarks
 pub mod Faults
+pub mod Thinned

@@ -1,11 +1,11 @@
-use Rattle.std.proofs.Common.{◌≡◌, ◌-◌, length, drop, suc, sym, arith}
+use Rattle.std.proofs.Common.{rules, ◌≡◌, ◌-◌, [], length, drop, suc, sym, arith}
 use Rattle.std.specs.Prelude.{None, Some}
 use Rattle.std.proofs.lemmas.List.{length-drop, length-take}
 use Rattle.std.proofs.lemmas.Result.{IfOk-weaker}
-use Rattle.blif_model.specs.Meant.{bindings_of}
+use Rattle.blif_model.specs.Meant.{bindings_of, meant}
 use Rattle.blif_model.specs.Tokens.{texts_of}
 use Rattle.blif_model.specs.Walk.{enter}
-use Rattle.blif_model.specs.WalkSteps.{scope_of}
+use Rattle.blif_model.specs.WalkSteps.{inner_steps, scope_of}
 use Rattle.blif_flatten.specs.Seen.{scope_at}
 use Rattle.blif_flatten.proofs.Walking.{enter_none, enter_some, first_line, no_line, walked_none, walked_past, walked_then}
 use Rattle.blif_flatten.proofs.walk.+walk.Goals as goal
@@ -26,6 +26,11 @@ walk_instance-returns-in_ok-inner-in-Some t c =
     let found = sym (rw c.in-Some.is at c.find.ensures) in
     let inner = enter_some c.args.models.now c.args.depth (c.args.depth - 1) scope c.in-Instance.name.now _ less found in
     rw (c.in-Instance.is, inner, ← c.in_ok-inner-in-Some.ensures) c.walk_lines.ensures
+
+pub walk_instance-returns-in_default : goal.walk_instance-returns-in_default
+walk_instance-returns-in_default t c =
+    let none : inner_steps (enter c.args.models.now c.args.depth) (scope_at c.args.place.now) c.args.instance (meant c.args.says) ≡ [] = search rules in
+    walked_none c.args.walked _ none
 
 pub walk_item-returns-in-None : goal.walk_item-returns-in-None
 walk_item-returns-in-None t c =

@@ -1,13 +1,17 @@
-use Rattle.std.proofs.Common.{◌^◌, length, refl, sym, ◌∙◌}
+use Rattle.std.proofs.Common.{◌^◌, List, ap, length, refl, sym, ◌∙◌}
 use Rattle.std.proofs.lemmas.Bool.{lt-ltb}
-use Rattle.blif_model.specs.Walk.{nets_of, walk}
+use Rattle.blif_model.specs.Walk.{Step, nets_of, walk}
+use Rattle.blif_reader.specs.Stages.{walk_gives}
 use Rattle.blif_reader.proofs.Reading.{over_names}
+use Rattle.blif_reader.proofs.Thinned.{thinned-gives}
 use Rattle.blif_reader.proofs.read.read_table.Goals as goal
 
 pub read_flat-requires : goal.read_flat-requires
 read_flat-requires c =
+    let line = c.main_line-line.result in
     let same = rw c.in-Some-2.is at c.in_ok-flat.ensures.steps in
-    λ p e. c.requires p (rw (sym c.in_ok-fault.ensures ∙ c.in-None.is, sym same, sym c.main_line-line.ensures) e)
+    λ p e. c.requires p (rw (sym c.in_ok-fault.ensures ∙ c.in-None.is, sym c.main_line-line.ensures)
+    (sym (thinned-gives (walk c.args.models.now) line) ∙ ap (λ (steps : List Step). walk_gives steps line) (sym same) ∙ e))
 
 pub returns : goal.returns
 returns c =
