@@ -21,11 +21,12 @@ use Rattle.fm_base.specs.Planes.{bit}
 use Rattle.fm_base.proofs.Below.{some_below-at, some_below-true}
 use Rattle.fm_base.proofs.Tests.{and_both, or_cases}
 use Rattle.campaign_plan.specs.Danger.{differs, is_raised}
-use Rattle.classifier.specs.Seen.{HasSeen, HaveSeen, HaveSeenRun, goal_at, has_left, is_noticed_by, is_settled_by}
+use Rattle.classifier.specs.Seen.{HasSeen, HaveSeen, HaveSeenRun, has_left, is_noticed_by, is_settled_by}
 use Rattle.classifier.proofs.Leaving.{leaves_at, left_before, window_settled}
 use Rattle.classifier.proofs.Notice.{raised_in_mission}
 use Rattle.classifier.proofs.Views.{still_lane, unseen_pair}
 use Rattle.classifier.proofs.WindowCounts.{interval_at, window_count}
+use Rattle.testbench.specs.Points.{goal_at}
 
 -- where there is something for each number below n, some function gives it
 choose : {X : Type 0} (n : ℕ) (none : X) (P : ℕ → X → Type 0) → ((g : ℕ) → g < n → (x : X) × P g x) → (f : ℕ → X) × ((g : ℕ) → g < n → P g (f g))

@@ -17,9 +17,10 @@ use Rattle.fm_base.specs.Planes.{bit}
 use Rattle.fm_base.proofs.Below.{some_below-true}
 use Rattle.fm_base.proofs.Tests.{both_false, clash, false_of}
 use Rattle.campaign_plan.specs.Danger.{differs, is_raised}
-use Rattle.classifier.specs.Seen.{HasSeen, HaveSeen, goal_at, has_left, is_dropped, is_noticed_by, is_settled_by}
+use Rattle.classifier.specs.Seen.{HasSeen, HaveSeen, has_left, is_dropped, is_noticed_by, is_settled_by}
 use Rattle.classifier.proofs.Notice.{noticed_none, noticed_stays}
 use Rattle.classifier.proofs.WindowCounts.{interval_at, window_count}
+use Rattle.testbench.specs.Points.{goal_at}
 
 -- a test that no item passes is passed by none that passes another that implies it
 fewer : {X : Type 0} (p q : X → Bool) (xs : List X) → ((x : X) → p x ≡ true → q x ≡ true) → list_any q xs ≡ false → list_any p xs ≡ false

@@ -13,7 +13,8 @@ use Rattle.campaign_plan.specs.Danger.{golden, with_faults}
 use Rattle.fm_base.specs.Lists.{same_bit}
 use Rattle.golden_difference.specs.Beside.{trace_differs}
 use Rattle.golden_difference.proofs.Exclusive.{same_of_none}
-use Rattle.classifier.specs.Seen.{IsStill, goal_at}
+use Rattle.classifier.specs.Seen.{IsStill}
+use Rattle.testbench.specs.Points.{goal_at}
 
 pub same_bits : (v g : Bool) → v ≡ g → not (same_bit v g) ≡ false
 same_bits true g e = ap not (sym e)

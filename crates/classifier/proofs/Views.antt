@@ -15,9 +15,10 @@ use Rattle.fm_base.specs.Planes.{bit}
 use Rattle.campaign_plan.specs.Danger.{differs, is_raised, is_silenced}
 use Rattle.alarm_points.specs.Dropped.{IsStillFrom}
 use Rattle.alarm_points.proofs.Still.{some_below-still}
-use Rattle.classifier.specs.Seen.{HasSeen, HaveSeen, IsShown, IsStill, goal_at, has_left, is_noticed_by}
+use Rattle.classifier.specs.Seen.{HasSeen, HaveSeen, IsShown, IsStill, has_left, is_noticed_by}
 use Rattle.classifier.proofs.Notice.{noticed_more, noticed_none}
 use Rattle.classifier.proofs.WindowCounts.{window_count}
+use Rattle.testbench.specs.Points.{goal_at}
 
 -- one cycle more
 pub sees_more : (c : Circuit) (points : Points) (ftti : ℕ) (run : Run) (faults : ℕ → List Fault) (known : ℕ) (goal : Goal) (n : ℕ) (old new : Watch) (d r : ℕ)

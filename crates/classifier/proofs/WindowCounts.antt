@@ -3,8 +3,8 @@ use Rattle.std.proofs.Common.{◌≡◌, ◌<◌, ℕ, List, [], length, get_or,
 use Rattle.std.proofs.lemmas.List.{get_or-map, length-map}
 use Rattle.alarm_points.specs.declared.Points.{Points}
 use Rattle.alarm_points.specs.Interval.{interval_of}
-use Rattle.classifier.specs.Seen.{goal_at}
 use Rattle.alarm_points.specs.Watch.{AreMadeFor, KeepsIntervals, Watch, Watches, no_watch, window_at}
+use Rattle.testbench.specs.Points.{goal_at}
 
 -- windows that keep their intervals are as many as before
 pub same_count : (old new : Watches) → KeepsIntervals old new → length new.windows ≡ length old.windows

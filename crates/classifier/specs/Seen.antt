@@ -1,6 +1,6 @@
 -- What was seen of a run.
 use Rattle.std.specs.List.{list_any}
-use Rattle.std.specs.Prelude.{◌≡◌, ℕ, ◌<◌, ◌≤◌, ◌⊎◌, ◌&&◌, ◌||◌, Bool, true, false, List, [], length, None, Option, slice_index_or}
+use Rattle.std.specs.Prelude.{◌≡◌, ℕ, ◌<◌, ◌≤◌, ◌⊎◌, ◌&&◌, ◌||◌, Bool, true, false, List, [], length, Option, slice_index_or}
 use Rattle.circuit.specs.declared.parts.Fault.{Fault}
 use Rattle.circuit.specs.Circuit.{Circuit}
 use Rattle.workload.specs.declared.run.Kind.{Kind}
@@ -18,10 +18,6 @@ use Rattle.campaign_plan.specs.Danger.{differs, is_raised, is_silenced}
 use Rattle.testbench.specs.Load.{Load, in_lane, lane_faults}
 use Rattle.classifier.specs.OutOfReach.{decided_at}
 use Rattle.classifier.specs.declared.decided.Decided.{Decided}
-
--- the goal of a number
-abbrev pub goal_at : List Goal → ℕ → Goal
-goal_at goals g = slice_index_or goals g (record { name = []; ftti = None; observe = [] })
 
 -- noticed in the first n cycles of a run: an alarm is raised, or the run is of kind `test` and an alarm is silenced
 abbrev pub is_noticed_by : Circuit → Points → List Fault → Run → ℕ → Bool

@@ -3,8 +3,7 @@ use Rattle.std.proofs.Common.{◌≡◌, ℕ, suc, ◌+◌, Bool, [], ◌∷◌,
 use Rattle.std.proofs.lemmas.List.Folds.{find-append}
 use Rattle.fm_base.specs.Lists.{below}
 use Rattle.fm_base.proofs.Below.{below_push}
-use Rattle.first_cycles.specs.FirstCycles.{first_below}
-use Rattle.fault_runs.specs.First.{first_with}
+use Rattle.first_cycles.specs.FirstCycles.{first_below, first_with}
 
 -- before the first cycle there is none
 pub first_none : (test : ℕ → Bool) → first_below 0 test ≡ None

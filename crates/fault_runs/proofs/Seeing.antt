@@ -6,7 +6,8 @@ use Rattle.fm_base.specs.Planes.{bit}
 use Rattle.fm_base.proofs.Bits.{bit_of_and, bit_of_not, bit_of_or}
 use Rattle.fm_base.proofs.Tests.{clash, or_second}
 use Rattle.place_set.proofs.Masks.{clear_bit}
-use Rattle.fault_runs.specs.First.{AreKnown, SeesSome, fault_in, first_in, first_with}
+use Rattle.fault_runs.specs.First.{AreKnown, SeesSome, fault_in, first_in}
+use Rattle.first_cycles.specs.FirstCycles.{first_with}
 
 -- what was seen stays so
 pub first_known : (first : Option ℕ) (seen : Bool) (t : ℕ) → is_some first ≡ true → first_with first seen t ≡ first

@@ -6,10 +6,8 @@ use Rattle.circuit.specs.Circuit.{Circuit}
 use Rattle.workload.specs.declared.run.Run.{Run}
 use Rattle.alarm_points.specs.declared.Points.{Points}
 use Rattle.campaign_plan.specs.Danger.{differs}
-use Rattle.first_cycles.specs.FirstCycles.{is_raised_at}
+use Rattle.first_cycles.specs.FirstCycles.{first_with, is_raised_at}
 use Rattle.first_cycles.specs.Shown.{is_silenced_at}
-use Rattle.fault_runs.specs.First.{first_with}
-use Rattle.fault_runs.specs.Points.{alarm_at, goal_at}
 use Rattle.fault_runs.specs.Records.{IsSameRecord, RunShown}
 use Rattle.fault_runs.specs.Shown.{HasShown, SeesCycle}
 use Rattle.fault_runs.specs.Followed.{IsFollowed, MayLeave}
@@ -17,6 +15,7 @@ use Rattle.fault_runs.specs.Stretch.{Stands}
 use Rattle.golden_difference.specs.Beside.{IsStateOf}
 use Rattle.place_set.specs.Places.{Places}
 use Rattle.fault_runs.proofs.FirstMore.{first_more}
+use Rattle.testbench.specs.Points.{alarm_at, goal_at}
 
 pub same_self : (r : RunShown) → IsSameRecord r r
 same_self r = record { difference = λ g. refl; alarm = λ a. refl; silence = λ a. refl }

@@ -1,7 +1,5 @@
 -- The first cycle in which something is seen at a point, of each fault of a draw.
 use Rattle.std.specs.Prelude.{◌≡◌, ℕ, ◌+◌, ◌*◌, ◌<◌, Bool, true, List, length, Option, None, is_some, slice_index, slice_index_or}
-use Rattle.std.specs.Option.{option_or}
-use Rattle.fm_base.specs.Firsts.{given}
 use Rattle.fm_base.specs.Planes.{bit}
 
 -- of each fault of a draw the first cycle, where there is one; and of the lanes of a group, 64 to a word, those whose faults are known to have one
@@ -15,10 +13,6 @@ first_in cycles i = slice_index_or cycles i None
 
 abbrev pub first_of : FirstCycles → ℕ → Option ℕ
 first_of firsts i = first_in firsts.cycles i
-
--- the first cycle where one more is shown, in which it is seen or not
-abbrev pub first_with : Option ℕ → Bool → ℕ → Option ℕ
-first_with first seen cycle = option_or first (given seen cycle)
 
 -- the fault in a lane of a group, by its number in the draw
 abbrev pub fault_in : List ℕ → ℕ → ℕ

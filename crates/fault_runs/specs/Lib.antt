@@ -1,5 +1,4 @@
 pub mod First
-pub mod Points
 pub mod Records
 pub mod Shown
 pub mod Stretch

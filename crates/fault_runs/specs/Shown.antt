@@ -5,11 +5,10 @@ use Rattle.circuit.specs.Circuit.{Circuit}
 use Rattle.workload.specs.declared.run.Run.{Run}
 use Rattle.alarm_points.specs.declared.Points.{Points}
 use Rattle.campaign_plan.specs.Danger.{differs}
-use Rattle.first_cycles.specs.FirstCycles.{first_below, is_raised_at}
+use Rattle.first_cycles.specs.FirstCycles.{first_below, first_with, is_raised_at}
 use Rattle.first_cycles.specs.Shown.{is_silenced_at}
-use Rattle.fault_runs.specs.First.{first_with}
-use Rattle.fault_runs.specs.Points.{alarm_at, goal_at}
 use Rattle.fault_runs.specs.Records.{RunShown}
+use Rattle.testbench.specs.Points.{alarm_at, goal_at}
 
 -- a record has what the first n cycles of a run show of these faults
 pub record HasShown (c : Circuit) (points : Points) (run : Run) (x : List Fault) (n : ℕ) (r : RunShown) : Type 0 where

@@ -1,7 +1,8 @@
 // The first cycle in which something is seen at a point, of each fault of a draw.
 ghost use Rattle.std.specs.Prelude.{◌≡◌, ◌<◌, ◌≤◌, ◌+◌, ◌*◌, ℕ, Bool, List, All, IfOk, None, true, is_some, length, slice_index};
 ghost use Rattle.fm_base.specs.Planes.{bit};
-ghost use Rattle.fault_runs.specs.First.{AreKnown, IsNotIn, SeesSome, fault_in, first_in, first_with};
+ghost use Rattle.fault_runs.specs.First.{AreKnown, IsNotIn, SeesSome, fault_in, first_in};
+ghost use Rattle.first_cycles.specs.FirstCycles.{first_with};
 
 use lane_words::Word;
 use room::{NoRoom, filled};

@@ -4,9 +4,10 @@ ghost use Rattle.alarm_points.specs.declared.Points.{Points as PointsValue};
 ghost use Rattle.circuit.specs.declared.parts.Fault.{Fault};
 ghost use Rattle.circuit.specs.Circuit.{Circuit};
 ghost use Rattle.workload.specs.declared.run.Run.{Run};
-ghost use Rattle.fault_runs.specs.First.{IsNotIn, fault_in, first_of, first_with};
+ghost use Rattle.fault_runs.specs.First.{IsNotIn, fault_in, first_of};
 ghost use Rattle.fault_runs.specs.Records.{AreKnownIn, AreRecordsFor, IsAlarmKnown, IsGoalKnown, IsSameRecord, alarm_cycles as alarm_at, goal_cycles as goal_at, record_of};
 ghost use Rattle.fault_runs.specs.Shown.{HasShown};
+ghost use Rattle.first_cycles.specs.FirstCycles.{first_with};
 
 use crate::first::FirstCycles;
 use alarm_points::Points;

@@ -6,13 +6,13 @@ ghost use Rattle.workload.specs.declared.run.Run.{Run};
 ghost use Rattle.alarm_points.specs.PointsKept.{ArePointsFor};
 ghost use Rattle.campaign_plan.specs.Danger.{differs};
 ghost use Rattle.lane_words.specs.Loads.{loaded_faults};
-ghost use Rattle.first_cycles.specs.FirstCycles.{is_raised_at};
+ghost use Rattle.first_cycles.specs.FirstCycles.{first_with, is_raised_at};
 ghost use Rattle.first_cycles.specs.Shown.{is_silenced_at};
-ghost use Rattle.fault_runs.specs.First.{IsNotIn, fault_in, first_of, first_with};
-ghost use Rattle.fault_runs.specs.Points.{alarm_at, goal_at};
+ghost use Rattle.fault_runs.specs.First.{IsNotIn, fault_in, first_of};
 ghost use Rattle.fault_runs.specs.Records.{AreKnownIn, AreRecordsFor, IsAlarmKnown, IsGoalKnown, IsSameRecord, alarm_cycles, goal_cycles, record_of};
 ghost use Rattle.fault_runs.specs.Shown.{SeesCycle};
 ghost use Rattle.fault_runs.specs.Stretch.{IsAfterCycle};
+ghost use Rattle.testbench.specs.Points.{alarm_at, goal_at};
 
 use crate::first::FirstCycles;
 use crate::points::{differ_in, difference_at};

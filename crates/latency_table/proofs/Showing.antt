@@ -11,17 +11,17 @@ use Rattle.workload.specs.declared.run.Run.{Run}
 use Rattle.workload.specs.Runs.{is_mission, is_test}
 use Rattle.alarm_points.specs.declared.Points.{Points}
 use Rattle.alarm_points.specs.Interval.{interval_of}
-use Rattle.classifier.specs.Seen.{goal_at}
 use Rattle.first_cycles.specs.FirstCycles.{comes_late, earliest}
 use Rattle.first_cycles.specs.Shown.{Shown, longest, needed, shown_in}
 use Rattle.shown_runs.specs.declared.first.FirstCycles.{FirstCycles}
 use Rattle.shown_runs.specs.declared.record.AlarmCycles.{AlarmCycles}
 use Rattle.shown_runs.specs.First.{first_in}
-use Rattle.shown_runs.specs.Record.{IsRecordFor, RunRecord, alarm_at, alarm_cycles, goal_cycles}
+use Rattle.shown_runs.specs.Record.{IsRecordFor, RunRecord, alarm_cycles, goal_cycles}
 use Rattle.shown_runs.specs.Seen.{HasSeenRun}
 use Rattle.latency_table.specs.declared.latency.RunShows.{RunShows}
 use Rattle.latency_table.specs.Latency.{IsShownBy, alarm_in, point_at}
 use Rattle.latency_table.proofs.Lists.{any_either, none_any, same_any, same_maps, some_earliest}
+use Rattle.testbench.specs.Points.{alarm_at, goal_at}
 
 module _ (c : Circuit) (points : Points) (ftti : ℕ) (run : Run) (x : List Fault) (k : ℕ) (r : RunRecord) (fit : IsRecordFor points r) (seen : HasSeenRun c points run x k r) where
   abbrev s : Shown

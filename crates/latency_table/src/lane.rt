@@ -8,14 +8,14 @@ ghost use Rattle.fm_base.specs.Planes.{bit};
 ghost use Rattle.workload.specs.declared.run.Run.{Run};
 ghost use Rattle.alarm_points.specs.declared.Goal.{Goal as GoalValue};
 ghost use Rattle.alarm_points.specs.Interval.{interval_of};
-ghost use Rattle.classifier.specs.Seen.{goal_at};
 ghost use Rattle.first_cycles.specs.FirstCycles.{comes_late as late_by, earliest};
 ghost use Rattle.first_cycles.specs.Shown.{longest, needed as needed_by, shown_in};
 ghost use Rattle.readings.specs.Laws.{is_at};
 ghost use Rattle.shown_runs.specs.First.{first_in};
-ghost use Rattle.shown_runs.specs.Record.{IsRecordFor, alarm_at, alarm_cycles, goal_cycles};
+ghost use Rattle.shown_runs.specs.Record.{IsRecordFor, alarm_cycles, goal_cycles};
 ghost use Rattle.shown_runs.specs.Seen.{HasSeenRun};
 ghost use Rattle.latency_table.specs.Latency.{IsShownBy};
+ghost use Rattle.testbench.specs.Points.{alarm_at, goal_at};
 
 use crate::latency::RunShows;
 use alarm_points::{Goal, Points};

@@ -4,13 +4,13 @@ use Rattle.std.specs.List.{list_any}
 use Rattle.alarm_points.specs.Interval.{interval_of}
 use Rattle.alarm_points.specs.declared.Goal.{Goal}
 use Rattle.alarm_points.specs.declared.Points.{Points}
-use Rattle.classifier.specs.Seen.{goal_at}
 use Rattle.first_cycles.specs.FirstCycles.{comes_late}
 use Rattle.first_cycles.specs.Shown.{Shown}
 use Rattle.reading_planes.specs.Folded.{IsLaneOf, LaneCycles, differences_by, late_by}
 use Rattle.reading_planes.specs.Readings.{IsReadingOf, points_by}
 use Rattle.reading_planes.specs.declared.reading.Reading.{Reading}
 use Rattle.reading_planes.specs.declared.reading.Reading.TheVariants.{Bare, BareGoal, Goal as GoalAlone, Interval, Only, Whole, Without}
+use Rattle.testbench.specs.Points.{goal_at}
 
 -- those of the goals of a reading
 pub differences_are : (points : Points) (s : Shown) (lane : LaneCycles) (reading : Reading) → IsReadingOf points reading → IsLaneOf points s lane

@@ -9,15 +9,15 @@ use Rattle.alarm_points.specs.Interval.{interval_of}
 use Rattle.alarm_points.specs.declared.Points.{Points}
 use Rattle.campaign_plan.specs.declared.Outcome.{Outcome}
 use Rattle.classifier.specs.Planes.{outcome_at}
-use Rattle.classifier.specs.Seen.{goal_at}
 use Rattle.first_cycles.specs.FirstCycles.{comes_late, earliest}
 use Rattle.first_cycles.specs.Shown.{Shown}
 use Rattle.shown_runs.specs.declared.record.AlarmCycles.{AlarmCycles}
 use Rattle.shown_runs.specs.First.{first_in}
-use Rattle.shown_runs.specs.Record.{RunRecord, alarm_at, alarm_cycles, goal_cycles}
+use Rattle.shown_runs.specs.Record.{RunRecord, alarm_cycles, goal_cycles}
 use Rattle.reading_planes.specs.Readings.{ftti_by, points_by}
 use Rattle.reading_planes.specs.declared.reading.Reading.{Reading}
 use Rattle.reading_planes.specs.declared.reading.Reading.TheVariants.{Bare, BareGoal, Goal, Interval, Only, Whole, Without}
+use Rattle.testbench.specs.Points.{alarm_at, goal_at}
 
 -- the record has in lane k what counts of what a run shows: a silenced alarm counts in a test alone
 pub record HasShown (points : Points) (s : Shown) (k : ℕ) (r : RunRecord) : Type 0 where

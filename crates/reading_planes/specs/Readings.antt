@@ -7,11 +7,10 @@ use Rattle.fm_base.specs.Lists.{below}
 use Rattle.fm_base.specs.Names.{Bytes}
 use Rattle.alarm_points.specs.declared.Points.{Points}
 use Rattle.campaign_plan.specs.Analysis.{Analysis}
-use Rattle.classifier.specs.Seen.{goal_at}
-use Rattle.shown_runs.specs.Record.{alarm_at}
 use Rattle.readings.specs.Breakdown.{Reading as PlanReading, goal_word, readings, with_alarms, with_goals}
 use Rattle.reading_planes.specs.declared.reading.Reading.{Reading}
 use Rattle.reading_planes.specs.declared.reading.Reading.TheVariants.{Whole, Goal, Without, Only, Interval, Bare, BareGoal}
+use Rattle.testbench.specs.Points.{alarm_at, goal_at}
 
 -- another net than this one, if there is one
 abbrev pub is_other : NetId → Option NetId → Bool

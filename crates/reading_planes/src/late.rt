@@ -3,10 +3,10 @@ ghost use Rattle.std.specs.Prelude.{◌≡◌, ◌<◌, ℕ, None, Option, lengt
 ghost use Rattle.circuit.specs.declared.parts.NetId.{NetId as NetValue};
 ghost use Rattle.first_cycles.specs.FirstCycles.{earlier as earlier_of, earliest};
 ghost use Rattle.first_cycles.specs.Shown.{Shown};
-ghost use Rattle.shown_runs.specs.Record.{alarm_at};
 ghost use Rattle.reading_planes.specs.Folded.{IsLaneFor, IsLaneOf, late_by};
 ghost use Rattle.reading_planes.specs.Readings.{IsReadingOf, others, points_by};
 ghost use Rattle.reading_planes.specs.Folded.{differences_by};
+ghost use Rattle.testbench.specs.Points.{alarm_at};
 
 use crate::lane::LaneCycles;
 use crate::reading::{Reading, interval_of, is_other};

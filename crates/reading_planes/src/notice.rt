@@ -5,9 +5,10 @@ ghost use Rattle.circuit.specs.declared.parts.NetId.{NetId as NetValue};
 ghost use Rattle.first_cycles.specs.Shown.{Shown};
 ghost use Rattle.fm_base.specs.Planes.{bit};
 ghost use Rattle.classifier.specs.Planes.{outcome_at};
-ghost use Rattle.shown_runs.specs.Record.{IsRecordFor, alarm_at, alarm_cycles};
+ghost use Rattle.shown_runs.specs.Record.{IsRecordFor, alarm_cycles};
 ghost use Rattle.reading_planes.specs.Folded.{AreWords, HasShown, noticed_by, point_gives_notice, reading_at};
 ghost use Rattle.reading_planes.specs.Readings.{AreReadingsOf, IsReadingOf, others, points_by};
+ghost use Rattle.testbench.specs.Points.{alarm_at};
 
 use crate::reading::{Reading, is_other};
 use alarm_points::Points;

@@ -14,14 +14,14 @@ use Rattle.fm_base.specs.Lists.{some_below}
 use Rattle.fm_base.specs.Planes.{bit}
 use Rattle.std.specs.List.{list_any}
 use Rattle.campaign_plan.specs.declared.Outcome.{Outcome}
-use Rattle.campaign_plan.specs.Danger.{differs, is_dangerous, is_dangerous_in, is_noticed, is_noticed_in, is_raised}
+use Rattle.campaign_plan.specs.Danger.{differs, is_dangerous_in, is_noticed_in, is_raised}
 use Rattle.classifier.specs.Planes.{HasPlanes}
-use Rattle.classifier.specs.Seen.{goal_at}
 use Rattle.classifier.proofs.Ends.{some_item}
 use Rattle.classifier.proofs.RunByRun.{danger_more, notice_more}
 use Rattle.classifier.proofs.WindowCounts.{interval_at, window_count}
 use Rattle.row_audit.specs.declared.watcher.Watcher.{Watcher}
 use Rattle.row_audit.specs.Watched.{HasWatched, HaveWatched}
+use Rattle.testbench.specs.Points.{goal_at}
 
 module _ (c : Circuit) (points : Points) (run : Run) (faults : ℕ → List Fault) (w : Watcher) (k : ℕ) (lane : k < 64)
     (seen : HaveWatched c points run faults (cycles_of run) w) where

@@ -10,8 +10,8 @@ use Rattle.fm_base.specs.Lists.{some_below}
 use Rattle.fm_base.specs.Planes.{bit}
 use Rattle.campaign_plan.specs.Danger.{differs, is_raised, is_silenced}
 use Rattle.classifier.specs.Batch.{outcome_for}
-use Rattle.classifier.specs.Seen.{goal_at}
 use Rattle.row_audit.specs.declared.watcher.Watcher.{Watcher}
+use Rattle.testbench.specs.Points.{goal_at}
 
 -- the watcher of a word
 abbrev pub watcher_at : List Watcher → ℕ → Watcher

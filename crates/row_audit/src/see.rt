@@ -8,8 +8,8 @@ ghost use Rattle.alarm_points.specs.Watch.{KeepsIntervals, window_at};
 ghost use Rattle.alarm_points.specs.declared.Points.{Points as PointsValue};
 ghost use Rattle.campaign_plan.specs.Danger.{is_raised};
 ghost use Rattle.fm_base.specs.Planes.{bit};
-ghost use Rattle.classifier.specs.Seen.{goal_at};
 ghost use Rattle.row_audit.specs.Watched.{HasWatched, HaveWatched, KeepsFound};
+ghost use Rattle.testbench.specs.Points.{goal_at};
 
 use crate::circuits::Circuits;
 use crate::points::{alarms_in, differing, either_lanes};

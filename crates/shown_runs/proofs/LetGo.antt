@@ -19,15 +19,15 @@ use Rattle.fm_base.specs.Planes.{bit}
 use Rattle.fm_base.proofs.Below.{some_below-false}
 use Rattle.fm_base.proofs.Tests.{and_both, clash, false_of, not_not, not_true, or_cases, or_false}
 use Rattle.classifier.specs.OutOfReach.{IsHarmless}
-use Rattle.classifier.specs.Seen.{goal_at}
 use Rattle.first_cycles.specs.FirstCycles.{first_below, is_raised_at}
 use Rattle.first_cycles.proofs.Firsts.{IsFirstOf, first_found, first_is}
 use Rattle.shown_runs.specs.Beyond.{Beyond, RaisesNone, may_be_raised, may_differ, may_show_more}
 use Rattle.shown_runs.specs.First.{first_in}
-use Rattle.shown_runs.specs.Record.{IsRecordFor, RunRecord, alarm_at, alarm_cycles, goal_cycles}
+use Rattle.shown_runs.specs.Record.{IsRecordFor, RunRecord, alarm_cycles, goal_cycles}
 use Rattle.shown_runs.specs.Seen.{HasSeen, HasSeenRun, IsFollowed}
 use Rattle.shown_runs.specs.declared.first.FirstCycles.{FirstCycles}
 use Rattle.shown_runs.proofs.Marks.{first_still}
+use Rattle.testbench.specs.Points.{alarm_at, goal_at}
 
 -- the lanes in which a point may yet show itself
 pub open_bit : (shown beyond k : ℕ) → shown < 2 ^ 64 → beyond < 2 ^ 64 → k < 64

@@ -12,9 +12,8 @@ use Rattle.fm_base.proofs.Bits.{bit_of_and, bit_of_not}
 use Rattle.fm_base.proofs.Below.{below_push}
 use Rattle.fm_base.proofs.Tests.{clash}
 use Rattle.place_set.proofs.Masks.{clear_bit, clear_bit_other}
-use Rattle.first_cycles.specs.FirstCycles.{first_below}
+use Rattle.first_cycles.specs.FirstCycles.{first_below, first_with}
 use Rattle.first_cycles.proofs.Firsts.{IsFirstOf, first_found, first_is}
-use Rattle.shown_runs.specs.First.{first_with}
 
 -- before the first cycle there is none
 pub first_none : (test : ℕ → Bool) → first_below 0 test ≡ None

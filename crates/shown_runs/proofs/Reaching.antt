@@ -16,7 +16,7 @@ use Rattle.fm_base.proofs.Tests.{clash, or_false}
 use Rattle.classifier.specs.OutOfReach.{IsHarmless}
 use Rattle.classifier.proofs.Beyond.{AreBeyond, deaf}
 use Rattle.shown_runs.specs.Beyond.{Beyond, IsBeyond, RaisesNone, alarm_alone}
-use Rattle.shown_runs.specs.Record.{alarm_at}
+use Rattle.testbench.specs.Points.{alarm_at}
 
 -- a net of the circuit is an alarm point for it
 pub alone_fit : (c : Circuit) (net : NetId) → IsNet c net → ArePointsFor c (alarm_alone net)

@@ -17,15 +17,15 @@ use Rattle.fm_base.specs.Planes.{bit}
 use Rattle.fm_base.proofs.Tests.{clash}
 use Rattle.golden_difference.specs.Beside.{trace_differs}
 use Rattle.golden_difference.proofs.Exclusive.{same_of_none}
-use Rattle.classifier.specs.Seen.{goal_at}
 use Rattle.classifier.proofs.Stillness.{not_raised, not_silenced, over_still}
-use Rattle.first_cycles.specs.FirstCycles.{is_raised_at}
+use Rattle.first_cycles.specs.FirstCycles.{first_with, is_raised_at}
 use Rattle.first_cycles.specs.Shown.{is_silenced_at}
-use Rattle.shown_runs.specs.First.{first_in, first_with}
-use Rattle.shown_runs.specs.Record.{IsRecordFor, RunRecord, alarm_at, alarm_cycles, goal_cycles}
+use Rattle.shown_runs.specs.First.{first_in}
+use Rattle.shown_runs.specs.Record.{IsRecordFor, RunRecord, alarm_cycles, goal_cycles}
 use Rattle.shown_runs.specs.Seen.{HasSeen, IsFollowed, MayLeave, SeesCycle}
 use Rattle.shown_runs.specs.Lanes.{IsGone, StandsAt}
 use Rattle.shown_runs.proofs.Marks.{first_more, first_stays, first_still, some_more}
+use Rattle.testbench.specs.Points.{alarm_at, goal_at}
 
 same_self : (v : Bool) → not (same_bit v v) ≡ false
 same_self true = refl

@@ -12,7 +12,8 @@ use Rattle.classifier.specs.OutOfReach.{IsHarmless}
 use Rattle.first_cycles.specs.FirstCycles.{is_raised_at}
 use Rattle.reach.specs.Reached.{Reached}
 use Rattle.shown_runs.specs.First.{first_in}
-use Rattle.shown_runs.specs.Record.{RunRecord, alarm_at, alarm_cycles}
+use Rattle.shown_runs.specs.Record.{RunRecord, alarm_cycles}
+use Rattle.testbench.specs.Points.{alarm_at}
 
 -- the marked lanes of a word: those that can change no observation point, and of each alarm point those that can't raise it
 pub record Beyond : Type 0 where

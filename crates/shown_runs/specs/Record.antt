@@ -1,6 +1,5 @@
 -- What a run has shown so far in 64 lanes.
 use Rattle.std.specs.Prelude.{◌≡◌, ℕ, ◌<◌, List, [], length, slice_index_or}
-use Rattle.circuit.specs.declared.parts.NetId.{NetId}
 use Rattle.alarm_points.specs.declared.Points.{Points}
 use Rattle.shown_runs.specs.declared.first.FirstCycles.{FirstCycles}
 use Rattle.shown_runs.specs.declared.record.AlarmCycles.{AlarmCycles}
@@ -20,10 +19,6 @@ pub record RunRecord : Type 0 where
 -- the record of a word of lanes
 abbrev pub record_at : List RunRecord → ℕ → RunRecord
 record_at records word = slice_index_or records word (record { goals = []; alarms = [] })
-
--- an alarm point by its number
-abbrev pub alarm_at : List NetId → ℕ → NetId
-alarm_at nets a = slice_index_or nets a (record { 0 = 0 })
 
 -- the record was made for these points: it has each goal and each alarm point
 pub record IsRecordFor (points : Points) (r : RunRecord) : Type 0 where

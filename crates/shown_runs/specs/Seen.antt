@@ -8,11 +8,11 @@ use Rattle.alarm_points.specs.declared.Points.{Points}
 use Rattle.fm_base.specs.Lists.{some_below}
 use Rattle.fm_base.specs.Planes.{bit}
 use Rattle.campaign_plan.specs.Danger.{differs}
-use Rattle.classifier.specs.Seen.{goal_at}
-use Rattle.first_cycles.specs.FirstCycles.{first_below, is_raised_at}
+use Rattle.first_cycles.specs.FirstCycles.{first_below, first_with, is_raised_at}
 use Rattle.first_cycles.specs.Shown.{is_silenced_at}
-use Rattle.shown_runs.specs.First.{first_in, first_with}
-use Rattle.shown_runs.specs.Record.{IsRecordFor, RunRecord, alarm_at, alarm_cycles, goal_cycles}
+use Rattle.shown_runs.specs.First.{first_in}
+use Rattle.shown_runs.specs.Record.{IsRecordFor, RunRecord, alarm_cycles, goal_cycles}
+use Rattle.testbench.specs.Points.{alarm_at, goal_at}
 
 -- lane k has what the first n cycles of a run show of these faults: of each goal the first difference, and of each alarm point the first alarm
 -- and whether it is silenced

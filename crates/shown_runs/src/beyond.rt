@@ -7,8 +7,8 @@ ghost use Rattle.lane_words.specs.Loads.{somes};
 ghost use Rattle.reach.specs.Paths.{CanChangeSome};
 ghost use Rattle.reach.specs.Reached.{Reached, nets_of};
 ghost use Rattle.classifier.specs.Batch.{alone_in};
-ghost use Rattle.shown_runs.specs.Record.{alarm_at};
 ghost use Rattle.shown_runs.specs.Beyond.{ArePathsTo, IsBeyond, IsReachFor, alarm_alone as alone, beyond_at};
+ghost use Rattle.testbench.specs.Points.{alarm_at};
 
 use alarm_points::Points;
 use circuit::netlist::Netlist;

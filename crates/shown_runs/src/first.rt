@@ -26,7 +26,8 @@ pub struct FirstCycles {
 }
 
 impl FirstCycles {
-    ghost use Rattle.shown_runs.specs.First.{first_in, first_with};
+    ghost use Rattle.shown_runs.specs.First.{first_in};
+    ghost use Rattle.first_cycles.specs.FirstCycles.{first_with};
 
     /// Nothing has been seen in any lane.
     pub fn new() -> Self

@@ -5,9 +5,10 @@ ghost use Rattle.circuit.specs.declared.parts.Fault.{Fault};
 ghost use Rattle.circuit.specs.Circuit.{Circuit};
 ghost use Rattle.workload.specs.declared.run.Run.{Run};
 ghost use Rattle.fm_base.specs.Planes.{bit};
-ghost use Rattle.shown_runs.specs.First.{first_in, first_with};
+ghost use Rattle.shown_runs.specs.First.{first_in};
 ghost use Rattle.shown_runs.specs.Record.{IsRecordFor, alarm_cycles as alarm_at, goal_cycles as goal_at};
 ghost use Rattle.shown_runs.specs.Seen.{HasSeen};
+ghost use Rattle.first_cycles.specs.FirstCycles.{first_with};
 
 use crate::first::FirstCycles;
 use alarm_points::Points;

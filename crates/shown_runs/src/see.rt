@@ -8,12 +8,12 @@ ghost use Rattle.campaign_plan.specs.Danger.{differs};
 ghost use Rattle.fm_base.specs.Planes.{bit};
 ghost use Rattle.golden_difference.specs.Beside.{AreBeside, IsGoldenRow};
 ghost use Rattle.testbench.specs.Load.{in_lane};
-ghost use Rattle.classifier.specs.Seen.{goal_at};
-ghost use Rattle.first_cycles.specs.FirstCycles.{is_raised_at};
+ghost use Rattle.first_cycles.specs.FirstCycles.{first_with, is_raised_at};
 ghost use Rattle.first_cycles.specs.Shown.{is_silenced_at};
-ghost use Rattle.shown_runs.specs.First.{first_in, first_with};
-ghost use Rattle.shown_runs.specs.Record.{IsRecordFor, alarm_at, alarm_cycles, goal_cycles};
+ghost use Rattle.shown_runs.specs.First.{first_in};
+ghost use Rattle.shown_runs.specs.Record.{IsRecordFor, alarm_cycles, goal_cycles};
 ghost use Rattle.shown_runs.specs.Seen.{SeesCycle};
+ghost use Rattle.testbench.specs.Points.{alarm_at, goal_at};
 
 use crate::first::FirstCycles;
 use crate::record::{AlarmCycles, RunRecord};

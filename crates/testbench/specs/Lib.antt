@@ -1,2 +1,3 @@
 pub mod Testbench
 pub mod Load
+pub mod Points

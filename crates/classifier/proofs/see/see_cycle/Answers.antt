@@ -13,10 +13,11 @@ use Rattle.alarm_points.specs.Watch.{window_at}
 use Rattle.campaign_plan.specs.Danger.{golden, is_raised, is_silenced, with_faults}
 use Rattle.fm_base.specs.Planes.{bit}
 use Rattle.classifier.specs.Noise.{noise_at}
-use Rattle.classifier.specs.Seen.{HasSeen, goal_at, has_left, is_noticed_by, left_at}
+use Rattle.classifier.specs.Seen.{HasSeen, has_left, is_noticed_by, left_at}
 use Rattle.classifier.proofs.Leaving.{left_stays, open_stays}
 use Rattle.classifier.proofs.Notice.{notice_after, noticed_more}
 use Rattle.classifier.proofs.see.see_cycle.Goals as goal
+use Rattle.testbench.specs.Points.{goal_at}
 
 pub noise_in-noise-requires : goal.noise_in-noise-requires
 noise_in-noise-requires g c =

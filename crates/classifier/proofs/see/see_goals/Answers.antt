@@ -11,11 +11,12 @@ use Rattle.alarm_points.specs.Watch.{window_at}
 use Rattle.campaign_plan.specs.Danger.{golden, is_raised, with_faults}
 use Rattle.fm_base.specs.Lists.{same_bit}
 use Rattle.classifier.specs.Noise.{noise_at}
-use Rattle.classifier.specs.Seen.{HasSeen, goal_at}
+use Rattle.classifier.specs.Seen.{HasSeen}
 use Rattle.classifier.proofs.Stretches.{intervals_more, made_still}
 use Rattle.classifier.proofs.Views.{sees_more}
 use Rattle.classifier.proofs.WindowCounts.{window_count}
 use Rattle.classifier.proofs.see.see_goals.Goals as goal
+use Rattle.testbench.specs.Points.{goal_at}
 
 pub differing-differs-requires : goal.differing-differs-requires
 differing-differs-requires o c =

@@ -7,8 +7,9 @@ use Rattle.alarm_points.specs.Watch.{window_at}
 use Rattle.campaign_plan.specs.Danger.{is_raised}
 use Rattle.fm_base.specs.Planes.{bit}
 use Rattle.classifier.specs.Noise.{noise_at}
-use Rattle.classifier.specs.Seen.{AllKeepIntervals, HasSeen, IsWatched, goal_at}
+use Rattle.classifier.specs.Seen.{AllKeepIntervals, HasSeen, IsWatched}
 use Rattle.classifier.proofs.see.see_goals.Given as goal
+use Rattle.testbench.specs.Points.{goal_at}
 
 -- the goals so far have seen the cycle in each word, and the windows of the others are as they were
 abbrev pub invariant-loop-g : goal.invariant-loop-g

@@ -4,15 +4,15 @@ use Rattle.circuit.specs.declared.parts.Fault.{Fault}
 use Rattle.circuit.specs.declared.parts.NetId.{NetId}
 use Rattle.campaign_plan.specs.Danger.{golden, with_faults}
 use Rattle.lane_words.specs.Loads.{loaded_faults}
-use Rattle.first_cycles.specs.FirstCycles.{is_raised_at}
+use Rattle.first_cycles.specs.FirstCycles.{first_with, is_raised_at}
 use Rattle.first_cycles.specs.Shown.{is_silenced_at}
 use Rattle.fault_runs.specs.declared.record.AlarmCycles.{AlarmCycles}
-use Rattle.fault_runs.specs.First.{fault_in, first_of, first_with}
-use Rattle.fault_runs.specs.Points.{alarm_at}
+use Rattle.fault_runs.specs.First.{fault_in, first_of}
 use Rattle.fault_runs.specs.Records.{IsAlarmKnown, alarm_cycles}
 use Rattle.fault_runs.proofs.EachItem.{each_set}
 use Rattle.fault_runs.proofs.PointBits.{raised_where, silenced_where}
 use Rattle.fault_runs.proofs.see.see_alarms.Goals as goal
+use Rattle.testbench.specs.Points.{alarm_at}
 
 pub loop-a-init : goal.loop-a-init
 loop-a-init o c = record {

@@ -3,13 +3,13 @@ use Rattle.std.specs.Prelude.{Option}
 use Rattle.circuit.specs.declared.parts.Fault.{Fault}
 use Rattle.workload.specs.declared.run.Run.{Run}
 use Rattle.lane_words.specs.Loads.{loaded_faults}
-use Rattle.first_cycles.specs.FirstCycles.{is_raised_at}
+use Rattle.first_cycles.specs.FirstCycles.{first_with, is_raised_at}
 use Rattle.first_cycles.specs.Shown.{is_silenced_at}
-use Rattle.fault_runs.specs.First.{IsNotIn, fault_in, first_of, first_with}
-use Rattle.fault_runs.specs.Points.{alarm_at}
+use Rattle.fault_runs.specs.First.{IsNotIn, fault_in, first_of}
 use Rattle.fault_runs.specs.Records.{IsAlarmKnown, alarm_cycles}
 use Rattle.fault_runs.specs.Stretch.{IsAfterCycle}
 use Rattle.fault_runs.proofs.see.see_alarms.Given as goal
+use Rattle.testbench.specs.Points.{alarm_at}
 
 -- the alarm points so far have seen the cycle, and the others are as they were
 abbrev pub invariant-loop-a : goal.invariant-loop-a

@@ -7,13 +7,13 @@ use Rattle.circuit.specs.Sound.{IsNet}
 use Rattle.alarm_points.specs.declared.Goal.{Goal}
 use Rattle.campaign_plan.specs.Danger.{differs}
 use Rattle.lane_words.specs.Loads.{loaded_faults}
-use Rattle.first_cycles.specs.FirstCycles.{is_raised_at}
+use Rattle.first_cycles.specs.FirstCycles.{first_with, is_raised_at}
 use Rattle.first_cycles.specs.Shown.{is_silenced_at}
 use Rattle.fault_runs.specs.declared.record.AlarmCycles.{AlarmCycles}
-use Rattle.fault_runs.specs.First.{FirstCycles, fault_in, first_of, first_with}
-use Rattle.fault_runs.specs.Points.{alarm_at, goal_at}
+use Rattle.fault_runs.specs.First.{FirstCycles, fault_in, first_of}
 use Rattle.fault_runs.specs.Records.{FaultRecords, IsAlarmKnown, IsGoalKnown, alarm_cycles, goal_cycles}
 use Rattle.fault_runs.proofs.see.see_cycle.Goals as goal
+use Rattle.testbench.specs.Points.{alarm_at, goal_at}
 
 pub see_goals-requires-clause-nets : goal.see_goals-requires-clause-nets
 see_goals-requires-clause-nets g c = λ h lt.

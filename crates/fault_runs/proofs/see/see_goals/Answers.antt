@@ -8,11 +8,12 @@ use Rattle.alarm_points.specs.declared.Goal.{Goal}
 use Rattle.campaign_plan.specs.Danger.{differs, golden, with_faults}
 use Rattle.fm_base.specs.Lists.{same_bit}
 use Rattle.lane_words.specs.Loads.{loaded_faults}
-use Rattle.fault_runs.specs.First.{FirstCycles, fault_in, first_of, first_with}
-use Rattle.fault_runs.specs.Points.{goal_at}
+use Rattle.fault_runs.specs.First.{FirstCycles, fault_in, first_of}
 use Rattle.fault_runs.specs.Records.{IsGoalKnown, goal_cycles}
 use Rattle.fault_runs.proofs.EachItem.{each_set}
 use Rattle.fault_runs.proofs.see.see_goals.Goals as goal
+use Rattle.first_cycles.specs.FirstCycles.{first_with}
+use Rattle.testbench.specs.Points.{goal_at}
 
 pub loop-g-init : goal.loop-g-init
 loop-g-init o c = record {

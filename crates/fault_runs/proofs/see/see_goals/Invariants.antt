@@ -4,11 +4,12 @@ use Rattle.circuit.specs.declared.parts.Fault.{Fault}
 use Rattle.workload.specs.declared.run.Run.{Run}
 use Rattle.campaign_plan.specs.Danger.{differs}
 use Rattle.lane_words.specs.Loads.{loaded_faults}
-use Rattle.fault_runs.specs.First.{IsNotIn, fault_in, first_of, first_with}
-use Rattle.fault_runs.specs.Points.{goal_at}
+use Rattle.fault_runs.specs.First.{IsNotIn, fault_in, first_of}
 use Rattle.fault_runs.specs.Records.{IsGoalKnown, goal_cycles}
 use Rattle.fault_runs.specs.Stretch.{IsAfterCycle}
 use Rattle.fault_runs.proofs.see.see_goals.Given as goal
+use Rattle.first_cycles.specs.FirstCycles.{first_with}
+use Rattle.testbench.specs.Points.{goal_at}
 
 -- the goals so far have seen the cycle, and the others are as they were
 abbrev pub invariant-loop-g : goal.invariant-loop-g

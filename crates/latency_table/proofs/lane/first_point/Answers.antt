@@ -4,9 +4,10 @@ use Rattle.circuit.specs.declared.parts.NetId.{NetId}
 use Rattle.readings.specs.Laws.{is_at}
 use Rattle.shown_runs.specs.declared.record.AlarmCycles.{AlarmCycles}
 use Rattle.shown_runs.specs.First.{first_in}
-use Rattle.shown_runs.specs.Record.{alarm_at, alarm_cycles}
+use Rattle.shown_runs.specs.Record.{alarm_cycles}
 use Rattle.latency_table.proofs.Lists.{find_here, find_none_more}
 use Rattle.latency_table.proofs.lane.first_point.Goals as goal
+use Rattle.testbench.specs.Points.{alarm_at}
 
 pub returns-then-is_first_at : goal.returns-then-is_first_at
 returns-then-is_first_at c = λ first same.

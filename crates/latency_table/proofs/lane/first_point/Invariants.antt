@@ -2,8 +2,9 @@ use Rattle.std.proofs.Common.{◌≡◌, ◌<◌, ℕ, Option, None, find, lengt
 use Rattle.circuit.specs.declared.parts.NetId.{NetId}
 use Rattle.readings.specs.Laws.{is_at}
 use Rattle.shown_runs.specs.First.{first_in}
-use Rattle.shown_runs.specs.Record.{alarm_at, alarm_cycles}
+use Rattle.shown_runs.specs.Record.{alarm_cycles}
 use Rattle.latency_table.proofs.lane.first_point.Given as goal
+use Rattle.testbench.specs.Points.{alarm_at}
 
 -- none of those so far is
 abbrev pub invariant-loop-a : goal.invariant-loop-a

@@ -5,11 +5,12 @@ use Rattle.first_cycles.specs.Shown.{Shown, shown_in}
 use Rattle.readings.specs.Laws.{is_at}
 use Rattle.shown_runs.specs.declared.record.AlarmCycles.{AlarmCycles}
 use Rattle.shown_runs.specs.First.{first_in}
-use Rattle.shown_runs.specs.Record.{alarm_at, alarm_cycles}
+use Rattle.shown_runs.specs.Record.{alarm_cycles}
 use Rattle.latency_table.specs.declared.latency.RunShows.{RunShows}
 use Rattle.latency_table.specs.Latency.{alarm_in, point_at}
 use Rattle.latency_table.proofs.Showing.{first_alarm_is, mission_shown, test_shown}
 use Rattle.latency_table.proofs.lane.lane_shows.Goals as goal
+use Rattle.testbench.specs.Points.{alarm_at}
 
 pub returns-in-Mission : goal.returns-in-Mission
 returns-in-Mission c = λ circuit run x kind seen.

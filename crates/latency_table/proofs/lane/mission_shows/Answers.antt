@@ -2,12 +2,12 @@ use Rattle.std.proofs.Common.{◌≡◌, ◌<◌, ℕ, List, length, ap, subst, 
 use Rattle.std.specs.List.{list_any}
 use Rattle.alarm_points.specs.Interval.{interval_of}
 use Rattle.alarm_points.specs.declared.Goal.{Goal}
-use Rattle.classifier.specs.Seen.{goal_at}
 use Rattle.first_cycles.specs.FirstCycles.{comes_late}
 use Rattle.shown_runs.specs.declared.first.FirstCycles.{FirstCycles}
 use Rattle.shown_runs.specs.First.{first_in}
 use Rattle.shown_runs.specs.Record.{goal_cycles}
 use Rattle.latency_table.proofs.lane.mission_shows.Goals as goal
+use Rattle.testbench.specs.Points.{goal_at}
 
 pub returns-clause-late : goal.returns-clause-late
 returns-clause-late c = λ difference same.

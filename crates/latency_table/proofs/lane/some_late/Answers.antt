@@ -4,12 +4,12 @@ use Rattle.std.proofs.lemmas.List.{get_or_default}
 use Rattle.std.proofs.lemmas.List.Folds.{list_any_more}
 use Rattle.alarm_points.specs.Interval.{interval_of}
 use Rattle.alarm_points.specs.declared.Goal.{Goal}
-use Rattle.classifier.specs.Seen.{goal_at}
 use Rattle.first_cycles.specs.FirstCycles.{comes_late}
 use Rattle.shown_runs.specs.declared.first.FirstCycles.{FirstCycles}
 use Rattle.shown_runs.specs.First.{first_in}
 use Rattle.shown_runs.specs.Record.{goal_cycles}
 use Rattle.latency_table.proofs.lane.some_late.Goals as goal
+use Rattle.testbench.specs.Points.{goal_at}
 
 pub loop-g-preserved : goal.loop-g-preserved
 loop-g-preserved c = λ difference same.

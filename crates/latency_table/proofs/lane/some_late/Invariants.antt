@@ -2,11 +2,11 @@ use Rattle.std.proofs.Common.{◌≡◌, ◌<◌, ℕ, Option, length, take}
 use Rattle.std.specs.List.{list_any}
 use Rattle.alarm_points.specs.Interval.{interval_of}
 use Rattle.alarm_points.specs.declared.Goal.{Goal}
-use Rattle.classifier.specs.Seen.{goal_at}
 use Rattle.first_cycles.specs.FirstCycles.{comes_late}
 use Rattle.shown_runs.specs.First.{first_in}
 use Rattle.shown_runs.specs.Record.{goal_cycles}
 use Rattle.latency_table.proofs.lane.some_late.Given as goal
+use Rattle.testbench.specs.Points.{goal_at}
 
 -- whether that of some goal so far does
 abbrev pub invariant-loop-g : goal.invariant-loop-g

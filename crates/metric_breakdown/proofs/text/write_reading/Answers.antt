@@ -7,13 +7,12 @@ use Rattle.circuit.specs.declared.parts.NetId.{NetId}
 use Rattle.fm_base.specs.Text.{line}
 use Rattle.alarm_points.specs.declared.Goal.{Goal}
 use Rattle.alarm_points.specs.declared.Points.{Points}
-use Rattle.classifier.specs.Seen.{goal_at}
-use Rattle.shown_runs.specs.Record.{alarm_at}
 use Rattle.fm_shelf.proofs.Sending.{sends_as}
 use Rattle.readings.specs.Breakdown.{goal_word}
 use Rattle.reading_planes.specs.Readings.{IsReadingOf, words_by}
 use Rattle.reading_planes.specs.declared.reading.Reading.{Reading}
 use Rattle.metric_breakdown.proofs.text.write_reading.Goals as goal
+use Rattle.testbench.specs.Points.{alarm_at, goal_at}
 
 pub returns-in-Goal : goal.returns-in-Goal
 returns-in-Goal g c =

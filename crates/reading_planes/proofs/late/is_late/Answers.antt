@@ -2,11 +2,11 @@ use Rattle.std.proofs.Common.{◌≡◌, ◌<◌, ℕ, List, Option, None, lengt
 use Rattle.std.specs.List.{list_any}
 use Rattle.alarm_points.specs.Interval.{interval_of}
 use Rattle.alarm_points.specs.declared.Goal.{Goal}
-use Rattle.classifier.specs.Seen.{goal_at}
 use Rattle.first_cycles.specs.FirstCycles.{comes_late}
 use Rattle.reading_planes.specs.Readings.{points_by}
 use Rattle.reading_planes.proofs.Shows.{differences_are}
 use Rattle.reading_planes.proofs.late.is_late.Goals as goal
+use Rattle.testbench.specs.Points.{goal_at}
 
 pub returns : goal.returns
 returns c = λ s of.

@@ -10,13 +10,14 @@ use Rattle.workload.specs.declared.run.Kind.TheVariants.{Mission, Test}
 use Rattle.workload.specs.Runs.{is_test}
 use Rattle.classifier.specs.Planes.{outcome_at}
 use Rattle.first_cycles.specs.Shown.{Shown}
-use Rattle.shown_runs.specs.Record.{alarm_at, alarm_cycles}
+use Rattle.shown_runs.specs.Record.{alarm_cycles}
 use Rattle.shown_runs.specs.declared.record.AlarmCycles.{AlarmCycles}
 use Rattle.reading_planes.specs.Folded.{AreWords, HasShown, gives_notice, noticed_by, point_gives_notice, reading_at}
 use Rattle.reading_planes.specs.Readings.{IsReadingOf}
 use Rattle.reading_planes.specs.declared.reading.Reading.TheVariants.{Whole}
 use Rattle.reading_planes.proofs.Lists.{all_others}
 use Rattle.reading_planes.proofs.notice.add_notice.Goals as goal
+use Rattle.testbench.specs.Points.{alarm_at}
 
 -- what counts in a test alone
 in_tests : (own kind : Kind) (a b : Bool) → own ≡ kind → (is_test own ≡ true → a ≡ b) → (is_test kind && a) ≡ (is_test own && b)

@@ -2,10 +2,11 @@ use Rattle.std.proofs.Common.{◌≡◌, ◌<◌, ℕ, Bool, length, take}
 use Rattle.std.specs.List.{list_any}
 use Rattle.circuit.specs.declared.parts.NetId.{NetId}
 use Rattle.fm_base.specs.Planes.{bit}
-use Rattle.shown_runs.specs.Record.{alarm_at, alarm_cycles}
+use Rattle.shown_runs.specs.Record.{alarm_cycles}
 use Rattle.reading_planes.specs.Folded.{point_gives_notice}
 use Rattle.reading_planes.specs.Readings.{others}
 use Rattle.reading_planes.proofs.notice.noticed_by_others.Given as goal
+use Rattle.testbench.specs.Points.{alarm_at}
 
 -- where one so far gives notice
 abbrev pub invariant-loop-a : goal.invariant-loop-a

@@ -9,9 +9,9 @@ use Rattle.alarm_points.proofs.Settled.{some_below-suc}
 use Rattle.campaign_plan.specs.Danger.{golden, is_raised, is_silenced, with_faults}
 use Rattle.fm_base.specs.Lists.{some_below}
 use Rattle.fm_base.specs.Planes.{bit}
-use Rattle.classifier.specs.Seen.{goal_at}
 use Rattle.row_audit.specs.Watched.{HasWatched}
 use Rattle.row_audit.proofs.see.see_cycle.Goals as goal
+use Rattle.testbench.specs.Points.{goal_at}
 
 -- what is so in some cycle up to one more
 one_more : (test : ℕ → Bool) (t : ℕ) (before own both : Bool) → both ≡ (before || own) → before ≡ some_below t test → own ≡ test t → both ≡ some_below (t + 1) test

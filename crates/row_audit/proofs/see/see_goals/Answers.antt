@@ -7,11 +7,11 @@ use Rattle.alarm_points.specs.declared.Goal.{Goal}
 use Rattle.alarm_points.specs.Watch.{window_at}
 use Rattle.campaign_plan.specs.Danger.{golden, with_faults}
 use Rattle.fm_base.specs.Lists.{same_bit}
-use Rattle.classifier.specs.Seen.{goal_at}
 use Rattle.classifier.proofs.WindowCounts.{same_count}
 use Rattle.row_audit.specs.Watched.{HasWatched}
 use Rattle.row_audit.proofs.Views.{sees_more}
 use Rattle.row_audit.proofs.see.see_goals.Goals as goal
+use Rattle.testbench.specs.Points.{goal_at}
 
 pub differing-differs-requires-clause-nets : goal.differing-differs-requires-clause-nets
 differing-differs-requires-clause-nets o c =

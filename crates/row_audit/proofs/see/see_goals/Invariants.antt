@@ -5,9 +5,9 @@ use Rattle.alarm_points.specs.declared.Points.{Points}
 use Rattle.alarm_points.specs.Watch.{KeepsIntervals, window_at}
 use Rattle.campaign_plan.specs.Danger.{is_raised}
 use Rattle.fm_base.specs.Planes.{bit}
-use Rattle.classifier.specs.Seen.{goal_at}
 use Rattle.row_audit.specs.Watched.{HasWatched}
 use Rattle.row_audit.proofs.see.see_goals.Given as goal
+use Rattle.testbench.specs.Points.{goal_at}
 
 -- the goals so far have seen the cycle, and the windows of the others are as they were
 abbrev pub invariant-loop-g : goal.invariant-loop-g

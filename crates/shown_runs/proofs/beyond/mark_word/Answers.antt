@@ -8,9 +8,9 @@ use Rattle.reach.specs.declared.points.Sort.TheVariants.{Observation}
 use Rattle.classifier.specs.Batch.{alone_in}
 use Rattle.classifier.proofs.Beyond.{AreBeyond, harmless}
 use Rattle.shown_runs.specs.Beyond.{Beyond}
-use Rattle.shown_runs.specs.Record.{alarm_at}
 use Rattle.shown_runs.proofs.Reaching.{marked_within, raises_none}
 use Rattle.shown_runs.proofs.beyond.mark_word.Goals as goal
+use Rattle.testbench.specs.Points.{alarm_at}
 
 pub returns-clause-beyond : goal.returns-clause-beyond
 returns-clause-beyond c =

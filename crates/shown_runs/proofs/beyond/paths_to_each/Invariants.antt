@@ -1,8 +1,8 @@
 use Rattle.std.proofs.Common.{◌≡◌, ◌<◌, ℕ, length, slice_index_or}
 use Rattle.reach.specs.Reached.{Reached}
 use Rattle.shown_runs.specs.Beyond.{alarm_alone}
-use Rattle.shown_runs.specs.Record.{alarm_at}
 use Rattle.shown_runs.proofs.beyond.paths_to_each.Given as goal
+use Rattle.testbench.specs.Points.{alarm_at}
 
 -- the paths to the points so far
 abbrev pub invariant-loop-net : goal.invariant-loop-net

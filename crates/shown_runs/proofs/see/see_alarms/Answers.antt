@@ -5,12 +5,13 @@ use Rattle.campaign_plan.specs.Danger.{golden, with_faults}
 use Rattle.fm_base.specs.Planes.{bit}
 use Rattle.testbench.specs.Load.{in_lane}
 use Rattle.classifier.proofs.PointBits.{raised_where, silenced_where}
-use Rattle.first_cycles.specs.FirstCycles.{is_raised_at}
+use Rattle.first_cycles.specs.FirstCycles.{first_with, is_raised_at}
 use Rattle.first_cycles.specs.Shown.{is_silenced_at}
 use Rattle.shown_runs.specs.declared.record.AlarmCycles.{AlarmCycles}
-use Rattle.shown_runs.specs.First.{first_in, first_with}
-use Rattle.shown_runs.specs.Record.{alarm_at, alarm_cycles}
+use Rattle.shown_runs.specs.First.{first_in}
+use Rattle.shown_runs.specs.Record.{alarm_cycles}
 use Rattle.shown_runs.proofs.see.see_alarms.Goals as goal
+use Rattle.testbench.specs.Points.{alarm_at}
 
 pub loop-a-preserved : goal.loop-a-preserved
 loop-a-preserved o c =

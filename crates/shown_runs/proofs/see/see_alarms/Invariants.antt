@@ -4,11 +4,12 @@ use Rattle.workload.specs.Runs.{cycles_of}
 use Rattle.fm_base.specs.Planes.{bit}
 use Rattle.golden_difference.specs.Beside.{AreBeside, IsGoldenRow}
 use Rattle.testbench.specs.Load.{in_lane}
-use Rattle.first_cycles.specs.FirstCycles.{is_raised_at}
+use Rattle.first_cycles.specs.FirstCycles.{first_with, is_raised_at}
 use Rattle.first_cycles.specs.Shown.{is_silenced_at}
-use Rattle.shown_runs.specs.First.{first_in, first_with}
-use Rattle.shown_runs.specs.Record.{alarm_at, alarm_cycles}
+use Rattle.shown_runs.specs.First.{first_in}
+use Rattle.shown_runs.specs.Record.{alarm_cycles}
 use Rattle.shown_runs.proofs.see.see_alarms.Given as goal
+use Rattle.testbench.specs.Points.{alarm_at}
 
 -- the alarm points so far have seen the cycle, and the others are as they were
 abbrev pub invariant-loop-a : goal.invariant-loop-a

@@ -8,14 +8,14 @@ use Rattle.alarm_points.specs.declared.Goal.{Goal}
 use Rattle.campaign_plan.specs.Danger.{differs}
 use Rattle.fm_base.specs.Planes.{bit}
 use Rattle.testbench.specs.Load.{in_lane}
-use Rattle.classifier.specs.Seen.{goal_at}
-use Rattle.first_cycles.specs.FirstCycles.{is_raised_at}
+use Rattle.first_cycles.specs.FirstCycles.{first_with, is_raised_at}
 use Rattle.first_cycles.specs.Shown.{is_silenced_at}
 use Rattle.shown_runs.specs.declared.first.FirstCycles.{FirstCycles}
 use Rattle.shown_runs.specs.declared.record.AlarmCycles.{AlarmCycles}
-use Rattle.shown_runs.specs.First.{first_in, first_with}
-use Rattle.shown_runs.specs.Record.{RunRecord, alarm_at, alarm_cycles, goal_cycles}
+use Rattle.shown_runs.specs.First.{first_in}
+use Rattle.shown_runs.specs.Record.{RunRecord, alarm_cycles, goal_cycles}
 use Rattle.shown_runs.proofs.see.see_cycle.Goals as goal
+use Rattle.testbench.specs.Points.{alarm_at, goal_at}
 
 pub see_goals-requires-clause-nets : goal.see_goals-requires-clause-nets
 see_goals-requires-clause-nets g c = λ h lt.

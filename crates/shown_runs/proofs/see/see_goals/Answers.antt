@@ -7,11 +7,12 @@ use Rattle.alarm_points.specs.declared.Goal.{Goal}
 use Rattle.campaign_plan.specs.Danger.{differs, golden, with_faults}
 use Rattle.fm_base.specs.Lists.{same_bit}
 use Rattle.testbench.specs.Load.{in_lane}
-use Rattle.classifier.specs.Seen.{goal_at}
 use Rattle.shown_runs.specs.declared.first.FirstCycles.{FirstCycles}
-use Rattle.shown_runs.specs.First.{first_in, first_with}
+use Rattle.shown_runs.specs.First.{first_in}
 use Rattle.shown_runs.specs.Record.{goal_cycles}
 use Rattle.shown_runs.proofs.see.see_goals.Goals as goal
+use Rattle.testbench.specs.Points.{goal_at}
+use Rattle.first_cycles.specs.FirstCycles.{first_with}
 
 pub differing-differ-requires-clause-nets : goal.differing-differ-requires-clause-nets
 differing-differ-requires-clause-nets o c =

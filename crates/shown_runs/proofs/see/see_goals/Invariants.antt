@@ -4,10 +4,11 @@ use Rattle.workload.specs.Runs.{cycles_of}
 use Rattle.campaign_plan.specs.Danger.{differs}
 use Rattle.golden_difference.specs.Beside.{AreBeside}
 use Rattle.testbench.specs.Load.{in_lane}
-use Rattle.classifier.specs.Seen.{goal_at}
-use Rattle.shown_runs.specs.First.{first_in, first_with}
+use Rattle.shown_runs.specs.First.{first_in}
 use Rattle.shown_runs.specs.Record.{goal_cycles}
 use Rattle.shown_runs.proofs.see.see_goals.Given as goal
+use Rattle.testbench.specs.Points.{goal_at}
+use Rattle.first_cycles.specs.FirstCycles.{first_with}
 
 -- the goals so far have seen the cycle, and the others are as they were
 abbrev pub invariant-loop-g : goal.invariant-loop-g

@@ -3,11 +3,12 @@ use Rattle.circuit.specs.declared.parts.NetId.{NetId}
 use Rattle.fm_base.proofs.Lists.{written_whole}
 use Rattle.first_cycles.specs.FirstCycles.{earliest}
 use Rattle.shown_runs.specs.First.{first_in}
-use Rattle.shown_runs.specs.Record.{alarm_at, alarm_cycles, goal_cycles}
+use Rattle.shown_runs.specs.Record.{alarm_cycles, goal_cycles}
 use Rattle.shown_runs.specs.declared.first.FirstCycles.{FirstCycles}
 use Rattle.shown_runs.specs.declared.record.AlarmCycles.{AlarmCycles}
 use Rattle.reading_planes.proofs.Lists.{all_others}
 use Rattle.reading_planes.proofs.lane.LaneCycles.load.Goals as goal
+use Rattle.testbench.specs.Points.{alarm_at}
 
 pub returns-clause-loaded : goal.returns-clause-loaded
 returns-clause-loaded c = λ s shown.
