@@ -18,7 +18,6 @@ use Rattle.differential_kernel.specs.declared.golden_cycle.GoldenCycle.{GoldenCy
 use Rattle.differential_kernel.specs.Cone.{IsConeOf, IsConeTable, IsPlain, cone_table}
 use Rattle.differential_kernel.specs.Cycle.{CanSweep}
 use Rattle.differential_kernel.specs.Differences.{Grows}
-use Rattle.differential_kernel.specs.Places.{next_in}
 use Rattle.differential_kernel.specs.Shown.{ReadGolden, told_in, valued_in}
 use Rattle.differential_kernel.specs.Sweeps.{IsSweptTo, SweepsOn, place_of}
 use Rattle.differential_kernel.specs.Walk.{IsPair}

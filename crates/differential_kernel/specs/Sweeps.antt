@@ -1,5 +1,5 @@
 -- A sweep over the tables of a cone, in one lane.
-use Rattle.std.specs.Prelude.{◌≡◌, ℕ, ◌<◌, Bool, List, length, take}
+use Rattle.std.specs.Prelude.{ℕ, ◌<◌, Bool, List, length, take}
 use Rattle.circuit.specs.Value.{Cycle}
 use Rattle.golden_difference.proofs.Walked.{Walked}
 use Rattle.lane_words.specs.Forces.{AreForces}

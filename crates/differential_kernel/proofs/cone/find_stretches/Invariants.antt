@@ -1,4 +1,4 @@
-use Rattle.std.proofs.Common.{◌≡◌, ◌<◌, ◌≤◌, ◌+◌, ◌-◌, ℕ, get_or}
+use Rattle.std.proofs.Common.{◌<◌, ◌≤◌, ◌-◌, ℕ, get_or}
 use Rattle.differential_kernel.specs.Cone.{IsStretch, cone_table}
 use Rattle.differential_kernel.proofs.cone.find_stretches.Given as goal
 

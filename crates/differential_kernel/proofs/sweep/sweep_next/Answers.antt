@@ -1,4 +1,4 @@
-use Rattle.std.proofs.Common.{◌≡◌, ◌≤◌, ℕ, List, length, get_or, ap, sym, subst, ◌∙◌, arith}
+use Rattle.std.proofs.Common.{◌≤◌, ℕ, List, length, get_or, ap, sym, subst, arith}
 use Rattle.differential_kernel.specs.declared.cone.ConeTable.{ConeTable}
 use Rattle.differential_kernel.specs.Cone.{IsStretch, cone_table}
 use Rattle.differential_kernel.proofs.sweep.sweep_next.Goals as goal

@@ -1,6 +1,5 @@
-use Rattle.std.proofs.Common.{◌≡◌, ◌+◌, Bool, false, List, length, get_or, set, ap, sym, subst, ◌∙◌, arith}
+use Rattle.std.proofs.Common.{◌≡◌, ◌+◌, false, List, length, get_or, set, ap, sym, subst, ◌∙◌, arith}
 use Rattle.circuit.specs.Value.{bit_at, driven, driver_at, table_gives}
-use Rattle.lane_words.specs.declared.force.Force.{Force}
 use Rattle.lane_words.specs.Forces.{force_value}
 use Rattle.lane_words.specs.Gates.{IsGate, plane}
 use Rattle.place_set.specs.Places.{has}

@@ -1,11 +1,11 @@
 use Rattle.std.proofs.Common.{◌≡◌, ◌<◌, ◌+◌, List, length, set, ap, sym, subst, ◌∙◌, arith}
 use Rattle.circuit.specs.Value.{bit_at}
-use Rattle.lane_words.specs.Gates.{IsGate, op_value, plane}
+use Rattle.lane_words.specs.Gates.{op_value, plane}
 use Rattle.differential_kernel.specs.declared.cone.ConeTable.{ConeTable}
 use Rattle.differential_kernel.specs.Cone.{cone_table}
 use Rattle.differential_kernel.specs.Shown.{ReadGolden}
 use Rattle.differential_kernel.specs.Sweeps.{SweepsOn}
-use Rattle.differential_kernel.proofs.Sweeping.{gate_here, plain_gives, read_on, swept_on}
+use Rattle.differential_kernel.proofs.Sweeping.{plain_gives, read_on, swept_on}
 use Rattle.differential_kernel.proofs.sweep.sweep_stretch.Goals as goal
 
 pub bounds-tables-at : goal.bounds-tables-at
