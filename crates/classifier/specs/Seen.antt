@@ -16,6 +16,7 @@ use Rattle.fm_base.specs.Lists.{some_below}
 use Rattle.fm_base.specs.Planes.{bit}
 use Rattle.campaign_plan.specs.Danger.{differs, is_raised, is_silenced}
 use Rattle.testbench.specs.Load.{Load, in_lane, lane_faults}
+use Rattle.testbench.specs.Points.{goal_at}
 use Rattle.classifier.specs.OutOfReach.{decided_at}
 use Rattle.classifier.specs.declared.decided.Decided.{Decided}
 

@@ -1,6 +1,7 @@
 -- The first cycle in which something is seen at a point, of each fault of a draw.
 use Rattle.std.specs.Prelude.{◌≡◌, ℕ, ◌+◌, ◌*◌, ◌<◌, Bool, true, List, length, Option, None, is_some, slice_index, slice_index_or}
 use Rattle.fm_base.specs.Planes.{bit}
+use Rattle.first_cycles.specs.FirstCycles.{first_with}
 
 -- of each fault of a draw the first cycle, where there is one; and of the lanes of a group, 64 to a word, those whose faults are known to have one
 pub record FirstCycles : Type 0 where
