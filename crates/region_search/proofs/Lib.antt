@@ -17,3 +17,5 @@ pub mod Ending
 pub mod PlacedTables
 pub mod FirstSets
 pub mod Refuting
+pub mod Standing
+pub mod Growing

@@ -8,3 +8,4 @@ pub mod Truth
 pub mod Begin
 pub mod BeginSteps
 pub mod Refute
+pub mod Window

@@ -8,6 +8,7 @@ mod refute;
 mod search;
 mod truth;
 mod watch;
+mod window;
 
 pub use begin::Beginning;
 pub use frames::FrameSets;
