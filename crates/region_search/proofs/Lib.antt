@@ -15,3 +15,7 @@ pub mod CutSets
 pub mod Made
 pub mod Ending
 pub mod PlacedTables
+pub mod FirstSets
+pub mod Refuting
+pub mod Standing
+pub mod Growing

@@ -1,5 +1,5 @@
 -- The net of each table and of each latch has a place of its own.
-use Rattle.std.proofs.Common.{◌≡◌, ◌≢◌, inl, inr, ℕ, ◌+◌, ◌^◌, ◌<◌, ◌≤◌, List, Some, length, get_or, set, ap, sym, ◌∙◌, subst, below_more, arith, get_or-set_other, get_or-set_same}
+use Rattle.std.proofs.Common.{◌≡◌, ◌≢◌, inl, inr, ℕ, ◌+◌, ◌^◌, ◌<◌, ◌≤◌, List, Some, length, get_or, set, ap, sym, ◌∙◌, below_more, arith, get_or-set_other, get_or-set_same}
 use Rattle.std.specs.Prelude.{All}
 use Rattle.std.specs.List.{slice_get}
 use Rattle.std.proofs.lemmas.Bool.{cases_eq}
@@ -12,7 +12,6 @@ use Rattle.circuit.specs.Value.{driver_at}
 use Rattle.circuit.specs.declared.parts.Driver.TheVariants.{Input, Table as FromTable, Latch as FromLatch}
 use Rattle.circuit.specs.declared.parts.Latch.{Latch}
 use Rattle.circuit.specs.declared.parts.NetId.{NetId}
-use Rattle.region_search.specs.Watch.{AreOwnOfLatches, AreOwnOfTables}
 
 -- what is behind a place that was looked at is at it, or was looked at before
 pub latch_at : (latches : List Latch) (l : ℕ) (latch d : Latch) → slice_get latches l ≡ Some latch → get_or latches l d ≡ latch

@@ -1,7 +1,7 @@
 -- What a table takes away, and that it takes nothing more then.
-use Rattle.std.proofs.Common.{◌≡◌, ◌≢◌, inl, inr, ℕ, zero, suc, ◌+◌, ◌<◌, Bool, true, false, ◌&&◌, List, [], ◌∷◌, length, refl, ap, ap₂, sym, ◌∙◌, arith}
+use Rattle.std.proofs.Common.{◌≡◌, ◌≢◌, inl, ℕ, zero, suc, ◌<◌, Bool, true, false, ◌&&◌, List, [], ◌∷◌, length, refl, ap, sym, ◌∙◌, arith}
 use Rattle.std.specs.Prelude.{◌==◌}
-use Rattle.std.proofs.lemmas.Bool.{cases_Bool, cases_lt, eqb-true}
+use Rattle.std.proofs.lemmas.Bool.{eqb-true}
 use Rattle.std.proofs.lemmas.List.Elements.{All-contains, Contains-get_or}
 use Rattle.fm_base.proofs.Tests.{and_both, both_true, false_of}
 use Rattle.circuit.specs.Order.{net_at}
@@ -13,7 +13,7 @@ use Rattle.pair_sets.specs.Choice.{IsLeft, set_at}
 use Rattle.pair_sets.specs.Pairs.{has}
 use Rattle.pair_sets.specs.Tables.{IsLeftOf, IsOnce, IsSetOf}
 use Rattle.pair_sets.specs.declared.pairs.PairSet.{PairSet}
-use Rattle.region_search.proofs.Narrowing.{cut_among, cut_other, cut_there}
+use Rattle.region_search.proofs.Narrowing.{cut_other, cut_there}
 use Rattle.region_search.specs.Going.{IsFurther}
 use Rattle.region_search.specs.declared.search.Search.{Search}
 use Rattle.region_search.specs.Settled.{IsTableSettled}

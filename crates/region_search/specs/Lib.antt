@@ -5,3 +5,7 @@ pub mod Watch
 pub mod Going
 pub mod Steps
 pub mod Truth
+pub mod Begin
+pub mod BeginSteps
+pub mod Refute
+pub mod Window

@@ -45,6 +45,26 @@ impl FrameSets {
         Ok(FrameSets { nets, frames, sets })
     }
 
+    /// All pairs again.
+    pub fn refill(&mut self)
+        ensures nets { self.new.nets ≡ self.old.nets }
+        ensures frames { self.new.frames ≡ self.old.frames }
+        ensures all { (frame net : ℕ) (a b : Bool) → frame < self.old.frames → sets_in self.new.nets self.new.sets.items frame net a b ≡ true }
+    {
+        self.sets.fill(PairSet::ALL);
+    }
+
+    /// Takes the pairs of another one, of as many nets and frames, in place of its own.
+    pub fn copy_from(&mut self, other: &FrameSets)
+        requires nets { other.now.nets ≡ self.old.nets }
+        requires frames { other.now.frames ≡ self.old.frames }
+        ensures nets { self.new.nets ≡ self.old.nets }
+        ensures frames { self.new.frames ≡ self.old.frames }
+        ensures sets { self.new.sets.items ≡ other.now.sets.items }
+    {
+        self.sets.copy_from_slice(&other.sets);
+    }
+
     /// The pairs of a net in a frame.
     pub fn get(&self, frame: usize, net: NetId) -> PairSet
         requires frame { frame < self.now.frames }

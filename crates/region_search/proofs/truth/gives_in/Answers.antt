@@ -1,4 +1,4 @@
-use Rattle.std.proofs.Common.{◌≡◌, ◌<◌, ◌≢◌, ◌+◌, ℕ, Bool, List, false, length, map, get_or, set, ap, sym, ◌∙◌, subst, below_more, arith, get_or-set_other, get_or-set_same}
+use Rattle.std.proofs.Common.{◌≡◌, ◌≢◌, List, false, length, map, ap, sym, ◌∙◌, subst, below_more, arith, get_or-set_other, get_or-set_same}
 use Rattle.std.specs.Prelude.{All, Contains}
 use Rattle.std.proofs.lemmas.List.{ext_get_or, get_or-map, length-map}
 use Rattle.circuit.specs.Order.{net_at}

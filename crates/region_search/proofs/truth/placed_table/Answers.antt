@@ -1,4 +1,4 @@
-use Rattle.std.proofs.Common.{List, sym, subst}
+use Rattle.std.proofs.Common.{List, subst}
 use Rattle.circuit.specs.declared.parts.NetId.{NetId}
 use Rattle.region_search.proofs.PlacedTables.{is_placed_table}
 use Rattle.region_search.specs.Truth.{AreReads}

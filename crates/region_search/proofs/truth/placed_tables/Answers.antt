@@ -2,7 +2,6 @@ use Rattle.std.proofs.Common.{◌≡◌, ℕ, List, [], ◌∷◌, Some, length,
 use Rattle.std.proofs.lemmas.List.{length-append}
 use Rattle.std.specs.List.{slice_get}
 use Rattle.circuit.specs.Order.{IsOrder, net_at}
-use Rattle.circuit.specs.declared.parts.NetId.{NetId}
 use Rattle.region_search.proofs.PlacedTables.{each_more, own_apart}
 use Rattle.region_search.specs.Going.{IsPlacedTable}
 use Rattle.region_search.specs.declared.search.TablePlace.{TablePlace}

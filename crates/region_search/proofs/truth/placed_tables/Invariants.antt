@@ -1,6 +1,5 @@
-use Rattle.std.proofs.Common.{◌≡◌, ◌<◌, ℕ, Some, length}
+use Rattle.std.proofs.Common.{◌≡◌, ℕ, Some, length}
 use Rattle.std.specs.List.{slice_get}
-use Rattle.fanout.specs.Readers.{Ordered}
 use Rattle.region_search.specs.Going.{IsPlaced}
 use Rattle.region_search.specs.declared.search.TablePlace.{TablePlace}
 use Rattle.region_search.proofs.truth.placed_tables.Given as goal

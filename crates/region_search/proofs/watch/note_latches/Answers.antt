@@ -1,4 +1,4 @@
-use Rattle.std.proofs.Common.{◌+◌, ◌<◌, ◌∙◌, false, get_or, sym, arith, get_or-set_other}
+use Rattle.std.proofs.Common.{◌+◌, ◌∙◌, false, get_or, sym, arith, get_or-set_other}
 use Rattle.std.proofs.lemmas.Option.{slice_get_within}
 use Rattle.circuit.specs.declared.parts.Latch.{Latch}
 use Rattle.region_search.proofs.OwnPlaces.{more_latches}

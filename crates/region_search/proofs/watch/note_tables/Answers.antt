@@ -1,4 +1,4 @@
-use Rattle.std.proofs.Common.{◌<◌, arith}
+use Rattle.std.proofs.Common.{arith}
 use Rattle.region_search.proofs.OwnPlaces.{more_tables}
 use Rattle.region_search.proofs.watch.note_tables.Goals as goal
 

@@ -1,6 +1,6 @@
 use Rattle.std.proofs.Common.{inl, inr, true, sym, ◌∙◌, arith}
 use Rattle.pair_sets.specs.Pairs.{has}
-use Rattle.region_search.proofs.Narrowing.{goes_anew, narrow_anew, narrow_goes_on, no_pair, some_pair}
+use Rattle.region_search.proofs.Narrowing.{narrow_anew, narrow_goes_on, no_pair, some_pair}
 use Rattle.region_search.specs.Going.{sets_of}
 use Rattle.region_search.proofs.search.Search.narrow.Goals as goal
 
