@@ -1,0 +1,8 @@
+//! What the metrics of a plan rest on, by each reading of it: the evidence of each fault, and the sums where faults are free.
+#![tactic(auto)]
+
+mod evidence;
+mod free;
+
+pub use evidence::evidence_of;
+pub use free::{FreeFaults, free_sums};
