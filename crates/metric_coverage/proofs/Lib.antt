@@ -1,1 +1,4 @@
 pub mod Summing
+pub mod Loading
+pub mod Ordering
+pub mod Turning

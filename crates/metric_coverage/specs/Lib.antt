@@ -1,1 +1,4 @@
 pub mod Freed
+pub mod Turns
+pub mod Work
+pub mod Planes

@@ -2,7 +2,12 @@
 #![tactic(auto)]
 
 mod evidence;
+mod fan_out;
 mod free;
+mod planes;
+mod share;
+mod worker;
 
 pub use evidence::evidence_of;
 pub use free::{FreeFaults, free_sums};
+pub use planes::{BatchPlanes, reading_tables};
