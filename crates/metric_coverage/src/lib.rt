@@ -3,11 +3,13 @@
 
 mod evidence;
 mod fan_out;
+mod finding;
 mod free;
 mod planes;
 mod share;
 mod worker;
 
 pub use evidence::evidence_of;
+pub use finding::evidence_list;
 pub use free::{FreeFaults, free_sums};
 pub use planes::{BatchPlanes, reading_tables};
