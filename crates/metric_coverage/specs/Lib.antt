@@ -1,0 +1,5 @@
+pub mod Freed
+pub mod Turns
+pub mod Work
+pub mod Planes
+pub mod Spoken
