@@ -10,7 +10,7 @@ import hints
 LISTS = ("verilog", "headers", "liberty", "techmap", "parameters", "defines", "include")
 CYCLES = re.compile(r"none|[0-9]+(,[0-9]+)*")
 KEYS = {
-    "design": ("verilog", "headers", "top", "netlist", "latches", "liberty", "script", "techmap", "synth", "parameters", "defines", "include"),
+    "design": ("verilog", "headers", "top", "netlist", "latches", "liberty", "script", "techmap", "synth", "start", "parameters", "defines", "include"),
     "workload": ("file", "scope", "clock", "unknown", "nets", "without", "skip"),
     "campaign": ("rates", "points", "interval", "intervals", "flips", "pulses", "asil", "workers"),
     "output": ("folder", "title"),
@@ -41,6 +41,7 @@ class Settings:
     script: str = ""
     techmap: tuple = ()
     synth: str = ""
+    start: str = ""
     parameters: tuple = ()
     defines: tuple = ()
     include: tuple = ()
@@ -139,7 +140,7 @@ def look_at_values(said):
         text = getattr(said, key)
         if not (re.fullmatch("[0-9]{1,6}", text) and least <= int(text) <= most or key == "latches" and not text):
             raise Wrong(f"{key} is a number from {least} to {most}, and not {text}")
-    for key, pattern, meaning in (*[(key, CYCLES, "none, or cycles as 1,5,40") for key in ("flips", "pulses", "intervals")], ("asil", "[BCD]", "B, C or D"), ("unknown", "[01]?", "0 or 1")):
+    for key, pattern, meaning in (*[(key, CYCLES, "none, or cycles as 1,5,40") for key in ("flips", "pulses", "intervals")], ("asil", "[BCD]", "B, C or D"), ("unknown", "[01]?", "0 or 1"), ("start", "[01]?", "0 or 1")):
         if not re.fullmatch(pattern, getattr(said, key)):
             raise Wrong(f"{key} is {meaning}, and not {getattr(said, key)}")
     out = pathlib.PurePath(said.out)
@@ -149,13 +150,14 @@ def look_at_values(said):
 
 def look_at_synthesis(said):
     """Keys that say how the Verilog is read have no meaning for a netlist or beside a script of one's own."""
-    for key in ("liberty", "script", "techmap", "synth", "parameters", "defines", "include"):
+    for key in ("liberty", "script", "techmap", "synth", "start", "parameters", "defines", "include"):
         if getattr(said, key) and said.given_netlist:
             raise Wrong(f"[design] {key} is for verilog, and not for netlist")
         if getattr(said, key) and said.script and key not in ("script", "liberty"):
             raise Wrong(f"[design] {key} belongs into the script {said.script}")
-    if said.liberty and said.synth:
-        raise Wrong("[design] synth has no meaning for cells of a library: nothing is synthesised")
+    for key in ("synth", "start"):
+        if said.liberty and getattr(said, key):
+            raise Wrong(f"[design] {key} has no meaning for cells of a library: nothing is synthesised")
     for key, pattern, meaning in (("parameters", r"\w+=\S+", "NAME=VALUE"), ("defines", r"\w+(=\S*)?", "NAME or NAME=VALUE"), ("include", r"\S+", "folders")):
         for word in getattr(said, key):
             if not re.fullmatch(pattern, word):

@@ -91,7 +91,9 @@ def of_secded(made):
     main = made.report("examples/secded_fifo")
     yield f"it has {main.head['nets']} nets and {main.head['latches']} latches"
     yield f"The {part(main, 'storage').counts['residual']} residual faults of the storage"
-    yield f"All but {part(main, 'pointers').counts['safe']} faults of the pointers"
+    yield f"All {part(main, 'pointers').counts['single-point']} faults of the pointers are single-point faults"
+    decoder = part(main, "decoder")
+    yield f"{100 * (decoder.coverage[1] - decoder.coverage[0]) // decoder.coverage[1]} % of what the decoder's faults weigh"
     yield f"SPFM of transient faults stops at {spfm_transient(main).replace('.0', '')}"
     yield f"SPFM of permanent faults is {spfm(main)}, which isn't"
     yield f"With F = 0 one fault more of the storage is residual\n(SPFM permanent {spfm(made.report('examples/secded_fifo', ftti=0))})"

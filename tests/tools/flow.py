@@ -364,6 +364,43 @@ def names_of_neighbours_in_the_flow(folder, program):
     assert "look: perhaps of another part than copy: u_b.x, made of nets of u_a alone" in printed, printed
 
 
+# All that the flow may say of an example beside what its settings accept as meant: nothing of it is transient, and the page of the example says so.
+SAID = {"duplicated": ["Target spfm transient: nothing was looked at."]}
+
+
+def _of_words(example, keys):
+    """The settings that an example's words say, where it has none of its own; what may be meant is accepted."""
+    words = example.joinpath("words").read_text().split()
+    options = dict(zip(words[6::2], words[7::2]))
+    latches = example.joinpath("report.txt").read_text().split()[5]
+    lines = [f"[design]\nnetlist = {words[1]}\nlatches = {latches}\n[workload]\nfile = {words[2]}\n[campaign]\nrates = {words[3]}\npoints = {words[4]}",
+             *[f"{name} = {options[f'--{option}']}" for name, option in (("interval", "ftti"), ("flips", "flips"), ("pulses", "pulses"), ("asil", "asil")) if f"--{option}" in options],
+             "[accepted]", *[f"{key} = its page says why" for key in keys]]
+    return "\n".join(lines) + "\n"
+
+
+def the_examples_have_no_such_hint(folder, program):
+    """Each example goes through the flow, and what is worth a look alone is neither told nor accepted."""
+    sys.path[:0] = [str(TOOLS)]
+    import hints
+    left, found = [], {}
+    for example in sorted(it.parent for it in EXAMPLES.glob("*/words")):
+        copy = shutil.copytree(example, pathlib.Path(folder, example.name), ignore=shutil.ignore_patterns("flow"))
+        if copy.joinpath("flow.ini").is_file() and shutil.which("yosys") is None:
+            left.append(example.name)
+            continue
+        if not copy.joinpath("flow.ini").is_file():
+            held(copy, flow__ini=_of_words(copy, hints.MAY_BE_MEANT))
+        printed, _ = _flow(copy, program)
+        said = re.findall(r"^#   (?:look: |accepted, (?!(?:" + "|".join(hints.MAY_BE_MEANT) + r"):))(.*)", printed, re.M)
+        said += re.findall(r"latches of unknown start begin at 1: .*", printed)
+        if said != SAID.get(example.name, []):
+            found[example.name] = said
+    assert not found, found
+    if left:
+        raise Skipped(f"yosys is not installed: {', '.join(left)}")
+
+
 def what_a_refusal_names_is_shown(folder, program):
     for changes, wanted in (({"points__csv": POINTS + "observe,AL\n"}, "row 4 of points.csv is observe,AL\n  the netlist has al\n"),
                             ({"rates__csv": RATES.replace("pins,mission", "pins,Mission")}, "row 2 of rates.csv is d,pins,Mission,no,0.1,0\n"),
@@ -498,7 +535,8 @@ def settings_that_say_something_wrong(folder, program):
             (_with(("campaign", "workers = 0")), "workers is a number from 1 to 32"), (_with(("campaign", "pulses = 1;2")), "pulses is none, or cycles"), (SETTINGS.replace("= C", "= A"), "asil is B, C or D"),
             (_with(("output", "folder = ../other")), "folder of its own"), (_with(("output", "folder = .")), "folder of its own"), (_with(("accepted", "missions = why not")), "[accepted] has no key missions"),
             (_with(("design", "liberty = drive.vcd")), "liberty is for verilog, and not for netlist"), (VERILOG.format("script = drive.vcd\nsynth = -nofsm"), "synth belongs into the script drive.vcd"),
-            (VERILOG.format("liberty = drive.vcd\nsynth = -nofsm"), "nothing is synthesised"), (VERILOG.format("parameters = WIDTH 8"), "parameters is a list of NAME=VALUE, and not WIDTH"),
+            (VERILOG.format("liberty = drive.vcd\nsynth = -nofsm"), "synth has no meaning for cells of a library: nothing is synthesised"), (VERILOG.format("liberty = drive.vcd\nstart = 0"), "start has no meaning"),
+            (VERILOG.format("start = 2"), "start is 0 or 1, and not 2"), (_with(("design", "start = 0")), "start is for verilog, and not for netlist"), (VERILOG.format("parameters = WIDTH 8"), "parameters is a list of NAME=VALUE, and not WIDTH"),
             (VERILOG.format("defines = A-B"), "defines is a list of NAME or NAME=VALUE, and not A-B"), (VERILOG.format("include = none"), "there is no folder none"), (VERILOG.format("techmap = none.v"), "there is no file none.v"),
             (_with(("accepted", "goals =")), "[accepted] goals has no value"), ("rates\n", "no section headers"), (SETTINGS.replace("rates.csv", "none.csv"), "there is no file none.csv")):
         _design(folder, settings)
@@ -599,6 +637,28 @@ def how_the_verilog_is_read(folder, program):
     held(folder, own__ys=KEYED["own__ys"].format("other.blif"))
     _, said = _flow(folder, program, status=3)
     assert "own.ys wrote no flow/design.blif: its last line must be `write_blif -noalias flow/design.blif`" in said, said
+
+
+# q has no initial value, and c the opposite of what the settings say of the others.
+STARTS = """module top (input clk, d, output reg q, c, output al);
+initial c = {}; assign al = q ^ c; always @(posedge clk) begin q <= d; c <= ~d; end
+endmodule
+"""
+
+
+def where_the_device_starts_flip_flops(folder, program):
+    """Those to which the Verilog gives no initial value: by the settings there is no unknown start, without them the flow runs ones too."""
+    if shutil.which("yosys") is None:
+        raise Skipped("yosys is not installed")
+    for start, other in (("0", "1"), ("1", "0"), ("", "0")):
+        shutil.rmtree(pathlib.Path(folder, "flow"), ignore_errors=True)
+        settings = _with(("design", "verilog = top.v\ntop = top" + (f"\nstart = {start}" if start else "")), ("workload", "file = w.csv"),
+                         ("accepted", "alarms = it is of no matter here\npatterns = nor these"), without=("netlist = design.blif", "drive = mission drive.vcd"))
+        _design(folder, settings, top__v=STARTS.format(other), w__csv="workload,kind,d\nw,mission,0\nw,mission,1\nw,mission,1\n", rates__csv=RATES + "$*,rest,mission,no,1,0\n")
+        printed, _ = _flow(folder, program)
+        latches = [line.split() for line in pathlib.Path(folder, "flow", "design.blif").read_text().splitlines() if line.startswith(".latch")]
+        assert {words[2]: words[5] for words in latches} == {"q": start or "2", "c": other}, latches
+        assert ("give no initial value" in printed) == ("begin at 1" in printed) == (start == ""), printed
 
 
 def from_a_netlist_and_dumps(folder, program):

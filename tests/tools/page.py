@@ -44,8 +44,13 @@ def a_page_of_each_example(folder, _):
 
 def what_the_page_says(folder, _):
     text = _made_page(folder, "bridge").read_text()
-    for wanted in ("85.50 %", "at least 90 %", "3642359/4260000", "without the 22 heaviest faults", "u_control", "2 outputs of the netlist are no point: rparity, pparity."):
+    for wanted in ("84.83 %", "at least 90 %", "3614153/4260000", "without the 25 heaviest faults", "u_control", "Nothing was noticed"):
         assert wanted in text, wanted
+    folder = pathlib.Path(folder)
+    points = folder.joinpath("bridge", "points.csv")
+    points.write_text("".join(line for line in points.read_text().splitlines(True) if "parity" not in line))
+    tool("page", *FILES, "report.txt", "-o", "page.html", folder=points.parent)
+    assert "2 outputs of the netlist are no point: rparity, pparity." in points.with_name("page.html").read_text()
     text = _made_page(folder, "watchdog").read_text()
     assert "2 safety goals" in text
     text = _made_page(folder, "secded_fifo", "--flips", "20,45,5000").read_text()
