@@ -50,6 +50,7 @@ cases: build/fmeda
 	tests/program/prefixes build/fmeda
 	tests/program/resumed build/fmeda
 	tests/program/kept build/fmeda
+	tests/program/coverage_agrees build/fmeda
 	tests/program/shards build/fmeda
 	tests/program/hostile build/fmeda
 	tests/program/memory build/fmeda

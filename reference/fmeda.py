@@ -6,6 +6,7 @@ import sys
 
 sys.path.insert(0, str(pathlib.Path(__file__).resolve().parent))
 import campaign as c
+import coverage
 import kept
 import readings
 import tables
@@ -16,9 +17,10 @@ USAGE = Refused(2, b"usage")
 OPTIONS = {"classes": "", "check": "flips pulses", "run": "ftti flips pulses workers asil", "resume": "ftti flips pulses workers asil",
            "audit": "every alone ftti flips pulses", "gen": "workers", "report": "ftti flips pulses asil", "shard": "part of ftti flips pulses",
            "merge": "ftti flips pulses", "pairs": "ftti flips pulses workers", "parts": "", "faults": "ftti flips pulses",
-           "progress": "ftti flips pulses asil", "breakdown": "ftti flips pulses asil intervals workers", "latencies": "ftti flips pulses asil workers", "trace": "run fault flips pulses nets"}
+           "progress": "ftti flips pulses asil", "breakdown": "ftti flips pulses asil intervals workers", "latencies": "ftti flips pulses asil workers",
+           "coverage": "ftti flips pulses asil workers", "trace": "run fault flips pulses nets"}
 PLACES = {"classes": 2, "check": 4, "run": 5, "resume": 5, "audit": 5, "gen": 2, "report": 4, "shard": 5, "merge": 7, "pairs": 5, "parts": 2,
-          "faults": 5, "progress": 5, "breakdown": 4, "latencies": 4, "trace": 2}
+          "faults": 5, "progress": 5, "breakdown": 4, "latencies": 4, "coverage": 4, "trace": 2}
 MOST_PARTS, MOST_PAIRS = 1024, 2**20
 
 
@@ -194,6 +196,8 @@ def done(command, names, said):
         return readings.breakdown(plan, said["intervals"])
     if command == "latencies":
         return readings.latencies(plan)
+    if command == "coverage":
+        return coverage.coverage(plan)
     if command == "shard":
         planes = c.true_planes(plan)
         mine = [b for b in range(plan.batches) if b % said["of"] == said["part"]]

@@ -44,25 +44,27 @@ def fault_table(plan, planes):
     return b"\n".join([*lines, b""])
 
 
-def judged(plan, planes):
-    """The weights of the faults that have a class but outside: those of kept batches, of the missing ones in parts that are mechanisms, and
-    of the other missing ones; permanent and transient each."""
-    found = {(where, lasts): 0 for where in ("kept", "mechanism", "else") for lasts in (True, False)}
+def judged(plan, classes):
+    """The weights of the faults that have a class but outside: those whose class is told, those whose class is None in parts that are mechanisms,
+    and the other ones without a class; permanent and transient each."""
+    found = {(where, lasts): 0 for where in ("told", "mechanism", "else") for lasts in (True, False)}
     for i, (_, n, _) in enumerate(plan.faults):
         role = plan.parts[plan.owner[n]][1]
         if role != "other":
-            where = "kept" if i // 64 in planes else "mechanism" if role == "mechanism" else "else"
+            where = "told" if classes[i] is not None else "mechanism" if role == "mechanism" else "else"
             found[where, plan.permanent[i]] += plan.weights[i]
     return found
 
 
-def ends_of(plan, planes):
-    """(label, least, greatest) of the three fractions, each a pair or None, and the least and the greatest term. The weights that aren't
-    judged yet are added to what the kept rows have, where they do least and where they do most."""
-    weights = judged(plan, planes)
-    _, danger, latent, _, danger_transient = c.total(plan, planes) if planes else [0] * 5
+def ends_of(plan, classes):
+    """(label, least, greatest) of the three fractions, each a pair or None, and the least and the greatest term. The weights without a class are
+    added to what the others have, where they do least and where they do most."""
+    weights = judged(plan, classes)
+    weigh = lambda lasts, *kinds: sum(plan.weights[i] for i, kind in enumerate(classes) if kind in kinds and plan.permanent[i] == lasts)
+    danger, danger_transient = (weigh(lasts, "residual", "single-point") for lasts in (True, False))
+    latent = weigh(True, "latent")
     missing = {lasts: weights["mechanism", lasts] + weights["else", lasts] for lasts in (True, False)}
-    permanent, transient = (weights["kept", lasts] + missing[lasts] for lasts in (True, False))
+    permanent, transient = (weights["told", lasts] + missing[lasts] for lasts in (True, False))
     of = lambda num, den: (num, den) if den else None
     best = of(permanent - danger - latent, permanent - danger)
     counted = permanent - danger - weights["else", True]
@@ -73,21 +75,30 @@ def ends_of(plan, planes):
         ("lfm", worst, best),
     ]
     least = danger + danger_transient
-    return weights, (permanent, transient), fractions, (least, least + missing[True] + missing[False])
+    return fractions, (least, least + missing[True] + missing[False])
 
 
 def stands(worst, best):
     return "met" if worst else "open" if best else "missed"
 
 
-def progress(plan, planes):
-    weights, (permanent, transient), fractions, (least, greatest) = ends_of(plan, planes)
+def bounds_of(plan, classes):
+    """(label, least, greatest, how the target stands) of each metric, whatever the classes are that aren't told."""
+    fractions, (least, greatest) = ends_of(plan, classes)
     spfm, lfm, most = c.PER_CENT[plan.asil]
     show = lambda end: "-" if end is None else f"{end[0]}/{end[1]}"
     meets = lambda end, per_cent: 100 * end[0] >= per_cent * end[1]
-    lines = [f"rows {len(planes)} of {plan.batches}", f"judged permanent {weights['kept', True]} of {permanent}",
-             f"judged transient {weights['kept', False]} of {transient}"]
-    lines += [f"{label} from {show(worst)} to {show(best)}" for label, worst, best in fractions] + [f"term from {least} to {greatest}"]
     for (label, worst, best), per_cent in zip(fractions, (spfm, spfm, lfm)):
-        lines.append(f"target {label} " + ("-" if best is None else stands(meets(worst, per_cent), meets(best, per_cent))))
-    return "\n".join([*lines, f"target term {stands(greatest < most, least < most)}", ""]).encode()
+        yield label, show(worst), show(best), "-" if best is None else stands(meets(worst, per_cent), meets(best, per_cent))
+    yield "term", least, greatest, stands(greatest < most, least < most)
+
+
+def progress(plan, planes):
+    classes = [c.fault_class(plan, planes, i) if i // 64 in planes else None for i in range(len(plan.faults))]
+    weights, bounds = judged(plan, classes), list(bounds_of(plan, classes))
+    lines = [f"rows {len(planes)} of {plan.batches}"]
+    lines += [f"judged {word} {weights['told', lasts]} of {sum(weights[where, lasts] for where in ('told', 'mechanism', 'else'))}"
+              for word, lasts in (("permanent", True), ("transient", False))]
+    lines += [f"{label} from {least} to {greatest}" for label, least, greatest, _ in bounds]
+    lines += [f"target {label} {standing}" for label, _, _, standing in bounds]
+    return "\n".join([*lines, ""]).encode()
