@@ -1,6 +1,6 @@
 """Circuits that aren't synthesised from a source, for the benchmark of the kernel: a memory whose faults are seldom noticed, registers
-that one reset reaches, and a serial line with a monitor, whose counters differ for long. Each function writes a netlist, a workload, rates
-and points into a folder."""
+that one reset reaches, a serial line with a monitor, whose counters differ for long, and a processor in lockstep, most of whose faults are
+quiet for long. Each function writes a netlist, a workload, rates and points into a folder."""
 from netlists import RATES, put
 
 ROWS = {"and": ["11 1"], "or": ["1- 1", "-1 1"], "xor": ["10 1", "01 1"], "without": ["10 1"], "not": ["0 1"], "same": ["1 1"]}
@@ -228,3 +228,109 @@ def received_line(cycles):
         at = (t - begin) // (DIVISORS[begin > cycles // 2] + 2)
         levels.append(frames[begin][at] if begin in frames and at < FRAME else "1")
     return lambda t: levels[t]
+
+
+REGISTERS, WORD, PHASES = 5, 32, ("fetch", "read", "work", "write")
+# The bits of an instruction's fields, and the operations by their number: each of the first eight on two registers, or on one and a
+# number where the bit behind them is 1; then the store, the load and the branch.
+FIELDS = {"op": 4, "to": REGISTERS, "one": REGISTERS, "two": REGISTERS, "number": 16}
+WORKS = ("add", "subtract", "and", "or", "xor", "left", "right", "load")
+STORE, BRANCH = 14, 15
+
+
+def chosen(n, to, select, no, yes):
+    """The one net where the select is 0, and the other where it is 1."""
+    return n.table("or", to, n.table("without", f"{to}.no", no, select), n.table("and", f"{to}.yes", yes, select))
+
+
+def looked_up(n, to, words, place, width):
+    """The word at a place, by a tree of choices."""
+    words = list(words)
+    for k, select in enumerate(place):
+        words = [[chosen(n, f"{to}.{k}.{j}.{i}", select, even[i], odd[i]) for i in range(width)] for j, (even, odd) in enumerate(zip(words[::2], words[1::2]))]
+    return words[0]
+
+
+def added(n, to, nets, others, carry):
+    """The sum of two numbers; `carry` is the first carry."""
+    sums = []
+    for i, (net, other) in enumerate(zip(nets, others)):
+        half = n.table("xor", f"{to}.half{i}", net, other)
+        sums.append(n.table("xor", f"{to}.sum{i}", half, carry) if carry else half)
+        both = n.table("and", f"{to}.both{i}", net, other)
+        carry = n.table("or", f"{to}.carry{i}", both, n.table("and", f"{to}.over{i}", half, carry)) if carry else both
+    return sums
+
+
+def shifted(n, to, nets, count, by):
+    """A number whose bits have moved by `count` places, to the greater ones where `by` is 1 and to the lower where it is -1."""
+    for k, select in enumerate(count):
+        step = by * 2**k
+        nets = [
+            chosen(n, f"{to}.{k}.{i}", select, net, nets[i - step]) if 0 <= i - step < len(nets) else n.table("without", f"{to}.{k}.{i}", net, select)
+            for i, net in enumerate(nets)
+        ]
+    return nets
+
+
+def core(n, name):
+    """A processor that takes four cycles for an instruction: it gives where it fetches, and what it stores, with the strobe."""
+    net = lambda part: f"{name}.{part}"
+    bits = lambda part, count=WORD: [f"{name}.{part}{i}" for i in range(count)]
+    for i, phase in enumerate(PHASES):
+        n.latch(n.table("or" if i == 0 else "without", net(f"{phase}.next"), net(PHASES[i - 1]), "rst"), net(phase))
+    for field, width in FIELDS.items():
+        n.registers(net(field), lambda i, field=field: f"{field}{i}", net("fetch"), width)
+    words = [bits(f"r{w}.") for w in range(2**REGISTERS)]
+    for port in ("one", "two"):
+        read = looked_up(n, net(f"{port}.read"), words, bits(port, REGISTERS), WORD)
+        n.registers(net(f"{port}.taken"), lambda i, read=read: read[i], net("read"), WORD)
+    op, one, two, number = bits("op", 4), bits("one.taken"), bits("two.taken"), bits("number", 16)
+    by_number = n.table("without", net("by.number"), op[3], n.table("and", net("op.both"), op[1], op[2]))
+    other = [chosen(n, net(f"other{i}"), by_number, two[i], number[min(i, 15)]) for i in range(WORD)]
+    turned = [n.table("xor", net(f"turned{i}"), bit, op[0]) for i, bit in enumerate(other)]
+    total, count = added(n, net("total"), one, turned, op[0]), other[:5]
+    simple = {kind: [n.table(kind, net(f"{kind}.of{i}"), one[i], other[i]) for i in range(WORD)] for kind in ("and", "or", "xor")}
+    moved = {way: shifted(n, net(way), one, count, by) for way, by in (("left", 1), ("right", -1))}
+    gives = {"add": total, "subtract": total, **simple, **moved, "load": [f"mem{i}" for i in range(WORD)]}
+    given = looked_up(n, net("given"), [gives[work] for work in WORKS], op[:3], WORD)
+    n.registers(net("result"), lambda i: given[i], net("work"), WORD)
+    for i, bit in enumerate(op):
+        n.table("not", net(f"op.not{i}"), bit)
+    store, branch = (n.all_of("and", net(part), [op[i] if code >> i & 1 else net(f"op.not{i}") for i in range(4)]) for part, code in (("store", STORE), ("branch", BRANCH)))
+    keeps = n.table("without", net("keeps"), net("write"), n.table("or", net("store.or.branch"), store, branch))
+    for i in range(REGISTERS):
+        n.table("not", net(f"to.not{i}"), net(f"to{i}"))
+    for w, word in enumerate(words):
+        n.registers(net(f"r{w}."), lambda i: net(f"result{i}"), n.table("and", net(f"r{w}.set"), keeps, n.is_number(net(f"r{w}.is"), net("to"), REGISTERS, w)), WORD)
+    apart = n.all_of("or", net("apart"), [n.table("xor", net(f"apart.bit{i}"), one[i], two[i]) for i in range(WORD)])
+    goes = n.table("without", net("goes"), branch, apart)
+    step = [chosen(n, net(f"step{i}"), goes, net("write") if i == 2 else "rst", number[min(i, 15)]) for i in range(WORD)]
+    onward = added(n, net("onward"), bits("at"), step, None)
+    n.registers(net("at"), lambda i: onward[i], net("write"), WORD)
+    strobe = n.table("and", net("strobe"), store, net("write"))
+    return bits("at"), [n.table("and", net(f"out{i}"), bit, strobe) for i, bit in enumerate([*bits("result"), *two])], strobe
+
+
+def processor(folder, cycles):
+    """Two processors of 32 registers in lockstep, of which the first is observed. The alarm is a latch behind their comparison. Four of five
+    instructions use eight of the registers alone, so most faults of the others are quiet for long."""
+    n = Netlist()
+    (at, out, strobe), (other_at, other_out, other_strobe) = (core(n, name) for name in ("main", "check"))
+    outs = [*at, *out, strobe]
+    apart = [n.table("xor", f"compare.apart{i}", net, other) for i, (net, other) in enumerate(zip(outs, [*other_at, *other_out, other_strobe]))]
+    n.latch(n.all_of("or", "compare.any", apart), "alarm")
+    inputs = ["rst", *(f"{field}{i}" for field, width in FIELDS.items() for i in range(width)), *(f"mem{i}" for i in range(WORD))]
+    written(folder, n, inputs, cycles, outs, ["alarm"], instructions(cycles))
+
+
+def instructions(cycles):
+    """What each input of the processor is in each cycle: an instruction in each fourth, which stays for four."""
+    bits, values = noise(4), {}
+    draw = lambda count: sum((next(bits) == "1") << i for i in range(count))
+    for k in range(-(-cycles // len(PHASES)) + 1):
+        few = 8 if draw(3) < 6 else 2**REGISTERS
+        values[k] = {field: draw(width) % (few if width == REGISTERS else 2**width) for field, width in FIELDS.items()} | {"mem": draw(WORD)}
+    at = lambda t: values[max(t - 2, 0) // len(PHASES)]
+    fixed = {f"{field}{i}": lambda t, field=field, i=i: "01"[at(t)[field] >> i & 1] for field, width in (*FIELDS.items(), ("mem", WORD)) for i in range(width)}
+    return fixed | {"rst": lambda t: "01"[t < 2]}

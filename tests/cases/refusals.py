@@ -204,6 +204,12 @@ ROWS = {
         ("latencies_of_a_part_without_a_fault", "late", "latencies late.blif late.csv rates.csv points.csv", None, None, "part in has a transient rate and no such fault", 7),
         ("latencies_of_a_workload_that_is_refused", "late", "latencies late.blif late.csv rates.csv points.csv", "late.csv", "workload,kind,b\nm,mission,1\n", "workload row 1 BadColumn", 9),
     ),
+    "coverage": (
+        ("coverage_has_no_intervals", "late", "coverage late.blif late.csv rates.csv points.csv --intervals 1", None, None, "usage", 2),
+        ("coverage_has_no_result", "late", "coverage late.blif late.csv rates.csv points.csv res", None, None, "usage", 2),
+        ("coverage_of_no_workers", "late", "coverage late.blif late.csv rates.csv points.csv --flips 1 --pulses 2 --workers 0", None, None, "usage", 2),
+        ("coverage_of_a_part_without_a_fault", "late", "coverage late.blif late.csv rates.csv points.csv", None, None, "part in has a transient rate and no such fault", 7),
+    ),
     "trace": (
         ("trace_of_no_such_run", "late", "trace late.blif late.csv --run 3", None, None, "no such run", 17),
         ("trace_of_run_0", "late", "trace late.blif late.csv --run 0", None, None, "usage", 2),

@@ -3,7 +3,7 @@ _fmeda() {
     local current=${COMP_WORDS[COMP_CWORD]} previous=${COMP_WORDS[COMP_CWORD - 1]} command=${COMP_WORDS[1]} options=
     COMPREPLY=()
     if [ "$COMP_CWORD" -eq 1 ]; then
-        COMPREPLY=($(compgen -W "classes check run resume audit report shard merge pairs parts faults progress breakdown latencies trace gen" -- "$current"))
+        COMPREPLY=($(compgen -W "classes check run resume audit report shard merge pairs parts faults progress breakdown latencies coverage trace gen" -- "$current"))
         return
     fi
     case $previous in
@@ -21,7 +21,7 @@ _fmeda() {
         shard) options="--part --of --ftti --flips --pulses" ;;
         breakdown) options="--ftti --flips --pulses --asil --intervals --workers" ;;
         trace) options="--run --fault --flips --pulses --nets" ;;
-        latencies) options="--ftti --flips --pulses --asil --workers" ;;
+        latencies|coverage) options="--ftti --flips --pulses --asil --workers" ;;
         pairs) options="--ftti --flips --pulses --workers" ;;
         gen) options="--workers" ;;
     esac

@@ -47,6 +47,7 @@ plain (task.Shard k n) = task.Shard 0 0
 plain (task.Pairs n) = task.Pairs 0
 plain (task.Breakdown ns n) = task.Breakdown [] 0
 plain (task.Latencies n) = task.Latencies 0
+plain (task.Coverage n) = task.Coverage 0
 plain (task.Trace n f ns) = task.Trace 0 None None
 plain other = other
 
@@ -92,6 +93,7 @@ module _ (rows : List Row) where
       let intervals : ks ≡ ls = same_numbers 4096 (omega arith) 16 (text_or rows (codes "none") (codes "intervals")) ks ls (p.1, p.2) (q.1, q.2) in
       λ i. task.Breakdown (intervals i) (workers i)
   same_own (task.Latencies n) (task.Latencies m) e p q = ap task.Latencies (same_workers n m p q)
+  same_own (task.Coverage n) (task.Coverage m) e p q = ap task.Coverage (same_workers n m p q)
   same_own (task.Trace n f ns) (task.Trace m g ms) e p q =
       let run : n ≡ m = same_number rows [] (codes "run") 1 65536 n m p.0 q.0 in
       let fault : f ≡ g = sym p.1 ∙ q.1 in

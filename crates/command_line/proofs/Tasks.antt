@@ -24,3 +24,7 @@ module _ (rows : List Row) (none : (workers : ℕ) → ¬ (HasNumber rows [] (co
   pub no_latencies : word ≡ codes "latencies" → (own : Task) → ¬ (IsTaskOf word rows own)
   no_latencies e (task.Latencies workers) is = none workers is.1
   no_latencies e other is = absurd (apart (codes "latencies") (word_of other) refl (sym e ∙ is.0))
+
+  pub no_coverage : word ≡ codes "coverage" → (own : Task) → ¬ (IsTaskOf word rows own)
+  no_coverage e (task.Coverage workers) is = none workers is.1
+  no_coverage e other is = absurd (apart (codes "coverage") (word_of other) refl (sym e ∙ is.0))

@@ -41,6 +41,7 @@ row_of own =
       | task.Progress ↦ (codes "progress", plan ++ asil)
       | task.Breakdown ns n ↦ (codes "breakdown", inputs ++ ftti ++ lists ++ asil ++ option (codes "intervals") (codes "none") ∷ workers)
       | task.Latencies n ↦ (codes "latencies", inputs ++ ftti ++ lists ++ asil ++ workers)
+      | task.Coverage n ↦ (codes "coverage", inputs ++ ftti ++ lists ++ asil ++ workers)
       | task.Trace n f ns ↦ (codes "trace", map place (codes "netlist" ∷ codes "workload" ∷ []) ++ run ++ free (codes "fault") ∷ lists ++ free (codes "nets") ∷ [])
     ]
 
@@ -51,7 +52,8 @@ word_of own = (row_of own).0
 abbrev pub tasks : List Task
 tasks =
     task.Classes ∷ task.Check ∷ task.Run 0 ∷ task.Resume 0 ∷ task.Audit 0 Lanes ∷ task.Gen 0 0 ∷ task.Report ∷ task.Shard 0 0 ∷ task.Merge ∷ task.Pairs 0
-    ∷ task.Parts ∷ task.Faults ∷ task.Progress ∷ task.Breakdown [] 0 ∷ task.Latencies 0 ∷ task.Trace 0 None None ∷ []
+    ∷ task.Parts ∷ task.Faults ∷ task.Progress ∷ task.Breakdown [] 0 ∷ task.Latencies 0 ∷ task.Coverage 0
+    ∷ task.Trace 0 None None ∷ []
 
 -- the program, of which one command must be named
 abbrev pub fmeda_app : App

@@ -58,6 +58,7 @@ module _ (rows : List Row) where
         | task.Pairs workers ↦ HasWorkers workers
         | task.Breakdown intervals workers ↦ HasWorkers workers × (text_or (codes "none") (codes "intervals") ≡ cycles_text intervals) × AreRising 16 4096 intervals
         | task.Latencies workers ↦ HasWorkers workers
+        | task.Coverage workers ↦ HasWorkers workers
         | task.Trace run fault nets ↦ HasNumber [] (codes "run") 1 65536 run × (first_of (codes "fault") rows ≡ fault) × (first_of (codes "nets") rows ≡ nets)
         | _ ↦ Unit {0}
       ]

@@ -148,6 +148,7 @@ fn command_rows() -> &'static [Row]
             &[Ftti, Flips, Pulses, Asil, Intervals, Workers],
         ),
         Row("latencies", INPUTS, &[Ftti, Flips, Pulses, Asil, Workers]),
+        Row("coverage", INPUTS, &[Ftti, Flips, Pulses, Asil, Workers]),
         Row(
             "trace",
             &[Netlist, Workload],
@@ -274,6 +275,9 @@ fn plain_task_of(word: &str, matches: &ArgMatches) -> Option<Task>
         "faults" => Some(Task::Faults),
         "progress" => Some(Task::Progress),
         "latencies" => Some(Task::Latencies {
+            workers: workers_of(matches)?,
+        }),
+        "coverage" => Some(Task::Coverage {
             workers: workers_of(matches)?,
         }),
         _ => None,

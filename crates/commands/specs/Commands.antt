@@ -66,6 +66,7 @@ HasFitNumbers (task.Shard part parts) = (part < parts) × (parts ≤ 1024)
 HasFitNumbers (task.Pairs workers) = (0 < workers) × (workers ≤ 32)
 HasFitNumbers (task.Breakdown intervals workers) = AreRising 16 4096 intervals × (0 < workers) × (workers ≤ 32)
 HasFitNumbers (task.Latencies workers) = (0 < workers) × (workers ≤ 32)
+HasFitNumbers (task.Coverage workers) = (0 < workers) × (workers ≤ 32)
 HasFitNumbers (task.Trace run fault nets) = (1 ≤ run) × (run ≤ 65536)
 HasFitNumbers _ = Unit {0}
 

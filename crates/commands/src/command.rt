@@ -161,6 +161,9 @@ pub enum Task {
     Latencies {
         workers: u32,
     },
+    Coverage {
+        workers: u32,
+    },
     Trace {
         run: u32,
         fault: Option<Name>,

@@ -18,6 +18,7 @@ usage: fmeda COMMAND FILES [OPTIONS]
   faults INPUTS RESULT                 all faults, as CSV
   breakdown INPUTS                     metrics by goal, without each alarm, by interval
   latencies INPUTS                     when each fault shows and is noticed
+  coverage INPUTS                      what the metrics rest on, and their bounds
   trace NETLIST WORKLOAD               waves of a run, and of a fault
   progress INPUTS RESULT               bounds of each metric, while a campaign runs
   pairs INPUTS RESULT                  faults that harm beside a latent one

@@ -22,6 +22,7 @@ use Rattle.campaign_tables.specs.PartTable.{part_table}
 use Rattle.metric_bounds.specs.Progress.{progress}
 use Rattle.readings.specs.Breakdown.{breakdown}
 use Rattle.readings.specs.Latencies.{latencies}
+use Rattle.coverage.specs.Coverage.{coverage}
 use Rattle.wave_dump.specs.Asked.{waves_asked}
 use Rattle.wave_dump.specs.Dump.{dump_text}
 use Rattle.row_audit.specs.Audited.{each_nth}
@@ -60,6 +61,7 @@ text_of task.Faults (Begun p k) = Some (fault_table p (kept_entries k))
 text_of task.Progress (Begun p k) = Some (progress p (kept_entries k))
 text_of (task.Breakdown intervals workers) (Planned p) = Some (breakdown p intervals)
 text_of (task.Latencies workers) (Planned p) = Some (latencies p)
+text_of (task.Coverage workers) (Planned p) = Some (coverage p)
 text_of (task.Trace run fault nets) (Driven c runs set) =
     Some (elim (waves_asked c runs set.flips set.pulses run fault nets) [ Ok waves ↦ dump_text waves | Err why ↦ [] ])
 text_of _ _ = None

@@ -20,7 +20,7 @@ use crate::merge::merge;
 use crate::pairs::tell_pairs;
 use crate::parts::tell_parts;
 use crate::prepare::prepared;
-use crate::reading_texts::{tell_breakdown, tell_latencies};
+use crate::reading_texts::{tell_breakdown, tell_coverage, tell_latencies};
 use crate::report::tell_report;
 use crate::run::{run_anew, run_on, run_share};
 use crate::trace::tell_trace;
@@ -90,6 +90,7 @@ fn print<R: Threads + Sync, O: Sink>(
             tell_breakdown(rt, alloc, judged.planned(), intervals, *workers, out)
         }
         Task::Latencies { workers } => tell_latencies(rt, alloc, judged.planned(), *workers, out),
+        Task::Coverage { workers } => tell_coverage(rt, alloc, judged.planned(), *workers, out),
         Task::Trace { run, fault, nets } => tell_trace(
             alloc,
             judged.driven(),

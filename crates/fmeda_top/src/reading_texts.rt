@@ -1,4 +1,4 @@
-// The texts of `breakdown` and `latencies`.
+// The texts of `breakdown`, `latencies` and `coverage`.
 ghost use Rattle.std.specs.Prelude.{◌<◌, ◌≤◌};
 ghost use Rattle.circuit.specs.Order.{IsOrder};
 ghost use Rattle.commands.specs.declared.command.Task.TheVariants as task;
@@ -10,6 +10,7 @@ use fm_base::Refusal;
 use fm_shelf::shelf::{Failed, Sink};
 use latency_table::write_latencies;
 use metric_breakdown::write_breakdown;
+use metric_coverage::write_coverage;
 use refusals::refused::Refused;
 use refusals::status::Status;
 use std::alloc::Global;
@@ -57,4 +58,20 @@ pub(crate) fn tell_latencies<R: Threads + Sync, O: Sink>(
 {
     let (plan, order) = (&planned.plan, &planned.order);
     after_readings(write_latencies(rt, alloc, plan, order, workers, out))
+}
+
+/// Simulates each fault once, and writes what the metrics rest on.
+pub(crate) fn tell_coverage<R: Threads + Sync, O: Sink>(
+    rt: &R,
+    alloc: Global,
+    planned: &Planned,
+    workers: u32,
+    out: &mut O,
+) -> Result<Status, Refused>
+    requires order { IsOrder planned.now.plan.circuit planned.now.order }
+    requires workers { (0 < workers) × (workers ≤ 32) }
+    ensures { TellsAs (task.Coverage workers) (StandsPlanned planned.now.plan) (O.seen out.old) (O.seen out.new) result }
+{
+    let (plan, order) = (&planned.plan, &planned.order);
+    after_readings(write_coverage(rt, alloc, plan, order, workers, out))
 }

@@ -1,5 +1,5 @@
 use Rattle.clap.specs.Words.{found_of, rows_of}
-use Rattle.command_line.proofs.Tasks.{no_latencies, no_pairs, no_resume, no_run}
+use Rattle.command_line.proofs.Tasks.{no_coverage, no_latencies, no_pairs, no_resume, no_run}
 use Rattle.command_line.proofs.table.plain_task_of.Goals as goal
 
 pub returns-in_err-workers_of-in-run : goal.returns-in_err-workers_of-in-run
@@ -21,3 +21,8 @@ pub returns-in_err-workers_of-in-latencies : goal.returns-in_err-workers_of-in-l
 returns-in_err-workers_of-in-latencies c =
     rw c.from_residual-in_err-workers_of-in-latencies.ensures
     (no_latencies (rows_of (found_of c.args.matches.now)) c.in_err-workers_of-in-latencies.ensures c.args.word.now c.in-latencies.is)
+
+pub returns-in_err-workers_of-in-coverage : goal.returns-in_err-workers_of-in-coverage
+returns-in_err-workers_of-in-coverage c =
+    rw c.from_residual-in_err-workers_of-in-coverage.ensures
+    (no_coverage (rows_of (found_of c.args.matches.now)) c.in_err-workers_of-in-coverage.ensures c.args.word.now c.in-coverage.is)
