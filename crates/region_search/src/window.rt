@@ -225,6 +225,7 @@ impl Search {
         ensures trial { IsFor watchers.now trial.new }
         ensures frames { trial.new.sets.frames ≡ trial.old.sets.frames }
         ensures same { result ≡ false → start.new ≡ start.old }
+        ensures keeps { (a b : Bool) → has start.old a b ≡ true → has start.new a b ≡ true }
         ensures again { result ≡ false → (s : Stretch) (bounds q : Sets) → AreSites watchers.now s.region sites.now → GoesOn watchers.now s bounds q self.now
             → (golden faulty : Values) → AreSo s golden faulty → LieIn s bounds golden faulty
             → leaves_from (s.region latch.to.0) (has start.old) (golden 0 latch.from.0) (faulty 0 latch.from.0) ≡ false }
@@ -260,6 +261,7 @@ impl Search {
         ensures trial { IsFor watchers.now trial.new }
         ensures frames { trial.new.sets.frames ≡ trial.old.sets.frames }
         ensures same { result ≡ false → starts.new ≡ starts.old }
+        ensures keeps { (l : ℕ) (x y : Bool) → has (set_at starts.old l) x y ≡ true → has (set_at starts.new l) x y ≡ true }
         ensures again { result ≡ false → (s : Stretch) (bounds q : Sets) → AreSites watchers.now s.region sites.now → GoesOn watchers.now s bounds q self.now
             → (golden faulty : Values) → AreSo s golden faulty → LieIn s bounds golden faulty → (l : ℕ) (latch : Latch) → slice_get latches.now l ≡ Some latch
             → leaves_from (s.region latch.to.0) (has (set_at starts.old l)) (golden 0 latch.from.0) (faulty 0 latch.from.0) ≡ false }

@@ -7,7 +7,7 @@ use Rattle.pair_sets.specs.Choice.{set_at}
 use Rattle.pair_sets.specs.Pairs.{has}
 use Rattle.pair_sets.specs.declared.pairs.PairSet.{PairSet}
 use Rattle.region_search.proofs.FirstSets.{latch_seen}
-use Rattle.region_search.proofs.Growing.{grown_here, grown_other, latch_is, not_grown, rest_grown}
+use Rattle.region_search.proofs.Growing.{grown_here, grown_keeps, grown_other, latch_is, not_grown, rest_grown}
 use Rattle.region_search.proofs.Standing.{more_left}
 use Rattle.region_search.specs.BeginSteps.{latch_of}
 use Rattle.region_search.specs.Window.{IsForced, leaves_from}
@@ -37,6 +37,7 @@ loop-number-preserved c =
       frames = c.grow_at-grows.ensures.frames ∙ c.loop-number.invariant.frames;
       size = length-set now k start ∙ c.loop-number.invariant.size;
       same = λ e. (let both = or_false c.loop-number.some c.grow_at-grows.result e in same both.1 ∙ c.loop-number.invariant.same both.0);
+      keeps = λ j x y e. grown_keeps now first k start lt rest j x y (c.grow_at-grows.ensures.keeps x y) (c.loop-number.invariant.keeps j x y e);
       again = λ e s bounds q sites goes golden faulty so lie j latch less at. (
           let both = or_false c.loop-number.some c.grow_at-grows.result e in
           elim (cases_lt j k) as (λ _. leaves_from (s.region latch.to.0) (has (set_at first j)) (golden 0 latch.from.0) (faulty 0 latch.from.0) ≡ false) [

@@ -16,6 +16,7 @@ invariant-loop-number l = record {
   frames : l.trial.sets.frames ≡ l.initial.trial.sets.frames;
   size : length l.starts ≡ length l.latches;
   same : l.some ≡ false → l.starts ≡ l.initial.starts;
+  keeps : (k : ℕ) (x y : Bool) → has (set_at l.initial.starts k) x y ≡ true → has (set_at l.starts k) x y ≡ true;
   again : l.some ≡ false → (s : Stretch) (bounds q : Sets) → AreSites l.watchers s.region l.sites → GoesOn l.watchers s bounds q l.self
       → (golden faulty : Values) → AreSo s golden faulty → LieIn s bounds golden faulty → (k : ℕ) (latch : Latch) → k < l.number → slice_get l.latches k ≡ Some latch
       → leaves_from (s.region latch.to.0) (has (set_at l.initial.starts k)) (golden 0 latch.from.0) (faulty 0 latch.from.0) ≡ false;

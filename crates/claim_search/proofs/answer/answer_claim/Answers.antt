@@ -1,0 +1,37 @@
+use Rattle.std.proofs.Common.{sym, subst, ◌∙◌}
+use Rattle.circuit.specs.Circuit.{Circuit}
+use Rattle.circuit.specs.Sound.{IsNetlist}
+use Rattle.claim_search.proofs.Answering.{never, proved}
+use Rattle.claim_search.specs.Answer.{IsAnswer, IsProvedWithSome}
+use Rattle.claim_search.specs.LeadIn.{LeavesStarts}
+use Rattle.claim_search.specs.Question.{with_pairs}
+use Rattle.claim_search.specs.Window.{WindowsGoOn, starts_of}
+use Rattle.claim_search.proofs.answer.answer_claim.Goals as goal
+use Rattle.claim_search.proofs.answer.answer_claim.Goals.{in-Agrees, in-MayDiffer}
+
+pub returns-then-close-clause-answer : goal.returns-then-close-clause-answer
+returns-then-close-clause-answer c = λ claim asked.
+    let sound = subst IsNetlist (c.requires.searched.netlist ∙ sym asked.circuit) c.requires.searched.sound in
+    let goes = subst (λ (net : Circuit). WindowsGoOn (with_pairs claim (starts_of net c.close.new.starts))) (sym asked.circuit) (c.close.ensures.proved c.if-close.true claim asked) in
+    let with_some : LeavesStarts claim c.lead_in.new.starts → IsProvedWithSome claim = λ leaves. proved claim c.lead_in.new.starts leaves sound c.close.new.starts c.close.ensures.kept goes in
+    elim c.match-lead_in.branch [
+      | in-MayDiffer w ↦ (let led = w.in-MayDiffer.ensures.led claim asked in subst (IsAnswer claim) (sym w.whole-is) (with_some led.0, led.1))
+      | in-Agrees w ↦ (let led = w.in-Agrees.ensures.led claim asked in subst (IsAnswer claim) (sym w.whole-is) (with_some led.0, led.1))
+    ]
+
+pub returns-else-close-clause-answer : goal.returns-else-close-clause-answer
+returns-else-close-clause-answer c = λ claim asked.
+    let leaves : LeavesStarts claim c.lead_in.new.starts = elim c.match-lead_in.branch [
+      | in-MayDiffer w ↦ (w.in-MayDiffer.ensures.led claim asked).0
+      | in-Agrees w ↦ (w.in-Agrees.ensures.led claim asked).0
+    ] in
+    never claim c.lead_in.new.starts leaves (λ pairs allows. c.close.ensures.open c.if-close.false (with_pairs claim pairs) (record {
+      circuit = asked.circuit;
+      observed = asked.observed;
+      alarms = asked.alarms;
+      held = asked.held;
+      from = asked.from;
+      sites = asked.sites;
+      window = asked.window;
+      ahead = asked.ahead;
+    }) allows)

@@ -1,0 +1,4 @@
+pub mod Question
+pub mod Window
+pub mod LeadIn
+pub mod Answer

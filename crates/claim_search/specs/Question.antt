@@ -1,0 +1,43 @@
+-- What is asked of a netlist: a claim, but for the pairs that its latches may show.
+use Rattle.std.specs.Prelude.{◌≡◌, ℕ, length, All, Contains, Some}
+use Rattle.std.specs.List.{slice_get}
+use Rattle.alarm_points.specs.PointsFile.{observed}
+use Rattle.circuit.specs.Circuit.{Circuit}
+use Rattle.circuit.specs.Order.{IsOrder}
+use Rattle.circuit.specs.Sound.{IsNet, IsNetlist}
+use Rattle.circuit.specs.declared.parts.Latch.{Latch}
+use Rattle.coverage_claim.specs.Claim.{Claim}
+use Rattle.coverage_claim.specs.Stretch.{Pairs}
+use Rattle.coverage_claim.specs.declared.parts.Site.{Site}
+use Rattle.region_search.specs.Going.{ArePlaced}
+use Rattle.claim_search.specs.declared.question.Question.{Question}
+use Rattle.claim_search.specs.declared.question.Searched.{Searched}
+
+-- A NETLIST IS SEARCHED by those who look again and by its tables, in the same order
+pub record IsSearched (searched : Searched) : Type 0 where
+  pub netlist : searched.watchers.now.circuit ≡ searched.netlist.now
+  pub sound : IsNetlist searched.watchers.now.circuit
+  pub order : IsOrder searched.watchers.now.circuit searched.watchers.now.order
+  pub placed : ArePlaced searched.watchers.now searched.tables.now
+
+-- WHAT MAY BE ASKED of a netlist: about nets of it, with a site for each of them, where inputs are held
+pub record MayBeAsked (c : Circuit) (q : Question) : Type 0 where
+  pub sites : length q.sites.now ≡ length c.drivers
+  pub observed : All (IsNet c) q.observed.now
+  pub alarms : All (IsNet c) q.alarms.now
+  pub held : All (λ h. Contains c.inputs h.net) q.held.now
+
+-- THE CLAIM IS ASKED, whatever pairs its latches may show
+pub record IsAsked (c : Circuit) (q : Question) (claim : Claim) : Type 0 where
+  pub circuit : claim.circuit ≡ c
+  pub observed : observed claim.points ≡ q.observed.now
+  pub alarms : claim.points.alarm ≡ q.alarms.now
+  pub held : claim.held ≡ q.held.now
+  pub from : claim.from ≡ q.from
+  pub sites : (net : ℕ) (site : Site) → slice_get q.sites.now net ≡ Some site → claim.region net ≡ site
+  pub window : claim.window ≡ q.window
+  pub ahead : claim.ahead ≡ q.ahead
+
+-- the claim with other pairs for its latches
+abbrev pub with_pairs : Claim → (Latch → Pairs) → Claim
+with_pairs claim pairs = record claim { apart = pairs }

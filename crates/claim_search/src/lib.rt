@@ -1,0 +1,12 @@
+//! The search for an answer to a claim.
+#![tactic(auto)]
+
+mod answer;
+mod lead;
+mod question;
+mod window;
+
+pub use answer::{Answer, answer_claim};
+pub use lead::{LeadIn, lead_in};
+pub use question::{Question, Searched};
+pub use window::WindowSearch;
