@@ -2,5 +2,4 @@ mod Lists
 mod Showing
 mod Adding
 mod Loaded
-mod Exciting
 mod Rows

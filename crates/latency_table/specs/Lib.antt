@@ -1,4 +1,3 @@
 pub mod Latency
-pub mod Golden
 pub mod Work
 pub mod Fields

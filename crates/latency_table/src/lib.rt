@@ -2,7 +2,6 @@
 #![tactic(auto)]
 
 mod fan_out;
-mod golden;
 mod lane;
 mod latency;
 mod row;

@@ -10,17 +10,17 @@ ghost use Rattle.fm_shelf.specs.declared.shelf.Failed.{Failed as FailedValue};
 ghost use Rattle.campaign_plan.specs.Analysis.{fault_count};
 ghost use Rattle.testbench.specs.Testbench.{IsTestbenchFor};
 ghost use Rattle.readings.specs.Latencies.{latencies, latency_row, least_interval};
-ghost use Rattle.latency_table.specs.Golden.{HasSeenGolden};
+ghost use Rattle.golden_values.specs.Golden.{HasSeenGolden};
 ghost use Rattle.latency_table.specs.Work.{HaveKept};
 
 use crate::fan_out::{latency_of, simulated};
-use crate::golden::GoldenValues;
 use crate::row::write_row;
 use crate::worker::LatencyWorker;
 use campaign_plan::Plan;
 use fm_base::Refusal;
 use fm_shelf::shelf::{Failed, Sink};
 use fm_shelf::whole::write_all;
+use golden_values::GoldenValues;
 use netlist_levels::Order;
 use readings::one_simulation_gives_all;
 use room::NoRoom;
@@ -98,7 +98,7 @@ fn write_fault<O: Sink>(
     ensures { Sends (O.seen out.old) (O.seen out.new) (latency_row (least_interval plan.now) plan.now i) result }
 {
     one_simulation_gives_all();
-    let excited = golden.excites(plan.faults().fault(i));
+    let excited = golden.excites_fault(plan, i);
     write_row(plan, i, excited, latency_of(plan, crew, i), out)
 }
 

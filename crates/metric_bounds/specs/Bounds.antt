@@ -1,5 +1,5 @@
--- The bounds between which each metric ends, whatever the missing batches give, as the laws and private contracts name them: steps of
--- `progress`. The metrics are those of ISO 26262-5:2018.
+-- The bounds between which each metric ends, whatever the missing batches give, as the laws name them: steps of `progress`, whose ends and
+-- standings `coverage` prints too. The metrics are those of ISO 26262-5:2018.
 use Rattle.std.specs.Prelude.{ℕ, Bool, List, Option, Some, None, if◌then◌else◌, nat_lt}
 use Rattle.std.specs.Option.{option_or}
 use Rattle.metric_sums.specs.declared.Asil.{Asil}

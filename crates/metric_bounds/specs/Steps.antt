@@ -1,4 +1,5 @@
--- Shapes of private steps: the ends of each metric by themselves, and the lines of the text in groups. Nothing public cites them.
+-- Shapes of steps: the ends of each metric by themselves, and the lines of the text in groups. `coverage` cites `is_on_mechanism` and
+-- `standing_word`; nothing else that is public cites them.
 use Rattle.std.specs.Prelude.{ℕ, Bool, [], ◌∷◌, ◌++◌, Option, Some, None, codes, decimal}
 use Rattle.metric_sums.specs.declared.Asil.{Asil}
 use Rattle.metric_sums.specs.declared.Sums.{Sums}

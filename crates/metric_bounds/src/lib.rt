@@ -6,6 +6,7 @@ mod metrics;
 mod missing;
 mod sums;
 mod text;
+pub mod words;
 
 pub use law::{bounds_hold, bounds_narrow, targets_stand};
 use metric_sums::{Fraction, Sums};

@@ -20,7 +20,7 @@ fn standing(worst: bool, best: bool) -> Standing
 
 impl EndSums {
     /// The ends of the single-point fault metric over permanent faults.
-    pub(crate) fn spfm_permanent(&self) -> Ends
+    pub fn spfm_permanent(&self) -> Ends
         requires { AreAllConsistent self.now }
         ensures { result ≡ permanent_of self.now }
     {
@@ -31,7 +31,7 @@ impl EndSums {
     }
 
     /// The ends of the single-point fault metric over transient faults.
-    pub(crate) fn spfm_transient(&self) -> Ends
+    pub fn spfm_transient(&self) -> Ends
         requires { AreAllConsistent self.now }
         ensures { result ≡ transient_of self.now }
     {
@@ -42,7 +42,7 @@ impl EndSums {
     }
 
     /// The ends of the latent fault metric.
-    pub(crate) fn lfm(&self) -> Ends
+    pub fn lfm(&self) -> Ends
         requires { AreAllConsistent self.now }
         ensures { result ≡ lfm_of self.now }
     {
@@ -53,7 +53,7 @@ impl EndSums {
     }
 
     /// The least single-point and residual term.
-    pub(crate) fn least_term(&self) -> u64
+    pub fn least_term(&self) -> u64
         requires { AreAllConsistent self.now }
         ensures { result ≡ least_of self.now }
     {
@@ -61,7 +61,7 @@ impl EndSums {
     }
 
     /// The greatest single-point and residual term.
-    pub(crate) fn greatest_term(&self) -> u64
+    pub fn greatest_term(&self) -> u64
         requires { AreAllConsistent self.now }
         ensures { result ≡ greatest_of self.now }
     {
@@ -69,7 +69,7 @@ impl EndSums {
     }
 
     /// How the limit of the term stands.
-    pub(crate) fn term_standing(&self, asil: Asil) -> Standing
+    pub fn term_standing(&self, asil: Asil) -> Standing
         requires { AreAllConsistent self.now }
         ensures { result ≡ term_stands asil self.now }
     {
@@ -80,7 +80,7 @@ impl EndSums {
 
 impl Ends {
     /// How a percentage stands, where the metric has a value in some planes.
-    pub(crate) fn standing(&self, percent: u64) -> Option<Standing>
+    pub fn standing(&self, percent: u64) -> Option<Standing>
         requires { percent ≤ 100 }
         ensures { result ≡ standing_of percent self.now }
     {

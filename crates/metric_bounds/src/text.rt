@@ -1,65 +1,22 @@
 // The text of `progress`.
-ghost use Rattle.std.specs.Prelude.{◌≡◌, ◌++◌, codes, decimal, map};
+ghost use Rattle.std.specs.Prelude.{◌≡◌, map};
 ghost use Rattle.campaign_plan.specs.Analysis.{batch_count};
 ghost use Rattle.campaign_plan.specs.Batches.{AreDistinct};
 ghost use Rattle.result_file.specs.KeptRows.{entry_of};
 ghost use Rattle.result_merge.specs.Tables.{planes_table};
 ghost use Rattle.fm_shelf.specs.Sink.{Sends};
-ghost use Rattle.fmeda_report.specs.Words.{fraction_word as word_of_fraction};
 ghost use Rattle.metric_bounds.specs.Progress.{progress, AreAllConsistent};
-ghost use Rattle.metric_bounds.specs.Steps.{bound_lines, ends_line, judged_lines, share_line, standing_line, standing_lines, standing_word as word_of_standing, term_line};
+ghost use Rattle.metric_bounds.specs.Steps.{bound_lines, ends_line, judged_lines, share_line, standing_line, standing_lines, term_line};
 
 use crate::sums::{kept_sums, sums_at_ends};
+use crate::words::{fraction_word, standing_word};
 use crate::{EndSums, Ends, Standing};
 use campaign_plan::Plan;
-use fm_base::Line;
 use fm_shelf::lines::{number_word, write_line};
 use fm_shelf::shelf::{Failed, Sink};
-use metric_sums::{Asil, Fraction, Sums};
+use metric_sums::{Asil, Sums};
 use result_file::Row;
 use result_merge::PlanesTable;
-
-// How a target stands, or `-` where the metric has no value.
-fn standing_word(standing: &Option<Standing>) -> &[u8]
-    ensures { result.now ≡ word_of_standing standing.now }
-{
-    match *standing {
-        None => b"-",
-        Some(Standing::Met) => b"met",
-        Some(Standing::Missed) => b"missed",
-        Some(Standing::Open) => b"open",
-    }
-}
-
-// Two numbers with a slash between them.
-fn ratio_word(fraction: Fraction) -> Line
-    ensures { result ≡ decimal fraction.num ++ codes "/" ++ decimal fraction.den }
-{
-    let mut word = Line::new();
-    word.put_dec(fraction.num);
-    word.put(b"/");
-    word.put_dec(fraction.den);
-    word
-}
-
-// What stands where there is no fraction.
-fn dash() -> Line
-    ensures { result ≡ codes "-" }
-{
-    let mut word = Line::new();
-    word.put(b"-");
-    word
-}
-
-// A fraction that isn't reduced, or `-` where there is none.
-fn fraction_word(fraction: Option<Fraction>) -> Line
-    ensures { result ≡ word_of_fraction fraction }
-{
-    match fraction {
-        None => dash(),
-        Some(fraction) => ratio_word(fraction),
-    }
-}
 
 // Writes a label and how much there is of how much.
 fn write_part<O: Sink>(label: &[u8], part: u64, whole: u64, out: &mut O) -> Result<(), Failed>

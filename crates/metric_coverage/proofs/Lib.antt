@@ -1,5 +1,13 @@
 pub mod Summing
+pub mod Weighing
+pub mod Counting
+pub mod Numbers
+pub mod Agreeing
 pub mod Loading
 pub mod Ordering
 pub mod Turning
 pub mod Speaking
+pub mod Reaching
+pub mod Pairing
+pub mod Telling
+pub mod Texts

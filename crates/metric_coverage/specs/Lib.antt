@@ -1,5 +1,10 @@
 pub mod Freed
+pub mod Amounts
+pub mod Weights
 pub mod Turns
 pub mod Work
 pub mod Planes
 pub mod Spoken
+pub mod Paths
+pub mod Findings
+pub mod Text

@@ -4,6 +4,7 @@ ghost use Rattle.metric_sums.specs.Totals.{AreConsistent};
 ghost use Rattle.campaign_plan.specs.Analysis.{batch_count, fault_count};
 ghost use Rattle.campaign_plan.specs.Batches.{class_of_fault as class_by_planes};
 ghost use Rattle.campaign_plan.specs.Laws.{fault_share};
+ghost use Rattle.fmeda_report.specs.Report.{all_sums};
 ghost use Rattle.fmeda_report.specs.Tallies.{planes_in_order};
 ghost use Rattle.metric_bounds.specs.Progress.{AreAllConsistent};
 ghost use Rattle.metric_bounds.specs.Steps.{is_on_mechanism as is_of_mechanism};
@@ -11,7 +12,7 @@ ghost use Rattle.coverage.specs.Free.{class_at_end as class_of_end, free_sums as
 ghost use Rattle.metric_coverage.specs.Freed.{evidence_at, free_by, is_free as is_free_fault};
 
 use campaign_plan::{Outcome, Plan, class_with, has_bit};
-use coverage::Evidence;
+use coverage::{Evidence, free_bounds_hold};
 use metric_bounds::{End, EndSums};
 use metric_sums::{Class, Role, Sums};
 
@@ -20,28 +21,30 @@ const LANES: u32 = 64;
 /// Which faults are free: the metrics are told whatever their classes truly are. Faults of parts of role `other` never are.
 #[derive(Clone, Copy, Debug, PartialEq, Eq)]
 pub enum FreeFaults {
+    /// None: each has the class that was found.
+    NoFault,
     /// Those that no run has excited.
     Unexcited,
     /// These, and those that were excited, while neither an observation point nor an alarm showed them.
     Unreached,
 }
 
-// Whether a fault of this evidence and this class is free.
-fn is_free(free: FreeFaults, evidence: Evidence, class: Class) -> bool
+/// Whether a fault of this evidence and this class is free.
+pub(crate) fn is_free(free: FreeFaults, evidence: Evidence, class: Class) -> bool
     ensures { result ≡ is_free_fault free evidence class }
 {
     if class == Class::Outside {
         return false;
     }
     match evidence {
-        Evidence::Never => true,
+        Evidence::Never => free != FreeFaults::NoFault,
         Evidence::Quiet => free == FreeFaults::Unreached,
         _ => false,
     }
 }
 
-// The class of fault `i`, read off the planes of its batch.
-fn class_of_fault(plan: &Plan, planes: &[Outcome], i: u32) -> Class
+/// The class of fault `i`, read off the planes of its batch.
+pub(crate) fn class_of_fault(plan: &Plan, planes: &[Outcome], i: u32) -> Class
     requires fault { i < fault_count plan.now }
     requires planes { length planes.now ≡ batch_count plan.now }
     ensures { result ≡ class_by_planes plan.now (planes_in_order planes.now) i }
@@ -149,4 +152,15 @@ pub fn free_sums(
         worst: sums_at(plan, free, evidence, planes, End::Worst),
         most_latent: sums_at(plan, free, evidence, planes, End::MostLatent),
     }
+}
+
+/// The five sums over all faults, each with the class that was found: those of a report.
+pub(crate) fn found_sums(plan: &Plan, evidence: &[Evidence], planes: &[Outcome]) -> Sums
+    requires evidence { length evidence.now ≡ fault_count plan.now }
+    requires planes { length planes.now ≡ batch_count plan.now }
+    ensures sums { result ≡ all_sums plan.now (planes_in_order planes.now) }
+    ensures consistent { AreConsistent result }
+{
+    free_bounds_hold();
+    sums_at(plan, FreeFaults::NoFault, evidence, planes, End::Best)
 }

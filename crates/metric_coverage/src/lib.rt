@@ -1,15 +1,26 @@
-//! What the metrics of a plan rest on, by each reading of it: the evidence of each fault, and the sums where faults are free.
+//! What the metrics of a plan rest on, by each reading of it: the evidence of each fault, the weights by evidence, and the bounds of the
+//! metrics where faults are free.
 #![tactic(auto)]
 
+mod amount;
 mod evidence;
 mod fan_out;
 mod finding;
+mod found;
 mod free;
+mod lines;
+mod metrics;
+mod names;
+mod paths;
 mod planes;
 mod share;
+mod text;
+mod weights;
 mod worker;
+mod write;
 
 pub use evidence::evidence_of;
 pub use finding::evidence_list;
 pub use free::{FreeFaults, free_sums};
 pub use planes::{BatchPlanes, reading_tables};
+pub use write::write_coverage;

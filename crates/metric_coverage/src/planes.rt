@@ -1,17 +1,16 @@
 // The planes of all batches by each reading.
 ghost use Rattle.std.specs.Prelude.{◌≡◌, ◌<◌, ◌≤◌, IfOk, length};
-ghost use Rattle.circuit.specs.Order.{IsOrder};
 ghost use Rattle.campaign_plan.specs.Analysis.{batch_count};
 ghost use Rattle.campaign_plan.specs.Batches.{true_planes};
+ghost use Rattle.testbench.specs.Testbench.{IsTestbenchFor};
 ghost use Rattle.reading_planes.specs.Folded.{reading_at};
 ghost use Rattle.reading_planes.specs.Readings.{AreReadingsOf, plan_by};
-ghost use Rattle.metric_coverage.specs.Planes.{ArePlaneTables, IsPlaneTable};
+ghost use Rattle.metric_coverage.specs.Planes.{ArePlaneTables, IsPlaneTable, table_at};
 ghost use Rattle.metric_coverage.specs.Work.{HaveKept};
 
 use crate::fan_out::simulated;
 use crate::worker::Worker;
 use campaign_plan::{Outcome, Plan};
-use netlist_levels::Order;
 use reading_planes::Reading;
 use room::{NoRoom, push};
 use std::alloc::Global;
@@ -41,6 +40,14 @@ impl BatchPlanes {
     {
         self.planes.as_slice()
     }
+}
+
+/// The planes of each batch by reading `r` of these.
+pub(crate) fn planes_by(tables: &[BatchPlanes], r: usize) -> &[Outcome]
+    requires { r < length tables.now }
+    ensures { result.now ≡ table_at tables.now r }
+{
+    tables[r].outcomes()
 }
 
 // The planes of a batch by a reading, which the worker has kept that took the batch.
@@ -97,22 +104,21 @@ fn tables_of(
     Ok(tables)
 }
 
-/// The planes of all batches by each of these readings of a plan, in order. Each fault is simulated once, in a thread for each of 1 to
-/// 32 workers.
+/// The planes of all batches by each of these readings of a plan, in order, on a testbench of it. Each fault is simulated once, in a
+/// thread for each of 1 to 32 workers.
 pub fn reading_tables<R: Threads + Sync>(
     rt: &R,
     alloc: Global,
     plan: &Plan,
-    order: &Order,
+    bench: &Testbench<'_>,
     readings: &[Reading],
     workers: u32,
 ) -> Result<Vec<BatchPlanes>, NoRoom>
-    requires order { IsOrder plan.now.circuit order.now }
+    requires bench { IsTestbenchFor plan.now bench.now }
     requires readings { AreReadingsOf plan.now.points readings.now }
     requires workers { (0 < workers) × (workers ≤ 32) }
     ensures { IfOk result (λ tables. ArePlaneTables plan.now readings.now tables.items) }
 {
-    let bench = Testbench::of_plan(alloc, plan, order)?;
-    let crew = simulated(rt, alloc, plan, &bench, readings, workers)?;
+    let crew = simulated(rt, alloc, plan, bench, readings, workers)?;
     tables_of(alloc, plan, readings, &crew)
 }

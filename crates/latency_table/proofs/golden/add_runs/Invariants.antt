@@ -1,7 +1,0 @@
-use Rattle.std.proofs.Common.{take}
-use Rattle.latency_table.specs.Golden.{AreSeenIn}
-use Rattle.latency_table.proofs.golden.add_runs.Given as goal
-
--- the values of the runs so far are added
-abbrev pub invariant-loop-run : goal.invariant-loop-run
-invariant-loop-run l = AreSeenIn l.bench.circuit (take l.run l.bench.runs) l.ones l.zeros

@@ -1,0 +1,12 @@
+use Rattle.std.proofs.Common.{◌≡◌, ◌<◌, ℕ, length}
+use Rattle.circuit.specs.Value.{bit_at}
+use Rattle.campaign_plan.specs.Analysis.{fault_numbered}
+use Rattle.readings.specs.Latencies.{is_excited}
+use Rattle.metric_coverage.proofs.paths.excited_list.Given as goal
+
+-- the bits of the faults so far
+abbrev pub invariant-loop-i : goal.invariant-loop-i
+invariant-loop-i l = record {
+  count : length l.list.items ≡ l.i;
+  each : (m : ℕ) → m < l.i → bit_at l.list.items m ≡ is_excited l.plan (fault_numbered l.plan m);
+}
