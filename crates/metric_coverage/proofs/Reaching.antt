@@ -1,17 +1,14 @@
 -- Whether a path leads from a fault to an observation point, and the observation points of one goal.
-use Rattle.std.proofs.Common.{◌≡◌, ◌∙◌, ℕ, zero, suc, ◌+◌, ◌<◌, ◌≤◌, Bool, true, false, List, [], ◌∷◌, ◌++◌, length, flat_map, None, get_or, refl, ap, sym, arith, length-append}
+use Rattle.std.proofs.Common.{◌≡◌, ℕ, zero, suc, ◌<◌, ◌≤◌, Bool, true, false, List, [], ◌∷◌, length, flat_map, None, refl, ap, sym, arith, length-append}
 use Rattle.std.specs.Prelude.{◌↔◌, IsTrue}
-use Rattle.std.specs.List.{All}
 use Rattle.std.proofs.lemmas.List.{append-nil}
 use Rattle.std.proofs.lemmas.List.Elements.{All-cons, All-nil}
 use Rattle.std.proofs.lemmas.Option.{slice_get_within}
-use Rattle.fm_base.proofs.Tests.{clash}
 use Rattle.circuit.specs.declared.parts.Fault.{Fault}
 use Rattle.circuit.specs.declared.parts.Fault.TheVariants.{Flip, Pulse, Stuck}
 use Rattle.circuit.specs.Circuit.{Circuit}
 use Rattle.alarm_points.specs.declared.Goal.{Goal}
 use Rattle.alarm_points.specs.declared.Points.{Points}
-use Rattle.alarm_points.specs.PointsFile.{observed}
 use Rattle.alarm_points.specs.PointsKept.{ArePointsFor, IsGoalFor}
 use Rattle.testbench.specs.Points.{goal_at}
 use Rattle.golden_values.specs.Golden.{IsFaultIn}

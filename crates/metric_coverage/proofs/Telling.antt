@@ -1,5 +1,5 @@
 -- The tables and the bits that are made are those of a reading.
-use Rattle.std.proofs.Common.{◌≡◌, ◌∙◌, ℕ, ◌+◌, ◌*◌, ◌<◌, Bool, List, [], ◌∷◌, length, ap, subst, arith}
+use Rattle.std.proofs.Common.{◌≡◌, ◌∙◌, ℕ, ◌+◌, ◌*◌, ◌<◌, Bool, List, [], length, ap, subst, arith}
 use Rattle.circuit.specs.Value.{bit_at}
 use Rattle.campaign_plan.specs.declared.Outcome.{Outcome}
 use Rattle.campaign_plan.specs.Analysis.{Analysis, batch_count, fault_count, fault_numbered}
@@ -7,7 +7,6 @@ use Rattle.readings.specs.Breakdown.{with_alarms}
 use Rattle.readings.specs.Latencies.{is_excited}
 use Rattle.reading_planes.specs.Folded.{reading_at}
 use Rattle.reading_planes.specs.Readings.{PairsGivePlans, coverage_list, plan_by}
-use Rattle.reading_planes.specs.declared.reading.Reading.{Reading}
 use Rattle.coverage.specs.Evidence.{may_reach}
 use Rattle.metric_coverage.specs.Findings.{goal_plan, several}
 use Rattle.metric_coverage.specs.Planes.{ArePlaneTables, IsPlaneTable, table_at}

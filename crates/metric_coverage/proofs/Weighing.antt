@@ -1,5 +1,5 @@
 -- What the faults of each part weigh, fault by fault.
-use Rattle.std.proofs.Common.{◌≡◌, ◌≢◌, ℕ, suc, ◌+◌, ◌<◌, ◌≤◌, ◌^◌, Bool, true, false, not, List, [], ◌∷◌, length, set, refl, ap, sym, ◌∙◌, add-one, arith}
+use Rattle.std.proofs.Common.{◌≡◌, ◌≢◌, ℕ, ◌+◌, ◌<◌, ◌≤◌, ◌^◌, Bool, true, false, not, List, length, set, refl, ap, sym, ◌∙◌, add-one, arith}
 use Rattle.std.specs.Prelude.{◌&&◌, ◌==◌, filter, if◌then◌else◌}
 use Rattle.std.specs.List.{sum_by}
 use Rattle.std.proofs.lemmas.Grind.{get_or-set_at}
@@ -23,7 +23,7 @@ use Rattle.coverage.specs.Evidence.{is_kind}
 use Rattle.metric_coverage.specs.declared.weights.ClassWeights.{ClassWeights}
 use Rattle.metric_coverage.specs.declared.weights.EvidenceWeights.{EvidenceWeights}
 use Rattle.metric_coverage.specs.declared.weights.PartWeights.{PartWeights}
-use Rattle.metric_coverage.specs.Weights.{AreClassesLight, AreLight, IsPartLight, classes_below, evidence_below, no_part, part_at, part_below, weight_below, with_class, with_evidence, with_fault}
+use Rattle.metric_coverage.specs.Weights.{AreLight, IsPartLight, classes_below, evidence_below, no_part, part_at, part_below, with_class, with_evidence, with_fault}
 
 -- ---- one number more
 

@@ -1,4 +1,4 @@
-use Rattle.std.proofs.Common.{◌≡◌, ◌≤◌, ◌<◌, ◌+◌, ◌^◌, ℕ, Bool, List, length, ap, ap₂, sym, subst, ◌∙◌, arith}
+use Rattle.std.proofs.Common.{◌≡◌, ◌≤◌, ◌<◌, ◌^◌, ℕ, Bool, List, length, ap, sym, subst, ◌∙◌, arith}
 use Rattle.circuit.specs.declared.parts.Fault.{Fault}
 use Rattle.circuit.specs.Effects.{is_permanent}
 use Rattle.fault_list.specs.Faults.{fault_at}
@@ -6,7 +6,6 @@ use Rattle.metric_sums.specs.declared.Class.{Class}
 use Rattle.campaign_plan.specs.Analysis.{fault_count}
 use Rattle.campaign_plan.specs.Batches.{class_of_fault}
 use Rattle.fmeda_report.specs.Tallies.{planes_in_order}
-use Rattle.metric_coverage.specs.declared.amount.Amount.{Amount}
 use Rattle.metric_coverage.specs.Amounts.{IsAmountSmall, amount_below, with_free}
 use Rattle.metric_coverage.specs.Freed.{evidence_at, free_by, is_free}
 use Rattle.metric_coverage.proofs.Counting.{amount_small, none_counted, none_free, one_free}

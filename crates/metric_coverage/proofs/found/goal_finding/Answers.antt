@@ -9,7 +9,7 @@ use Rattle.campaign_plan.specs.Analysis.{Analysis, fault_count, fault_numbered}
 use Rattle.readings.specs.Breakdown.{with_goals}
 use Rattle.testbench.specs.Points.{goal_at}
 use Rattle.coverage.specs.Evidence.{may_reach}
-use Rattle.metric_coverage.specs.Findings.{IsFindingBy, goal_plan, several}
+use Rattle.metric_coverage.specs.Findings.{IsFindingBy, goal_plan}
 use Rattle.metric_coverage.specs.Paths.{observing}
 use Rattle.metric_coverage.specs.Planes.{table_at}
 use Rattle.metric_coverage.specs.Spoken.{AreToldOf}

@@ -1,5 +1,5 @@
 use Rattle.std.proofs.Common.{◌∷◌, [], ap, ◌∙◌}
-use Rattle.std.specs.Prelude.{codes, decimal}
+use Rattle.std.specs.Prelude.{codes}
 use Rattle.fm_base.specs.Text.{line}
 use Rattle.fmeda_report.specs.Words.{fraction_word}
 use Rattle.fm_shelf.proofs.Sending.{sends_as}

@@ -1,4 +1,4 @@
-use Rattle.std.proofs.Common.{◌≡◌, ◌∙◌, Bool, [], ap, sym}
+use Rattle.std.proofs.Common.{◌∙◌, Bool, [], ap, sym}
 use Rattle.std.specs.Prelude.{not, if◌then◌else◌}
 use Rattle.fm_shelf.proofs.Sending.{sends_as, sends_none}
 use Rattle.metric_coverage.specs.Text.{classes_line}

@@ -1,5 +1,5 @@
 use Rattle.std.proofs.Common.{ap, ap₂, ◌∙◌}
-use Rattle.std.specs.Prelude.{Option, Some, codes, decimal}
+use Rattle.std.specs.Prelude.{Some, codes, decimal}
 use Rattle.std.proofs.lemmas.Result.{err_from_is_err_and}
 use Rattle.fmeda_report.specs.Words.{fraction_word}
 use Rattle.metric_sums.specs.declared.Targets.{Targets}

@@ -1,4 +1,4 @@
-use Rattle.std.proofs.Common.{◌∙◌, ap}
+use Rattle.std.proofs.Common.{◌∙◌}
 use Rattle.metric_bounds.specs.Steps.{standing_word}
 use Rattle.fm_shelf.proofs.Sending.{sends_as}
 use Rattle.metric_coverage.specs.Text.{bound_line}

@@ -1,4 +1,4 @@
-use Rattle.std.proofs.Common.{◌≡◌, ◌∷◌, [], ◌∙◌, ℕ, Bool, true, false, refl, ap, sym}
+use Rattle.std.proofs.Common.{◌≡◌, ◌∷◌, [], ◌∙◌, ℕ, Bool, true, false, ap, sym}
 use Rattle.std.specs.Prelude.{decimal, if◌then◌else◌}
 use Rattle.fault_list.specs.Faults.{fault_name}
 use Rattle.fm_base.specs.Text.{line}

@@ -1,4 +1,4 @@
-use Rattle.std.proofs.Common.{◌≡◌, ◌++◌, ◌∙◌, ℕ, Bool, List, ap, subst, sym}
+use Rattle.std.proofs.Common.{◌≡◌, ◌∙◌, ℕ, List, ap, subst, sym}
 use Rattle.std.specs.Prelude.{codes}
 use Rattle.std.specs.List.{flat_map}
 use Rattle.std.proofs.lemmas.Result.{err_from_is_err_and}
@@ -8,10 +8,9 @@ use Rattle.metric_sums.specs.declared.Class.{Class}
 use Rattle.campaign_plan.specs.declared.Outcome.{Outcome}
 use Rattle.campaign_plan.specs.Analysis.{Analysis, part_count, part_numbered}
 use Rattle.campaign_plan.specs.Batches.{class_of_fault}
-use Rattle.fmeda_report.specs.Report.{all_sums}
 use Rattle.fmeda_report.specs.Tallies.{planes_in_order}
 use Rattle.coverage.specs.declared.Evidence.{Evidence}
-use Rattle.coverage.specs.Coverage.{found_lines, free_lines, is_unexcited, is_unreached, reading_lines}
+use Rattle.coverage.specs.Coverage.{free_lines, reading_lines}
 use Rattle.fm_shelf.proofs.Sending.{sends_as, sends_stop, sends_then}
 use Rattle.metric_coverage.specs.Freed.{evidence_at, free_by}
 use Rattle.metric_coverage.specs.declared.free.FreeFaults.{FreeFaults}
