@@ -3,10 +3,10 @@
 
 mod fan_out;
 mod golden;
-mod lane;
 mod latency;
 mod row;
 mod runs;
+mod shows;
 mod table;
 mod worker;
 

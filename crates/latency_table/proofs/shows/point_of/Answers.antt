@@ -1,6 +1,6 @@
 use Rattle.std.proofs.Common.{find, ap, sym, ◌∙◌, option_and_then}
 use Rattle.readings.specs.Laws.{is_at}
-use Rattle.latency_table.proofs.lane.point_of.Goals as goal
+use Rattle.latency_table.proofs.shows.point_of.Goals as goal
 
 pub returns-in-Some : goal.returns-in-Some
 returns-in-Some c = λ first same.

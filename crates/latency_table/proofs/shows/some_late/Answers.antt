@@ -5,10 +5,9 @@ use Rattle.std.proofs.lemmas.List.Folds.{list_any_more}
 use Rattle.alarm_points.specs.Interval.{interval_of}
 use Rattle.alarm_points.specs.declared.Goal.{Goal}
 use Rattle.first_cycles.specs.FirstCycles.{comes_late}
-use Rattle.shown_runs.specs.declared.first.FirstCycles.{FirstCycles}
-use Rattle.shown_runs.specs.First.{first_in}
-use Rattle.shown_runs.specs.Record.{goal_cycles}
-use Rattle.latency_table.proofs.lane.some_late.Goals as goal
+use Rattle.fault_runs.specs.First.{FirstCycles, first_of}
+use Rattle.fault_runs.specs.Records.{goal_cycles}
+use Rattle.latency_table.proofs.shows.some_late.Goals as goal
 use Rattle.testbench.specs.Points.{goal_at}
 
 pub loop-g-preserved : goal.loop-g-preserved
@@ -21,7 +20,7 @@ loop-g-preserved c = λ difference same.
     ap₂ (λ a b. a || b) (c.loop-g.invariant difference same)
     (c.comes_late-late.ensures
     ∙ ap₂ (λ f d. comes_late f d c.args.alarm) (c.unwrap_or-interval.ensures ∙ ap (interval_of c.args.ftti) own)
-    (c.first.ensures ∙ ap (λ (f : FirstCycles). first_in f c.args.lane) (get_or_default c.args.kept.now i _ (goal_cycles [] 0) within) ∙ same i lt))
+    (c.first.ensures ∙ ap (λ (f : FirstCycles). first_of f c.args.fault) (c.index-kept-g.is ∙ get_or_default c.args.kept.now i c.index-kept-g.result (goal_cycles [] 0) within) ∙ same i lt))
     ∙ sym (list_any_more (λ (goal : Goal). comes_late (interval_of c.args.ftti goal) (difference goal) c.args.alarm) goals i (goal_at [] 0) lt)
 
 pub returns : goal.returns
