@@ -1,6 +1,9 @@
 -- How many groups the faults of a draw make.
-use Rattle.std.proofs.Common.{◌≡◌, ℕ, ◌+◌, ◌*◌, ◌/◌, ◌<◌, ◌≤◌, ◌⊎◌, inl, inr, true, false, ◌-◌, ap, sym, ◌∙◌, arith}
-use Rattle.std.proofs.Math.Nat.{add-mul, le-div_iff_mul-le, mul-add, mul-le-mul_right}
+use Rattle.std.proofs.Common.{◌≡◌, ℕ, ◌+◌, ◌*◌, ◌<◌, ◌≤◌, ◌⊎◌, inl, inr, true, false, ◌-◌, ap, sym, ◌∙◌, arith}
+use Rattle.std.specs.Int.{div_ceil}
+use Rattle.std.proofs.Math.Nat.{add-mul, mul-add, mul-le-mul_right}
+use Rattle.std.proofs.lemmas.Bool.{cases_lt}
+use Rattle.std.proofs.lemmas.Grind.{div_ceil_times}
 use Rattle.fm_base.proofs.Tests.{clash}
 use Rattle.place_set.specs.Places.{Places, has}
 
@@ -8,7 +11,7 @@ use Rattle.place_set.specs.Places.{Places, has}
 pub record AreGroups (active : Places) (lanes n each start next steps : ℕ) : Type 0 where
   pub groups : ℕ
   pub cost : steps ≤ start + groups * each
-  pub few : (groups * lanes ≤ next) ⊎ ((groups ≤ n / lanes + 1) × ((p : ℕ) → next ≤ p → has active p ≡ false))
+  pub few : (groups * lanes ≤ next) ⊎ ((groups ≤ div_ceil n lanes) × ((p : ℕ) → next ≤ p → has active p ≡ false))
 
 -- the steps of one group more
 each_more : (start before now groups each : ℕ) → before ≤ start + groups * each → now ≤ before + each → now ≤ start + (groups + 1) * each
@@ -18,8 +21,28 @@ each_more start before now groups each b n =
     omega (arith, split, one)
 
 module _ (active : Places) (lanes n each start : ℕ) (some : 0 < lanes) where
-  whole : (m next : ℕ) → m * lanes ≤ next → next ≤ n → m ≤ n / lanes
-  whole m next a b = let le : m * lanes ≤ n = omega (arith, a, b) in (le-div_iff_mul-le some).1 le
+  -- there are no more full groups than groups of all, and fewer where some fault is left
+  few_full : (m next : ℕ) → m * lanes ≤ next → next ≤ n → m ≤ div_ceil n lanes
+  few_full m next full within =
+      let enough : n ≤ div_ceil n lanes * lanes = (div_ceil_times n lanes some).0 in
+      elim (cases_lt (div_ceil n lanes) m) [
+        | inl more ↦
+            (let most : (div_ceil n lanes + 1) * lanes ≤ m * lanes = mul-le-mul_right lanes (omega (arith, more)) in
+            let split : (div_ceil n lanes + 1) * lanes ≡ div_ceil n lanes * lanes + 1 * lanes = add-mul (div_ceil n lanes) 1 lanes in
+            let one : 1 * lanes ≡ lanes = omega arith in
+            absurd (omega (arith, most, split, one, full, within, enough, some)))
+        | inr le ↦ le
+      ]
+
+  fewer_full : (m next : ℕ) → m * lanes ≤ next → next < n → m + 1 ≤ div_ceil n lanes
+  fewer_full m next full within =
+      let enough : n ≤ div_ceil n lanes * lanes = (div_ceil_times n lanes some).0 in
+      elim (cases_lt m (div_ceil n lanes)) [
+        | inl less ↦ omega (arith, less)
+        | inr most ↦
+            (let all : div_ceil n lanes * lanes ≤ m * lanes = mul-le-mul_right lanes most in
+            absurd (omega (arith, all, full, within, enough)))
+      ]
 
   pub group_more : (first count next before now after : ℕ) → AreGroups active lanes n each start next before → next ≤ first → first < n → has active first ≡ true
       → first + count ≤ after → (count ≡ lanes) ⊎ ((p : ℕ) → after ≤ p → has active p ≡ false) → now ≤ before + each
@@ -30,26 +53,26 @@ module _ (active : Places) (lanes n each start : ℕ) (some : 0 < lanes) where
         cost = each_more start before now so.groups each so.cost more;
         few = elim so.few [
           | inl all_full ↦
-              (let small : so.groups ≤ n / lanes = whole so.groups next all_full (omega (arith, from, within)) in
+              (let small : so.groups + 1 ≤ div_ceil n lanes = fewer_full so.groups next all_full (omega (arith, from, within)) in
               elim full [
                 | inl this ↦
                     (let split : (so.groups + 1) * lanes ≡ so.groups * lanes + 1 * lanes = add-mul so.groups 1 lanes in
                     let one : 1 * lanes ≡ lanes = omega arith in
                     inl (omega (arith, split, one, all_full, from, covers, this)))
-                | inr rest ↦ inr (omega (arith, small), rest)
+                | inr rest ↦ inr (small, rest)
               ])
           | inr done ↦ absurd (clash (has active first) is (done.1 first from))
         ];
       }
 
   -- ALL GROUPS
-  pub groups_all : (next steps : ℕ) → AreGroups active lanes n each start next steps → next ≤ n → steps ≤ start + (n / lanes + 1) * each
+  pub groups_all : (next steps : ℕ) → AreGroups active lanes n each start next steps → next ≤ n → steps ≤ start + div_ceil n lanes * each
   groups_all next steps so within =
-      let small : so.groups ≤ n / lanes + 1 = elim so.few [
-        | inl all_full ↦ (let few : so.groups ≤ n / lanes = whole so.groups next all_full within in omega (arith, few))
+      let small : so.groups ≤ div_ceil n lanes = elim so.few [
+        | inl all_full ↦ few_full so.groups next all_full within
         | inr done ↦ done.0
       ] in
-      let most : so.groups * each ≤ (n / lanes + 1) * each = mul-le-mul_right each small in
+      let most : so.groups * each ≤ div_ceil n lanes * each = mul-le-mul_right each small in
       omega (arith, so.cost, most)
 
 -- the steps of one stretch more

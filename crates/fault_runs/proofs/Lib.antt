@@ -1,6 +1,13 @@
 pub mod Seeing
 pub mod EachItem
 pub mod FirstMore
+pub mod FirstStays
 pub mod PointBits
+pub mod SameValues
 pub mod Standing
 pub mod Groups
+pub mod Idle
+pub mod OverShown
+pub mod Beyond
+pub mod WholeShown
+pub mod Sends

@@ -1,9 +1,10 @@
 -- What faults have shown, cycle by cycle.
-use Rattle.std.proofs.Common.{◌≡◌, ℕ, ◌+◌, ◌-◌, ◌*◌, ◌≤◌, List, take, refl, ap, sym, subst, ◌∙◌, arith}
+use Rattle.std.proofs.Common.{◌≡◌, ℕ, ◌+◌, ◌-◌, ◌*◌, ◌≤◌, List, take, inl, inr, refl, ap, sym, subst, ◌∙◌, arith}
 use Rattle.std.proofs.Math.Nat.{add-mul}
 use Rattle.circuit.specs.declared.parts.Fault.{Fault}
 use Rattle.circuit.specs.Circuit.{Circuit}
 use Rattle.workload.specs.declared.run.Run.{Run}
+use Rattle.workload.specs.Runs.{cycles_of}
 use Rattle.alarm_points.specs.declared.Points.{Points}
 use Rattle.campaign_plan.specs.Danger.{differs}
 use Rattle.first_cycles.specs.FirstCycles.{first_with, is_raised_at}
@@ -68,4 +69,9 @@ module _ (c : Circuit) (points : Points) (run : Run) (x : List Fault) where
 
   pub followed_same : (may_leave : MayLeave) (r q : RunShown) → IsSameRecord r q → IsFollowed c points run x may_leave r → IsFollowed c points run x may_leave q
   followed_same may_leave r q same so =
-      record { n = so.n; within = so.within; shown = shown_same c points run x so.n r q same so.shown; enough = so.enough }
+      record {
+        n = so.n;
+        within = so.within;
+        shown = shown_same c points run x so.n r q same so.shown;
+        enough = elim so.enough [ inl whole ↦ inl (shown_same c points run x (cycles_of run) r q same whole) | inr go ↦ inr go ];
+      }

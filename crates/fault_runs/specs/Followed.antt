@@ -12,21 +12,21 @@ use Rattle.fault_runs.specs.Shown.{HasShown}
 use Rattle.fault_runs.specs.Stretch.{Stands, state_at}
 
 -- when a fault may leave a run: after so many cycles, with what they have shown of it
-abbrev pub MayLeave : Type 0
-MayLeave = (cycles : ℕ) → RunShown → Bool
+abbrev pub MayLeave : Type 1
+MayLeave = (cycles : ℕ) → RunShown → Type 0
 
 -- after n cycles these faults were let go, by what had been shown then
 pub record WasLetGo (c : Circuit) (points : Points) (run : Run) (x : List Fault) (may_leave : MayLeave) (n : ℕ) : Type 0 where
   pub then : RunShown
   pub shown : HasShown c points run x n then
-  pub leaves : may_leave n then ≡ true
+  pub leaves : may_leave n then
 
--- these faults were followed: the record has what the whole run shows, or what it shows up to a cycle after which they might leave
+-- these faults were followed: the record has what some cycles of the run show, which is what the whole run shows, or they might leave then
 pub record IsFollowed (c : Circuit) (points : Points) (run : Run) (x : List Fault) (may_leave : MayLeave) (r : RunShown) : Type 0 where
   pub n : ℕ
   pub within : n ≤ cycles_of run
   pub shown : HasShown c points run x n r
-  pub enough : (n ≡ cycles_of run) ⊎ WasLetGo c points run x may_leave n
+  pub enough : HasShown c points run x (cycles_of run) r ⊎ WasLetGo c points run x may_leave n
 
 -- ---- shapes of private steps
 

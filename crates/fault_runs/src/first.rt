@@ -117,11 +117,13 @@ impl FirstCycles {
         }
     }
 
-    /// The first cycle of a fault, where it has been seen.
+    /// The first cycle of a fault, where it has been seen. Of one behind the last nothing was.
     pub fn first(&self, fault: u32) -> Option<u32>
-        requires { fault < length self.now.cycles }
         ensures { result ≡ first_of self.now fault }
     {
-        self.cycles[fault as usize]
+        match self.cycles.get(fault as usize) {
+            Some(cycle) => *cycle,
+            None => None,
+        }
     }
 }

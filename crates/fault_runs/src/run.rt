@@ -1,5 +1,6 @@
 // All faults of a draw followed through a run.
-ghost use Rattle.std.specs.Prelude.{◌≡◌, ◌<◌, ◌≤◌, ◌+◌, ◌-◌, ◌*◌, ◌/◌, ◌^◌, ℕ, false, true, length, min};
+ghost use Rattle.std.specs.Prelude.{◌≡◌, ◌<◌, ◌≤◌, ◌+◌, ◌-◌, ◌*◌, ◌^◌, ℕ, false, true, length, min};
+ghost use Rattle.std.specs.Int.{div_ceil};
 ghost use Rattle.workload.specs.Runs.{cycles_of, run_at};
 ghost use Rattle.golden_difference.specs.Lanes.{IsMadeFor};
 ghost use Rattle.lane_words.specs.Loads.{loaded_faults};
@@ -53,7 +54,7 @@ fn follow_active<W: Word, L: Ledger>(
     ensures fit { AreRecordsFor bench.now.points records.new }
     ensures stand { AreActiveStanding bench.now.circuit bench.now.points (run_at bench.now.runs run) draw.now active.now (min (cycles_of (run_at bench.now.runs run)) (from + 256)) states.new records.new }
     ensures others { (i : ℕ) → has active.now i ≡ false → IsSameRecord (record_of records.old i) (record_of records.new i) }
-    ensures cost { steps.new ≤ steps.old + (length draw.now / W.lanes + 1) * ((min (cycles_of (run_at bench.now.runs run)) (from + 256) - from) * length bench.now.circuit.tables) }
+    ensures cost { steps.new ≤ steps.old + div_ceil (length draw.now) W.lanes * ((min (cycles_of (run_at bench.now.runs run)) (from + 256) - from) * length bench.now.circuit.tables) }
 {
     let _some = W::words();
     let mut next = 0;
@@ -83,8 +84,8 @@ fn goes_on(active: &PlaceSet, t: u32, cycles: u32) -> bool
 }
 
 /// Follows all faults of a draw through a run from its start: in groups, which are made anew of the faults that are still followed at each
-/// 256 cycles. Once what was seen of a fault is enough by the rule, it leaves the run at the end of a stretch. The record of each fault then
-/// has what was seen of it. `draw` has up to two faults for each number, `states`, `records` and `active` are room for the same numbers, and
+/// 256 cycles. Once what was seen of a fault is enough by the rule, or nothing more comes of it, it leaves the run, before the first cycle
+/// or at the end of a stretch. The record of each fault then has what was seen of it. `draw` has up to two faults for each number, `states`, `records` and `active` are room for the same numbers, and
 /// `group` is room for a number in each lane; what they held before is no matter, nor what the lanes held. It takes at most one step for each
 /// table, cycle and group of as many faults as there are lanes, and no memory.
 pub fn follow_run<W: Word, R: LeavingRule, L: Ledger>(
@@ -99,6 +100,7 @@ pub fn follow_run<W: Word, R: LeavingRule, L: Ledger>(
     group: &mut [u32],
     steps: &mut Steps<L>,
 )
+    requires rule { R.is_sound rule.now }
     requires run { run < length bench.now.runs }
     requires made { IsMadeFor bench.now.circuit bench.now.order lanes.old }
     requires active { active.old.bound ≡ length draw.now }
@@ -114,18 +116,21 @@ pub fn follow_run<W: Word, R: LeavingRule, L: Ledger>(
     ensures fit { AreRecordsFor bench.now.points records.new }
     ensures followed { (i : ℕ) → i < length draw.now → IsFollowed bench.now.circuit bench.now.points (run_at bench.now.runs run) (loaded_faults draw.now i)
         (R.may_leave rule.now i (run_at bench.now.runs run).kind) (record_of records.new i) }
-    ensures cost { steps.new ≤ steps.old + (length draw.now / W.lanes + 1) * (cycles_of (run_at bench.now.runs run) * length bench.now.circuit.tables) }
+    ensures cost { steps.new ≤ steps.old + div_ceil (length draw.now) W.lanes * (cycles_of (run_at bench.now.runs run) * length bench.now.circuit.tables) }
 {
     let _few = active.bound();
+    let _fit = bench.points();
     start_run(states, records);
     active.fill();
     let cycles = bench.cycles(run);
+    let kind = bench.kind(run);
     let mut t = 0;
+    leave_active(rule, kind, 0, draw, states, records, active);
     'clock: while goes_on(active, t, cycles) {
         follow_active(
             bench, run, t, draw, active, lanes, states, records, group, steps,
         );
         t = cycles.min(t + STRETCH);
-        leave_active(rule, bench.kind(run), t, records, active);
+        leave_active(rule, kind, t, draw, states, records, active);
     }
 }

@@ -16,7 +16,7 @@ use std::sync::ledger::Blank;
 use std::thread::Threads;
 use testbench::Testbench;
 
-/// What is kept of all faults of a plan, each simulated alone: a group of 256 faults in each round.
+/// What is kept of all faults of a plan, each simulated alone: a group of 1,024 faults in each round.
 #[derive(Clone, Copy)]
 pub(crate) struct LatencyRounds<'a> {
     plan: &'a Plan,

@@ -2,10 +2,10 @@
 #![tactic(auto)]
 
 mod fan_out;
-mod lane;
 mod latency;
 mod row;
 mod runs;
+mod shows;
 mod table;
 mod worker;
 

@@ -57,7 +57,7 @@ pub all_others : (nets : List NetId) → others None nets ≡ nets
 all_others [] = refl
 all_others (net ∷ nets) = ap (λ ns. net ∷ ns) (all_others nets)
 
-any_kept : {X : Type 0} (b : Bool) (p : X → Bool) (x : X) (xs : List X) → list_any p (cond b (x ∷ xs) xs) ≡ ((b && p x) || list_any p xs)
+pub any_kept : {X : Type 0} (b : Bool) (p : X → Bool) (x : X) (xs : List X) → list_any p (cond b (x ∷ xs) xs) ≡ ((b && p x) || list_any p xs)
 any_kept true p x xs = refl
 any_kept false p x xs = refl
 

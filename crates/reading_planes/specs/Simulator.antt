@@ -1,26 +1,24 @@
 -- What simulates batches of faults, for the readings of a plan.
 use Rattle.std.specs.Prelude.{◌≡◌, ℕ, ◌+◌, ◌*◌, ◌<◌, List, length, Some}
 use Rattle.circuit.specs.declared.parts.Fault.{Fault}
-use Rattle.golden_difference.specs.Lanes.{IsMadeFor}
 use Rattle.classifier.specs.Batch.{alone_in}
 use Rattle.classifier.specs.Planes.{HasPlanes}
 use Rattle.testbench.specs.Testbench.{Testbench}
-use Rattle.shown_runs.specs.Beyond.{IsReachFor}
-use Rattle.shown_runs.specs.Record.{AreRecordsFor}
-use Rattle.reading_planes.specs.Folded.{ArePlanesFor, IsLaneFor, planes_at, reading_at}
+use Rattle.fault_runs.specs.Draw.{IsDrawFor}
+use Rattle.fault_runs.specs.Whole.{ArePathsTo}
+use Rattle.reading_planes.specs.Folded.{AreCyclesFor, ArePlanesFor, planes_at, reading_at}
 use Rattle.reading_planes.specs.Readings.{ftti_by, points_by}
 use Rattle.reading_planes.specs.declared.reading.Reading.{Reading}
 use Rattle.reading_planes.specs.declared.simulator.ReadingSimulator.{ReadingSimulator}
 
--- a simulator that was made for a testbench and for so many readings: four words of lanes, with a record and planes for each
+-- a simulator that was made for a testbench and for so many readings: a draw of four batches of 64 faults, with planes for each
 pub record IsSimulatorFor (bench : Testbench) (readings : List Reading) (s : ReadingSimulator) : Type 0 where
-  pub lanes : IsMadeFor bench.circuit bench.order s.lanes
-  pub word_records : length s.records.items ≡ 4
+  pub draw : IsDrawFor bench s.draw
+  pub faults : length s.draw.faults.items ≡ 256
+  pub paths : ArePathsTo bench.circuit bench.points s.paths
+  pub cycles : AreCyclesFor bench.points s.cycles
   pub word_planes : length s.planes.items ≡ 4
-  pub records : AreRecordsFor bench.points s.records.items
-  pub cycles : IsLaneFor bench.points s.cycles
   pub planes : ArePlanesFor readings s.planes.items
-  pub reach : IsReachFor bench.circuit bench.points s.reach
 
 -- it has found the planes of four batches by each reading, the first and each `apart` further, in each word those of one: each fault alone in
 -- its lane

@@ -1,14 +1,14 @@
-// Whether a lane is late by a reading.
+// Whether a fault is late by a reading.
 ghost use Rattle.std.specs.Prelude.{◌≡◌, ◌<◌, ℕ, None, Option, length, map, Some, if◌then◌else◌, slice_index_or};
 ghost use Rattle.circuit.specs.declared.parts.NetId.{NetId as NetValue};
 ghost use Rattle.first_cycles.specs.FirstCycles.{earlier as earlier_of, earliest};
 ghost use Rattle.first_cycles.specs.Shown.{Shown};
-ghost use Rattle.reading_planes.specs.Folded.{IsLaneFor, IsLaneOf, late_by};
+ghost use Rattle.reading_planes.specs.Folded.{AreCyclesFor, AreCyclesOf, late_by};
 ghost use Rattle.reading_planes.specs.Readings.{IsReadingOf, others, points_by};
 ghost use Rattle.reading_planes.specs.Folded.{differences_by};
 ghost use Rattle.testbench.specs.Points.{alarm_at};
 
-use crate::lane::LaneCycles;
+use crate::cycles::FaultCycles;
 use crate::reading::{Reading, interval_of, is_other};
 use alarm_points::{Goal, Points};
 use circuit::parts::NetId;
@@ -43,31 +43,31 @@ pub(crate) fn first_of_others(
 }
 
 // The earliest alarm without this point: that of the others counts only where the point has the earliest itself.
-fn first_without(nets: &[NetId], lane: &LaneCycles, a: u32) -> Option<u32>
+fn first_without(nets: &[NetId], cycles: &FaultCycles, a: u32) -> Option<u32>
     requires alarm { a < length nets.now }
-    requires count { length lane.now.alarms ≡ length nets.now }
-    ensures { (alarm : NetValue → Option ℕ) → ((b : ℕ) → b < length nets.now → slice_index_or lane.now.alarms b None ≡ alarm (alarm_at nets.now b))
-        → lane.now.first ≡ earliest (map alarm nets.now) → result ≡ earliest (map alarm (others (Some (alarm_at nets.now a)) nets.now)) }
+    requires count { length cycles.now.alarms ≡ length nets.now }
+    ensures { (alarm : NetValue → Option ℕ) → ((b : ℕ) → b < length nets.now → slice_index_or cycles.now.alarms b None ≡ alarm (alarm_at nets.now b))
+        → cycles.now.first ≡ earliest (map alarm nets.now) → result ≡ earliest (map alarm (others (Some (alarm_at nets.now a)) nets.now)) }
 {
-    let alarms = lane.alarms.as_slice();
-    if alarms[a as usize] == lane.first {
+    let alarms = cycles.alarms.as_slice();
+    if alarms[a as usize] == cycles.first {
         first_of_others(nets, alarms, Some(nets[a as usize]))
     } else {
-        lane.first
+        cycles.first
     }
 }
 
 // The earliest alarm of a reading.
-fn first_alarm(points: &Points, reading: Reading, lane: &LaneCycles) -> Option<u32>
+fn first_alarm(points: &Points, reading: Reading, cycles: &FaultCycles) -> Option<u32>
     requires reading { IsReadingOf points.now reading }
-    requires made { IsLaneFor points.now lane.now }
-    ensures { (s : Shown) → IsLaneOf points.now s lane.now → result ≡ earliest (map s.alarm (points_by points.now reading).alarm) }
+    requires made { AreCyclesFor points.now cycles.now }
+    ensures { (s : Shown) → AreCyclesOf points.now s cycles.now → result ≡ earliest (map s.alarm (points_by points.now reading).alarm) }
 {
     match reading {
-        Reading::Only(a) => lane.alarms.as_slice()[a as usize],
+        Reading::Only(a) => cycles.alarms.as_slice()[a as usize],
         Reading::Bare | Reading::BareGoal(_) => None,
-        Reading::Without(a) => first_without(points.alarm.as_slice(), lane, a),
-        _ => lane.first,
+        Reading::Without(a) => first_without(points.alarm.as_slice(), cycles, a),
+        _ => cycles.first,
     }
 }
 
@@ -84,12 +84,16 @@ fn goals_of(points: &Points, reading: Reading) -> &[Goal]
 }
 
 // Their first differences.
-fn differences_of<'a>(points: &Points, reading: Reading, lane: &'a LaneCycles) -> &'a [Option<u32>]
+fn differences_of<'a>(
+    points: &Points,
+    reading: Reading,
+    cycles: &'a FaultCycles,
+) -> &'a [Option<u32>]
     requires reading { IsReadingOf points.now reading }
-    requires made { IsLaneFor points.now lane.now }
-    ensures { result.now ≡ differences_by lane.now.differences reading }
+    requires made { AreCyclesFor points.now cycles.now }
+    ensures { result.now ≡ differences_by cycles.now.differences reading }
 {
-    let differences = lane.differences.as_slice();
+    let differences = cycles.differences.as_slice();
     match reading {
         Reading::Goal(g) | Reading::BareGoal(g) => &differences[g as usize..g as usize + 1],
         _ => differences,
@@ -97,13 +101,13 @@ fn differences_of<'a>(points: &Points, reading: Reading, lane: &'a LaneCycles) -
 }
 
 /// Whether the first difference of some goal of a reading comes late. `ftti` is the interval of the settings, in cycles.
-pub(crate) fn is_late(points: &Points, ftti: u32, reading: Reading, lane: &LaneCycles) -> bool
+pub(crate) fn is_late(points: &Points, ftti: u32, reading: Reading, cycles: &FaultCycles) -> bool
     requires reading { IsReadingOf points.now reading }
-    requires made { IsLaneFor points.now lane.now }
-    ensures { (s : Shown) → IsLaneOf points.now s lane.now → result ≡ late_by points.now ftti reading s }
+    requires made { AreCyclesFor points.now cycles.now }
+    ensures { (s : Shown) → AreCyclesOf points.now s cycles.now → result ≡ late_by points.now ftti reading s }
 {
-    let alarm = first_alarm(points, reading, lane);
+    let alarm = first_alarm(points, reading, cycles);
     let goals = goals_of(points, reading);
-    let differences = differences_of(points, reading, lane);
+    let differences = differences_of(points, reading, cycles);
     some_goal_comes_late(goals, interval_of(reading, ftti), differences, alarm)
 }

@@ -1,8 +1,8 @@
 //! The planes of danger and of notice of every reading of a plan, by one simulation.
 #![tactic(auto)]
 
-mod danger;
-mod lane;
+mod add;
+mod cycles;
 mod late;
 mod law;
 mod notice;
@@ -11,7 +11,7 @@ pub mod reading;
 mod runs;
 mod simulator;
 
-pub use lane::LaneCycles;
+pub use cycles::FaultCycles;
 pub use law::{list_gives_readings, pairs_give_plans};
 pub use planes::ReadingPlanes;
 pub use reading::{Reading, coverage_list, reading_list};

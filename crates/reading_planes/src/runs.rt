@@ -1,108 +1,114 @@
 // All runs of a testbench, and the planes of each reading.
-ghost use Rattle.std.specs.Prelude.{◌≡◌, ◌<◌, ◌≤◌, ◌+◌, ◌*◌, ◌++◌, ◌∷◌, ◌||◌, ◌&&◌, [], ℕ, List, length, slice_index_or};
+ghost use Rattle.std.specs.Prelude.{◌≡◌, ◌<◌, ◌≤◌, ◌+◌, ◌*◌, ◌^◌, ◌++◌, ◌∷◌, ◌||◌, ◌&&◌, [], ℕ, List, length, slice_index_or};
+ghost use Rattle.std.specs.Int.{div_ceil};
 ghost use Rattle.circuit.specs.declared.parts.Fault.{Fault};
 ghost use Rattle.circuit.specs.Circuit.{Circuit};
 ghost use Rattle.workload.specs.declared.run.Run.{Run};
-ghost use Rattle.workload.specs.Runs.{all_cycles, cycles_of, is_mission, run_at};
-ghost use Rattle.first_cycles.specs.Shown.{Shown};
+ghost use Rattle.workload.specs.Runs.{all_cycles, is_mission};
+ghost use Rattle.first_cycles.specs.Shown.{Shown, shown_in};
 ghost use Rattle.fm_base.specs.Planes.{bit};
-ghost use Rattle.golden_difference.specs.Lanes.{IsMadeFor};
-ghost use Rattle.testbench.specs.Load.{lane_faults, load_of};
+ghost use Rattle.testbench.specs.Load.{in_lane};
 ghost use Rattle.classifier.specs.Planes.{HasPlanes, outcome_at, planes_of};
-ghost use Rattle.shown_runs.specs.Beyond.{IsBeyond, beyond_at};
-ghost use Rattle.shown_runs.specs.Record.{AreRecordsFor, IsRecordFor, record_at};
-ghost use Rattle.shown_runs.specs.Seen.{HasSeenRun};
-ghost use Rattle.reading_planes.specs.Folded.{ArePlanesFor, AreWords, HasShown, IsLaneFor, late_by, planes_at, reading_at};
+ghost use Rattle.fault_runs.specs.Draw.{IsDrawFor};
+ghost use Rattle.fault_runs.specs.Records.{AreRecordsFor, record_of};
+ghost use Rattle.fault_runs.specs.Whole.{ArePathsTo, HasShownRun};
+ghost use Rattle.reading_planes.specs.Folded.{AreCyclesFor, ArePlanesFor, AreWords, late_by, noticed_by, planes_at, reading_at};
 ghost use Rattle.reading_planes.specs.declared.reading.Reading.{Reading as ReadingValue};
 ghost use Rattle.reading_planes.specs.Readings.{AreReadingsOf, ftti_by, points_by};
 
-use crate::danger::add_danger;
-use crate::lane::LaneCycles;
-use crate::notice::add_notice;
+use crate::add::add_fault;
+use crate::cycles::FaultCycles;
 use crate::planes::ReadingPlanes;
 use crate::reading::Reading;
 use alarm_points::Points;
 use campaign_plan::Outcome;
-use differential_kernel::DifferentialLanes;
+use fault_runs::{FaultDraw, FaultRecords, PointPaths};
 use fm_base::Steps;
-use lane_words::Word;
-use shown_runs::record::RunRecord;
-use shown_runs::{Beyond, follow_whole};
 use std::sync::ledger::Ledger;
 use testbench::Testbench;
 use workload::run::Kind;
 
-// Adds what a run of a kind has shown of danger: there is none but in the mission.
-fn add_danger_of(
+const LANES: u32 = 64;
+
+// Adds what a run of a kind has shown of the faults of a word, each to its lane.
+fn add_lanes(
     kind: Kind,
     points: &Points,
     ftti: u32,
     readings: &[Reading],
-    kept: &RunRecord,
-    cycles: &mut LaneCycles,
+    records: &FaultRecords,
+    word: u32,
+    cycles: &mut FaultCycles,
     outcomes: &mut [Outcome],
 )
+    requires word { word < 2 ^ 26 }
     requires readings { AreReadingsOf points.now readings.now }
-    requires fit { IsRecordFor points.now kept.now }
-    requires made { IsLaneFor points.now cycles.old }
+    requires fit { AreRecordsFor points.now records.now }
+    requires made { AreCyclesFor points.now cycles.old }
     requires count { length outcomes.old ≡ length readings.now }
-    ensures made { IsLaneFor points.now cycles.new }
-    ensures danger { (shown : ℕ → Shown) (r k : ℕ) → ((j : ℕ) → j < 64 → HasShown points.now (shown j) j kept.now) → r < length readings.now → k < 64
+    ensures made { AreCyclesFor points.now cycles.new }
+    ensures danger { (shown : ℕ → Shown) (r k : ℕ) → ((j : ℕ) → (shown j).kind ≡ kind) → ((j : ℕ) → j < 64 → HasShownRun points.now (shown j) (record_of records.now (word * 64 + j))) → r < length readings.now → k < 64
         → bit (outcome_at outcomes.new r).danger k ≡ (bit (outcome_at outcomes.old r).danger k || (is_mission kind && late_by points.now ftti (reading_at readings.now r) (shown k))) }
-    ensures noticed { (r : ℕ) → (outcome_at outcomes.new r).noticed ≡ (outcome_at outcomes.old r).noticed }
+    ensures noticed { (shown : ℕ → Shown) (r k : ℕ) → ((j : ℕ) → (shown j).kind ≡ kind) → ((j : ℕ) → j < 64 → HasShownRun points.now (shown j) (record_of records.now (word * 64 + j))) → r < length readings.now → k < 64
+        → bit (outcome_at outcomes.new r).noticed k ≡ (bit (outcome_at outcomes.old r).noticed k || noticed_by points.now (reading_at readings.now r) (shown k)) }
     ensures words { (r : ℕ) → r < length readings.now → AreWords (outcome_at outcomes.old r) → AreWords (outcome_at outcomes.new r) }
 {
-    match kind {
-        Kind::Mission => add_danger(points, ftti, readings, kept, cycles, outcomes),
-        Kind::Test => {}
+    for lane in 0..LANES {
+        let fault = word * LANES + lane;
+        add_fault(
+            kind, points, ftti, readings, records, fault, cycles, outcomes,
+        );
     }
 }
 
-// Adds what a run of a kind has shown in a word to its planes of each reading.
+// Adds what a run of a kind has shown of the faults of a word to its planes of each reading.
 fn add_word(
     kind: Kind,
     points: &Points,
     ftti: u32,
     readings: &[Reading],
-    kept: &RunRecord,
-    cycles: &mut LaneCycles,
+    records: &FaultRecords,
+    word: u32,
+    cycles: &mut FaultCycles,
     planes: &mut ReadingPlanes,
 )
+    requires word { word < 2 ^ 26 }
     requires readings { AreReadingsOf points.now readings.now }
-    requires fit { IsRecordFor points.now kept.now }
-    requires made { IsLaneFor points.now cycles.old }
+    requires fit { AreRecordsFor points.now records.now }
+    requires made { AreCyclesFor points.now cycles.old }
     requires count { length planes.old ≡ length readings.now }
-    ensures made { IsLaneFor points.now cycles.new }
+    ensures made { AreCyclesFor points.now cycles.new }
     ensures count { length planes.new ≡ length readings.now }
     ensures planes { (c : Circuit) (runs : List Run) (run : Run) (faults : ℕ → List Fault) (r : ℕ) → run.kind ≡ kind
-        → ((k : ℕ) → k < 64 → HasSeenRun c points.now run (faults k) k kept.now) → r < length readings.now
+        → ((k : ℕ) → k < 64 → HasShownRun points.now (shown_in c (faults k) run) (record_of records.now (word * 64 + k))) → r < length readings.now
         → HasPlanes c (points_by points.now (reading_at readings.now r)) (ftti_by ftti (reading_at readings.now r)) runs faults (outcome_at planes.old r)
         → HasPlanes c (points_by points.now (reading_at readings.now r)) (ftti_by ftti (reading_at readings.now r)) (runs ++ run ∷ []) faults (outcome_at planes.new r) }
 {
     let outcomes = planes.outcomes.as_mut_slice();
-    add_notice(kind, points, readings, kept, outcomes);
-    add_danger_of(kind, points, ftti, readings, kept, cycles, outcomes);
+    add_lanes(
+        kind, points, ftti, readings, records, word, cycles, outcomes,
+    );
 }
 
-// Adds what a run of a kind has shown in each word.
+// Adds what a run of a kind has shown to the planes of each word.
 fn add_run(
     kind: Kind,
     points: &Points,
     ftti: u32,
     readings: &[Reading],
-    records: &[RunRecord],
-    cycles: &mut LaneCycles,
+    records: &FaultRecords,
+    cycles: &mut FaultCycles,
     planes: &mut [ReadingPlanes],
 )
+    requires few { length planes.old < 2 ^ 26 }
     requires readings { AreReadingsOf points.now readings.now }
-    requires records { length records.now ≡ length planes.old }
     requires fit { AreRecordsFor points.now records.now }
-    requires made { IsLaneFor points.now cycles.old }
+    requires made { AreCyclesFor points.now cycles.old }
     requires planes { ArePlanesFor readings.now planes.old }
-    ensures made { IsLaneFor points.now cycles.new }
+    ensures made { AreCyclesFor points.now cycles.new }
     ensures fit { ArePlanesFor readings.now planes.new }
     ensures planes { (c : Circuit) (runs : List Run) (run : Run) (faults : ℕ → List Fault) (word r : ℕ) → run.kind ≡ kind → word < length planes.old
-        → ((k : ℕ) → k < 64 → HasSeenRun c points.now run (faults k) k (record_at records.now word)) → r < length readings.now
+        → ((k : ℕ) → k < 64 → HasShownRun points.now (shown_in c (faults k) run) (record_of records.now (word * 64 + k))) → r < length readings.now
         → HasPlanes c (points_by points.now (reading_at readings.now r)) (ftti_by ftti (reading_at readings.now r)) runs faults (planes_at planes.old word r)
         → HasPlanes c (points_by points.now (reading_at readings.now r)) (ftti_by ftti (reading_at readings.now r)) (runs ++ run ∷ []) faults (planes_at planes.new word r) }
 {
@@ -112,51 +118,50 @@ fn add_run(
             points,
             ftti,
             readings,
-            &records[word],
+            records,
+            word as u32,
             cycles,
             &mut planes[word],
         );
     }
 }
 
-// Simulates all runs in all lanes, and adds what each shows in each word; nothing has been found before.
-fn judge_runs<W: Word, L: Ledger>(
+// Follows all faults of a draw through all runs, and adds what each shows; nothing has been found before.
+fn judge_runs<L: Ledger>(
     bench: &Testbench<'_>,
     ftti: u32,
     readings: &[Reading],
-    beyond: &[Beyond],
-    lanes: &mut DifferentialLanes<W>,
-    records: &mut [RunRecord],
-    cycles: &mut LaneCycles,
+    paths: &PointPaths,
+    draw: &mut FaultDraw,
+    cycles: &mut FaultCycles,
     planes: &mut [ReadingPlanes],
     steps: &mut Steps<L>,
 )
-    requires made { IsMadeFor bench.now.circuit bench.now.order lanes.old }
+    requires few { length planes.old < 2 ^ 26 }
+    requires made { IsDrawFor bench.now draw.old }
+    requires size { length draw.old.faults.items ≡ length planes.old * 64 }
+    requires paths { ArePathsTo bench.now.circuit bench.now.points paths.now }
     requires readings { AreReadingsOf bench.now.points readings.now }
-    requires records { length records.old ≡ W.words }
-    requires fit { AreRecordsFor bench.now.points records.old }
-    requires cycles { IsLaneFor bench.now.points cycles.old }
-    requires words { length planes.old ≡ W.words }
+    requires cycles { AreCyclesFor bench.now.points cycles.old }
     requires planes { ArePlanesFor readings.now planes.old }
-    requires beyond { (word : ℕ) → word < W.words → IsBeyond bench.now.circuit bench.now.points (lane_faults (load_of lanes.old) word) (beyond_at beyond.now word) }
-    requires nothing { (word r : ℕ) → word < W.words → r < length readings.now → planes_at planes.old word r ≡ record { danger = 0; noticed = 0 } }
-    ensures load { load_of lanes.new ≡ load_of lanes.old }
-    ensures records { AreRecordsFor bench.now.points records.new }
-    ensures cycles { IsLaneFor bench.now.points cycles.new }
+    requires nothing { (word r : ℕ) → word < length planes.old → r < length readings.now → planes_at planes.old word r ≡ record { danger = 0; noticed = 0 } }
+    ensures made { IsDrawFor bench.now draw.new }
+    ensures faults { draw.new.faults ≡ draw.old.faults }
+    ensures cycles { AreCyclesFor bench.now.points cycles.new }
     ensures fit { ArePlanesFor readings.now planes.new }
-    ensures planes { (word r : ℕ) → word < W.words → r < length readings.now
+    ensures planes { (word r : ℕ) → word < length planes.old → r < length readings.now
         → HasPlanes bench.now.circuit (points_by bench.now.points (reading_at readings.now r)) (ftti_by ftti (reading_at readings.now r)) bench.now.runs
-        (lane_faults (load_of lanes.old) word) (planes_at planes.new word r) }
-    ensures cost { steps.new ≤ steps.old + all_cycles bench.now.runs * length bench.now.circuit.tables }
+        (in_lane draw.old.faults.items word) (planes_at planes.new word r) }
+    ensures cost { steps.new ≤ steps.old + div_ceil (length draw.old.faults.items) 256 * (all_cycles bench.now.runs * length bench.now.circuit.tables) }
 {
     for run in 0..bench.runs() {
-        follow_whole(bench, run, beyond, lanes, records, steps);
+        draw.follow_whole(bench, run, paths, steps);
         add_run(
             bench.kind(run),
             bench.points(),
             ftti,
             readings,
-            records,
+            draw.records(),
             cycles,
             planes,
         );
@@ -173,81 +178,37 @@ fn start_planes(planes: &mut [ReadingPlanes])
     }
 }
 
-/// Simulates all runs in all circuits of `lanes`, as they are loaded, and puts the planes of danger and of notice by each of these
-/// readings into `planes`, of each word: bit k of word w's is that of the faults of lane 64w + k together. `ftti` is the fault
-/// tolerant time interval of the settings in cycles, for the goals without one of their own and the readings that name none. What lanes,
-/// records, cycles and planes held before is no matter. It takes no memory, and at most one step for each table and cycle, for all
-/// words together and whatever the number of readings.
-pub fn loaded_readings<W: Word, L: Ledger>(
+/// Follows the faults of a draw through all runs, and puts the planes of danger and of notice by each of these readings into `planes`, a
+/// word for each 64 numbers of the draw: bit k of word w's is that of the faults of number 64w + k together. `ftti` is the fault tolerant
+/// time interval of the settings in cycles, for the goals without one of their own and the readings that name none; `paths` are those to
+/// the alarm points. What the draw, cycles and planes held of earlier runs is no matter. It takes no memory, and at most one step for
+/// each table, cycle and group of 256 faults, whatever the number of readings.
+pub fn loaded_readings<L: Ledger>(
     bench: &Testbench<'_>,
     ftti: u32,
     readings: &[Reading],
-    lanes: &mut DifferentialLanes<W>,
-    records: &mut [RunRecord],
-    cycles: &mut LaneCycles,
+    paths: &PointPaths,
+    draw: &mut FaultDraw,
+    cycles: &mut FaultCycles,
     planes: &mut [ReadingPlanes],
     steps: &mut Steps<L>,
 )
-    requires lanes { IsMadeFor bench.now.circuit bench.now.order lanes.old }
+    requires few { length planes.old < 2 ^ 26 }
+    requires made { IsDrawFor bench.now draw.old }
+    requires size { length draw.old.faults.items ≡ length planes.old * 64 }
+    requires paths { ArePathsTo bench.now.circuit bench.now.points paths.now }
     requires readings { AreReadingsOf bench.now.points readings.now }
-    requires count { length records.old ≡ W.words }
-    requires records { AreRecordsFor bench.now.points records.old }
-    requires cycles { IsLaneFor bench.now.points cycles.old }
-    requires words { length planes.old ≡ W.words }
+    requires cycles { AreCyclesFor bench.now.points cycles.old }
     requires planes { ArePlanesFor readings.now planes.old }
-    ensures planes { (word r : ℕ) → word < W.words → r < length readings.now
+    ensures planes { (word r : ℕ) → word < length planes.old → r < length readings.now
         → planes_at planes.new word r
-        ≡ planes_of bench.now.circuit (points_by bench.now.points (reading_at readings.now r)) (ftti_by ftti (reading_at readings.now r)) bench.now.runs (lane_faults (load_of lanes.old) word) }
-    ensures loads { load_of lanes.new ≡ load_of lanes.old }
-    ensures records { AreRecordsFor bench.now.points records.new }
-    ensures cycles { IsLaneFor bench.now.points cycles.new }
+        ≡ planes_of bench.now.circuit (points_by bench.now.points (reading_at readings.now r)) (ftti_by ftti (reading_at readings.now r)) bench.now.runs (in_lane draw.old.faults.items word) }
+    ensures made { IsDrawFor bench.now draw.new }
+    ensures faults { draw.new.faults ≡ draw.old.faults }
+    ensures cycles { AreCyclesFor bench.now.points cycles.new }
     ensures fit { ArePlanesFor readings.now planes.new }
-    ensures cost { steps.new ≤ steps.old + all_cycles bench.now.runs * length bench.now.circuit.tables }
-{
-    marked_readings(
-        bench,
-        ftti,
-        readings,
-        &[],
-        lanes,
-        records,
-        cycles,
-        planes,
-        steps,
-    );
-}
-
-/// The same, where `beyond` has the points that the lanes of each word can't change.
-pub(crate) fn marked_readings<W: Word, L: Ledger>(
-    bench: &Testbench<'_>,
-    ftti: u32,
-    readings: &[Reading],
-    beyond: &[Beyond],
-    lanes: &mut DifferentialLanes<W>,
-    records: &mut [RunRecord],
-    cycles: &mut LaneCycles,
-    planes: &mut [ReadingPlanes],
-    steps: &mut Steps<L>,
-)
-    requires lanes { IsMadeFor bench.now.circuit bench.now.order lanes.old }
-    requires readings { AreReadingsOf bench.now.points readings.now }
-    requires count { length records.old ≡ W.words }
-    requires records { AreRecordsFor bench.now.points records.old }
-    requires cycles { IsLaneFor bench.now.points cycles.old }
-    requires words { length planes.old ≡ W.words }
-    requires planes { ArePlanesFor readings.now planes.old }
-    requires beyond { (word : ℕ) → word < W.words → IsBeyond bench.now.circuit bench.now.points (lane_faults (load_of lanes.old) word) (beyond_at beyond.now word) }
-    ensures planes { (word r : ℕ) → word < W.words → r < length readings.now
-        → planes_at planes.new word r
-        ≡ planes_of bench.now.circuit (points_by bench.now.points (reading_at readings.now r)) (ftti_by ftti (reading_at readings.now r)) bench.now.runs (lane_faults (load_of lanes.old) word) }
-    ensures loads { load_of lanes.new ≡ load_of lanes.old }
-    ensures records { AreRecordsFor bench.now.points records.new }
-    ensures cycles { IsLaneFor bench.now.points cycles.new }
-    ensures fit { ArePlanesFor readings.now planes.new }
-    ensures cost { steps.new ≤ steps.old + all_cycles bench.now.runs * length bench.now.circuit.tables }
+    ensures cost { steps.new ≤ steps.old + div_ceil (length draw.old.faults.items) 256 * (all_cycles bench.now.runs * length bench.now.circuit.tables) }
 {
     start_planes(planes);
-    judge_runs(
-        bench, ftti, readings, beyond, lanes, records, cycles, planes, steps,
-    );
+    judge_runs(bench, ftti, readings, paths, draw, cycles, planes, steps);
 }

@@ -1,23 +1,19 @@
 // Batches of faults, simulated four at once for all readings.
 ghost use Rattle.std.specs.Prelude.{◌≡◌, ◌<◌, ◌≤◌, ◌+◌, ◌*◌, ◌^◌, [], IfOk, length, slice_index_or};
 ghost use Rattle.workload.specs.Runs.{all_cycles};
-ghost use Rattle.shown_runs.specs.Record.{AreRecordsFor};
 ghost use Rattle.reading_planes.specs.Folded.{ArePlanesFor};
 ghost use Rattle.reading_planes.specs.Readings.{AreReadingsOf};
 ghost use Rattle.reading_planes.specs.Simulator.{HasFound, IsSimulatorFor};
 
-use crate::lane::LaneCycles;
+use crate::cycles::FaultCycles;
 use crate::planes::ReadingPlanes;
 use crate::reading::Reading;
-use crate::runs::marked_readings;
-use alarm_points::Points;
+use crate::runs::loaded_readings;
 use campaign_plan::Outcome;
-use differential_kernel::DifferentialLanes4;
 use fault_list::FaultList;
+use fault_runs::{FaultDraw, PointPaths};
 use fm_base::Steps;
 use room::{NoRoom, push};
-use shown_runs::record::RunRecord;
-use shown_runs::{PointReach, load_batches};
 use std::alloc::Global;
 use std::marker::Brand;
 use std::sync::ledger::{Blank, Ledger};
@@ -25,27 +21,16 @@ use testbench::Testbench;
 
 const WORDS: u32 = 4;
 
+const LANES: u32 = 64;
+
 /// What simulates four batches of 64 faults on a testbench at once, and finds their planes by each reading. What it has
 /// simulated before is no matter. No call but `new` takes memory.
 #[derive(Drop)]
 pub struct ReadingSimulator {
-    pub(crate) lanes: DifferentialLanes4,
-    pub(crate) records: Vec<RunRecord>,
-    pub(crate) cycles: LaneCycles,
+    pub(crate) draw: FaultDraw,
+    pub(crate) paths: PointPaths,
+    pub(crate) cycles: FaultCycles,
     pub(crate) planes: Vec<ReadingPlanes>,
-    pub(crate) reach: PointReach,
-}
-
-// A record for each word.
-fn word_records(alloc: Global, points: &Points) -> Result<Vec<RunRecord>, NoRoom>
-    ensures words { IfOk result (λ records. length records.items ≡ 4) }
-    ensures fit { IfOk result (λ records. AreRecordsFor points.now records.items) }
-{
-    let mut records = Vec::new(alloc);
-    for _ in 0..WORDS {
-        push(&mut records, RunRecord::new(alloc, points)?)?;
-    }
-    Ok(records)
 }
 
 // Planes of each reading for each word.
@@ -65,18 +50,16 @@ impl ReadingSimulator {
     pub fn new(alloc: Global, bench: &Testbench<'_>, readings: &[Reading]) -> Result<Self, NoRoom>
         ensures { IfOk result (IsSimulatorFor bench.now readings.now) }
     {
-        // What has least to give up comes first, and the lanes last.
+        // What has least to give up comes first, and the draw last.
         let planes = word_planes(alloc, readings)?;
-        let records = word_records(alloc, bench.points())?;
-        let cycles = LaneCycles::new(alloc, bench.points())?;
-        let reach = PointReach::new(alloc, bench)?;
-        let lanes = DifferentialLanes4::new(alloc, bench.net(), bench.order())?;
+        let cycles = FaultCycles::new(alloc, bench.points())?;
+        let paths = PointPaths::new(alloc, bench)?;
+        let draw = FaultDraw::new(alloc, bench, WORDS * LANES)?;
         Ok(ReadingSimulator {
-            lanes,
-            records,
+            draw,
+            paths,
             cycles,
             planes,
-            reach,
         })
     }
 
@@ -150,17 +133,14 @@ impl ReadingSimulator {
         ensures found { HasFound bench.now ftti readings.now faults.now first apart self.new }
         ensures cost { steps.new ≤ steps.old + all_cycles bench.now.runs * length bench.now.circuit.tables }
     {
-        load_batches(faults, first, apart, &mut self.lanes);
-        self.reach.mark_batches(bench, faults, first, apart);
-        let records = self.records.as_mut_slice();
+        self.draw.load_batches(faults, first, apart);
         let planes = self.planes.as_mut_slice();
-        marked_readings(
+        loaded_readings(
             bench,
             ftti,
             readings,
-            self.reach.words(),
-            &mut self.lanes,
-            records,
+            &self.paths,
+            &mut self.draw,
             &mut self.cycles,
             planes,
             steps,

@@ -1,4 +1,5 @@
-use Rattle.std.proofs.Common.{◌≡◌, ◌<◌, ◌≤◌, ◌+◌, ◌-◌, ◌*◌, ◌/◌, ℕ, Bool, [], ◌∷◌, inl, inr, true, length, min, zero, suc, refl, ap, sym, subst, ◌∙◌, arith}
+use Rattle.std.proofs.Common.{◌≡◌, ◌<◌, ◌≤◌, ◌+◌, ◌-◌, ◌*◌, ◌⊎◌, ℕ, [], ◌∷◌, inl, inr, true, length, min, zero, suc, refl, ap, sym, subst, ◌∙◌, arith}
+use Rattle.std.specs.Int.{div_ceil}
 use Rattle.std.specs.List.{All}
 use Rattle.std.proofs.Math.Nat.{mul-le-mul_left, mul-le-mul_right}
 use Rattle.std.proofs.lemmas.Bool.{cases_Bool, cases_lt}
@@ -8,9 +9,12 @@ use Rattle.workload.specs.Runs.{cycles_of, run_at}
 use Rattle.lane_words.specs.Loads.{loaded_faults}
 use Rattle.place_set.specs.Places.{has}
 use Rattle.fault_runs.specs.Followed.{IsFollowed}
+use Rattle.fault_runs.specs.Over.{AreOver}
 use Rattle.fault_runs.specs.Records.{RunShown, record_of}
+use Rattle.fault_runs.specs.Shown.{HasShown}
 use Rattle.fault_runs.specs.Stretch.{Stands, state_at}
 use Rattle.fault_runs.proofs.Groups.{stretch_more}
+use Rattle.fault_runs.proofs.OverShown.{let_go}
 use Rattle.fault_runs.proofs.Standing.{followed_same}
 use Rattle.fault_runs.proofs.run.follow_run.Goals as goal
 
@@ -24,20 +28,27 @@ clock-init g c =
     let bench = c.args.bench.now in
     let run = run_at bench.runs c.args.run in
     let draw = c.args.draw.now in
+    let states = c.start_run.new.states in
+    let records = c.start_run.new.records in
+    let may_leave : ℕ → Kind → ℕ → RunShown → Type 0 = λ i kind n r. g.R.LeavingRule.may_leave c.args.rule.now i kind n r in
+    let stood : (i : ℕ) → i < length draw → Stands bench.circuit bench.points run (loaded_faults draw i) 0 (state_at states i) (record_of records i) = λ i lt.
+    let inside : i < length c.args.states.now = omega (arith, lt, c.requires.states) in
+    let one : 0 < length (i ∷ []) = omega arith in
+    c.start_run.ensures.stand bench.circuit bench.points run draw (i ∷ []) c.requires.fit (one_in i (length c.args.states.now) inside) 0 one in
     record {
       within = omega arith;
       load = refl;
-      active = c.fill.ensures.bound ∙ c.requires.active;
+      active = c.leave_active.ensures.bound ∙ c.fill.ensures.bound ∙ c.requires.active;
       bound = λ i lt. c.start_run.ensures.bound i ∙ c.requires.bound i (omega (arith, lt, c.start_run.auto.states));
       faults = refl;
       fit = c.start_run.ensures.fit bench.points c.requires.fit;
-      stand = λ i lt is.
-          let inside : i < length c.args.states.now = omega (arith, lt, c.requires.states) in
-          let one : 0 < length (i ∷ []) = omega arith in
-          c.start_run.ensures.stand bench.circuit bench.points run draw (i ∷ []) c.requires.fit (one_in i (length c.args.states.now) inside) 0 one;
+      stand = λ i lt is. stood i lt;
       followed = λ i lt off.
           let inside : i < c.args.active.now.bound = omega (arith, lt, c.requires.active) in
-          absurd (clash (has c.fill.new.self i) (c.fill.ensures.all i inside) off);
+          let leaves : AreOver (loaded_faults draw i) 0 (state_at states i) ⊎ may_leave i run.kind 0 (record_of records i) =
+          subst (λ (kind : Kind). AreOver (loaded_faults draw i) 0 (state_at states i) ⊎ may_leave i kind 0 (record_of records i)) c.kind-kind.ensures
+          (c.leave_active.ensures.leaves i (c.fill.ensures.all i inside) off) in
+          let_go bench.circuit bench.points run (loaded_faults draw i) (may_leave i run.kind) 0 (state_at states i) (record_of records i) c.points-fit.ensures.fit (omega arith) (stood i lt) leaves;
       cost = omega arith;
     }
 
@@ -56,31 +67,31 @@ clock-preserved g c =
     let to_is : to ≡ min (cycles_of run) (t + 256) = c.min-t.ensures ∙ ap (λ n. min n (t + 256)) c.cycles-cycles.ensures.count in
     let within : to ≤ cycles_of run = omega (arith, to_is) in
     let later : t ≤ to = omega (arith, to_is, inv.within) in
-    let may_leave : ℕ → Kind → ℕ → RunShown → Bool = λ i kind n r. g.R.LeavingRule.may_leave c.args.rule.now i kind n r in
+    let may_leave : ℕ → Kind → ℕ → RunShown → Type 0 = λ i kind n r. g.R.LeavingRule.may_leave c.args.rule.now i kind n r in
     record {
       within = within;
       load = ran.load ∙ inv.load;
-      active = c.leave_active.ensures.bound ∙ inv.active;
+      active = c.leave_active-in-clock.ensures.bound ∙ inv.active;
       bound = λ i lt. ran.bound i (omega (arith, lt, c.clock.auto.states));
       faults = ran.faults ∙ inv.faults;
       fit = ran.fit;
       stand = λ i lt is.
           subst (λ n. Stands bench.circuit bench.points run (loaded_faults draw i) n (state_at states' i) (record_of new i)) (sym to_is)
-          (ran.stand i lt (c.leave_active.ensures.stays i is));
+          (ran.stand i lt (c.leave_active-in-clock.ensures.stays i is));
       followed = λ i lt off.
           elim (cases_Bool (has c.clock.active i)) as (λ _. IsFollowed bench.circuit bench.points run (loaded_faults draw i) (may_leave i run.kind) (record_of new i)) [
             | inl was ↦
                 (let stood : Stands bench.circuit bench.points run (loaded_faults draw i) to (state_at states' i) (record_of new i) =
                 subst (λ n. Stands bench.circuit bench.points run (loaded_faults draw i) n (state_at states' i) (record_of new i)) (sym to_is) (ran.stand i lt was) in
-                let leaves : may_leave i run.kind to (record_of new i) ≡ true =
-                subst (λ (kind : Kind). may_leave i kind to (record_of new i) ≡ true) c.kind.ensures (c.leave_active.ensures.leaves i was off) in
-                record { n = to; within = within; shown = stood.shown; enough = inr (record { then = record_of new i; shown = stood.shown; leaves = leaves }) })
+                let leaves : AreOver (loaded_faults draw i) to (state_at states' i) ⊎ may_leave i run.kind to (record_of new i) =
+                subst (λ (kind : Kind). AreOver (loaded_faults draw i) to (state_at states' i) ⊎ may_leave i kind to (record_of new i)) c.kind-kind.ensures (c.leave_active-in-clock.ensures.leaves i was off) in
+                let_go bench.circuit bench.points run (loaded_faults draw i) (may_leave i run.kind) to (state_at states' i) (record_of new i) c.points-fit.ensures.fit within stood leaves)
             | inr gone ↦
                 followed_same bench.circuit bench.points run (loaded_faults draw i) (may_leave i run.kind) (record_of old i) (record_of new i) (ran.others i gone) (inv.followed i lt gone)
           ];
       cost =
-          stretch_more c.args.steps.now c.clock.steps c.follow_active.new.steps (length draw / g.W.Word.lanes + 1) t to (length bench.circuit.tables) later inv.cost
-          (subst (λ n. c.follow_active.new.steps ≤ c.clock.steps + (length draw / g.W.Word.lanes + 1) * ((n - t) * length bench.circuit.tables)) (sym to_is) ran.cost);
+          stretch_more c.args.steps.now c.clock.steps c.follow_active.new.steps (div_ceil (length draw) g.W.Word.lanes) t to (length bench.circuit.tables) later inv.cost
+          (subst (λ n. c.follow_active.new.steps ≤ c.clock.steps + (div_ceil (length draw) g.W.Word.lanes) * ((n - t) * length bench.circuit.tables)) (sym to_is) ran.cost);
     }
 
 pub returns-clause-followed : goal.returns-clause-followed
@@ -95,7 +106,12 @@ returns-clause-followed g c = λ i lt.
             | inl before ↦ absurd (clash (has c.clock.active i) is (c.goes_on.ensures.over c.clock-test.false (omega (arith, before, c.cycles-cycles.ensures.count)) i))
             | inr late ↦ omega (arith, late, inv.within)
           ] in
-          record { n = c.clock.t; within = inv.within; shown = (inv.stand i lt is).shown; enough = inl end })
+          record {
+            n = c.clock.t;
+            within = inv.within;
+            shown = (inv.stand i lt is).shown;
+            enough = inl (subst (λ n. HasShown bench.circuit bench.points run x n (record_of c.clock.records i)) end (inv.stand i lt is).shown);
+          })
       | inr off ↦ inv.followed i lt off
     ]
 
@@ -104,5 +120,5 @@ returns-clause-cost g c =
     let inv = c.clock.invariant in
     let bench = c.args.bench.now in
     let most : c.clock.t * length bench.circuit.tables ≤ cycles_of (run_at bench.runs c.args.run) * length bench.circuit.tables = mul-le-mul_right (length bench.circuit.tables) inv.within in
-    let all = mul-le-mul_left (length c.args.draw.now / g.W.Word.lanes + 1) most in
+    let all = mul-le-mul_left (div_ceil (length c.args.draw.now) g.W.Word.lanes) most in
     omega (arith, inv.cost, all)

@@ -1,4 +1,5 @@
-use Rattle.std.proofs.Common.{◌≡◌, ◌<◌, ◌≤◌, ◌+◌, ◌-◌, ◌*◌, ◌/◌, ℕ, false, length}
+use Rattle.std.proofs.Common.{◌≡◌, ◌<◌, ◌≤◌, ◌+◌, ◌-◌, ◌*◌, ℕ, false, length}
+use Rattle.std.specs.Int.{div_ceil}
 use Rattle.workload.specs.Runs.{cycles_of, run_at}
 use Rattle.lane_words.specs.Loads.{loaded_faults}
 use Rattle.place_set.specs.Places.{has}
@@ -20,7 +21,7 @@ invariant-clock g l = record {
   stand : AreActiveStanding l.bench.circuit l.bench.points (run_at l.bench.runs l.run) l.draw l.active l.t l.states l.records;
   followed : (i : ℕ) → i < length l.draw → has l.active i ≡ false
       → IsFollowed l.bench.circuit l.bench.points (run_at l.bench.runs l.run) (loaded_faults l.draw i) (g.R.LeavingRule.may_leave l.rule i (run_at l.bench.runs l.run).kind) (record_of l.records i);
-  cost : l.steps ≤ l.initial.steps + (length l.draw / g.W.Word.lanes + 1) * (l.t * length l.bench.circuit.tables);
+  cost : l.steps ≤ l.initial.steps + div_ceil (length l.draw) g.W.Word.lanes * (l.t * length l.bench.circuit.tables);
 }
 
 -- the cycles that are left

@@ -2,9 +2,10 @@ use denote.Param.Send.{IsSend, param_send, sendable}
 use Rattle.std.proofs.Common.{◌≡◌, List, length, ap, sym, subst, ◌∙◌, arith}
 use Rattle.std.proofs.Crossing.{crosses}
 use Rattle.batch_crew.specs.Crew.{AreReady}
-use Rattle.differential_kernel.proofs.Sends.{lanes_send}
 use Rattle.fm_base.proofs.Lists.{written_whole}
-use Rattle.shown_runs.proofs.record.RunRecord.TheSendSync as seen
+use Rattle.differential_kernel.proofs.Sends.{lanes_send}
+use Rattle.place_set.proofs.set.PlaceSet.TheSendSync as places
+use Rattle.fault_runs.proofs.record.FaultRecords.TheSendSync as records
 use Rattle.latency_table.proofs.latency.Latency.TheSendSync as latency
 use Rattle.latency_table.specs.contracts.worker.LatencyWorker.{the_row as worker_row}
 use Rattle.latency_table.specs.declared.worker.LatencyWorker.{LatencyWorker}
@@ -13,7 +14,7 @@ use Rattle.latency_table.proofs.fan_out.simulated.Goals as goal
 
 -- a worker may go to another thread
 worker_send : IsSend worker_row
-worker_send = search (sendable, crosses, lanes_send, seen.the_send, latency.the_send) depth 30 fits 8000
+worker_send = search (sendable, crosses, lanes_send, places.the_send, records.the_send, latency.the_send) depth 30 fits 8000
 
 pub work_all-requires-send-A-Worker : goal.work_all-requires-send-A-Worker
 work_all-requires-send-A-Worker g c κs within =

@@ -11,7 +11,7 @@ loop-preserved c =
     let now = c.in_ok-push.ensures.items in
     let old : List (List Latency) = c.loop.groups.items in
     let group : List Latency = c.in_ok-filled.field-0.items in
-    let long : length group ≡ 256 = omega (arith, c.in_ok-filled.ensures.len, c.in_ok-filled.field-0.ok.0) in
+    let long : length group ≡ 1024 = omega (arith, c.in_ok-filled.ensures.len, c.in_ok-filled.field-0.ok.0) in
     record {
       count = ap length now ∙ length_push old group ∙ omega (arith, inv.count);
       room = λ round lt.

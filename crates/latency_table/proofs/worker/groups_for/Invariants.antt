@@ -6,5 +6,5 @@ use Rattle.latency_table.proofs.worker.groups_for.Given as goal
 abbrev pub invariant-loop : goal.invariant-loop
 invariant-loop l = record {
   count : length l.groups.items ≡ l.counter;
-  room : (round : ℕ) → round < l.counter → length (group_at l.groups.items round) ≡ 256;
+  room : (round : ℕ) → round < l.counter → length (group_at l.groups.items round) ≡ 1024;
 }

@@ -17,6 +17,6 @@ returns c = λ s of.
     let each : (g : ℕ) → g < length own → get_or taken g None ≡ s.difference (goal_at own g) =
     subst (λ (gs : List Goal). (g : ℕ) → g < length gs → get_or taken g None ≡ s.difference (goal_at gs g)) (sym c.goals_of-goals.ensures)
     (subst (λ (ds : List (Option ℕ)). (g : ℕ) → g < length goals → get_or ds g None ≡ s.difference (goal_at goals g)) (sym c.differences_of-differences.ensures)
-    (differences_are points s c.args.lane.now c.args.reading c.requires.reading of)) in
+    (differences_are points s c.args.cycles.now c.args.reading c.requires.reading of)) in
     c.some_goal_comes_late.ensures s.difference each
     ∙ (λ i. list_any (λ goal. comes_late (interval_of (c.interval_of.ensures i) goal) (s.difference goal) (c.first_alarm-alarm.ensures s of i)) (c.goals_of-goals.ensures i))

@@ -1,19 +1,23 @@
 use Rattle.std.proofs.Common.{◌≡◌, ◌+◌, ◌*◌, ◌<◌, ◌≤◌, ◌++◌, ◌∷◌, ℕ, List, [], length, take, refl, ap, sym, ◌∙◌, subst, arith}
-use Rattle.std.proofs.Math.Nat.{add-mul}
+use Rattle.std.specs.Int.{div_ceil}
+use Rattle.std.specs.Prelude.{Option}
+use Rattle.std.proofs.Math.Nat.{add-mul, mul-add}
 use Rattle.std.proofs.lemmas.List.{take_more}
 use Rattle.std.proofs.lemmas.List.Sums.{sum_by_push}
+use Rattle.circuit.specs.declared.parts.Fault.{Fault}
 use Rattle.workload.specs.declared.run.Kind.TheVariants.{Mission}
 use Rattle.workload.specs.declared.run.Run.{Run}
 use Rattle.workload.specs.Runs.{all_cycles, cycles_of, run_at}
 use Rattle.alarm_points.specs.declared.Points.{Points}
 use Rattle.campaign_plan.specs.declared.Outcome.{Outcome}
-use Rattle.testbench.specs.Load.{Load, lane_faults, load_of}
+use Rattle.first_cycles.specs.Shown.{shown_in}
+use Rattle.testbench.specs.Load.{in_lane}
+use Rattle.lane_words.specs.Loads.{loaded_faults}
 use Rattle.classifier.specs.Planes.{HasPlanes}
 use Rattle.classifier.proofs.RunByRun.{planes_none}
-use Rattle.shown_runs.specs.Beyond.{IsBeyond, beyond_at}
-use Rattle.shown_runs.specs.Record.{record_at}
-use Rattle.shown_runs.specs.Seen.{HasSeenRun}
-use Rattle.reading_planes.specs.Folded.{IsLaneFor, planes_at, reading_at}
+use Rattle.fault_runs.specs.Records.{AreRecordsFor, FaultRecords, record_of}
+use Rattle.fault_runs.specs.Whole.{HasShownRun}
+use Rattle.reading_planes.specs.Folded.{AreCyclesFor, planes_at, reading_at}
 use Rattle.reading_planes.specs.Readings.{ftti_by, points_by}
 use Rattle.reading_planes.proofs.runs.judge_runs.Goals as goal
 
@@ -23,34 +27,35 @@ more_cycles runs n lt =
     let none : Run = record { kind = Mission; vectors = [] } in
     ap (λ (rs : List Run). all_cycles rs) (take_more runs n none lt) ∙ sum_by_push cycles_of (take n runs) (run_at runs n)
 
--- the steps of one run more
-cost_more : (start before now all own tables more : ℕ) → before ≤ start + all * tables → more ≡ all + own → now ≤ before + own * tables → now ≤ start + more * tables
-cost_more start before now all own tables more b m n =
-    let split : (all + own) * tables ≡ all * tables + own * tables = add-mul all own tables in
+-- the steps of one run more, for each of so many groups
+cost_more : (start before now groups all own tables more : ℕ) → before ≤ start + groups * (all * tables) → more ≡ all + own → now ≤ before + groups * (own * tables)
+    → now ≤ start + groups * (more * tables)
+cost_more start before now groups all own tables more b m n =
+    let split : groups * ((all + own) * tables) ≡ groups * (all * tables) + groups * (own * tables) =
+    ap (λ k. groups * k) (add-mul all own tables) ∙ mul-add groups (all * tables) (own * tables) in
     rw m (omega (arith, split))
-
-pub follow_whole-requires-clause-beyond : goal.follow_whole-requires-clause-beyond
-follow_whole-requires-clause-beyond g c = λ word lt.
-    let b = c.args.bench.now in
-    subst (λ (l : Load). IsBeyond b.circuit b.points (lane_faults l word) (beyond_at c.args.beyond.now word)) (sym c.loop-run.invariant.load) (c.requires.beyond word lt)
 
 pub loop-run-init : goal.loop-run-init
 loop-run-init g c =
     let net = c.args.bench.now.circuit in
     let points = c.args.bench.now.points in
-    let none : c.args.steps.now ≤ c.args.steps.now + 0 * length net.tables = omega arith in
     record {
-      load = refl;
-      records = c.requires.fit;
+      made = c.requires.made;
+      faults = refl;
       cycles = c.requires.cycles;
       fit = c.requires.planes;
       planes = λ word r lt small.
           let own = points_by points (reading_at c.args.readings.now r) in
           let ftti = ftti_by c.args.ftti (reading_at c.args.readings.now r) in
-          let faults = lane_faults (load_of c.args.lanes.now) word in
+          let faults = in_lane c.args.draw.now.faults.items word in
           subst (λ (o : Outcome). HasPlanes net own ftti [] faults o) (sym (c.requires.nothing word r lt small)) (planes_none net own ftti faults);
-      cost = none;
+      cost = omega arith;
     }
+
+pub add_run-requires-clause-fit : goal.add_run-requires-clause-fit
+add_run-requires-clause-fit g c =
+    subst (λ (ps : Points). AreRecordsFor ps c.records.result.now) (sym c.points.ensures.points)
+    (subst (λ (rs : FaultRecords). AreRecordsFor c.args.bench.now.points rs) (sym c.records.ensures) c.follow_whole.ensures.made.fit)
 
 pub loop-run-preserved : goal.loop-run-preserved
 loop-run-preserved g c =
@@ -61,27 +66,33 @@ loop-run-preserved g c =
     let run = run_at runs n in
     let inv = c.loop-run.invariant in
     let followed = c.follow_whole.ensures in
-    let load = load_of c.args.lanes.now in
+    let held : List (List (Option Fault)) = c.args.draw.now.faults.items in
+    let same : c.loop-run.draw.faults.items ≡ held = ap (λ v. v.items) inv.faults in
     let within : n < length runs = omega (arith, c.runs-run-end.ensures, c.loop-run-test.true) in
     let none : Run = record { kind = Mission; vectors = [] } in
     record {
-      load = followed.load ∙ inv.load;
-      records = followed.fit;
-      cycles = subst (λ (ps : Points). IsLaneFor ps c.add_run.new.cycles) c.points.ensures.points c.add_run.ensures.made;
+      made = followed.made;
+      faults = followed.faults ∙ inv.faults;
+      cycles = subst (λ (ps : Points). AreCyclesFor ps c.add_run.new.cycles) c.points.ensures.points c.add_run.ensures.made;
       fit = c.add_run.ensures.fit;
       planes = λ word r lt small.
           let reading = reading_at c.args.readings.now r in
           let own = points_by points reading in
           let ftti = ftti_by c.args.ftti reading in
-          let faults = lane_faults load word in
-          let inside : word < length c.loop-run.planes = omega (arith, lt, c.requires.words, c.loop-run.auto.planes) in
-          let seen : (k : ℕ) → k < 64 → HasSeenRun net points run (faults k) k (record_at c.follow_whole.new.records word) = λ k lane.
-          subst (λ (l : Load). HasSeenRun net points run (lane_faults l word k) k (record_at c.follow_whole.new.records word)) inv.load (followed.seen word k lt lane) in
+          let faults = in_lane held word in
+          let inside : word < length c.loop-run.planes = omega (arith, lt, c.loop-run.auto.planes) in
+          let shown : (k : ℕ) → k < 64 → HasShownRun points (shown_in net (faults k) run) (record_of c.records.result.now (word * 64 + k)) = λ k lane.
+          let number : word * 64 + k < length c.loop-run.draw.faults.items = omega (arith, lt, lane, c.requires.size, ap length same) in
+          subst (λ (rs : FaultRecords). HasShownRun points (shown_in net (faults k) run) (record_of rs (word * 64 + k))) (sym c.records.ensures)
+          (subst (λ (fs : List (List (Option Fault))). HasShownRun points (shown_in net (loaded_faults fs (word * 64 + k)) run) (record_of c.follow_whole.new.self.records (word * 64 + k))) same
+          (followed.shown (word * 64 + k) number)) in
           subst (λ (rs : List Run). HasPlanes net own ftti rs faults (planes_at c.add_run.new.planes word r)) (sym (take_more runs n none within))
           (subst (λ (ps : Points).
-          ((k : ℕ) → k < 64 → HasSeenRun net ps run (faults k) k (record_at c.follow_whole.new.records word)) → HasPlanes net (points_by ps reading) ftti (take n runs) faults (planes_at c.loop-run.planes word r)
+          ((k : ℕ) → k < 64 → HasShownRun ps (shown_in net (faults k) run) (record_of c.records.result.now (word * 64 + k))) → HasPlanes net (points_by ps reading) ftti (take n runs) faults (planes_at c.loop-run.planes word r)
           → HasPlanes net (points_by ps reading) ftti (take n runs ++ run ∷ []) faults (planes_at c.add_run.new.planes word r)) c.points.ensures.points
           (λ sees was. c.add_run.ensures.planes net (take n runs) run faults word r (sym c.kind.ensures) inside sees small was)
-          seen (inv.planes word r lt small));
-      cost = cost_more _ _ _ _ _ (length net.tables) _ inv.cost (more_cycles runs n within) followed.cost;
+          shown (inv.planes word r lt small));
+      cost =
+          cost_more c.args.steps.now c.loop-run.steps c.follow_whole.new.steps (div_ceil (length held) 256) (all_cycles (take n runs)) (cycles_of run) (length net.tables) _ inv.cost (more_cycles runs n within)
+          (subst (λ (fs : List (List (Option Fault))). c.follow_whole.new.steps ≤ c.loop-run.steps + div_ceil (length fs) 256 * (cycles_of run * length net.tables)) same followed.cost);
     }

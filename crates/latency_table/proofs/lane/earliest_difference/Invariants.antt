@@ -1,8 +1,0 @@
-use Rattle.std.proofs.Common.{◌≡◌, map, take}
-use Rattle.first_cycles.specs.FirstCycles.{earliest}
-use Rattle.shown_runs.specs.First.{first_in}
-use Rattle.latency_table.proofs.lane.earliest_difference.Given as goal
-
--- that of the goals so far
-abbrev pub invariant-loop-goal : goal.invariant-loop-goal
-invariant-loop-goal l = l.first ≡ earliest (map (λ goal. first_in goal l.lane) (take l.goal-index l.goals))

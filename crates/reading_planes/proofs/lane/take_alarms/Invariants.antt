@@ -1,8 +1,0 @@
-use Rattle.std.proofs.Common.{◌≡◌, ◌<◌, ℕ, None, get_or}
-use Rattle.shown_runs.specs.First.{first_in}
-use Rattle.shown_runs.specs.Record.{alarm_cycles}
-use Rattle.reading_planes.proofs.lane.take_alarms.Given as goal
-
--- those of the alarm points so far are taken
-abbrev pub invariant-loop-a : goal.invariant-loop-a
-invariant-loop-a l = (h : ℕ) → h < l.a → get_or l.alarms h None ≡ first_in (alarm_cycles l.points h).raised l.lane

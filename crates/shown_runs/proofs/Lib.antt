@@ -1,4 +1,0 @@
-pub mod Marks
-pub mod Steps
-pub mod Reaching
-pub mod LetGo

@@ -1,5 +1,0 @@
-pub mod First
-pub mod Record
-pub mod Seen
-pub mod Lanes
-pub mod Beyond
