@@ -35,7 +35,7 @@ AreSame nets sets = All (λ net. (a b : Bool) → unequal a b ≡ true → sets 
 
 module _ (searched : Searched) (q : Question) (is : IsSearched searched) (may : MayBeAsked searched.netlist.now q) (claim : Claim) (asked : IsAsked searched.netlist.now q claim) where
   same_circuit : searched.watchers.now.circuit ≡ claim.circuit
-  same_circuit = is.netlist ∙ sym asked.circuit
+  same_circuit = is.netlist ∙ sym asked.posed.circuit
 
   sound : IsNetlist claim.circuit
   sound = subst IsNetlist same_circuit is.sound
@@ -44,13 +44,13 @@ module _ (searched : Searched) (q : Question) (is : IsSearched searched) (may : 
   ordered = subst (λ (c : Circuit). IsOrder c searched.watchers.now.order) same_circuit is.order
 
   held : All (λ (h : Held). Contains claim.circuit.inputs h.net) claim.held
-  held = subst (λ (all : List Held). All (λ (h : Held). Contains claim.circuit.inputs h.net) all) (sym asked.held)
-      (subst (λ (c : Circuit). All (λ (h : Held). Contains c.inputs h.net) q.held.now) (sym asked.circuit) may.held)
+  held = subst (λ (all : List Held). All (λ (h : Held). Contains claim.circuit.inputs h.net) all) (sym asked.posed.held)
+      (subst (λ (c : Circuit). All (λ (h : Held). Contains c.inputs h.net) q.posed.held.now) (sym asked.posed.circuit) may.posed.held)
 
   shown_in : (latches : List Latch) → latches ≡ searched.netlist.now.latches → (starts : List PairSet) (pairs : Latch → Pairs) → AreShown latches q.sites.now starts pairs
       → (l : ℕ) (latch : Latch) → slice_get claim.circuit.latches l ≡ Some latch → (a b : Bool) → has (set_at starts l) a b ≡ shown (claim.region latch.to.0) (pairs latch) a b
   shown_in latches own starts pairs are l latch at a b =
-      let here : slice_get searched.netlist.now.latches l ≡ Some latch = subst (λ (c : Circuit). slice_get c.latches l ≡ Some latch) asked.circuit at in
+      let here : slice_get searched.netlist.now.latches l ≡ Some latch = subst (λ (c : Circuit). slice_get c.latches l ≡ Some latch) asked.posed.circuit at in
       let there : slice_get latches l ≡ Some latch = subst (λ (all : List Latch). slice_get all l ≡ Some latch) (sym own) here in
       are l latch there a b
       ∙ ap (λ (site : Site). shown site (pairs latch) a b) (sym (latch_site searched.netlist.now q claim (subst IsNetlist is.netlist is.sound) may asked l latch here))
@@ -62,18 +62,18 @@ module _ (searched : Searched) (q : Question) (is : IsSearched searched) (may : 
       (everything, led_first claim starts (shown_in latches own starts (λ latch. this_pair latch.start latch.start) are), λ frame lt. absurd (omega (arith, lt)))
 
   -- where no runs have a cycle
-  pub none_known : (cycle : ℕ) → cycle ≤ q.from → (starts : List PairSet) (differs : Bool) → IsKnownTo claim cycle starts differs
+  pub none_known : (cycle : ℕ) → cycle ≤ q.posed.from → (starts : List PairSet) (differs : Bool) → IsKnownTo claim cycle starts differs
       → ((golden faulty : Values) → AreSo (lead_cycle claim cycle starts) golden faulty → ⊥) → HasNoRuns claim
   none_known cycle le starts differs known none golden faulty so =
-      none (λ _. golden cycle) (λ _. faulty cycle) (one_cycle claim sound cycle (omega (arith, le, asked.from)) starts known.0 known.1 golden faulty so)
+      none (λ _. golden cycle) (λ _. faulty cycle) (one_cycle claim sound cycle (omega (arith, le, asked.posed.from)) starts known.0 known.1 golden faulty so)
 
-  module _ (cycle : ℕ) (le : cycle ≤ q.from) (starts : List PairSet) (differs : Bool) (known : IsKnownTo claim cycle starts differs) (last : Sets) (one : IsCycle claim cycle starts last) where
+  module _ (cycle : ℕ) (le : cycle ≤ q.posed.from) (starts : List PairSet) (differs : Bool) (known : IsKnownTo claim cycle starts differs) (last : Sets) (one : IsCycle claim cycle starts last) where
     within : cycle ≤ claim.from
-    within = omega (arith, le, asked.from)
+    within = omega (arith, le, asked.posed.from)
 
     -- before the next one
     pub next_known : (latches : List Latch) → latches ≡ searched.netlist.now.latches → (next : List PairSet) → AreShown latches q.sites.now next (λ latch. last 0 latch.from.0)
-        → (found : Bool) → (found ≡ false → AreSame q.observed.now last) → (found ≡ true → AreSame q.observed.now last → ⊥) → IsKnownTo claim (cycle + 1) next (differs || found)
+        → (found : Bool) → (found ≡ false → AreSame q.posed.observed.now last) → (found ≡ true → AreSame q.posed.observed.now last → ⊥) → IsKnownTo claim (cycle + 1) next (differs || found)
     next_known latches own next are found same other =
         let later : suc cycle ≡ cycle + 1 = omega arith in
         let sets = more claim searched.watchers.now.order sound ordered held cycle within starts known.0 last known.1 one in
@@ -81,19 +81,19 @@ module _ (searched : Searched) (q : Question) (is : IsSearched searched) (may : 
           sets,
           led_on claim searched.watchers.now.order sound ordered held cycle within starts known.0 last known.1 one next (shown_in latches own next (λ latch. last 0 latch.from.0) are),
           seen_on claim searched.watchers.now.order sound ordered held cycle within starts known.0 last known.1 one differs found known.2
-              (λ e. subst (λ nets. AreSame nets last) (sym asked.observed) (same e)) (λ e all. other e (subst (λ nets. AreSame nets last) asked.observed all)),
+              (λ e. subst (λ nets. AreSame nets last) (sym asked.posed.observed) (same e)) (λ e all. other e (subst (λ nets. AreSame nets last) asked.posed.observed all)),
         )
 
   -- and at the end
-  pub end_known : (starts : List PairSet) (differs : Bool) → IsKnownTo claim q.from starts differs → (last : Sets) → IsCycle claim q.from starts last
+  pub end_known : (starts : List PairSet) (differs : Bool) → IsKnownTo claim q.posed.from starts differs → (last : Sets) → IsCycle claim q.posed.from starts last
       → IsLedIn claim starts (if differs then MayDiffer else Agrees)
   end_known starts true known last one =
-      let le : q.from ≤ claim.from = omega (arith, asked.from) in (
-        leaves_starts claim searched.watchers.now.order sound ordered held q.from le starts known.0 last known.1 one asked.from,
-        may_be_early claim searched.watchers.now.order sound ordered held q.from le starts known.0 last known.1 one asked.from known.2,
+      let le : q.posed.from ≤ claim.from = omega (arith, asked.posed.from) in (
+        leaves_starts claim searched.watchers.now.order sound ordered held q.posed.from le starts known.0 last known.1 one asked.posed.from,
+        may_be_early claim searched.watchers.now.order sound ordered held q.posed.from le starts known.0 last known.1 one asked.posed.from known.2,
       )
   end_known starts false known last one =
-      let le : q.from ≤ claim.from = omega (arith, asked.from) in (
-        leaves_starts claim searched.watchers.now.order sound ordered held q.from le starts known.0 last known.1 one asked.from,
-        never_early claim searched.watchers.now.order sound ordered held q.from le starts known.0 last known.1 one asked.from known.2,
+      let le : q.posed.from ≤ claim.from = omega (arith, asked.posed.from) in (
+        leaves_starts claim searched.watchers.now.order sound ordered held q.posed.from le starts known.0 last known.1 one asked.posed.from,
+        never_early claim searched.watchers.now.order sound ordered held q.posed.from le starts known.0 last known.1 one asked.posed.from known.2,
       )

@@ -86,19 +86,19 @@ cases_zero (suc m) = inr (m, refl)
 
 -- as a search begins with it
 pub begins_cycle : (c : Circuit) (q : Question) (claim : Claim) (cycle : ℕ) (starts : List PairSet) (b : Beginning) (many : ℕ) → IsNetlist c → IsAsked c q claim → many ≡ 1
-    → b.sites.now ≡ q.sites.now → b.held.now ≡ q.held.now → b.first ≡ cycle → b.silent.now ≡ [] → b.until ≡ 0 → b.starts.now ≡ starts
+    → b.sites.now ≡ q.sites.now → b.held.now ≡ q.posed.held.now → b.first ≡ cycle → b.silent.now ≡ [] → b.until ≡ 0 → b.starts.now ≡ starts
     → BeginsSo c (lead_cycle claim cycle starts) many b
 begins_cycle c q claim cycle starts b many sound asked one sites held first silent until own = record {
-  circuit = asked.circuit;
+  circuit = asked.posed.circuit;
   frames = one;
   sites = λ net site at. asked.sites net site (subst (λ all. slice_get all net ≡ Some site) sites at);
-  held = asked.held ∙ sym held;
+  held = asked.posed.held ∙ sym held;
   first = sym first;
   silent = sym silent;
   until = sym until;
   start = λ l latch at x y. (
-      let there : slice_get claim.circuit.latches l ≡ Some latch = subst (λ (each : Circuit). slice_get each.latches l ≡ Some latch) (sym asked.circuit) at in
-      starts_are claim.circuit starts l latch (subst IsNetlist (sym asked.circuit) sound) there x y ∙ ap (λ (all : List PairSet). has (set_at all l) x y) (sym own));
+      let there : slice_get claim.circuit.latches l ≡ Some latch = subst (λ (each : Circuit). slice_get each.latches l ≡ Some latch) (sym asked.posed.circuit) at in
+      starts_are claim.circuit starts l latch (subst IsNetlist (sym asked.posed.circuit) sound) there x y ∙ ap (λ (all : List PairSet). has (set_at all l) x y) (sym own));
 }
 
 module _ (claim : Claim) (sound : IsNetlist claim.circuit) (cycle : ℕ) (within : cycle ≤ claim.from) (starts : List PairSet) (q : Sets) (led : IsLedTo claim cycle starts q) where

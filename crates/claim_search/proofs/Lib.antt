@@ -5,3 +5,6 @@ pub mod Leading
 pub mod Taking
 pub mod Cycles
 pub mod Answering
+pub mod Marking
+pub mod Regions
+pub mod Halving

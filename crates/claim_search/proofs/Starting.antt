@@ -55,17 +55,17 @@ starts_are c starts l latch sound at a b =
     ap (λ driver. driven_starts starts driver a b) (get_or_from_slice_get c.drivers latch.to.0 (FromLatch l) (Input 0) (sound.latches l latch at))
 
 -- the windows that start so, as a search begins with them
-pub begins_so : (c : Circuit) (q : Question) (claim : Claim) (starts : List PairSet) (b : Beginning) (many : ℕ) → IsNetlist c → IsAsked c q claim → many ≡ q.window + q.ahead + 1
-    → b.sites.now ≡ q.sites.now → b.held.now ≡ q.held.now → b.first ≡ q.from → b.silent.now ≡ q.alarms.now → b.until ≡ q.window → b.starts.now ≡ starts
+pub begins_so : (c : Circuit) (q : Question) (claim : Claim) (starts : List PairSet) (b : Beginning) (many : ℕ) → IsNetlist c → IsAsked c q claim → many ≡ q.posed.window + q.posed.ahead + 1
+    → b.sites.now ≡ q.sites.now → b.held.now ≡ q.posed.held.now → b.first ≡ q.posed.from → b.silent.now ≡ q.posed.alarms.now → b.until ≡ q.posed.window → b.starts.now ≡ starts
     → BeginsSo c (window_of (with_pairs claim (starts_of c starts))) many b
 begins_so c q claim starts b many sound asked frames sites held first silent until own = record {
-  circuit = asked.circuit;
-  frames = frames ∙ ap₂ (λ (x y : ℕ). x + y + 1) (sym asked.window) (sym asked.ahead);
+  circuit = asked.posed.circuit;
+  frames = frames ∙ ap₂ (λ (x y : ℕ). x + y + 1) (sym asked.posed.window) (sym asked.posed.ahead);
   sites = λ net site at. asked.sites net site (subst (λ all. slice_get all net ≡ Some site) sites at);
-  held = asked.held ∙ sym held;
-  first = asked.from ∙ sym first;
-  silent = asked.alarms ∙ sym silent;
-  until = asked.window ∙ sym until;
+  held = asked.posed.held ∙ sym held;
+  first = asked.posed.from ∙ sym first;
+  silent = asked.posed.alarms ∙ sym silent;
+  until = asked.posed.window ∙ sym until;
   start = λ l latch at x y. starts_are c starts l latch sound at x y ∙ ap (λ (all : List PairSet). has (set_at all l) x y) (sym own);
 }
 

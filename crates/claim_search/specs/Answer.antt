@@ -1,4 +1,5 @@
 -- What may be answered to a claim.
+use Rattle.std.specs.Prelude.{Bool, true, false}
 use Rattle.circuit.specs.declared.parts.Latch.{Latch}
 use Rattle.coverage_claim.specs.Claim.{Claim, IsNeverEarly, IsProved}
 use Rattle.coverage_claim.specs.Largest.{IsProvedSimply}
@@ -22,3 +23,9 @@ IsAnswer claim Alarmed = IsProvedWithSome claim × IsNeverEarly claim
 IsAnswer claim Early = IsProvedWithSome claim × (¬ (IsNeverEarlySimply claim))
 IsAnswer claim Open = IsNeverProvedSimply claim
 IsAnswer claim NoRuns = HasNoRuns claim
+
+-- ---- private steps, which the public contracts don't cite
+
+-- what holds of a region holds of each part of it
+abbrev pub is_of_parts : Answer → Bool
+is_of_parts = elim [ Alarmed ↦ true | NoRuns ↦ true | _ ↦ false ]

@@ -2,3 +2,4 @@ pub mod Question
 pub mod Window
 pub mod LeadIn
 pub mod Answer
+pub mod Sites

@@ -10,6 +10,7 @@ use Rattle.coverage_claim.specs.Claim.{Claim}
 use Rattle.coverage_claim.specs.Stretch.{Pairs}
 use Rattle.coverage_claim.specs.declared.parts.Site.{Site}
 use Rattle.region_search.specs.Going.{ArePlaced}
+use Rattle.claim_search.specs.declared.question.Posed.{Posed}
 use Rattle.claim_search.specs.declared.question.Question.{Question}
 use Rattle.claim_search.specs.declared.question.Searched.{Searched}
 
@@ -20,23 +21,31 @@ pub record IsSearched (searched : Searched) : Type 0 where
   pub order : IsOrder searched.watchers.now.circuit searched.watchers.now.order
   pub placed : ArePlaced searched.watchers.now searched.tables.now
 
--- WHAT MAY BE ASKED of a netlist: about nets of it, with a site for each of them, where inputs are held
-pub record MayBeAsked (c : Circuit) (q : Question) : Type 0 where
-  pub sites : length q.sites.now ≡ length c.drivers
-  pub observed : All (IsNet c) q.observed.now
-  pub alarms : All (IsNet c) q.alarms.now
-  pub held : All (λ h. Contains c.inputs h.net) q.held.now
+-- WHAT MAY BE POSED of a netlist: it is about nets of it, and inputs are held
+pub record MayBePosed (c : Circuit) (p : Posed) : Type 0 where
+  pub observed : All (IsNet c) p.observed.now
+  pub alarms : All (IsNet c) p.alarms.now
+  pub held : All (λ h. Contains c.inputs h.net) p.held.now
 
--- THE CLAIM IS ASKED, whatever pairs its latches may show
-pub record IsAsked (c : Circuit) (q : Question) (claim : Claim) : Type 0 where
+-- AND ASKED: each net has a site
+pub record MayBeAsked (c : Circuit) (q : Question) : Type 0 where
+  pub posed : MayBePosed c q.posed
+  pub sites : length q.sites.now ≡ length c.drivers
+
+-- THE CLAIM IS POSED, whatever its region, and whatever pairs its latches may show
+pub record IsPosed (c : Circuit) (p : Posed) (claim : Claim) : Type 0 where
   pub circuit : claim.circuit ≡ c
-  pub observed : observed claim.points ≡ q.observed.now
-  pub alarms : claim.points.alarm ≡ q.alarms.now
-  pub held : claim.held ≡ q.held.now
-  pub from : claim.from ≡ q.from
+  pub observed : observed claim.points ≡ p.observed.now
+  pub alarms : claim.points.alarm ≡ p.alarms.now
+  pub held : claim.held ≡ p.held.now
+  pub from : claim.from ≡ p.from
+  pub window : claim.window ≡ p.window
+  pub ahead : claim.ahead ≡ p.ahead
+
+-- THE CLAIM IS ASKED: with this region
+pub record IsAsked (c : Circuit) (q : Question) (claim : Claim) : Type 0 where
+  pub posed : IsPosed c q.posed claim
   pub sites : (net : ℕ) (site : Site) → slice_get q.sites.now net ≡ Some site → claim.region net ≡ site
-  pub window : claim.window ≡ q.window
-  pub ahead : claim.ahead ≡ q.ahead
 
 -- the claim with other pairs for its latches
 abbrev pub with_pairs : Claim → (Latch → Pairs) → Claim

@@ -25,6 +25,17 @@ pub enum Answer {
     NoRuns,
 }
 
+impl Answer {
+    ghost use Rattle.claim_search.specs.Answer.{is_of_parts};
+
+    // Whether it is the answer to each part of the region too.
+    pub(crate) fn is_of_parts(self) -> bool
+        ensures { result ≡ is_of_parts self }
+    {
+        matches!(self, Answer::Alarmed | Answer::NoRuns)
+    }
+}
+
 /// The answer to a claim. `lead` searches one frame, and `starts` are overwritten, one for each latch: by the pairs with which the claim
 /// is proved, where it is.
 pub fn answer_claim(
@@ -38,11 +49,11 @@ pub fn answer_claim(
     requires asked { MayBeAsked searched.now.netlist.now question.now }
     requires lead { IsFor searched.now.watchers.now lead.old }
     requires frame { lead.old.sets.frames ≡ 1 }
-    requires over { IsOver searched.now.watchers.now (question.now.window + question.now.ahead + 1) window.old }
+    requires over { IsOver searched.now.watchers.now (question.now.posed.window + question.now.posed.ahead + 1) window.old }
     requires starts { length starts.old ≡ length searched.now.netlist.now.latches }
     ensures lead { IsFor searched.now.watchers.now lead.new }
     ensures frame { lead.new.sets.frames ≡ 1 }
-    ensures over { IsOver searched.now.watchers.now (question.now.window + question.now.ahead + 1) window.new }
+    ensures over { IsOver searched.now.watchers.now (question.now.posed.window + question.now.posed.ahead + 1) window.new }
     ensures answer { (claim : Claim) → IsAsked searched.now.netlist.now question.now claim → IsAnswer claim result }
 {
     let whole = match lead_in(lead, searched, question, starts) {

@@ -94,7 +94,7 @@ fn settle_cycle(
 {
     let beginning = Beginning {
         sites: question.sites,
-        held: question.held,
+        held: question.posed.held,
         first: cycle,
         silent: &[],
         until: 0,
@@ -130,14 +130,14 @@ pub fn lead_in(
     let latches = searched.netlist.latches();
     let mut differs = false;
     first_starts(latches, question.sites, starts);
-    for cycle in 0..question.from {
+    for cycle in 0..question.posed.from {
         if !settle_cycle(search, searched, question, cycle, starts) {
             return LeadIn::NoRuns;
         }
-        differs = differs | may_differ(search, question.observed);
+        differs = differs | may_differ(search, question.posed.observed);
         next_starts(search, latches, question.sites, starts);
     }
-    if !settle_cycle(search, searched, question, question.from, starts) {
+    if !settle_cycle(search, searched, question, question.posed.from, starts) {
         return LeadIn::NoRuns;
     }
     if differs {

@@ -4,9 +4,11 @@
 mod answer;
 mod lead;
 mod question;
+mod sites;
 mod window;
 
 pub use answer::{Answer, answer_claim};
 pub use lead::{LeadIn, lead_in};
-pub use question::{Question, Searched};
+pub use question::{Posed, Question, Searched};
+pub use sites::AnswerSearch;
 pub use window::WindowSearch;

@@ -14,9 +14,9 @@ pub struct Searched<'a> {
     pub tables: &'a [TablePlace],
 }
 
-/// What is asked of a netlist: whether an alarm comes in time, whatever happens in a region.
+/// What is asked of a netlist, but for the region.
 #[derive(Clone, Copy)]
-pub struct Question<'a> {
+pub struct Posed<'a> {
     /// The nets that shall not differ without an alarm.
     pub observed: &'a [NetId],
     pub alarms: &'a [NetId],
@@ -24,10 +24,16 @@ pub struct Question<'a> {
     pub held: &'a [Held],
     /// The first cycle that the claim is about.
     pub from: u32,
-    /// What faults may do at each net.
-    pub sites: &'a [Site],
     /// The most cycles from a difference to its alarm.
     pub window: u32,
     /// For how many cycles more the run without faults raises no alarm either.
     pub ahead: u32,
+}
+
+/// What is asked of a netlist: whether an alarm comes in time, whatever happens in a region.
+#[derive(Clone, Copy)]
+pub struct Question<'a> {
+    pub posed: Posed<'a>,
+    /// What faults may do at each net.
+    pub sites: &'a [Site],
 }

@@ -54,18 +54,18 @@ impl WindowSearch {
     fn begin(&mut self, searched: &Searched<'_>, question: &Question<'_>, starts: &[PairSet])
         requires searched { IsSearched searched.now }
         requires asked { MayBeAsked searched.now.netlist.now question.now }
-        requires over { IsOver searched.now.watchers.now (question.now.window + question.now.ahead + 1) self.old }
+        requires over { IsOver searched.now.watchers.now (question.now.posed.window + question.now.posed.ahead + 1) self.old }
         requires starts { length starts.now ≡ length searched.now.netlist.now.latches }
-        ensures over { IsOver searched.now.watchers.now (question.now.window + question.now.ahead + 1) self.new }
+        ensures over { IsOver searched.now.watchers.now (question.now.posed.window + question.now.posed.ahead + 1) self.new }
         ensures goes_on { (claim : Claim) → IsAsked searched.now.netlist.now question.now claim
             → GoesOn searched.now.watchers.now (window_of (with_pairs claim (starts_of searched.now.netlist.now starts.now))) everything (sets_of self.new.search.sets) self.new.search }
     {
         let beginning = Beginning {
             sites: question.sites,
-            held: question.held,
-            first: question.from,
-            silent: question.alarms,
-            until: question.window,
+            held: question.posed.held,
+            first: question.posed.from,
+            silent: question.posed.alarms,
+            until: question.posed.window,
             starts,
         };
         self.search.begin(searched.netlist, &beginning);
@@ -86,9 +86,9 @@ impl WindowSearch {
     ) -> Seen
         requires searched { IsSearched searched.now }
         requires asked { MayBeAsked searched.now.netlist.now question.now }
-        requires over { IsOver searched.now.watchers.now (question.now.window + question.now.ahead + 1) self.old }
+        requires over { IsOver searched.now.watchers.now (question.now.posed.window + question.now.posed.ahead + 1) self.old }
         requires starts { length starts.old ≡ length searched.now.netlist.now.latches }
-        ensures over { IsOver searched.now.watchers.now (question.now.window + question.now.ahead + 1) self.new }
+        ensures over { IsOver searched.now.watchers.now (question.now.posed.window + question.now.posed.ahead + 1) self.new }
         ensures kept { AreKept starts.old starts.new }
         ensures opened { result ≡ Seen.Open → starts.new ≡ starts.old }
         ensures closed { result ≡ Seen.Closed → starts.new ≡ starts.old }
@@ -103,7 +103,7 @@ impl WindowSearch {
             searched.tables,
             latches,
             question.sites,
-            question.observed,
+            question.posed.observed,
         );
         if !agrees {
             return Seen::Open;
@@ -133,9 +133,9 @@ impl WindowSearch {
     ) -> bool
         requires searched { IsSearched searched.now }
         requires asked { MayBeAsked searched.now.netlist.now question.now }
-        requires over { IsOver searched.now.watchers.now (question.now.window + question.now.ahead + 1) self.old }
+        requires over { IsOver searched.now.watchers.now (question.now.posed.window + question.now.posed.ahead + 1) self.old }
         requires starts { length starts.old ≡ length searched.now.netlist.now.latches }
-        ensures over { IsOver searched.now.watchers.now (question.now.window + question.now.ahead + 1) self.new }
+        ensures over { IsOver searched.now.watchers.now (question.now.posed.window + question.now.posed.ahead + 1) self.new }
         ensures kept { AreKept starts.old starts.new }
         ensures proved { result ≡ true → (claim : Claim) → IsAsked searched.now.netlist.now question.now claim
             → WindowsGoOn (with_pairs claim (starts_of searched.now.netlist.now starts.new)) }

@@ -11,8 +11,8 @@ use Rattle.claim_search.proofs.answer.answer_claim.Goals.{in-Agrees, in-MayDiffe
 
 pub returns-then-close-clause-answer : goal.returns-then-close-clause-answer
 returns-then-close-clause-answer c = λ claim asked.
-    let sound = subst IsNetlist (c.requires.searched.netlist ∙ sym asked.circuit) c.requires.searched.sound in
-    let goes = subst (λ (net : Circuit). WindowsGoOn (with_pairs claim (starts_of net c.close.new.starts))) (sym asked.circuit) (c.close.ensures.proved c.if-close.true claim asked) in
+    let sound = subst IsNetlist (c.requires.searched.netlist ∙ sym asked.posed.circuit) c.requires.searched.sound in
+    let goes = subst (λ (net : Circuit). WindowsGoOn (with_pairs claim (starts_of net c.close.new.starts))) (sym asked.posed.circuit) (c.close.ensures.proved c.if-close.true claim asked) in
     let with_some : LeavesStarts claim c.lead_in.new.starts → IsProvedWithSome claim = λ leaves. proved claim c.lead_in.new.starts leaves sound c.close.new.starts c.close.ensures.kept goes in
     elim c.match-lead_in.branch [
       | in-MayDiffer w ↦ (let led = w.in-MayDiffer.ensures.led claim asked in subst (IsAnswer claim) (sym w.whole-is) (with_some led.0, led.1))
@@ -26,12 +26,14 @@ returns-else-close-clause-answer c = λ claim asked.
       | in-Agrees w ↦ (w.in-Agrees.ensures.led claim asked).0
     ] in
     never claim c.lead_in.new.starts leaves (λ pairs allows. c.close.ensures.open c.if-close.false (with_pairs claim pairs) (record {
-      circuit = asked.circuit;
-      observed = asked.observed;
-      alarms = asked.alarms;
-      held = asked.held;
-      from = asked.from;
+      posed = record {
+        circuit = asked.posed.circuit;
+        observed = asked.posed.observed;
+        alarms = asked.posed.alarms;
+        held = asked.posed.held;
+        from = asked.posed.from;
+        window = asked.posed.window;
+        ahead = asked.posed.ahead;
+      };
       sites = asked.sites;
-      window = asked.window;
-      ahead = asked.ahead;
     }) allows)

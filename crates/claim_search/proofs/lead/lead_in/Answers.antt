@@ -21,7 +21,7 @@ next_starts-requires-clause-from c =
 
 pub may_differ-differs-requires-clause-nets : goal.may_differ-differs-requires-clause-nets
 may_differ-differs-requires-clause-nets c = λ i d lt. (
-    let within = c.requires.asked.observed i d lt in
+    let within = c.requires.asked.posed.observed i d lt in
     omega (arith, within, c.settle_cycle.ensures.fits.nets, ap (λ (net : Circuit). length net.drivers) c.requires.searched.netlist))
 
 pub loop-cycle-init : goal.loop-cycle-init
@@ -51,23 +51,23 @@ returns-then-not-settle_cycle-clause-led c = λ claim asked.
 
 pub returns-then-not-settle_cycle-2-clause-led : goal.returns-then-not-settle_cycle-2-clause-led
 returns-then-not-settle_cycle-2-clause-led c = λ claim asked.
-    let end : c.loop-cycle.cycle ≡ c.args.question.now.from = omega (arith, c.loop-cycle-test.false, c.loop-cycle.auto.cycle-end) in
+    let end : c.loop-cycle.cycle ≡ c.args.question.now.posed.from = omega (arith, c.loop-cycle-test.false, c.loop-cycle.auto.cycle-end) in
     none_known c.args.searched.now c.args.question.now c.requires.searched c.requires.asked claim asked
-    c.args.question.now.from (omega arith) c.loop-cycle.starts c.loop-cycle.differs (subst (λ n. IsKnownTo claim n c.loop-cycle.starts c.loop-cycle.differs) end (c.loop-cycle.invariant.known claim asked))
+    c.args.question.now.posed.from (omega arith) c.loop-cycle.starts c.loop-cycle.differs (subst (λ n. IsKnownTo claim n c.loop-cycle.starts c.loop-cycle.differs) end (c.loop-cycle.invariant.known claim asked))
     (c.settle_cycle-2.ensures.none c.if-not-settle_cycle-2.true claim asked)
 
 pub returns-then-differs-clause-led : goal.returns-then-differs-clause-led
 returns-then-differs-clause-led c = λ claim asked.
-    let end : c.loop-cycle.cycle ≡ c.args.question.now.from = omega (arith, c.loop-cycle-test.false, c.loop-cycle.auto.cycle-end) in
+    let end : c.loop-cycle.cycle ≡ c.args.question.now.posed.from = omega (arith, c.loop-cycle-test.false, c.loop-cycle.auto.cycle-end) in
     end_known c.args.searched.now c.args.question.now c.requires.searched c.requires.asked claim asked c.loop-cycle.starts true
-    (subst (λ differs. IsKnownTo claim c.args.question.now.from c.loop-cycle.starts differs) c.if-differs.true
+    (subst (λ differs. IsKnownTo claim c.args.question.now.posed.from c.loop-cycle.starts differs) c.if-differs.true
     (subst (λ n. IsKnownTo claim n c.loop-cycle.starts c.loop-cycle.differs) end (c.loop-cycle.invariant.known claim asked)))
     (sets_of c.settle_cycle-2.new.search.sets) (c.settle_cycle-2.ensures.settled c.if-not-settle_cycle-2.false claim asked)
 
 pub returns-else-differs-clause-led : goal.returns-else-differs-clause-led
 returns-else-differs-clause-led c = λ claim asked.
-    let end : c.loop-cycle.cycle ≡ c.args.question.now.from = omega (arith, c.loop-cycle-test.false, c.loop-cycle.auto.cycle-end) in
+    let end : c.loop-cycle.cycle ≡ c.args.question.now.posed.from = omega (arith, c.loop-cycle-test.false, c.loop-cycle.auto.cycle-end) in
     end_known c.args.searched.now c.args.question.now c.requires.searched c.requires.asked claim asked c.loop-cycle.starts false
-    (subst (λ differs. IsKnownTo claim c.args.question.now.from c.loop-cycle.starts differs) c.if-differs.false
+    (subst (λ differs. IsKnownTo claim c.args.question.now.posed.from c.loop-cycle.starts differs) c.if-differs.false
     (subst (λ n. IsKnownTo claim n c.loop-cycle.starts c.loop-cycle.differs) end (c.loop-cycle.invariant.known claim asked)))
     (sets_of c.settle_cycle-2.new.search.sets) (c.settle_cycle-2.ensures.settled c.if-not-settle_cycle-2.false claim asked)

@@ -13,7 +13,7 @@ use Rattle.claim_search.proofs.lead.settle_cycle.Goals as goal
 pub begin-requires-clause-said : goal.begin-requires-clause-said
 begin-requires-clause-said c = record {
   sites = c.requires.asked.sites;
-  held = held_nets c.args.searched.now.netlist.now c.args.question.now.held.now (subst IsNetlist c.requires.searched.netlist c.requires.searched.sound) c.requires.asked.held;
+  held = held_nets c.args.searched.now.netlist.now c.args.question.now.posed.held.now (subst IsNetlist c.requires.searched.netlist c.requires.searched.sound) c.requires.asked.posed.held;
   silent = λ i d lt. absurd (omega (arith, lt));
   starts = c.requires.starts;
 }

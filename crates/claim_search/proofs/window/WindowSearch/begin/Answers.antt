@@ -11,8 +11,8 @@ use Rattle.claim_search.proofs.window.WindowSearch.begin.Goals as goal
 pub begin-requires-clause-said : goal.begin-requires-clause-said
 begin-requires-clause-said c = record {
   sites = c.requires.asked.sites;
-  held = held_nets c.args.searched.now.netlist.now c.args.question.now.held.now (subst IsNetlist c.requires.searched.netlist c.requires.searched.sound) c.requires.asked.held;
-  silent = c.requires.asked.alarms;
+  held = held_nets c.args.searched.now.netlist.now c.args.question.now.posed.held.now (subst IsNetlist c.requires.searched.netlist c.requires.searched.sound) c.requires.asked.posed.held;
+  silent = c.requires.asked.posed.alarms;
   starts = c.requires.starts;
 }
 

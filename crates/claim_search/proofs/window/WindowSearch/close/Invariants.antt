@@ -8,7 +8,7 @@ use Rattle.claim_search.proofs.window.WindowSearch.close.Given as goal
 
 abbrev pub invariant-looks : goal.invariant-looks
 invariant-looks l = record {
-  over : IsOver l.searched.watchers.now (l.question.window + l.question.ahead + 1) l.self;
+  over : IsOver l.searched.watchers.now (l.question.posed.window + l.question.posed.ahead + 1) l.self;
   kept : AreKept l.initial.starts l.starts;
   least : (claim : Claim) → IsAsked l.searched.netlist.now l.question claim → Allows claim l.initial.starts → IsProvedSimply claim → Allows claim l.starts;
 }

@@ -1,0 +1,148 @@
+// Claims about some nets, which have one site.
+ghost use Rattle.std.specs.Prelude.{◌≡◌, ◌≢◌, ◌≤◌, ◌<◌, ◌+◌, ◌*◌, ◌^◌, ◌⊎◌, ℕ, length, All, IfOk};
+ghost use Rattle.circuit.specs.Order.{net_at};
+ghost use Rattle.circuit.specs.Sound.{IsNet};
+ghost use Rattle.coverage_claim.specs.Claim.{Claim};
+ghost use Rattle.region_search.specs.Search.{places_of};
+ghost use Rattle.claim_search.specs.Answer.{IsAnswer};
+ghost use Rattle.claim_search.specs.Question.{IsPosed, IsSearched, MayBePosed};
+ghost use Rattle.claim_search.specs.Sites.{IsAnswerAt, IsAt, IsReady, answer_at, site_at};
+
+use crate::answer::{Answer, answer_claim};
+use crate::question::{Posed, Question, Searched};
+use crate::window::WindowSearch;
+use circuit::parts::NetId;
+use coverage_claim::Site;
+use pair_sets::PairSet;
+use region_search::Search;
+use room::{NoRoom, filled};
+use std::alloc::Global;
+
+/// What a search for answers works with.
+#[derive(Drop)]
+pub struct AnswerSearch {
+    /// A search of one frame, for the cycles before a claim.
+    pub lead: Search,
+    pub window: WindowSearch,
+    /// The pairs that each latch may show.
+    pub starts: Vec<PairSet>,
+    /// What faults may do at each net: between two answers nothing anywhere.
+    pub sites: Vec<Site>,
+}
+
+// Gives some nets a site.
+fn mark(sites: &mut [Site], nets: &[NetId], site: Site)
+    requires { All (λ net. net.0 < length sites.old) nets.now }
+    ensures there { All (λ net. site_at sites.new net.0 ≡ site) nets.now }
+    ensures elsewhere { (n : ℕ) → All (λ net. net.0 ≢ n) nets.now → site_at sites.new n ≡ site_at sites.old n }
+{
+    for net in nets {
+        sites[net.0 as usize] = site;
+    }
+}
+
+// Writes an answer at each place from one to another.
+fn note(answers: &mut [Answer], start: usize, end: usize, answer: Answer)
+    requires order { start ≤ end }
+    requires inside { end ≤ length answers.old }
+    ensures there { (i : ℕ) → start ≤ i → i < end → answer_at answers.new i ≡ answer }
+    ensures others { (i : ℕ) → (i < start) ⊎ (end ≤ i) → answer_at answers.new i ≡ answer_at answers.old i }
+{
+    for i in start..end {
+        answers[i] = answer;
+    }
+}
+
+impl AnswerSearch {
+    /// A search for what is posed of a netlist. It takes the memory of all that it does: two bytes for each net and frame of a window, and
+    /// a few for each net and latch.
+    pub fn new(
+        alloc: Global,
+        searched: &Searched<'_>,
+        posed: &Posed<'_>,
+    ) -> Result<AnswerSearch, NoRoom>
+        requires searched { IsSearched searched.now }
+        requires frames { posed.now.window + posed.now.ahead + 1 ≤ 2 ^ 16 }
+        requires few { (posed.now.window + posed.now.ahead + 1) * places_of searched.now.watchers.now < 2 ^ 32 }
+        ensures { IfOk result (IsReady searched.now posed.now) }
+    {
+        let frames = posed.window as usize + posed.ahead as usize + 1;
+        Ok(AnswerSearch {
+            lead: Search::new(alloc, searched.netlist, searched.watchers, 1)?,
+            window: WindowSearch::new(alloc, searched, frames)?,
+            starts: filled(alloc, PairSet::NONE, searched.netlist.latches().len())?,
+            sites: filled(alloc, Site::Intact, searched.netlist.nets())?,
+        })
+    }
+
+    /// The answer to a claim in whose region these nets have this site, and all others are intact.
+    pub fn answer(
+        &mut self,
+        searched: &Searched<'_>,
+        posed: &Posed<'_>,
+        nets: &[NetId],
+        site: Site,
+    ) -> Answer
+        requires searched { IsSearched searched.now }
+        requires posed { MayBePosed searched.now.netlist.now posed.now }
+        requires ready { IsReady searched.now posed.now self.old }
+        requires nets { All (IsNet searched.now.netlist.now) nets.now }
+        ensures ready { IsReady searched.now posed.now self.new }
+        ensures answer { (claim : Claim) → IsPosed searched.now.netlist.now posed.now claim → IsAt nets.now site claim.region → IsAnswer claim result }
+    {
+        mark(&mut self.sites, nets, site);
+        let question = Question {
+            posed: *posed,
+            sites: &self.sites,
+        };
+        let answer = answer_claim(
+            &mut self.lead,
+            &mut self.window,
+            searched,
+            &question,
+            &mut self.starts,
+        );
+        mark(&mut self.sites, nets, Site::Intact);
+        answer
+    }
+
+    /// The answers to claims in whose regions one of these nets is free, for the nets from one place to another. All of them are asked of at
+    /// once; where that tells nothing of each, they are halved. So few open nets of many cost few answers.
+    pub fn answer_free(
+        &mut self,
+        searched: &Searched<'_>,
+        posed: &Posed<'_>,
+        nets: &[NetId],
+        answers: &mut [Answer],
+        start: usize,
+        end: usize,
+    )
+        requires searched { IsSearched searched.now }
+        requires posed { MayBePosed searched.now.netlist.now posed.now }
+        requires ready { IsReady searched.now posed.now self.old }
+        requires nets { All (IsNet searched.now.netlist.now) nets.now }
+        requires order { start ≤ end }
+        requires inside { end ≤ length nets.now }
+        requires size { length answers.old ≡ length nets.now }
+        ensures ready { IsReady searched.now posed.now self.new }
+        ensures each { (claim : Claim) → IsPosed searched.now.netlist.now posed.now claim → (i : ℕ) → start ≤ i → i < end
+            → IsAnswerAt claim (net_at nets.now i) Site.Free (answer_at answers.new i) }
+        ensures others { (i : ℕ) → (i < start) ⊎ (end ≤ i) → answer_at answers.new i ≡ answer_at answers.old i }
+    {
+        if start == end {
+            return;
+        }
+        let whole = self.answer(searched, posed, &nets[start..end], Site::Free);
+        if whole.is_of_parts() {
+            note(answers, start, end, whole);
+            return;
+        }
+        if start + 1 == end {
+            answers[start] = whole;
+            return;
+        }
+        let middle = start + (end - start) / 2;
+        self.answer_free(searched, posed, nets, answers, start, middle);
+        self.answer_free(searched, posed, nets, answers, middle, end);
+    }
+}
