@@ -73,6 +73,10 @@ class Hint:
     text: str
 
 
+# What the page says in place of hints.
+NOTHING = "Nothing was noticed. docs/before-you-believe.md has what a program can't notice."
+
+
 def told(hint, accepted):
     """A hint's text, with the reason for which it is known."""
     return f"{hint.text} Accepted: {accepted[hint.key]}" if hint.key in accepted else hint.text
