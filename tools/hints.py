@@ -2,6 +2,7 @@
 from dataclasses import dataclass
 
 import causes
+import coverages
 import designs
 import refusals
 import reports
@@ -93,10 +94,10 @@ ROWS = {
     "compared": "the golden run is what the simulation of the RTL did", "unknown": "inputs are known", "shorter": "the runs are as long as the simulations",
     "ended": "the runs are as long as the simulations",
     "shares": "flips and pulses share a rate as you mean it", "neighbours": "each pattern takes what you meant",
-    "start": "latches of unknown initial value don't matter", "goals": "one safety goal", "end": "the report ends with `end`, and the status was 0", "kept": "the settings were kept",
+    "unexcited": "no metric is `open` in `fmeda coverage`", "start": "latches of unknown initial value don't matter", "goals": "one safety goal", "end": "the report ends with `end`, and the status was 0", "kept": "the settings were kept",
 }
 # Those that make a metric untrue, or one that says nothing; what isn't here is worth a look. The first may be meant, for a reason; the others never.
-MAY_BE_MEANT = ("outside", "patterns", "rates", "weights", "mechanisms", "alarms", "harm", "goals")
+MAY_BE_MEANT = ("outside", "patterns", "rates", "weights", "mechanisms", "alarms", "harm", "unexcited", "goals")
 # What is worth a look alone, and may be told to be known.
 LOOKED_AT = ("outputs", "unread", "early", "safe", "start", "compared", "unknown", "ended", "shares", "neighbours")
 WRONG = (*MAY_BE_MEANT, "latches", "cycles", "missions", "golden", "end", "kept")
@@ -226,6 +227,17 @@ def of_report(report):
     for name, verdict in report.targets.items():
         if verdict == "-":
             yield Hint("transient", f"Target {name}: nothing was looked at.")
+
+
+def of_coverage(readings, names):
+    """The targets that are met, and would not be if the faults that no run excited did harm."""
+    never = [fault for kind, fault, _ in names if kind == "never"]
+    for reading in readings:
+        hangs = [f"{metric} {coverages.shown(metric, coverages.worst(metric, reading.bounds['unexcited']))} in place of {coverages.shown(metric, reading.found[metric][0])}"
+                 for metric, *_ in coverages.open_targets(reading, "unexcited")]
+        if hangs:
+            of = "" if reading.words == "all" else f"Of {reading.words}: "
+            yield Hint("unexcited", f"{of}{reading.bounds['unexcited'][0]} faults were never excited, as {some(never)}. If they do harm, these targets are no longer met: {'; '.join(hangs)}.")
 
 
 def found(report, design, asked):

@@ -53,7 +53,7 @@ single-point d/1 50000
 latent al/0 500000
 end
 """
-STEPS = ("workload", "golden", "parts", "check", "alarms", "run", "latencies", "breakdown", "page", "manifest")
+STEPS = ("workload", "golden", "parts", "check", "alarms", "run", "coverage", "latencies", "breakdown", "page", "manifest")
 
 
 def _dump(wrong=None):
@@ -162,8 +162,8 @@ def a_step_is_left_out_where_nothing_changed(folder, program):
     _design(folder)
     _flow(folder, program)
     for name, text, wanted in (("rates.csv", RATES, ()), ("rates.csv", RATES.replace("0.1,0", "0.10,0.000"), ()), ("flow.ini", SETTINGS + "[output]\ntitle = another\n", ("page",)),
-                               ("flow.ini", SETTINGS.replace("asil = C", "asil = B"), ("run", "latencies", "breakdown", "page", "manifest")), ("points.csv", POINTS + "observe,c\n", ("check", "alarms", "run", "latencies", "breakdown", "page", "manifest")),
-                               ("drive.vcd", _dump() + "#60\n0!\n", ("workload", "golden")), ("rates.csv", RATES.replace("0.1", "0.2"), ("parts", "check", "run", "latencies", "breakdown", "page", "manifest"))):
+                               ("flow.ini", SETTINGS.replace("asil = C", "asil = B"), ("run", "coverage", "latencies", "breakdown", "page", "manifest")), ("points.csv", POINTS + "observe,c\n", ("check", "alarms", "run", "coverage", "latencies", "breakdown", "page", "manifest")),
+                               ("drive.vcd", _dump() + "#60\n0!\n", ("workload", "golden")), ("rates.csv", RATES.replace("0.1", "0.2"), ("parts", "check", "run", "coverage", "latencies", "breakdown", "page", "manifest"))):
         pathlib.Path(folder, name).write_text(text)
         printed, _ = _flow(folder, program)
         assert _done(printed) == wanted, (name, printed)
@@ -205,7 +205,7 @@ def rows_that_are_there_are_kept(folder, program):
         _, said = _flow(folder, fake, status=3)
         assert "stopped at run" in said and result.stat().st_size == size, said
         printed, _ = _flow(folder, fake)
-        assert _done(printed) == ("run", "latencies", "breakdown", "page", "manifest") and " resume " in printed, printed
+        assert _done(printed) == ("run", "coverage", "latencies", "breakdown", "page", "manifest") and " resume " in printed, printed
         assert result.with_name("report.txt").read_text().endswith(METRICS)
     kept = result.read_bytes()
     _design(folder, _with(("campaign", "interval = 1")))
@@ -241,7 +241,7 @@ def no_step_outlives_the_flow(folder, program):
         time.sleep(0.1)
     assert not sleeper.exists(), "the campaign outlives the flow"
     printed, _ = _flow(folder, fake)
-    assert _done(printed) == ("run", "latencies", "breakdown", "page", "manifest"), printed
+    assert _done(printed) == ("run", "coverage", "latencies", "breakdown", "page", "manifest"), printed
 
 
 def what_is_in_the_way_is_not_overwritten(folder, program):
@@ -444,6 +444,21 @@ def nets_that_are_outside(folder, program):
 
 def parts_whose_rate_is_silenced(folder, program):
     _stopped(folder, program, "The permanent rate of pins is 0", "no part got its rate 0", rates__csv=RATES.replace("no,0.1,0", "no,0,0"))
+
+
+def a_target_that_hangs_on_what_no_run_excited(folder, program):
+    """With d at 0 in each cycle d/0 and q/0, 0.05 and 1 FIT, are never excited. As found d/1 alone does harm: 4.05 of 4.1 FIT; with these 3 of 4.1 FIT. The comparator's
+    side has no path to q: c/0 and al/0 are latent, so LFM is missed in any case."""
+    wrong = {"w__csv": "workload,kind,d\n" + "w,mission,0\n" * 6}
+    keys = (("workload", "file = w.csv"),)
+    said = _stopped(folder, program, "2 faults were never excited, as d/0, q/0. If they do harm, these targets are no longer met: spfm permanent 73.17 % in place of 98.78 %.",
+                    "no metric is `open` in `fmeda coverage`", settings=_with(*keys, without=("drive = mission drive.vcd",)), **wrong)
+    assert "stopped at coverage" in said and "[accepted] unexcited = REASON" in said, said
+    _design(folder, _with(*keys, ("accepted", "unexcited = d is tied to 0 in this variant"), without=("drive = mission drive.vcd",)), **wrong)
+    printed, _ = _flow(folder, program)
+    assert "# spfm permanent: 98.78 %, met\n#   if the 2 faults that no run excited do harm: 73.17 %, open\n" in printed, printed
+    page = pathlib.Path(folder, "flow", "page.html").read_text()
+    assert page.index("What the metrics rest on") < page.index("Metrics and targets") and "Accepted: d is tied to 0 in this variant" in page
 
 
 def harmful_faults_that_weigh_nothing(folder, program):

@@ -145,6 +145,38 @@ def metrics_by_goal_by_alarm_and_by_interval(folder, program):
     assert "cut off" in refusal, refusal
 
 
+# The duplicated gate with vectors in which a is never 1: a/0 and y/0 are never excited, and b/0 and b/1 are quiet.
+FEW = """workload,kind,a,b
+w,mission,0,0
+w,mission,0,1
+"""
+
+
+def what_the_metrics_rest_on(folder, program):
+    """By hand, each fault being 1 FIT but those of the mechanism: a/1 harms and y/1 is caught. Of the mechanism's four FIT one each is that of al/0, al/1, z/0 and z/1; al/0 and z/0
+    are latent, and no path leads from any to y."""
+    copy = pathlib.Path(folder, "x")
+    shutil.copytree(EXAMPLES / "duplicated", copy)
+    files = ("gate.blif", "vectors.csv", "rates.csv", "points.csv")
+    copy.joinpath("vectors.csv").write_text(FEW)
+    for command, name in (("report", "report.txt"), ("coverage", "c.txt")):
+        with open(copy / name, "wb") as out:
+            subprocess.run([program, command, *files], cwd=copy, check=True, stdout=out)
+    tool("page", *files, "report.txt", "--coverage", "c.txt", "-o", "page.html", folder=copy)
+    text = copy.joinpath("page.html").read_text()
+    said = _section(text, "rests")
+    for wanted in ("if the 2 that no run excited do harm", "if the 4 that no run excited, or that nothing showed, do", "spfm permanent 90.00 % at least 99 % missed 70.00 % missed 50.00 % missed",
+                   "term 1 FIT below 10 FIT met 3 FIT met 5 FIT met", "in permanent 4 0.00 % - 1 0 0 2 1 0", "out permanent 2 100.00 % - 0 1 0 0 1 0", "dup permanent 4 - 50.00 % 0 0 0 0 0 4",
+                   "2 that no run excited: a/0, y/0", "2 that nothing showed: b/0, b/1"):
+        assert wanted in said, (wanted, said)
+    assert re.findall(r'<h2 id="section-([a-z]+)"', text)[:2] == ["rests", "metrics"] and "faults were never excited" not in text
+    whole = copy.joinpath("c.txt").read_text()
+    for change, wanted in ((whole[:-4], "cut off"), (whole.replace("target missed", "target met", 1), "another campaign"), (whole.replace("unexcited faults 2", "unexcited two"), "is no line of coverage")):
+        copy.joinpath("c.txt").write_text(change)
+        _, refusal = tool("page", *files, "report.txt", "--coverage", "c.txt", folder=copy, status=1)
+        assert wanted in refusal, refusal
+
+
 def names_are_no_markup(folder, _):
     held(folder, n__blif=".model m\n.inputs <b>a\n.outputs y\n.names <b>a y\n1 1\n.end\n", w__csv="workload,kind,<b>a\nw,mission,1\n",
          r__csv="pattern,part,role,covered,permanent,transient\n*,all,mission,no,1,0\n", p__csv="kind,net\nobserve,y\n")
