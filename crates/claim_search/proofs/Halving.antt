@@ -4,14 +4,15 @@ use Rattle.circuit.specs.Circuit.{Circuit}
 use Rattle.circuit.specs.Order.{net_at}
 use Rattle.circuit.specs.declared.parts.NetId.{NetId}
 use Rattle.coverage_claim.specs.Claim.{Claim}
+use Rattle.coverage_claim.specs.declared.parts.Site.{Site}
 use Rattle.coverage_claim.specs.declared.parts.Site.TheVariants.{Free}
 use Rattle.claim_search.specs.Answer.{IsAnswer, is_of_parts}
-use Rattle.claim_search.specs.Question.{IsPosed}
+use Rattle.claim_search.specs.Question.{IsPosed, with_region}
 use Rattle.claim_search.specs.Sites.{IsAt}
 use Rattle.claim_search.specs.declared.answer.Answer.{Answer}
 use Rattle.claim_search.specs.declared.answer.Answer.TheVariants.{Alarmed, Early, NoRuns, Open}
 use Rattle.claim_search.specs.declared.question.Posed.{Posed}
-use Rattle.claim_search.proofs.Regions.{free_in, free_is_at, never_less, none_less, one_less, posed_so, proved_less, with_region}
+use Rattle.claim_search.proofs.Regions.{free_in, free_is_at, never_less, none_less, one_less, posed_so, proved_less}
 
 -- ---- a part of a list
 
@@ -28,20 +29,20 @@ part_at nets start end i le lt =
 -- ---- answers
 
 -- an answer to more is one to less
-answer_less : (claim : Claim) (nets : List NetId) (k : ℕ) → k < length nets → IsAt (net_at nets k ∷ []) Free claim.region → (answer : Answer) → is_of_parts answer ≡ true
+pub answer_less : (claim : Claim) (nets : List NetId) (k : ℕ) → k < length nets → (site : Site) → IsAt (net_at nets k ∷ []) site claim.region → (answer : Answer) → is_of_parts answer ≡ true
     → IsAnswer (with_region claim (free_in nets)) answer → IsAnswer claim answer
-answer_less claim nets k lt is_at Alarmed passes both =
-    (proved_less claim (free_in nets) (one_less nets k lt claim.region is_at) both.0, never_less claim (free_in nets) (one_less nets k lt claim.region is_at) both.1)
-answer_less claim nets k lt is_at NoRuns passes none = none_less claim (free_in nets) (one_less nets k lt claim.region is_at) none
-answer_less claim nets k lt is_at Early passes both = absurd (cc)
-answer_less claim nets k lt is_at Open passes never = absurd (cc)
+answer_less claim nets k lt site is_at Alarmed passes both =
+    (proved_less claim (free_in nets) (one_less nets k lt site claim.region is_at) both.0, never_less claim (free_in nets) (one_less nets k lt site claim.region is_at) both.1)
+answer_less claim nets k lt site is_at NoRuns passes none = none_less claim (free_in nets) (one_less nets k lt site claim.region is_at) none
+answer_less claim nets k lt site is_at Early passes both = absurd (cc)
+answer_less claim nets k lt site is_at Open passes never = absurd (cc)
 
 -- WHAT HOLDS OF ALL OF THEM AT ONCE holds of each
 pub of_each : (c : Circuit) (p : Posed) (nets : List NetId) (answer : Answer) → is_of_parts answer ≡ true
     → ((claim : Claim) → IsPosed c p claim → IsAt nets Free claim.region → IsAnswer claim answer)
     → (claim : Claim) → IsPosed c p claim → (k : ℕ) → k < length nets → IsAt (net_at nets k ∷ []) Free claim.region → IsAnswer claim answer
 of_each c p nets answer passes whole claim posed k lt is_at =
-    answer_less claim nets k lt is_at answer passes (whole (with_region claim (free_in nets)) (posed_so c p claim (free_in nets) posed) (free_is_at nets))
+    answer_less claim nets k lt Free is_at answer passes (whole (with_region claim (free_in nets)) (posed_so c p claim (free_in nets) posed) (free_is_at nets))
 
 -- and of a part of them
 pub of_part : (c : Circuit) (p : Posed) (nets : List NetId) (start end : ℕ) (answer : Answer) → end ≤ length nets → is_of_parts answer ≡ true

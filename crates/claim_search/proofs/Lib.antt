@@ -8,3 +8,4 @@ pub mod Answering
 pub mod Marking
 pub mod Regions
 pub mod Halving
+pub mod Faulty

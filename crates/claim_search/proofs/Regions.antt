@@ -17,14 +17,10 @@ use Rattle.coverage_claim.specs.declared.parts.Site.{Site}
 use Rattle.coverage_claim.specs.declared.parts.Site.TheVariants.{Free, Intact}
 use Rattle.claim_search.specs.Answer.{IsProvedWithSome}
 use Rattle.claim_search.specs.LeadIn.{HasNoRuns}
-use Rattle.claim_search.specs.Question.{IsPosed, with_pairs}
+use Rattle.claim_search.specs.Question.{IsPosed, with_pairs, with_region}
 use Rattle.claim_search.specs.Sites.{IsAt}
 use Rattle.claim_search.specs.declared.question.Posed.{Posed}
 use Rattle.claim_search.proofs.Marking.{in_or_out}
-
--- the claim with another region
-abbrev pub with_region : Claim → Region → Claim
-with_region claim region = record claim { region = region }
 
 pub posed_so : (c : Circuit) (p : Posed) (claim : Claim) (region : Region) → IsPosed c p claim → IsPosed c p (with_region claim region)
 posed_so c p claim region posed = record {
@@ -119,13 +115,13 @@ free_is_at nets = record {
   elsewhere = free_elsewhere nets;
 }
 
--- one free net is less than some
-pub one_less : (nets : List NetId) (k : ℕ) → k < length nets → (region : Region) → IsAt (net_at nets k ∷ []) Free region
+-- whatever happens at one of some nets is less than if all were free
+pub one_less : (nets : List NetId) (k : ℕ) → k < length nets → (site : Site) (region : Region) → IsAt (net_at nets k ∷ []) site region
     → (n : ℕ) (own shown : Bool) → may_show (region n) own shown ≡ true → may_show (free_in nets n) own shown ≡ true
-one_less nets k lt region is_at n own shown may = elim (in_or_out nets n) as (λ _. may_show (free_in nets n) own shown ≡ true) [
-  | inl found ↦ ap (λ (site : Site). may_show site own shown) (ap (free_in nets) (sym found.2) ∙ free_there nets found.0 found.1)
+one_less nets k lt site region is_at n own shown may = elim (in_or_out nets n) as (λ _. may_show (free_in nets n) own shown ≡ true) [
+  | inl found ↦ ap (λ (each : Site). may_show each own shown) (ap (free_in nets) (sym found.2) ∙ free_there nets found.0 found.1)
   | inr out ↦ (
       let other : All (λ (net : NetId). net.0 ≢ n) (net_at nets k ∷ []) =
       All-cons (λ (net : NetId). net.0 ≢ n) (net_at nets k) [] (out k (record { 0 = 0 }) lt) (λ i d less. absurd (omega (arith, less))) in
-      ap (λ (site : Site). may_show site own shown) (free_elsewhere nets n out ∙ sym (is_at.elsewhere n other)) ∙ may)
+      ap (λ (each : Site). may_show each own shown) (free_elsewhere nets n out ∙ sym (is_at.elsewhere n other)) ∙ may)
 ]

@@ -3,3 +3,4 @@ pub mod Window
 pub mod LeadIn
 pub mod Answer
 pub mod Sites
+pub mod Faults

@@ -7,6 +7,7 @@ use Rattle.circuit.specs.Order.{IsOrder}
 use Rattle.circuit.specs.Sound.{IsNet, IsNetlist}
 use Rattle.circuit.specs.declared.parts.Latch.{Latch}
 use Rattle.coverage_claim.specs.Claim.{Claim}
+use Rattle.coverage_claim.specs.Region.{Region}
 use Rattle.coverage_claim.specs.Stretch.{Pairs}
 use Rattle.coverage_claim.specs.declared.parts.Site.{Site}
 use Rattle.region_search.specs.Going.{ArePlaced}
@@ -50,3 +51,7 @@ pub record IsAsked (c : Circuit) (q : Question) (claim : Claim) : Type 0 where
 -- the claim with other pairs for its latches
 abbrev pub with_pairs : Claim → (Latch → Pairs) → Claim
 with_pairs claim pairs = record claim { apart = pairs }
+
+-- and with another region
+abbrev pub with_region : Claim → Region → Claim
+with_region claim region = record claim { region = region }

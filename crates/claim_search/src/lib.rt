@@ -2,12 +2,14 @@
 #![tactic(auto)]
 
 mod answer;
+mod faults;
 mod lead;
 mod question;
 mod sites;
 mod window;
 
 pub use answer::{Answer, answer_claim};
+pub use faults::FaultAnswer;
 pub use lead::{LeadIn, lead_in};
 pub use question::{Posed, Question, Searched};
 pub use sites::AnswerSearch;
