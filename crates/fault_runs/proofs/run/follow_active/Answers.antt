@@ -9,6 +9,7 @@ use Rattle.fault_runs.specs.First.{IsNotIn, fault_in}
 use Rattle.fault_runs.specs.Records.{record_of}
 use Rattle.fault_runs.specs.Stretch.{Stands, state_at}
 use Rattle.fault_runs.proofs.Groups.{group_more, groups_all}
+use Rattle.fault_runs.proofs.Rested.{rested}
 use Rattle.fault_runs.proofs.Standing.{same_self, same_then, stands_same}
 use Rattle.fault_runs.proofs.run.follow_active.Goals as goal
 
@@ -102,12 +103,21 @@ groups-preserved g c =
                   | inr from ↦ absurd (clash (has active i) is (found.3 i from early))
                 ])
             | inr late ↦
-                (let k : ℕ = (fill.all i late less is).0 in
-                let lt : k < count = (fill.all i late less is).1 in
-                let in_slice : k < length (take count group) = omega (arith, lt, size group count fill.count) in
-                let at : fault_in (take count group) k ≡ i = there group count fill.count k in_slice ∙ (fill.all i late less is).2 in
-                subst (λ n. Stands bench.circuit bench.points run (loaded_faults draw i) n (state_at states' i) (record_of new i)) ran.to
-                (subst (λ j. Stands bench.circuit bench.points run (loaded_faults draw j) c.follow_stretch.result (state_at states' j) (record_of new j)) at (ran.stand k in_slice)))
+                elim (fill.all i late less is) as (λ _. Stands bench.circuit bench.points run (loaded_faults draw i) to (state_at states' i) (record_of new i)) [
+                  | inl among ↦
+                      (let k : ℕ = among.0 in
+                      let lt : k < count = among.1 in
+                      let in_slice : k < length (take count group) = omega (arith, lt, size group count fill.count) in
+                      let at : fault_in (take count group) k ≡ i = there group count fill.count k in_slice ∙ among.2 in
+                      subst (λ n. Stands bench.circuit bench.points run (loaded_faults draw i) n (state_at states' i) (record_of new i)) ran.to
+                      (subst (λ j. Stands bench.circuit bench.points run (loaded_faults draw j) c.follow_stretch.result (state_at states' j) (record_of new j)) at (ran.stand k in_slice)))
+                  | inr rests ↦
+                      (let out = outside group count fill.count i rests.1 in
+                      stands_same bench.circuit bench.points run (loaded_faults draw i) to (state_at states i) (state_at states' i) (record_of old i) (record_of new i)
+                      (ran.other_states i out) (ran.other_records i out)
+                      (rested bench.circuit bench.points run (loaded_faults draw i) c.args.from to (state_at states i) (record_of old i) ? ? ? ?
+                      (inv.left i small (omega (arith, late, from_next)) is)))
+                ]
           ];
       left = λ i small le is.
           let out = outside group count fill.count i (λ k lt same. absurd (omega (arith, fill.high k lt, same, le))) in
