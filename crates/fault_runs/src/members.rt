@@ -28,7 +28,12 @@ fn next_member(active: &PlaceSet, from: usize, room: usize) -> Option<usize>
 
 /// Makes a group of the active faults from a number on, in order, but for those that are at rest in a stretch: of all of them, or of as
 /// many as there is room for.
-pub fn fill_group(active: &PlaceSet, stretch: &Stretch<'_>, from: usize, group: &mut [u32]) -> Members
+pub fn fill_group(
+    active: &PlaceSet,
+    stretch: &Stretch<'_, '_, '_, '_>,
+    from: usize,
+    group: &mut [u32],
+) -> Members
     requires few { active.now.bound < 2 ^ 32 }
     requires within { IsWithin stretch.now }
     ensures count { result.count ≤ length group.new }

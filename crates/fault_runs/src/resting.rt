@@ -12,16 +12,16 @@ use testbench::Testbench;
 
 /// The cycles of a run from one to before another, and how the faults of a draw stand before them.
 #[derive(Clone, Copy)]
-pub struct Stretch<'a> {
-    pub bench: &'a Testbench<'a>,
+pub struct Stretch<'b, 't, 'd, 's> {
+    pub bench: &'b Testbench<'t>,
     pub run: u32,
     pub from: u32,
     pub to: u32,
-    pub draw: &'a [[Option<Fault>; 2]],
-    pub states: &'a [PlaceSet],
+    pub draw: &'d [[Option<Fault>; 2]],
+    pub states: &'s [PlaceSet],
 }
 
-impl Stretch<'_> {
+impl Stretch<'_, '_, '_, '_> {
     // Whether these faults, at most one, change nothing where no latch differs before.
     fn rest(&self, faults: [Option<Fault>; 2]) -> bool
         requires within { IsWithin self.now }

@@ -58,6 +58,7 @@ fn follow_active<W: Word, L: Ledger>(
     ensures cost { steps.new ≤ steps.old + div_ceil (length draw.now) W.lanes * ((min (cycles_of (run_at bench.now.runs run)) (from + 256) - from) * length bench.now.circuit.tables) }
 {
     let _some = W::words();
+    let _fit = bench.points();
     let to = bench.cycles(run).min(from + STRETCH);
     let mut next = 0;
     'groups: while let Some(first) = active.next_from(next) {

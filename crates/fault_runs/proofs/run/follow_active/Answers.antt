@@ -7,6 +7,7 @@ use Rattle.lane_words.specs.Loads.{loaded_faults}
 use Rattle.place_set.specs.Places.{has}
 use Rattle.fault_runs.specs.First.{IsNotIn, fault_in}
 use Rattle.fault_runs.specs.Records.{record_of}
+use Rattle.fault_runs.specs.Resting.{AreAtRest}
 use Rattle.fault_runs.specs.Stretch.{Stands, state_at}
 use Rattle.fault_runs.proofs.Groups.{group_more, groups_all}
 use Rattle.fault_runs.proofs.Rested.{rested}
@@ -79,6 +80,7 @@ groups-preserved g c =
     let states = c.groups.states in
     let states' = c.follow_stretch.new.states in
     let to = min (cycles_of run) (c.args.from + 256) in
+    let to_is : c.min-to.result ≡ to = c.min-to.ensures ∙ ap (λ n. min n (c.args.from + 256)) c.cycles.ensures.count in
     let first_in : first < active.bound = found.1 in
     let from_next : next ≤ first = found.0 in
     let behind : after ≤ active.bound = fill.inside (omega (arith, first_in)) in
@@ -115,7 +117,9 @@ groups-preserved g c =
                       (let out = outside group count fill.count i rests.1 in
                       stands_same bench.circuit bench.points run (loaded_faults draw i) to (state_at states i) (state_at states' i) (record_of old i) (record_of new i)
                       (ran.other_states i out) (ran.other_records i out)
-                      (rested bench.circuit bench.points run (loaded_faults draw i) c.args.from to (state_at states i) (record_of old i) ? ? ? ?
+                      (rested bench.circuit bench.points run (loaded_faults draw i) c.args.from to (state_at states i) (record_of old i)
+                      c.points-fit.ensures.fit (omega (arith, c.requires.from)) (omega arith)
+                      (subst (λ n. AreAtRest bench.circuit run (loaded_faults draw i) c.args.from n (state_at states i)) to_is rests.0)
                       (inv.left i small (omega (arith, late, from_next)) is)))
                 ]
           ];
