@@ -1,4 +1,4 @@
-use Rattle.std.proofs.Common.{◌||◌, not, ap, ◌∙◌, arith}
+use Rattle.std.proofs.Common.{length, ◌||◌, not, ap, ◌∙◌}
 use Rattle.place_set.specs.Places.{value_in}
 use Rattle.workload.specs.Runs.{run_at}
 use Rattle.golden_values.specs.Golden.{golden_of}
