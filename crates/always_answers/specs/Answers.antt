@@ -1,8 +1,6 @@
 -- What may be answered for every workload: to each fault of a list, and to each part of a netlist.
-use Rattle.std.specs.Prelude.{◌≡◌, ◌≢◌, ◌⊎◌, ◌<◌, ◌≤◌, ℕ, Bool, true, false, List, length, All, Some, Result, Ok, Err, slice_index}
+use Rattle.std.specs.Prelude.{◌≡◌, ◌≢◌, ◌⊎◌, ◌<◌, ◌≤◌, ⊤, ℕ, Bool, true, false, List, length, All, Some, Result, Ok, Err, slice_index}
 use Rattle.std.specs.List.{slice_get}
-use Rattle.circuit.specs.Circuit.{Circuit}
-use Rattle.circuit.specs.Sound.{IsNet}
 use Rattle.circuit.specs.Value.{bit_at}
 use Rattle.circuit.specs.declared.parts.Fault.{Fault}
 use Rattle.circuit.specs.declared.parts.NetId.{NetId}
@@ -14,7 +12,6 @@ use Rattle.claim_search.specs.declared.faults.FaultAnswer.{FaultAnswer}
 use Rattle.claim_search.specs.declared.faults.FaultAnswer.TheVariants.{OfClaim}
 use Rattle.coverage_claim.specs.Claim.{Claim}
 use Rattle.coverage_claim.specs.Laws.{with_window}
-use Rattle.coverage_claim.specs.Region.{Region}
 use Rattle.always_answers.specs.Hypotheses.{Contradict, ContradictSimply}
 use Rattle.always_answers.specs.Nets.{AreOpen, IsSeen, all_but, is_of_part, marked_nets, nowhere}
 use Rattle.always_answers.specs.declared.answers.Answers.{Answers}
