@@ -6,14 +6,14 @@ use Rattle.circuit.specs.declared.parts.Fault.{Fault}
 use Rattle.circuit.specs.declared.parts.NetId.{NetId}
 use Rattle.claim_search.specs.Answer.{IsNeverProvedSimply, IsProvedWithSome}
 use Rattle.claim_search.specs.Faults.{IsFaultAnswer}
+use Rattle.claim_search.specs.Hypotheses.{Contradict, ContradictSimply, nowhere}
 use Rattle.claim_search.specs.Question.{with_region}
 use Rattle.claim_search.specs.declared.answer.Answer.TheVariants.{NoRuns}
 use Rattle.claim_search.specs.declared.faults.FaultAnswer.{FaultAnswer}
 use Rattle.claim_search.specs.declared.faults.FaultAnswer.TheVariants.{OfClaim}
 use Rattle.coverage_claim.specs.Claim.{Claim}
 use Rattle.coverage_claim.specs.Laws.{with_window}
-use Rattle.always_answers.specs.Hypotheses.{Contradict, ContradictSimply}
-use Rattle.always_answers.specs.Nets.{AreOpen, IsSeen, all_but, is_of_part, marked_nets, nowhere}
+use Rattle.always_answers.specs.Nets.{AreOpen, IsSeen, all_but, is_of_part, marked_nets}
 use Rattle.always_answers.specs.declared.answers.Answers.{Answers}
 use Rattle.always_answers.specs.declared.answers.NoAnswers.{NoAnswers}
 use Rattle.always_answers.specs.declared.answers.NoAnswers.TheVariants.{Contradiction, Memory}

@@ -13,10 +13,6 @@ use Rattle.coverage_claim.specs.declared.parts.Site.TheVariants.{Free, Intact}
 use Rattle.fm_base.specs.Lists.{below}
 use Rattle.reach.specs.Paths.{LeadsToSome}
 
--- nothing is done anywhere
-abbrev pub nowhere : Region
-nowhere net = Intact
-
 -- anything at one net
 abbrev pub alone : NetId → Region
 alone own net = if own.0 == net then Free else Intact

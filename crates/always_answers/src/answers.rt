@@ -2,7 +2,7 @@
 ghost use Rattle.std.specs.Prelude.{◌≡◌};
 ghost use Rattle.always_answers.specs.declared.answers.NoAnswers.TheVariants.{Memory};
 
-use claim_search::FaultAnswer;
+use claim_search::{Contradiction, FaultAnswer};
 use room::NoRoom;
 
 /// What is answered to all nets of a part at once.
@@ -27,15 +27,6 @@ pub struct Answers {
     pub open: Vec<bool>,
     /// For each part.
     pub parts: Vec<PartAnswer>,
-}
-
-/// Why no run is as it is supposed.
-#[derive(Clone, Copy, Debug, PartialEq, Eq)]
-pub enum Contradiction {
-    /// An input is held at both values in some cycle.
-    Held,
-    /// In each run whose inputs are held so an alarm is raised without a fault.
-    Alarms,
 }
 
 /// Why there are no answers.

@@ -4,5 +4,6 @@
 mod answers;
 mod inquiry;
 
-pub use answers::{Answers, Contradiction, NoAnswers, PartAnswer};
+pub use answers::{Answers, NoAnswers, PartAnswer};
+pub use claim_search::Contradiction;
 pub use inquiry::Inquiry;

@@ -1,17 +1,25 @@
--- Whether held inputs and silent alarms contradict each other: then no run is as it is supposed, and each claim says nothing.
+-- Whether held inputs and silent alarms contradict each other: then no run is as it is supposed, and a claim says nothing.
 use Rattle.std.specs.Prelude.{◌≡◌, ◌≤◌, ℕ, Bool, false, Some}
 use Rattle.std.specs.List.{slice_get}
 use Rattle.circuit.specs.declared.parts.Latch.{Latch}
-use Rattle.claim_search.specs.LeadIn.{HasNoRuns}
-use Rattle.claim_search.specs.Question.{with_pairs, with_region}
 use Rattle.coverage_claim.specs.Claim.{Claim, lead_in, window_of}
 use Rattle.coverage_claim.specs.Largest.{IsGone}
 use Rattle.coverage_claim.specs.Region.{Region}
 use Rattle.coverage_claim.specs.Rules.{this_pair}
 use Rattle.coverage_claim.specs.Stretch.{AreSo, Pairs, Stretch, Values}
-use Rattle.always_answers.specs.Nets.{nowhere}
-use Rattle.always_answers.specs.declared.answers.Contradiction.{Contradiction}
-use Rattle.always_answers.specs.declared.answers.Contradiction.TheVariants.{Alarms, Held}
+use Rattle.coverage_claim.specs.declared.parts.Site.TheVariants.{Intact}
+use Rattle.claim_search.specs.LeadIn.{HasNoRuns}
+use Rattle.claim_search.specs.Question.{with_pairs, with_region}
+use Rattle.claim_search.specs.declared.hypotheses.Contradiction.{Contradiction}
+use Rattle.claim_search.specs.declared.hypotheses.Contradiction.TheVariants.{Alarms, Held}
+
+-- nothing is done anywhere
+abbrev pub nowhere : Region
+nowhere net = Intact
+
+-- the claim where nothing is done
+abbrev pub bare : Claim → Claim
+bare claim = with_region claim nowhere
 
 -- each latch starts with what it has in two runs at the claim's first cycle
 abbrev pub as_in : Claim → (golden faulty : Values) → Latch → Pairs
@@ -23,9 +31,8 @@ as_in claim golden faulty latch = this_pair (golden claim.from latch.to.0) (faul
 abbrev pub Contradict : Claim → Contradiction → Type 0
 Contradict claim Held = (region : Region) × HasNoRuns (with_region claim region)
 Contradict claim Alarms =
-    let bare = with_region claim nowhere in
-    (golden faulty : Values) → AreSo (lead_in bare) golden faulty
-    → (later later_faulty : Values) → AreSo (window_of (with_pairs bare (as_in bare golden faulty))) later later_faulty → ⊥
+    (golden faulty : Values) → AreSo (lead_in (bare claim)) golden faulty
+    → (later later_faulty : Values) → AreSo (window_of (with_pairs (bare claim) (as_in claim golden faulty))) later later_faulty → ⊥
 
 -- each pair of some net is gone
 abbrev pub IsVoid : Stretch → Type 0
@@ -38,6 +45,4 @@ BeginsSimply claim = (l : ℕ) (latch : Latch) → slice_get claim.circuit.latch
 
 -- THEY CONTRADICT EACH OTHER SIMPLY: where nothing is done each pair of some net is gone from the windows that begin so
 abbrev pub ContradictSimply : Claim → Type 0
-ContradictSimply claim =
-    let bare = with_region claim nowhere in
-    (pairs : Latch → Pairs) × BeginsSimply (with_pairs bare pairs) × IsVoid (window_of (with_pairs bare pairs))
+ContradictSimply claim = (pairs : Latch → Pairs) × BeginsSimply (with_pairs (bare claim) pairs) × IsVoid (window_of (with_pairs (bare claim) pairs))
