@@ -50,11 +50,11 @@ cut_at text sign place e =
     let size : length (take place text) ≡ place = length-take-le place text (omega (arith, lt)) in
     record {
       joined = sym (take-append-drop (place + 1) text) ∙ ap (λ front. front ++ drop (place + 1) text) (take_more text place 0 lt)
-      ∙ append_assoc (take place text) (get_or text place 0 ∷ []) (drop (place + 1) text)
-      ∙ ap (λ b. take place text ++ b ∷ drop (place + 1) text) here;
+          ∙ append_assoc (take place text) (get_or text place 0 ∷ []) (drop (place + 1) text)
+          ∙ ap (λ b. take place text ++ b ∷ drop (place + 1) text) here;
       first = lacks_of (take place text) sign (λ k below.
-      let small : k < place = omega (arith, below, size) in
-      ap (λ b. b == sign) (get_or-take place text k 0 small) ∙ found.2 k small);
+          let small : k < place = omega (arith, below, size) in
+          ap (λ b. b == sign) (get_or-take place text k 0 small) ∙ found.2 k small);
     }
 
 -- ---- FIRST and LAST
@@ -143,7 +143,7 @@ module _ (text before behind : Text) (cut : IsCut 47 text before behind) where
   pub stepped_stretch : (step : ℕ) (s : Stretch) → plain_number 65535 behind ≡ Some step → IsRangeWith before step s → IsStretchOf text s
   stepped_stretch step s e is = (
     inl (cut.joined ∙ ap (λ t. t ++ 47 ∷ behind) is.spelled
-    ∙ ap (λ t. range_text s ++ 47 ∷ t) ((plain_number-some 65535 step behind e).0 ∙ ap decimal (sym is.stepped)) ∙ sym (with_step s)),
+        ∙ ap (λ t. range_text s ++ 47 ∷ t) ((plain_number-some 65535 step behind e).0 ∙ ap decimal (sym is.stepped)) ∙ sym (with_step s)),
     is.within,
   )
 

@@ -149,8 +149,16 @@ fn command_rows() -> &'static [Row]
             INPUTS,
             &[Ftti, Flips, Upsets, Pulses, Asil, Intervals, Workers],
         ),
-        Row("latencies", INPUTS, &[Ftti, Flips, Upsets, Pulses, Asil, Workers]),
-        Row("coverage", INPUTS, &[Ftti, Flips, Upsets, Pulses, Asil, Workers]),
+        Row(
+            "latencies",
+            INPUTS,
+            &[Ftti, Flips, Upsets, Pulses, Asil, Workers],
+        ),
+        Row(
+            "coverage",
+            INPUTS,
+            &[Ftti, Flips, Upsets, Pulses, Asil, Workers],
+        ),
         Row(
             "trace",
             &[Netlist, Workload],
