@@ -4,3 +4,4 @@ pub mod LeadIn
 pub mod Answer
 pub mod Sites
 pub mod Faults
+pub mod Hypotheses

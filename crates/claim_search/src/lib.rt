@@ -3,6 +3,7 @@
 
 mod answer;
 mod faults;
+mod hypotheses;
 mod lead;
 mod question;
 mod sites;
@@ -10,6 +11,7 @@ mod window;
 
 pub use answer::{Answer, answer_claim};
 pub use faults::FaultAnswer;
+pub use hypotheses::Contradiction;
 pub use lead::{LeadIn, lead_in};
 pub use question::{Posed, Question, Searched};
 pub use sites::AnswerSearch;

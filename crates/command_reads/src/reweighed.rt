@@ -42,6 +42,7 @@ fn settings_again(alloc: Global, set: &Settings) -> Result<Settings, NoRoom>
     Ok(Settings {
         ftti: set.ftti,
         flips,
+        stretch: set.stretch,
         pulses,
         asil: set.asil,
     })
