@@ -16,11 +16,12 @@ from campaign import Refused
 USAGE = Refused(2, b"usage")
 OPTIONS = {"classes": "", "check": "flips upsets pulses", "run": "ftti flips upsets pulses workers asil", "resume": "ftti flips upsets pulses workers asil",
            "audit": "every alone ftti flips upsets pulses", "gen": "workers", "report": "ftti flips upsets pulses asil", "shard": "part of ftti flips upsets pulses",
-           "merge": "ftti flips upsets pulses", "pairs": "ftti flips upsets pulses workers", "parts": "", "faults": "ftti flips upsets pulses",
+           "merge": "ftti flips upsets pulses", "reweigh": "ftti flips upsets pulses", "pairs": "ftti flips upsets pulses workers", "parts": "", "faults": "ftti flips upsets pulses",
            "progress": "ftti flips upsets pulses asil", "breakdown": "ftti flips upsets pulses asil intervals workers", "latencies": "ftti flips upsets pulses asil workers",
            "coverage": "ftti flips upsets pulses asil workers", "trace": "run fault flips upsets pulses nets"}
-PLACES = {"classes": 2, "check": 4, "run": 5, "resume": 5, "audit": 5, "gen": 2, "report": 4, "shard": 5, "merge": 7, "pairs": 5, "parts": 2,
+PLACES = {"classes": 2, "check": 4, "run": 5, "resume": 5, "audit": 5, "gen": 2, "report": 4, "shard": 5, "merge": 7, "reweigh": 7, "pairs": 5, "parts": 2,
           "faults": 5, "progress": 5, "breakdown": 4, "latencies": 4, "coverage": 4, "trace": 2}
+WRITTEN = {"reweigh": 6}  # the place of the file that is written, which is the fifth in other commands
 MOST_PARTS, MOST_PAIRS = 1024, 2**20
 
 
@@ -70,7 +71,8 @@ def words_of(words):
         said[option] = value if has_value else rest.pop(0)
     if len(names) != PLACES[command]:
         raise USAGE
-    if PLACES[command] >= 5 and names[4] in names[:4] + names[5:]:
+    written = WRITTEN.get(command, 4)
+    if PLACES[command] >= 5 and names[written] in names[:written] + names[written + 1:]:
         raise USAGE
     if command == "shard":
         if "part" not in said or "of" not in said:
@@ -168,6 +170,19 @@ def merge(plan, names):
     return f"merge {len(both)} of {plan.batches} rows\n".encode()
 
 
+def reweigh(plan, names, said):
+    """The rows of a result file in their order, with sums by other rates."""
+    held, _ = c.read_result(plan, c.held(names[4]))
+    try:
+        other = c.make_plan([*names[:2], names[5], names[3]], said["flips"], said["pulses"], said["ftti"], said["asil"])
+    except Refused as refused:
+        told = ((b"rates row ", b"new rates row "), (b"no rate for net ", b"no new rate for net "), (b" has a ", b" has a new "))
+        was = next((pair for pair in told if refused.status in (5, 6, 7) and pair[0] in refused.line), (b"", b""))
+        raise Refused(refused.status, refused.line[len(b"refused: "):-1].replace(*was, 1) if was[0] else refused.line[len(b"refused: "):-1])
+    write(names[6], c.result_text(other, held, list(held)))
+    return f"reweigh {len(held)} of {plan.batches} rows\n".encode()
+
+
 def pairs(plan, planes):
     """Each latent fault with each detected one, where the two together are dangerous."""
     if len(planes) < plan.batches:
@@ -217,6 +232,8 @@ def done(command, names, said):
         return f"shard {said['part']} of {said['of']} rows {len(mine)}\n".encode()
     if command == "merge":
         return merge(plan, names)
+    if command == "reweigh":
+        return reweigh(plan, names, said)
     if command == "run":
         planes = c.true_planes(plan)
         write(names[4], c.result_text(plan, planes, sorted(planes)))

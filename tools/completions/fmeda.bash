@@ -3,7 +3,7 @@ _fmeda() {
     local current=${COMP_WORDS[COMP_CWORD]} previous=${COMP_WORDS[COMP_CWORD - 1]} command=${COMP_WORDS[1]} options=
     COMPREPLY=()
     if [ "$COMP_CWORD" -eq 1 ]; then
-        COMPREPLY=($(compgen -W "classes check run resume audit report shard merge pairs parts faults progress breakdown latencies coverage trace gen" -- "$current"))
+        COMPREPLY=($(compgen -W "classes check run resume audit report shard merge reweigh pairs parts faults progress breakdown latencies coverage trace gen" -- "$current"))
         return
     fi
     case $previous in
@@ -16,7 +16,7 @@ _fmeda() {
         check) options="--flips --upsets --pulses" ;;
         run | resume) options="--ftti --flips --upsets --pulses --asil --workers" ;;
         audit) options="--every --alone --ftti --flips --upsets --pulses" ;;
-        merge | faults) options="--ftti --flips --upsets --pulses" ;;
+        merge | reweigh | faults) options="--ftti --flips --upsets --pulses" ;;
         report | progress) options="--ftti --flips --upsets --pulses --asil" ;;
         shard) options="--part --of --ftti --flips --upsets --pulses" ;;
         breakdown) options="--ftti --flips --upsets --pulses --asil --intervals --workers" ;;

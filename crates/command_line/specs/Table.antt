@@ -35,6 +35,7 @@ row_of own =
       | task.Report ↦ (codes "report", inputs ++ ftti ++ lists ++ asil)
       | task.Shard k n ↦ (codes "shard", plan ++ within 0 1023 (needed (codes "part")) ++ within 1 1024 (needed (codes "of")))
       | task.Merge ↦ (codes "merge", plan ++ map place (codes "first" ∷ codes "second" ∷ []))
+      | task.Reweigh ↦ (codes "reweigh", inputs ++ map place (codes "first" ∷ codes "newrates" ∷ codes "result" ∷ []) ++ ftti ++ lists)
       | task.Pairs n ↦ (codes "pairs", plan ++ workers)
       | task.Parts ↦ (codes "parts", map place (codes "netlist" ∷ codes "rates" ∷ []))
       | task.Faults ↦ (codes "faults", plan)
@@ -51,8 +52,8 @@ word_of own = (row_of own).0
 -- one of each task, whatever its numbers
 abbrev pub tasks : List Task
 tasks =
-    task.Classes ∷ task.Check ∷ task.Run 0 ∷ task.Resume 0 ∷ task.Audit 0 Lanes ∷ task.Gen 0 0 ∷ task.Report ∷ task.Shard 0 0 ∷ task.Merge ∷ task.Pairs 0
-    ∷ task.Parts ∷ task.Faults ∷ task.Progress ∷ task.Breakdown [] 0 ∷ task.Latencies 0 ∷ task.Coverage 0
+    task.Classes ∷ task.Check ∷ task.Run 0 ∷ task.Resume 0 ∷ task.Audit 0 Lanes ∷ task.Gen 0 0 ∷ task.Report ∷ task.Shard 0 0 ∷ task.Merge ∷ task.Reweigh
+    ∷ task.Pairs 0 ∷ task.Parts ∷ task.Faults ∷ task.Progress ∷ task.Breakdown [] 0 ∷ task.Latencies 0 ∷ task.Coverage 0
     ∷ task.Trace 0 None None ∷ []
 
 -- the program, of which one command must be named

@@ -45,6 +45,7 @@ rule_for argument.Points = positional (codes "points")
 rule_for argument.ResultFile = positional (codes "result")
 rule_for argument.First = positional (codes "first")
 rule_for argument.Second = positional (codes "second")
+rule_for argument.NewRates = positional (codes "newrates")
 rule_for argument.Stages = bounded (positional (codes "stages")) 1 1000
 rule_for argument.Ftti = bounded (option (codes "ftti") (codes "0")) 0 4096
 rule_for argument.Flips = option (codes "flips") (codes "none")

@@ -20,9 +20,9 @@ use Rattle.commands.specs.declared.command.Which.{Which}
 use Rattle.commands.specs.Commands.{AreRising, Command, by_file, inputs_of, kind_of}
 use Rattle.command_line.specs.Table.{fmeda_app, word_of}
 
--- the argument that names a file
+-- the argument that names a file. Of `reweigh` the word RESULT of its page is the argument `first`, and NEWRESULT is `result`
 abbrev pub file_word : Which → Text
-file_word = by_file (codes "netlist") (codes "workload") (codes "rates") (codes "points") (codes "result") (codes "first") (codes "second")
+file_word = by_file (codes "netlist") (codes "workload") (codes "rates") (codes "points") (codes "result") (codes "first") (codes "second") (codes "newrates")
 
 -- whether `--alone` is given
 abbrev pub alone_word : AuditBy → Text
@@ -75,7 +75,7 @@ module _ (rows : List Row) where
         | _ ↦ Unit {0}
       ]
 
-  -- they say this command; RESULT is not the text of the name of another file that it reads
+  -- they say this command; the file that may be written, `result`, is not the text of the name of another file that it reads
   pub record Says (command : Command) : Type 0 where
     pub files : command.files ≡ (λ file. text_or [] (file_word file))
     pub apart : ForEach (λ file. first_of (codes "result") rows ≢ Some (command.files file)) (inputs_of (kind_of command.task))

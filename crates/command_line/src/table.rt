@@ -11,8 +11,8 @@ use crate::cycles::read_numbers;
 use crate::entries::{manner_of, number_of, text_of};
 use crate::read::WordsRefusal;
 use Argument::{
-    Alone, Asil, Every, Fault, First, Flips, Ftti, Intervals, Netlist, Nets, Of, Part, Points,
-    Pulses, Rates, ResultFile, Run, Second, Stages, Upsets, Workers, Workload,
+    Alone, Asil, Every, Fault, First, Flips, Ftti, Intervals, Netlist, Nets, NewRates, Of, Part,
+    Points, Pulses, Rates, ResultFile, Run, Second, Stages, Upsets, Workers, Workload,
 };
 use clap::{Arg, ArgAction, ArgMatches, Command, value_parser};
 use commands::Task;
@@ -30,6 +30,7 @@ enum Argument {
     ResultFile,
     First,
     Second,
+    NewRates,
     Stages,
     Ftti,
     Flips,
@@ -108,6 +109,7 @@ fn arg_of<'a>(alloc: Global, argument: Argument) -> Arg<'a>
         ResultFile => named_arg(alloc, "result"),
         First => named_arg(alloc, "first"),
         Second => named_arg(alloc, "second"),
+        NewRates => named_arg(alloc, "newrates"),
         Stages => named_arg(alloc, "stages").value_parser(value_parser!(u32).range(1..=1000)),
         Ftti => option_arg(alloc, "ftti", "0").value_parser(value_parser!(u32).range(0..=4096)),
         Flips => option_arg(alloc, "flips", "none"),
@@ -140,6 +142,11 @@ fn command_rows() -> &'static [Row]
         Row("report", INPUTS, &[Ftti, Flips, Upsets, Pulses, Asil]),
         Row("shard", PLAN, &[Part, Of]),
         Row("merge", PLAN, &[First, Second]),
+        Row(
+            "reweigh",
+            INPUTS,
+            &[First, NewRates, ResultFile, Ftti, Flips, Upsets, Pulses],
+        ),
         Row("pairs", PLAN, &[Workers]),
         Row("parts", &[], &[Netlist, Rates]),
         Row("faults", PLAN, &[]),
@@ -278,6 +285,7 @@ fn plain_task_of(word: &str, matches: &ArgMatches) -> Option<Task>
         "report" => Some(Task::Report),
         "shard" => shard_of(matches),
         "merge" => Some(Task::Merge),
+        "reweigh" => Some(Task::Reweigh),
         "pairs" => Some(Task::Pairs {
             workers: workers_of(matches)?,
         }),

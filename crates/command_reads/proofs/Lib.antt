@@ -4,5 +4,6 @@ pub mod Judging
 pub mod Netlists
 pub mod Plans
 pub mod Reading
+pub mod Renewing
 pub mod Steps
 pub mod Wholes

@@ -39,16 +39,16 @@ plan_is netlist walk set reads = refl
 
 module _ (c : Circuit) (reads : Reads) where
   -- the plan, by what stands in its files
-  abbrev made_of : Settings → List Run → RateTable → Points → Analysis
+  abbrev pub made_of : Settings → List Run → RateTable → Points → Analysis
   made_of set runs rates points = record { circuit = c; runs = runs; rates = rates; points = points; settings = set }
 
-  abbrev after_rates : Settings → List Run → RateTable → Result Analysis Status
+  abbrev pub after_rates : Settings → List Run → RateTable → Result Analysis Status
   after_rates set runs rates = read_as which.Points status.Points (points_of c) reads >>= (λ points. plan_step (made_of set runs rates points))
 
-  abbrev after_runs : Settings → List Run → Result Analysis Status
+  abbrev pub after_runs : Settings → List Run → Result Analysis Status
   after_runs set runs = read_as which.Rates status.Rates rates_of reads >>= after_rates set runs
 
-  behind_is : (set : Settings) → plan_behind c set reads ≡ (read_as which.Workload status.Workload (workload_of c) reads >>= after_runs set)
+  pub behind_is : (set : Settings) → plan_behind c set reads ≡ (read_as which.Workload status.Workload (workload_of c) reads >>= after_runs set)
   unfolding plan_behind
   behind_is set = refl
 
@@ -92,3 +92,33 @@ module _ (c : Circuit) (reads : Reads) where
       → plan_behind c set reads ≡ plan_step (record { circuit = c; runs = made.work; rates = made.rates; points = made.points; settings = set })
   tables_give set made (work, rates, points) =
       rates_are made.work work made.rates rates set ∙ ap (λ r. r >>= (λ points. plan_step (made_of set made.work made.rates points))) points
+
+-- ---- what a plan was made of
+
+-- a step that gives something gives it behind what stood before it
+pub bound : {A B : Type 0} (first : Result A Status) (next : A → Result B Status) (y : B) → (first >>= next) ≡ Ok y → (x : A) × (first ≡ Ok x) × (next x ≡ Ok y)
+bound (Ok x) next y e = (x, refl, e)
+bound {B = B} (Err ended) next y e = let bad : Err {A = B} ended ≡ Ok y = e in cc bad
+
+-- the parts of a plan are those that its files stand for
+pub record AreParts (netlist : Bytes) (set : Settings) (reads : Reads) (p : Analysis) : Type 0 where
+  pub circuit : netlist_step netlist None reads ≡ Ok p.circuit
+  pub runs : read_as which.Workload status.Workload (workload_of p.circuit) reads ≡ Ok p.runs
+  pub points : read_as which.Points status.Points (points_of p.circuit) reads ≡ Ok p.points
+  pub settings : p.settings ≡ set
+
+pub parts_of : (netlist : Bytes) (set : Settings) (reads : Reads) (p : Analysis) → plan_of netlist None set reads ≡ Ok p → AreParts netlist set reads p
+parts_of netlist set reads p e =
+    let net = bound (netlist_step netlist None reads) (λ c. plan_behind c set reads) p (sym (plan_is netlist None set reads) ∙ e) in
+    let c = net.0 in
+    let work = bound (read_as which.Workload status.Workload (workload_of c) reads) (after_runs c reads set) p (sym (behind_is c reads set) ∙ net.2) in
+    let rates = bound (read_as which.Rates status.Rates rates_of reads) (after_rates c reads set work.0) p work.2 in
+    let points = bound (read_as which.Points status.Points (points_of c) reads) (λ it. plan_step (made_of c reads set work.0 rates.0 it)) p rates.2 in
+    let same : p ≡ made_of c reads set work.0 rates.0 points.0 = plan_same (made_of c reads set work.0 rates.0 points.0) p points.2 in
+    let circuit : p.circuit ≡ c = ap (λ (q : Analysis). q.circuit) same in
+    record {
+      circuit = net.1 ∙ ap (λ d. Ok d) (sym circuit);
+      runs = ap (λ d. read_as which.Workload status.Workload (workload_of d) reads) circuit ∙ work.1 ∙ ap (λ (q : Analysis). Ok q.runs) (sym same);
+      points = ap (λ d. read_as which.Points status.Points (points_of d) reads) circuit ∙ points.1 ∙ ap (λ (q : Analysis). Ok q.points) (sym same);
+      settings = ap (λ (q : Analysis). q.settings) same;
+    }

@@ -1,5 +1,5 @@
 -- Shapes of private steps: what the steps over what was read answer. Nothing public cites them but what `Judging` has.
-use Rattle.std.specs.Prelude.{◌≡◌, ◌⊎◌, List, [], ◌∷◌, Option, Some, None, Result, Ok, Err, true, false, length, option_map, if◌then◌else◌, nat_lt, codes}
+use Rattle.std.specs.Prelude.{◌≡◌, ◌⊎◌, List, [], ◌∷◌, Option, Some, None, Result, Ok, Err, true, false, length, map, option_map, if◌then◌else◌, nat_lt, codes}
 use Rattle.fm_base.specs.Names.{Bytes}
 use Rattle.metric_sums.specs.declared.Role.TheVariants.{Mission}
 use Rattle.circuit.specs.declared.parts.NetId.{NetId}
@@ -16,10 +16,14 @@ use Rattle.alarm_points.specs.PointsKept.{ArePointsFor}
 use Rattle.alarm_points.specs.declared.Points.{Points}
 use Rattle.campaign_plan.specs.declared.Settings.{Settings}
 use Rattle.campaign_plan.specs.Analysis.{Analysis}
+use Rattle.campaign_plan.specs.Batches.{AreDistinct}
 use Rattle.campaign_plan.specs.Kept.{IsPlan}
 use Rattle.campaign_plan.specs.PlanFaults.{plan_refusal}
+use Rattle.result_file.specs.declared.KeptRows.{KeptRows}
 use Rattle.result_file.specs.declared.Row.{Row}
+use Rattle.result_file.specs.KeptRows.{entry_of, kept_entries}
 use Rattle.result_merge.specs.Merged.{merged}
+use Rattle.result_reweigh.specs.Reweighed.{reweighed}
 use Rattle.commands.specs.declared.command.Kind.TheVariants as kind
 use Rattle.commands.specs.declared.command.Which.TheVariants as which
 use Rattle.commands.specs.Commands.{settings_of}
@@ -37,9 +41,10 @@ use Rattle.command_reads.specs.declared.netlist.Ordered.{Ordered}
 use Rattle.command_reads.specs.declared.observed.Observed.{Observed}
 use Rattle.command_reads.specs.declared.planned.Planned.{Planned}
 use Rattle.command_reads.specs.declared.rated.Rated.{Rated}
+use Rattle.command_reads.specs.declared.reweighed.Reweighed.{Reweighed}
 use Rattle.command_reads.specs.declared.tables.Tables.{Tables}
 use Rattle.command_reads.specs.Files.{Reads, known_by}
-use Rattle.command_reads.specs.FirstRefusal.{Judged, Planned as StandsPlanned, Driven as StandsDriven, Rated as StandsRated, Begun as StandsBegun, Merged as StandsMerged, judge, netlist_read, netlist_step, own_header, plan_of, read_as, rows_in, unless, ◌>>=◌}
+use Rattle.command_reads.specs.FirstRefusal.{Judged, Planned as StandsPlanned, Driven as StandsDriven, Rated as StandsRated, Begun as StandsBegun, Merged as StandsMerged, Reweighed as StandsReweighed, judge, netlist_read, of_new, netlist_step, own_header, plan_of, read_as, rows_in, unless, ◌>>=◌}
 
 -- a step over bytes: it gives this, or refuses by a status that names no net; want of memory is free
 abbrev pub AnswersAs : {A : Type 0} → Result A Status → Result A Status → Type 0
@@ -132,6 +137,38 @@ abbrev pub MergesAs : (netlist : Bytes) → Settings → Reads → Result Merged
 MergesAs netlist set reads (Ok made) =
     TakesAs netlist reads (λ walk. judge netlist walk set reads kind.Merged) (Ok (StandsMerged made.planned.plan made.rows))
 MergesAs netlist set reads (Err refused) = TakesAs netlist reads (λ walk. judge netlist walk set reads kind.Merged) (Err refused)
+
+-- a refusal of RATES, told of NEWRATES
+abbrev pub refused_new : Refused → Refused
+refused_new (By ended) = By (of_new ended)
+refused_new (Looped walk net) = Looped walk net
+
+-- a plan with other rates, and rows by its weights
+abbrev pub ReweighsAs : (netlist : Bytes) → Settings → Reads → Result Reweighed Refused → Type 0
+ReweighsAs netlist set reads (Ok made) =
+    TakesAs netlist reads (λ walk. judge netlist walk set reads kind.Reweighed) (Ok (StandsReweighed made.planned.plan made.rows))
+ReweighsAs netlist set reads (Err refused) = TakesAs netlist reads (λ walk. judge netlist walk set reads kind.Reweighed) (Err refused)
+
+-- the rows of RESULT, by a plan with RATES
+pub record AreBefore (netlist : Bytes) (set : Settings) (reads : Reads) (k : KeptRows) : Type 0 where
+  pub plan : Analysis
+  pub planned : TakesAs netlist reads (λ walk. plan_of netlist walk set reads) (Ok plan)
+  pub kept : rows_in which.First reads plan ≡ Ok k
+  pub distinct : AreDistinct plan (kept_entries k)
+
+abbrev pub KeepsAs : (netlist : Bytes) → Settings → Reads → Result KeptRows Refused → Type 0
+KeepsAs netlist set reads (Ok k) = AreBefore netlist set reads k
+KeepsAs netlist set reads (Err refused) = TakesAs netlist reads (λ walk. judge netlist walk set reads kind.Reweighed) (Err refused)
+
+-- the batches of rows are distinct in each plan that the four files can be
+abbrev pub StayDistinct : (netlist : Bytes) → Settings → Reads → List Row → Type 0
+StayDistinct netlist set reads rows = (p : Analysis) → plan_of netlist None set reads ≡ Ok p → AreDistinct p (map entry_of rows)
+
+-- the plan of the four files, and rows by its weights
+abbrev pub WeighsAs : (netlist : Bytes) → Settings → Reads → List Row → Result Reweighed Refused → Type 0
+WeighsAs netlist set reads rows (Ok made) =
+    TakesAs netlist reads (λ walk. plan_of netlist walk set reads) (Ok made.planned.plan) × (made.rows ≡ reweighed made.planned.plan rows)
+WeighsAs netlist set reads rows (Err refused) = TakesAs netlist reads (λ walk. plan_of netlist walk set reads) (Err refused)
 
 -- at most 1,024 outputs, in `classes`, all of which are observed
 abbrev pub outputs_step : Circuit → Result Points Status

@@ -22,6 +22,7 @@ use Rattle.result_file.specs.declared.Row.{Row}
 use Rattle.result_file.specs.ResultText.{own_digest, header_text}
 use Rattle.result_file.specs.KeptRows.{kept}
 use Rattle.result_merge.specs.Merged.{merged}
+use Rattle.result_reweigh.specs.Reweighed.{reweighed}
 use Rattle.pair_list.specs.Chosen.{pair_refusal}
 use Rattle.commands.specs.declared.command.Kind.{Kind}
 use Rattle.commands.specs.declared.command.Kind.TheVariants as kind
@@ -34,7 +35,7 @@ use Rattle.refusals.specs.declared.status.Status.{Status}
 use Rattle.refusals.specs.declared.status.Status.TheVariants as status
 use Rattle.refusals.specs.NetlistFile.{netlist_in, or_refuse}
 use Rattle.command_reads.specs.declared.files.FileRead.TheVariants.{Whole, TooLong, Failed}
-use Rattle.command_reads.specs.Files.{Reads, bytes_of}
+use Rattle.command_reads.specs.Files.{Reads, bytes_of, exchanged}
 
 -- a step after another: it is reached where the other gave something
 infixl 10 ◌>>=◌
@@ -93,16 +94,35 @@ own_header reads p =
 abbrev pub rows_in : Which → Reads → Analysis → Result KeptRows Status
 rows_in file reads p = read_as file status.Result (kept (own_header reads p) p) reads
 
--- what the files stand for: a plan; a netlist, its workload and settings; a netlist and rates; a plan and its kept rows, or those of two files
+-- a file, where NEWRATES stands in the place of RATES
+abbrev pub new_file : Which → Which
+new_file file = elim file [ which.Rates ↦ which.NewRates | other ↦ other ]
+
+-- what refuses RATES, told of NEWRATES
+abbrev pub of_new : Status → Status
+of_new (status.Rates fault) = status.NewRates fault
+of_new (status.Plan cause) = status.NewPlan cause
+of_new (status.TooLong file) = status.TooLong (new_file file)
+of_new (status.ReadFault file) = status.ReadFault (new_file file)
+of_new ended = ended
+
+-- the same of a step
+abbrev pub told_of_new : {A : Type 0} → Result A Status → Result A Status
+told_of_new (Ok x) = Ok x
+told_of_new (Err ended) = Err (of_new ended)
+
+-- what the files stand for: a plan; a netlist, its workload and settings; a netlist and rates; a plan and its kept rows, or those of two files; or
+-- a plan with other rates, and rows by its weights
 pub data Judged : Type 0 where
   Planned : (p : Analysis) → Judged
   Driven : (c : Circuit) → (runs : List Run) → (set : Settings) → Judged
   Rated : (c : Circuit) → (t : RateTable) → Judged
   Begun : (p : Analysis) → (k : KeptRows) → Judged
   Merged : (p : Analysis) → (both : List Row) → Judged
+  Reweighed : (p : Analysis) → (rows : List Row) → Judged
 
 -- what the files of this kind stand for, or the first refusal. Of two result files FIRST is judged whole before SECOND, and then the batches
--- of both; with a netlist and rates alone a net may lack a rate; a generated netlist has no name, is BLIF, and has flips in cycle 1 and no pulses
+-- of both; of RESULT (FIRST) and NEWRATES, RESULT by the plan with RATES before the plan with NEWRATES; with a netlist and rates alone a net may lack a rate; a generated netlist has no name, is BLIF, and has flips in cycle 1 and no pulses
 unfoldable pub judge : Bytes → Option (List NetId) → Settings → Reads → Kind → Result Judged Status
 judge netlist walk set reads kind.Observed = classes_plan_of netlist walk reads >>= (λ p. Ok (Planned p))
 judge netlist walk set reads kind.Planned = plan_of netlist walk set reads >>= (λ p. Ok (Planned p))
@@ -125,6 +145,11 @@ judge netlist walk set reads kind.Merged = do
   second ← rows_in which.Second reads p
   both ← or_refuse status.Merge (merged p first.rows second.rows)
   Ok (Merged p both)
+judge netlist walk set reads kind.Reweighed = do
+  p ← plan_of netlist walk set reads
+  k ← rows_in which.First reads p
+  q ← told_of_new (plan_of netlist walk set (exchanged reads))
+  Ok (Reweighed q (reweighed q k.rows))
 
 -- where the file of this name was read and is a netlist, it is `c`, and `walk` is what is answered of its loops
 abbrev pub IsLoopAnswer : Bytes → Reads → Circuit → Option (List NetId) → Type 0

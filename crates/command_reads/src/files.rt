@@ -4,7 +4,7 @@ ghost use Rattle.std.specs.List.{AllByRecursion as ForEach};
 ghost use Rattle.fm_shelf.specs.Shelf.{OnlyReads, OnlyReadsAny};
 ghost use Rattle.commands.specs.Commands.{name_by};
 ghost use Rattle.commands.specs.declared.command.Which.{Which as File};
-ghost use Rattle.command_reads.specs.Files.{AreShort, IsFitKind, WasRead, WereRead, reads_by};
+ghost use Rattle.command_reads.specs.Files.{AreShort, IsFitKind, WasRead, WereRead, exchanged, reads_by};
 ghost use Rattle.command_reads.specs.FirstRefusal.{whole};
 ghost use Rattle.refusals.specs.Refusals.{IsPlain};
 
@@ -38,6 +38,7 @@ pub struct Reads {
     pub result: FileRead,
     pub first: FileRead,
     pub second: FileRead,
+    pub new_rates: FileRead,
 }
 
 impl Reads {
@@ -53,6 +54,7 @@ impl Reads {
             result: FileRead::Failed,
             first: FileRead::Failed,
             second: FileRead::Failed,
+            new_rates: FileRead::Failed,
         }
     }
 
@@ -69,6 +71,23 @@ impl Reads {
             Which::Result => self.result = read,
             Which::First => self.first = read,
             Which::Second => self.second = read,
+            Which::NewRates => self.new_rates = read,
+        }
+    }
+
+    // The same with NEWRATES in the place of RATES, and the other way round.
+    pub(crate) fn exchanged(self) -> Reads
+        ensures { reads_by result ≡ exchanged (reads_by self) }
+    {
+        Reads {
+            rates: self.new_rates,
+            new_rates: self.rates,
+            netlist: self.netlist,
+            workload: self.workload,
+            points: self.points,
+            result: self.result,
+            first: self.first,
+            second: self.second,
         }
     }
 
@@ -84,6 +103,7 @@ impl Reads {
             Which::Result => &self.result,
             Which::First => &self.first,
             Which::Second => &self.second,
+            Which::NewRates => &self.new_rates,
         }
     }
 

@@ -1,7 +1,8 @@
 // What the files of a command stand for, or the first refusal.
-ghost use Rattle.std.specs.Prelude.{◌≡◌, IfOk};
+ghost use Rattle.std.specs.Prelude.{◌≡◌, ◌≢◌, IfOk};
 ghost use Rattle.campaign_plan.specs.Kept.{AreSettings};
 ghost use Rattle.commands.specs.declared.command.Kind.TheVariants as kind;
+ghost use Rattle.commands.specs.declared.command.Kind.TheVariants.{Reweighed as OfReweigh};
 ghost use Rattle.command_reads.specs.declared.judge.Judged.TheVariants as made;
 ghost use Rattle.command_reads.specs.Files.{AreShort, reads_by};
 ghost use Rattle.command_reads.specs.Answers.{IsSound, PlansAs, generated_settings};
@@ -14,6 +15,7 @@ use crate::merged::{Merged, judge_merged};
 use crate::observed::{Observed, judge_observed};
 use crate::planned::{Planned, judge_plan};
 use crate::rated::{Rated, judge_rated};
+use crate::reweighed::{Reweighed, judge_reweighed};
 use campaign_plan::Settings;
 use commands::Kind;
 use fm_base::Seq;
@@ -31,6 +33,7 @@ pub enum Judged {
     Planned(Planned),
     Begun(Begun),
     Merged(Merged),
+    Reweighed(Reweighed),
 }
 
 // The settings of the generated campaign: flips in cycle 1, and no pulses.
@@ -57,9 +60,8 @@ fn generated_plan(alloc: Global, netlist: &str, reads: &Reads) -> Result<Planned
     judge_plan(alloc, netlist, settings, reads)
 }
 
-/// What the files of a command of this kind stand for, the netlist's of this name, or the first refusal in the order of the checks. The
-/// generated campaign has settings of its own.
-pub fn judge(
+// What the files of a command of this kind stand for, which isn't `reweigh`'s.
+fn judge_as_read(
     alloc: Global,
     netlist: &str,
     settings: Settings,
@@ -68,6 +70,7 @@ pub fn judge(
 ) -> Result<Judged, Refused>
     requires settings { AreSettings settings }
     requires short { AreShort (reads_by reads.now) }
+    requires other { kind ≢ OfReweigh }
     ensures { JudgesAs netlist.now settings (reads_by reads.now) kind result }
 {
     match kind {
@@ -78,6 +81,26 @@ pub fn judge(
         Kind::Begun => Ok(Judged::Begun(judge_begun(alloc, netlist, settings, reads)?)),
         Kind::Merged => Ok(Judged::Merged(judge_merged(alloc, netlist, settings, reads)?)),
         Kind::Generated(_) => Ok(Judged::Planned(generated_plan(alloc, netlist, reads)?)),
+        Kind::Reweighed => unreachable!(),
+    }
+}
+
+/// What the files of a command of this kind stand for, the netlist's of this name, or the first refusal in the order of the checks. The
+/// generated campaign has settings of its own.
+pub fn judge(
+    alloc: Global,
+    netlist: &str,
+    settings: Settings,
+    reads: Reads,
+    kind: Kind,
+) -> Result<Judged, Refused>
+    requires settings { AreSettings settings }
+    requires short { AreShort (reads_by reads) }
+    ensures { JudgesAs netlist.now settings (reads_by reads) kind result }
+{
+    match kind {
+        Kind::Reweighed => Ok(Judged::Reweighed(judge_reweighed(alloc, netlist, settings, reads)?)),
+        _ => judge_as_read(alloc, netlist, settings, &reads, kind),
     }
 }
 
@@ -155,6 +178,17 @@ impl Judged {
     {
         match self {
             Judged::Merged(merged) => merged,
+            _ => unreachable!(),
+        }
+    }
+
+    /// A plan with other rates, and rows by its weights.
+    pub fn reweighed(&self) -> &Reweighed
+        requires { IsOfKind kind.Reweighed self.now }
+        ensures { self.now ≡ made.Reweighed result.now }
+    {
+        match self {
+            Judged::Reweighed(reweighed) => reweighed,
             _ => unreachable!(),
         }
     }

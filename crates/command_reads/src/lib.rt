@@ -10,5 +10,6 @@ pub mod netlist;
 pub mod observed;
 pub mod planned;
 pub mod rated;
+pub mod reweighed;
 mod sample;
 mod tables;

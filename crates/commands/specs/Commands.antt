@@ -8,33 +8,49 @@ use Rattle.campaign_plan.specs.declared.Settings.{Settings}
 use Rattle.commands.specs.declared.command.Asked.{Asked}
 use Rattle.commands.specs.declared.command.FileNames.{FileNames}
 use Rattle.commands.specs.declared.command.Kind.{Kind}
-use Rattle.commands.specs.declared.command.Kind.TheVariants.{Observed, Driven, Rated, Planned, Begun, Merged, Generated}
+use Rattle.commands.specs.declared.command.Kind.TheVariants.{Observed, Driven, Rated, Planned, Begun, Merged, Reweighed, Generated}
 use Rattle.commands.specs.declared.command.Task.{Task}
 use Rattle.commands.specs.declared.command.Task.TheVariants as task
 use Rattle.commands.specs.declared.command.Which.{Which}
-use Rattle.commands.specs.declared.command.Which.TheVariants.{Netlist, Workload, Rates, Points, Result, First, Second}
+use Rattle.commands.specs.declared.command.Which.TheVariants.{Netlist, Workload, Rates, Points, Result, First, Second, NewRates}
 
--- a command with what its words say; a file that it doesn't have has no name
+-- a command with what its words say; a file that it doesn't have has no name. Of `reweigh` Result is its word NEWRESULT, and First its RESULT
 pub record Command : Type 0 where
   pub files : Which → Bytes
   pub settings : Settings
   pub task : Task
 
--- what each of the seven files has
-abbrev pub by_file : {A : Type 0} → (netlist workload rates points result first second : A) → Which → A
-by_file n w r p s a b = elim [ Netlist ↦ n | Workload ↦ w | Rates ↦ r | Points ↦ p | Result ↦ s | First ↦ a | Second ↦ b ]
+-- what each of the eight files has
+abbrev pub by_file : {A : Type 0} → (netlist workload rates points result first second new_rates : A) → Which → A
+by_file n w r p s a b t = elim [ Netlist ↦ n | Workload ↦ w | Rates ↦ r | Points ↦ p | Result ↦ s | First ↦ a | Second ↦ b | NewRates ↦ t ]
 
 -- what a task reads; most read the plan of the four inputs, with its result file or without
 abbrev pub kind_of : Task → Kind
 kind_of own =
     let plan : Kind = elim own [ task.Resume n ↦ Begun | task.Audit n by ↦ Begun | task.Pairs n ↦ Begun | task.Faults ↦ Begun | task.Progress ↦ Begun | _ ↦ Planned ] in
-    elim own [ task.Classes ↦ Observed | task.Parts ↦ Rated | task.Merge ↦ Merged | task.Gen stages n ↦ Generated stages | task.Trace run fault nets ↦ Driven | _ ↦ plan ]
+    elim own [
+      | task.Classes ↦ Observed
+      | task.Parts ↦ Rated
+      | task.Merge ↦ Merged
+      | task.Reweigh ↦ Reweighed
+      | task.Gen stages n ↦ Generated stages
+      | task.Trace run fault nets ↦ Driven
+      | _ ↦ plan
+    ]
 
--- the files that it reads beside RESULT, in the order of the checks
+-- the files that it reads beside Result, in the order of the checks
 abbrev pub inputs_of : Kind → List Which
 inputs_of kind =
     let plan : List Which = Netlist ∷ Workload ∷ Rates ∷ Points ∷ [] in
-    elim kind [ Observed ↦ Netlist ∷ Workload ∷ [] | Driven ↦ Netlist ∷ Workload ∷ [] | Rated ↦ Netlist ∷ Rates ∷ [] | Merged ↦ plan ++ First ∷ Second ∷ [] | Generated n ↦ [] | _ ↦ plan ]
+    elim kind [
+      | Observed ↦ Netlist ∷ Workload ∷ []
+      | Driven ↦ Netlist ∷ Workload ∷ []
+      | Rated ↦ Netlist ∷ Rates ∷ []
+      | Merged ↦ plan ++ First ∷ Second ∷ []
+      | Reweighed ↦ plan ++ First ∷ NewRates ∷ []
+      | Generated n ↦ []
+      | _ ↦ plan
+    ]
 
 -- all files that it reads
 abbrev pub files_of : Kind → List Which
@@ -79,7 +95,7 @@ pub record IsFit (command : Command) : Type 0 where
 
 -- the name of each file
 abbrev pub name_by : FileNames → Which → Bytes
-name_by names = by_file names.netlist.now names.workload.now names.rates.now names.points.now names.result.now names.first.now names.second.now
+name_by names = by_file names.netlist.now names.workload.now names.rates.now names.points.now names.result.now names.first.now names.second.now names.new_rates.now
 
 -- the command that was asked for
 abbrev pub told_by : Asked → Command

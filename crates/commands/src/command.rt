@@ -5,7 +5,8 @@ ghost use Rattle.commands.specs.Commands.{files_of as files_of_kind, inputs_of, 
 use campaign_plan::Settings;
 use fm_base::{Name, Seq};
 
-/// One of the files of a command: the four inputs, the result file, and the two that `merge` reads.
+/// One of the files of a command: the four inputs, the result file, the two that `merge` reads, of which `reweigh` reads the first, and the
+/// other rates of `reweigh`. Where a command writes a result file, it is `Result`.
 #[derive(Clone, Copy, Debug, PartialEq, Eq)]
 pub enum Which {
     Netlist,
@@ -15,6 +16,7 @@ pub enum Which {
     Result,
     First,
     Second,
+    NewRates,
 }
 
 /// The names of the files that a command has, as its words give them; those that it doesn't have are empty.
@@ -27,6 +29,7 @@ pub struct FileNames<'a> {
     pub result: &'a str,
     pub first: &'a str,
     pub second: &'a str,
+    pub new_rates: &'a str,
 }
 
 impl<'a> FileNames<'a> {
@@ -42,6 +45,7 @@ impl<'a> FileNames<'a> {
             result: "",
             first: "",
             second: "",
+            new_rates: "",
         }
     }
 
@@ -57,6 +61,7 @@ impl<'a> FileNames<'a> {
             Which::Result => self.result,
             Which::First => self.first,
             Which::Second => self.second,
+            Which::NewRates => self.new_rates,
         }
     }
 }
@@ -68,10 +73,12 @@ pub enum Kind {
     Observed,
     Driven,
     Rated,
-    /// The plan of the four inputs; with its result file; with two of them; that of generated texts of so many stages.
+    /// The plan of the four inputs; with its result file; with two of them; with one and other rates; that of generated texts of so many
+    /// stages.
     Planned,
     Begun,
     Merged,
+    Reweighed,
     Generated(u32),
 }
 
@@ -98,6 +105,14 @@ impl Kind {
                 Which::Points,
                 Which::First,
                 Which::Second,
+            ],
+            Kind::Reweighed => &[
+                Which::Netlist,
+                Which::Workload,
+                Which::Rates,
+                Which::Points,
+                Which::First,
+                Which::NewRates,
             ],
             Kind::Generated(_) => &[],
         }
@@ -148,6 +163,7 @@ pub enum Task {
         parts: u32,
     },
     Merge,
+    Reweigh,
     Pairs {
         workers: u32,
     },
@@ -185,6 +201,7 @@ impl Task {
             | Task::Faults
             | Task::Progress => Kind::Begun,
             Task::Merge => Kind::Merged,
+            Task::Reweigh => Kind::Reweighed,
             Task::Gen { stages, .. } => Kind::Generated(*stages),
             Task::Trace { .. } => Kind::Driven,
             _ => Kind::Planned,

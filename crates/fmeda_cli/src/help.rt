@@ -14,6 +14,7 @@ usage: fmeda COMMAND FILES [OPTIONS]
   report INPUTS                        the report, without a result file
   shard INPUTS RESULT                  a part of a campaign, for many machines
   merge INPUTS RESULT FIRST SECOND     one result file of two
+  reweigh INPUTS RESULT NEW NEWRESULT  a result file by the rates of NEW, without a simulation
   parts NETLIST RATES                  which nets each row of the rates takes
   faults INPUTS RESULT                 all faults, as CSV
   breakdown INPUTS                     metrics by goal, without each alarm, by interval

@@ -17,6 +17,7 @@ use Rattle.campaign_plan.specs.PlanFaults.{plan_refusal}
 use Rattle.result_file.specs.declared.KeptRows.{KeptRows}
 use Rattle.result_file.specs.KeptRows.{kept}
 use Rattle.result_merge.specs.Merged.{merged}
+use Rattle.result_reweigh.specs.Reweighed.{reweighed}
 use Rattle.row_audit.specs.Audited.{first_false}
 use Rattle.result_file.specs.declared.FalseRow.{FalseRow}
 use Rattle.wave_dump.specs.Asked.{waves_asked}
@@ -37,8 +38,8 @@ use Rattle.refusals.specs.NetlistFile.{netlist_in, or_refuse}
 use Rattle.command_reads.specs.declared.files.FileRead.{FileRead}
 use Rattle.command_reads.specs.declared.files.FileRead.TheVariants.{Whole, TooLong, Failed}
 use Rattle.command_reads.specs.Answers.{LoopsAnswered, generated_settings}
-use Rattle.command_reads.specs.Files.{Reads, bytes_of as bytes_read}
-use Rattle.command_reads.specs.FirstRefusal.{Judged, classes_plan_of, judge, netlist_read, netlist_step, own_header, plan_of, read_as, rows_in, unless, whole, ◌>>=◌}
+use Rattle.command_reads.specs.Files.{Reads, bytes_of as bytes_read, exchanged}
+use Rattle.command_reads.specs.FirstRefusal.{Judged, classes_plan_of, judge, netlist_read, netlist_step, new_file, of_new, own_header, plan_of, read_as, rows_in, told_of_new, unless, whole, ◌>>=◌}
 use Rattle.fmeda_top.specs.TaskRefusals.{judged, not_there, refusal_in, task_refusal}
 use Rattle.command_reads.specs.FirstRefusal as stands
 use Rattle.fmeda_top.specs.Laws.{circuit_in}
@@ -47,6 +48,11 @@ use Rattle.fmeda_top.specs.Laws.{circuit_in}
 abbrev pub judged_files : Kind → List Which
 judged_files (kind.Generated stages) = inputs_of kind.Planned
 judged_files own = files_of own
+
+-- the kind isn't that of `reweigh`
+abbrev IsOther : Kind → Type 0
+IsOther kind.Reweighed = ⊥
+IsOther _ = Unit {0}
 
 -- a file was read whole
 abbrev pub IsWhole : FileRead → Type 0
@@ -113,6 +119,32 @@ module _ (HasFailed : Which → Type 0) where
   causes_meet None p P h = h
   causes_meet (Some why) p P h = tt
 
+  -- ---- what a task itself refuses
+
+  row_of_files : (P : Type 0) → P → (found : Option FalseRow) → MatchOption (option_map status.Disagrees found) P IsOfFiles
+  row_of_files P h None = h
+  row_of_files P h (Some row) = tt
+
+  pairs_of_files : (P : Type 0) → P → (why : Option PairRefusal) → MatchOption (option_map status.Pairs why) P IsOfFiles
+  pairs_of_files P h None = h
+  pairs_of_files P h (Some why) = tt
+
+  not_there_is_of_files : (why : DumpFault) → IsOfFiles (not_there why)
+  not_there_is_of_files dump.NoRun = tt
+  not_there_is_of_files dump.NoFault = tt
+  not_there_is_of_files dump.NoNet = tt
+
+  waves_of_files : {A : Type 0} (P : Type 0) → P → (answer : Result A DumpFault) → MatchOption (refusal_in not_there answer) P IsOfFiles
+  waves_of_files P h (Ok waves) = h
+  waves_of_files P h (Err why) = not_there_is_of_files why
+
+  task_of_files : (P : Type 0) → P → (own : Task) (made : Judged) → MatchOption (task_refusal own made) P IsOfFiles
+  task_of_files P h (task.Audit every by) (stands.Begun p k) = row_of_files P h (first_false p every k.rows)
+  task_of_files P h (task.Pairs workers) (stands.Begun p k) = pairs_of_files P h (pair_refusal p k.rows)
+  task_of_files P h (task.Trace run fault nets) (stands.Driven c runs set) =
+      waves_of_files P h (waves_asked c runs set.flips set.pulses run fault nets)
+  task_of_files P h _ _ = h
+
   -- ---- over what was read
 
   module _ (reads : Reads) where
@@ -162,32 +194,35 @@ module _ (HasFailed : Which → Type 0) where
       abbrev IsOfFour : Analysis → Type 0
       IsOfFour p = HasNoLoop p.circuit × AreWhole reads (inputs_of kind.Planned)
 
-      -- the plan of four files, and then what follows it
-      plan_then : {B : Type 0} (set : Settings) (next : Analysis → Result B Status) (Q : B → Type 0) → ForEach IfFailed (inputs_of kind.Planned)
-          → ((p : Analysis) → HasNoLoop p.circuit → AreWhole reads (inputs_of kind.Planned) → Meets (next p) Q)
-          → Meets (plan_of netlist walk set reads >>= next) Q
+      -- the plan of four files
+      plan_meets : (set : Settings) → ForEach IfFailed (inputs_of kind.Planned) → Meets (plan_of netlist walk set reads) IsOfFour
       unfolding plan_of
-      plan_then set next Q (net, (work, (rates, (points, end)))) rest =
-          and_then (plan_of netlist walk set reads) next IsOfFour Q
-          (netlist_then _ IsOfFour net (λ c none first.
+      plan_meets set (net, (work, (rates, (points, end)))) =
+          netlist_then _ IsOfFour net (λ c none first.
           file_then which.Workload status.Workload (workload_of c) _ IsOfFour work (λ f. tt) (λ runs second.
           file_then which.Rates status.Rates rates_of _ IsOfFour rates (λ f. tt) (λ table third.
           file_then which.Points status.Points (points_of c) _ IsOfFour points (λ f. tt) (λ observed fourth.
           causes_meet (plan_refusal (record { circuit = c; runs = runs; rates = table; points = observed; settings = set }))
           (record { circuit = c; runs = runs; rates = table; points = observed; settings = set }) IsOfFour
-          (none, (first, ((second.0, second.1), ((third.0, third.1), ((fourth.0, fourth.1), tt))))))))))
-          (λ p got fits. rest p fits.0 fits.1)
+          (none, (first, ((second.0, second.1), ((third.0, third.1), ((fourth.0, fourth.1), tt)))))))))
+
+      -- and then what follows it
+      plan_then : {B : Type 0} (set : Settings) (next : Analysis → Result B Status) (Q : B → Type 0) → ForEach IfFailed (inputs_of kind.Planned)
+          → ((p : Analysis) → HasNoLoop p.circuit → AreWhole reads (inputs_of kind.Planned) → Meets (next p) Q)
+          → Meets (plan_of netlist walk set reads >>= next) Q
+      plan_then set next Q each rest =
+          and_then (plan_of netlist walk set reads) next IsOfFour Q (plan_meets set each) (λ p got fits. rest p fits.0 fits.1)
 
       -- the rows of a result file, and then what follows them
       rows_then : {B : Type 0} (file : Which) (p : Analysis) (next : KeptRows → Result B Status) (Q : B → Type 0) → IfFailed file
           → ((k : KeptRows) → StandsFor file (kept (own_header reads p) p) k → Meets (next k) Q) → Meets (rows_in file reads p >>= next) Q
       rows_then file p next Q failed rest = file_then file status.Result (kept (own_header reads p) p) next Q failed (λ e. tt) rest
 
-      -- WHAT THE FILES OF A KIND STAND FOR
-      pub judge_meets : (set : Settings) (own : Kind) → ForEach IfFailed (judged_files own)
+      -- what the files of a kind stand for that isn't the one of `reweigh`
+      others_meet : (set : Settings) (own : Kind) → IsOther own → ForEach IfFailed (judged_files own)
           → Meets (judge netlist walk set reads own) (IsJudgedOf reads (files_of own))
       unfolding judge classes_plan_of
-      judge_meets set kind.Observed (net, (work, end)) =
+      others_meet set kind.Observed other (net, (work, end)) =
           and_then (classes_plan_of netlist walk reads) (λ p. Ok (stands.Planned p)) (λ p. HasNoLoop p.circuit × AreWhole reads (inputs_of kind.Observed)) _
           (netlist_then _ _ net (λ c none first.
           and_then (unless (if nat_lt 1024 (length c.outputs) then Some status.ManyOutputs else None) c) _ HasNoLoop _
@@ -195,62 +230,70 @@ module _ (HasFailed : Which → Type 0) where
           (λ counted got free. file_then which.Workload status.Workload (workload_of counted) _ _ work (λ f. tt) (λ runs second.
           (free, (first, ((second.0, second.1), tt)))))))
           (λ p got fits. (fits.0, fits.1, tt))
-      judge_meets set kind.Driven (net, (work, end)) =
+      others_meet set kind.Driven other (net, (work, end)) =
           netlist_then _ _ net (λ c none first.
           file_then which.Workload status.Workload (workload_of c) _ _ work (λ f. tt) (λ runs second. (none, (first, ((second.0, second.1), tt)), tt)))
-      judge_meets set kind.Rated (net, (rates, end)) =
+      others_meet set kind.Rated other (net, (rates, end)) =
           netlist_then _ _ net (λ c none first.
           file_then which.Rates status.Rates rates_of _ _ rates (λ f. tt) (λ table second. (none, (first, ((second.0, second.1), tt)), tt)))
-      judge_meets set kind.Planned each = plan_then set (λ p. Ok (stands.Planned p)) _ each (λ p none four. (none, four, tt))
-      judge_meets set kind.Begun (net, (work, (rates, (points, (result, end))))) =
+      others_meet set kind.Planned other each = plan_then set (λ p. Ok (stands.Planned p)) _ each (λ p none four. (none, four, tt))
+      others_meet set kind.Begun other (net, (work, (rates, (points, (result, end))))) =
           plan_then set _ _ (net, (work, (rates, (points, tt)))) (λ p none four. rows_then which.Result p _ _ result (λ k rows. (
             none,
             (four.0, (four.1.0, (four.1.1.0, (four.1.1.1.0, ((rows.0, rows.1), tt))))),
             ap (λ (read : FileRead). kept (own_header reads p) p (bytes_read read)) rows.1 ∙ rows.2,
           )))
-      judge_meets set kind.Merged (net, (work, (rates, (points, (first, (second, end)))))) =
+      others_meet set kind.Merged apart (net, (work, (rates, (points, (first, (second, end)))))) =
           plan_then set _ _ (net, (work, (rates, (points, tt)))) (λ p none four.
           rows_then which.First p _ _ first (λ one own. rows_then which.Second p _ _ second (λ two other.
           and_then (or_refuse status.Merge (merged p one.rows two.rows)) (λ both. Ok (stands.Merged p both)) (λ both. Unit {0}) _
           (told_meets status.Merge (merged p one.rows two.rows) (λ both. Unit {0}) (λ both is. tt) (λ e. tt))
           (λ both got u. (none, (four.0, (four.1.0, (four.1.1.0, (four.1.1.1.0, ((own.0, own.1), ((other.0, other.1), tt)))))), tt)))))
-      judge_meets set (kind.Generated stages) each =
+      others_meet set (kind.Generated stages) other each =
           plan_then generated_settings (λ p. Ok (stands.Planned p)) _ each (λ p none four. (none, tt, tt))
 
-  -- ---- what a task itself refuses
+-- ---- with NEWRATES in the place of RATES
 
-  row_of_files : (P : Type 0) → P → (found : Option FalseRow) → MatchOption (option_map status.Disagrees found) P IsOfFiles
-  row_of_files P h None = h
-  row_of_files P h (Some row) = tt
+new_of_files : (HasFailed : Which → Type 0) (ended : Status) → IsOfFiles (λ file. HasFailed (new_file file)) ended → IsOfFiles HasFailed (of_new ended)
+new_of_files HasFailed (status.Rates fault) h = tt
+new_of_files HasFailed (status.Plan cause) h = tt
+new_of_files HasFailed (status.TooLong file) h = tt
+new_of_files HasFailed (status.ReadFault file) h = h
+new_of_files HasFailed ended h = h
 
-  pairs_of_files : (P : Type 0) → P → (why : Option PairRefusal) → MatchOption (option_map status.Pairs why) P IsOfFiles
-  pairs_of_files P h None = h
-  pairs_of_files P h (Some why) = tt
+told_new_meets : (HasFailed : Which → Type 0) {A : Type 0} (r : Result A Status) (P : A → Type 0) → Meets (λ file. HasFailed (new_file file)) r P
+    → Meets HasFailed (told_of_new r) P
+told_new_meets HasFailed (Ok x) P h = h
+told_new_meets HasFailed (Err ended) P h = new_of_files HasFailed ended h
 
-  not_there_is_of_files : (why : DumpFault) → IsOfFiles (not_there why)
-  not_there_is_of_files dump.NoRun = tt
-  not_there_is_of_files dump.NoFault = tt
-  not_there_is_of_files dump.NoNet = tt
+reweigh_meets : (HasFailed : Which → Type 0) (reads : Reads) (netlist : Bytes) (walk : Option (List NetId)) → LoopsAnswered netlist reads walk → (set : Settings)
+    → ForEach (IfFailed HasFailed reads) (files_of kind.Reweighed)
+    → Meets HasFailed (judge netlist walk set reads kind.Reweighed) (IsJudgedOf reads (files_of kind.Reweighed))
+unfolding judge
+reweigh_meets HasFailed reads netlist walk loops set (net, (work, (rates, (points, (first, (new, end)))))) =
+    plan_then HasFailed reads netlist walk loops set _ _ (net, (work, (rates, (points, tt)))) (λ p none four.
+    rows_then HasFailed reads netlist walk loops which.First p _ _ first (λ k rows.
+    and_then HasFailed (told_of_new (plan_of netlist walk set (exchanged reads))) (λ q. Ok (stands.Reweighed q (reweighed q k.rows)))
+    (λ q. HasNoLoop q.circuit × AreWhole (exchanged reads) (inputs_of kind.Planned)) _
+    (told_new_meets HasFailed (plan_of netlist walk set (exchanged reads)) _
+    (plan_meets (λ file. HasFailed (new_file file)) (exchanged reads) netlist walk loops set (net, (work, (new, (points, tt))))))
+    (λ q got fits. (fits.0, (four.0, (four.1.0, (four.1.1.0, (four.1.1.1.0, ((rows.0, rows.1), (fits.1.1.1.0, tt)))))), tt))))
 
-  waves_of_files : {A : Type 0} (P : Type 0) → P → (answer : Result A DumpFault) → MatchOption (refusal_in not_there answer) P IsOfFiles
-  waves_of_files P h (Ok waves) = h
-  waves_of_files P h (Err why) = not_there_is_of_files why
+-- WHAT THE FILES OF A KIND STAND FOR
+pub judge_meets : (HasFailed : Which → Type 0) (reads : Reads) (netlist : Bytes) (walk : Option (List NetId)) → LoopsAnswered netlist reads walk
+    → (set : Settings) (own : Kind) → ForEach (IfFailed HasFailed reads) (judged_files own)
+    → Meets HasFailed (judge netlist walk set reads own) (IsJudgedOf reads (files_of own))
+judge_meets HasFailed reads netlist walk loops set kind.Reweighed each = reweigh_meets HasFailed reads netlist walk loops set each
+judge_meets HasFailed reads netlist walk loops set own each = others_meet HasFailed reads netlist walk loops set own tt each
 
-  task_of_files : (P : Type 0) → P → (own : Task) (made : Judged) → MatchOption (task_refusal own made) P IsOfFiles
-  task_of_files P h (task.Audit every by) (stands.Begun p k) = row_of_files P h (first_false p every k.rows)
-  task_of_files P h (task.Pairs workers) (stands.Begun p k) = pairs_of_files P h (pair_refusal p k.rows)
-  task_of_files P h (task.Trace run fault nets) (stands.Driven c runs set) =
-      waves_of_files P h (waves_asked c runs set.flips set.pulses run fault nets)
-  task_of_files P h _ _ = h
-
-  -- WHAT A COMMAND'S FILES STAND FOR has no loop, or the refusal is of files
-  pub judged_meets : (walk : Option (List NetId)) (command : Command) (reads : Reads) → LoopsAnswered (command.files which.Netlist) reads walk
-      → ForEach (IfFailed reads) (judged_files (kind_of command.task)) → Meets (judged walk command reads) (λ made. HasNoLoop (circuit_in made))
-  judged_meets walk command reads loops failed =
-      and_then (judge (command.files which.Netlist) walk command.settings reads (kind_of command.task)) (λ made. unless (task_refusal command.task made) made)
-      (IsJudgedOf reads (files_of (kind_of command.task))) (λ made. HasNoLoop (circuit_in made))
-      (judge_meets reads (command.files which.Netlist) walk loops command.settings (kind_of command.task) failed)
-      (λ made got fits. unless_meets (task_refusal command.task made) made _ (task_of_files (HasNoLoop (circuit_in made)) fits.0 command.task made))
+-- WHAT A COMMAND'S FILES STAND FOR has no loop, or the refusal is of files
+pub judged_meets : (HasFailed : Which → Type 0) (walk : Option (List NetId)) (command : Command) (reads : Reads) → LoopsAnswered (command.files which.Netlist) reads walk
+    → ForEach (IfFailed HasFailed reads) (judged_files (kind_of command.task)) → Meets HasFailed (judged walk command reads) (λ made. HasNoLoop (circuit_in made))
+judged_meets HasFailed walk command reads loops failed =
+    and_then HasFailed (judge (command.files which.Netlist) walk command.settings reads (kind_of command.task)) (λ made. unless (task_refusal command.task made) made)
+    (IsJudgedOf reads (files_of (kind_of command.task))) (λ made. HasNoLoop (circuit_in made))
+    (judge_meets HasFailed reads (command.files which.Netlist) walk loops command.settings (kind_of command.task) failed)
+    (λ made got fits. unless_meets HasFailed (task_refusal command.task made) made _ (task_of_files HasFailed (HasNoLoop (circuit_in made)) fits.0 command.task made))
 
 -- where nothing is asked of reads that have failed
 pub none_asked : (reads : Reads) (files : List Which) → ForEach (IfFailed (λ file. Unit {0}) reads) files

@@ -18,7 +18,7 @@ use Rattle.commands.specs.Commands.{Command}
 use Rattle.refusals.specs.declared.status.Status.{Status}
 use Rattle.refusals.specs.RefusalLines.{refusal_line}
 use Rattle.command_reads.specs.Files.{Reads}
-use Rattle.command_reads.specs.FirstRefusal.{Judged, Planned, Begun, Merged}
+use Rattle.command_reads.specs.FirstRefusal.{Judged, Planned, Begun, Merged, Reweighed}
 use Rattle.fmeda_top.specs.TaskRefusals.{judged}
 use Rattle.campaign_run.specs.Outside.{KeepsOthers}
 use Rattle.fmeda_top.specs.Ends.{HasWritten, IsDoneOrFailed, IsSimulated, PrintsAs, RefusedAs, WritesAs, text_of}
@@ -70,6 +70,7 @@ module _ (before : Outside) (shelf : ShelfState) (written : Option Bytes) (low h
   }
   written_later (task.Shard part parts) (Planned p) reads name is = is
   written_later task.Merge (Merged p both) reads name is = is
+  written_later task.Reweigh (Reweighed p rows) reads name is = is
   written_later _ _ reads name is = absurd is
 
 -- what a call has written, where so many bytes are known to have gone out

@@ -39,20 +39,20 @@ use Rattle.commands.specs.Commands.{Command}
 use Rattle.refusals.specs.declared.status.Status.{Status}
 use Rattle.refusals.specs.declared.status.Status.TheVariants as status
 use Rattle.refusals.specs.WantOfMemory.{IsMemory}
-use Rattle.refusals.specs.Texts.{merge_line}
 use Rattle.command_reads.specs.declared.begun.Begun.{Begun as BegunOf}
-use Rattle.command_reads.specs.declared.merged.Merged.{Merged as MergedOf}
 use Rattle.command_reads.specs.declared.planned.Planned.{Planned as PlannedOf}
 use Rattle.command_reads.specs.declared.judge.Judged.{Judged as Made}
 use Rattle.command_reads.specs.Answers.{IsSound}
 use Rattle.command_reads.specs.Judging.{made_by}
 use Rattle.command_reads.specs.Files.{Reads, bytes_of as bytes_read, known_by}
-use Rattle.command_reads.specs.FirstRefusal.{Judged, Begun, Merged, Planned, own_header}
+use Rattle.command_reads.specs.FirstRefusal.{Judged, Begun, Planned, own_header}
 use Rattle.fmeda_top.specs.TaskRefusals.{task_refusal}
 use Rattle.fmeda_top.specs.Doing.{DoesAs, EndSaid, HasEnded, HasRefused, IsHeld, task_of_text}
 use Rattle.fmeda_top.specs.Ends.{HasWritten, IsDoneOrFailed, IsSimulated, MayLeave, MayStop, PrintsAs, WritesAs, text_of}
 use Rattle.fmeda_top.specs.Ends.WritesAs.{All, OutFailed, ResultFailed}
-use Rattle.fmeda_top.specs.Written.{rows_file}
+use Rattle.fmeda_top.specs.Written.{line_by, made_by as made_of, reads_of, rows_file, task_by}
+use Rattle.fmeda_top.specs.declared.merge.Origin.{Origin}
+use Rattle.fmeda_top.specs.declared.merge.Origin.TheVariants.{Merged as ByMerge, Reweighed as ByReweigh}
 
 -- ---- the end of a campaign, told
 
@@ -261,28 +261,53 @@ merged_stopped laws own p first second both is one_true two_true =
       prefix = subst (λ bytes. IsPrefixOf (Held bytes) text) same (length text, sym (take_all (length text) text (omega arith)));
     }
 
-module _ (it : MergedOf) (reads : Reads) (name : Bytes) (before : Outside) (sound : IsSound reads it.planned) where
-  -- the bytes of the file that is written
-  file_is : rows_file it.planned.own it.rows ≡ rows_file (own_header reads it.planned.plan) it.rows
-  file_is = ap (λ own. rows_file own it.rows) sound.own
+-- ---- a file of merged rows, or of rows by other rates
 
-  pub merge_written : (after : Outside) → HasIfKnown (after.shelf.content name) (rows_file it.planned.own it.rows)
-      → Wrote before.out after.out (merge_line (length it.rows) (batch_count it.planned.plan))
-      → WritesOn 0 (rows_file it.planned.own it.rows) (after.shelf.given name) (before.shelf.changed name) (after.shelf.changed name)
-      → HasWritten task.Merge (Merged it.planned.plan it.rows) reads name before after
-  merge_written after has wrote written = (
+module _ (origin : Origin) (it : PlannedOf) (rows : List Row) (reads : Reads) (name : Bytes) (before : Outside) (sound : IsSound (reads_of origin reads) it) where
+  abbrev own : Bytes
+  own = own_header (reads_of origin reads) it.plan
+
+  -- the bytes of the file that is written
+  file_is : rows_file it.own rows ≡ rows_file own rows
+  file_is = ap (λ header. rows_file header rows) sound.own
+
+  pub file_written : (after : Outside) → HasIfKnown (after.shelf.content name) (rows_file it.own rows)
+      → Wrote before.out after.out (line_by origin (length rows) (batch_count it.plan))
+      → WritesOn 0 (rows_file it.own rows) (after.shelf.given name) (before.shelf.changed name) (after.shelf.changed name)
+      → HasWritten (task_by origin) (made_of origin it.plan rows) reads name before after
+  file_written after has wrote written = by_origin origin (
     subst (HasIfKnown (after.shelf.content name)) file_is has,
     wrote,
     subst (λ text. WritesOn 0 text (after.shelf.given name) (before.shelf.changed name) (after.shelf.changed name)) file_is written,
   )
+    where
+      by_origin : (o : Origin)
+          → HasIfKnown (after.shelf.content name) (rows_file (own_header (reads_of o reads) it.plan) rows)
+          × Wrote before.out after.out (line_by o (length rows) (batch_count it.plan))
+          × WritesOn 0 (rows_file (own_header (reads_of o reads) it.plan) rows) (after.shelf.given name) (before.shelf.changed name) (after.shelf.changed name)
+          → HasWritten (task_by o) (made_of o it.plan rows) reads name before after
+      by_origin ByMerge is = is
+      by_origin ByReweigh is = is
 
-  pub merge_stopped : (after : Outside) → StopsOn 0 (rows_file it.planned.own it.rows) (after.shelf.given name) (before.shelf.changed name) (after.shelf.changed name)
-      → MayStop task.Merge (Merged it.planned.plan it.rows) reads (after.shelf.given name) (before.shelf.changed name) (after.shelf.changed name)
-  merge_stopped after stopped = subst (λ text. StopsOn 0 text (after.shelf.given name) (before.shelf.changed name) (after.shelf.changed name)) file_is stopped
+  pub file_stopped : (after : Outside) → StopsOn 0 (rows_file it.own rows) (after.shelf.given name) (before.shelf.changed name) (after.shelf.changed name)
+      → MayStop (task_by origin) (made_of origin it.plan rows) reads (after.shelf.given name) (before.shelf.changed name) (after.shelf.changed name)
+  file_stopped after stopped =
+      by_origin origin (subst (λ text. StopsOn 0 text (after.shelf.given name) (before.shelf.changed name) (after.shelf.changed name)) file_is stopped)
+    where
+      by_origin : (o : Origin)
+          → StopsOn 0 (rows_file (own_header (reads_of o reads) it.plan) rows) (after.shelf.given name) (before.shelf.changed name) (after.shelf.changed name)
+          → MayStop (task_by o) (made_of o it.plan rows) reads (after.shelf.given name) (before.shelf.changed name) (after.shelf.changed name)
+      by_origin ByMerge is = is
+      by_origin ByReweigh is = is
 
-  pub merge_left : (after : Outside)
-      → (after.shelf.content name ≡ before.shelf.content name) ⊎ IsPrefixOf (after.shelf.content name) (rows_file it.planned.own it.rows)
+  pub file_left : (after : Outside)
+      → (after.shelf.content name ≡ before.shelf.content name) ⊎ IsPrefixOf (after.shelf.content name) (rows_file it.own rows)
       → (after.shelf.content name ≡ before.shelf.content name)
-      ⊎ MayLeave task.Merge (Merged it.planned.plan it.rows) reads (before.shelf.content name) (after.shelf.content name)
-  merge_left after (inl same) = inl same
-  merge_left after (inr prefix) = inr (subst (IsPrefixOf (after.shelf.content name)) file_is prefix)
+      ⊎ MayLeave (task_by origin) (made_of origin it.plan rows) reads (before.shelf.content name) (after.shelf.content name)
+  file_left after (inl same) = inl same
+  file_left after (inr prefix) = inr (by_origin origin (subst (IsPrefixOf (after.shelf.content name)) file_is prefix))
+    where
+      by_origin : (o : Origin) → IsPrefixOf (after.shelf.content name) (rows_file (own_header (reads_of o reads) it.plan) rows)
+          → MayLeave (task_by o) (made_of o it.plan rows) reads (before.shelf.content name) (after.shelf.content name)
+      by_origin ByMerge is = is
+      by_origin ByReweigh is = is

@@ -100,6 +100,7 @@ Prints own = elim own [
   | task.Gen _ _ ↦ ⊥
   | task.Shard _ _ ↦ ⊥
   | task.Merge ↦ ⊥
+  | task.Reweigh ↦ ⊥
   | _ ↦ Unit {0}
 ]
 

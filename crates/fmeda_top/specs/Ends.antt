@@ -43,9 +43,9 @@ use Rattle.commands.specs.Commands.{Command}
 use Rattle.refusals.specs.declared.status.Status.{Status}
 use Rattle.refusals.specs.declared.status.Status.TheVariants as status
 use Rattle.class_table.specs.ClassTable.{classes_text}
-use Rattle.refusals.specs.Texts.{check_text, audit_line, shard_line, merge_line}
-use Rattle.command_reads.specs.Files.{Reads, bytes_of as bytes_read}
-use Rattle.command_reads.specs.FirstRefusal.{Judged, Driven, Rated, Planned, Begun, Merged, own_header}
+use Rattle.refusals.specs.Texts.{check_text, audit_line, shard_line, merge_line, reweigh_line}
+use Rattle.command_reads.specs.Files.{Reads, bytes_of as bytes_read, exchanged}
+use Rattle.command_reads.specs.FirstRefusal.{Judged, Driven, Rated, Planned, Begun, Merged, Reweighed, own_header}
 
 -- ---- commands that print
 
@@ -102,6 +102,12 @@ HasMerged own p both name before after =
     HasIfKnown (after.shelf.content name) (own ++ flat_map row_text both) × Wrote before.out after.out (merge_line (length both) (batch_count p))
     × WritesOn 0 (own ++ flat_map row_text both) (after.shelf.given name) (before.shelf.changed name) (after.shelf.changed name)
 
+-- REWEIGHING: the file holds the rows by the other rates, under the header of the campaign with them, and was written so
+abbrev pub HasReweighed : (own : Bytes) → Analysis → List Row → (name : Bytes) → (before after : Outside) → Type 0
+HasReweighed own p rows name before after =
+    HasIfKnown (after.shelf.content name) (own ++ flat_map row_text rows) × Wrote before.out after.out (reweigh_line (length rows) (batch_count p))
+    × WritesOn 0 (own ++ flat_map row_text rows) (after.shelf.given name) (before.shelf.changed name) (after.shelf.changed name)
+
 -- WHAT A TASK HAS WRITTEN to the result file of this name and to `out`
 abbrev pub HasWritten : Task → Judged → Reads → (name : Bytes) → (before after : Outside) → Type 0
 HasWritten (task.Run workers) (Planned p) reads = HasReported (own_header reads p) (true_report p) p (true_planes p) 0
@@ -109,16 +115,18 @@ HasWritten (task.Gen stages workers) (Planned p) reads = HasReported (own_header
 HasWritten (task.Resume workers) (Begun p k) reads = Resumed (own_header reads p) p k (bytes_read (reads which.Result))
 HasWritten (task.Shard part parts) (Planned p) reads = HasShard part parts (own_header reads p) p
 HasWritten task.Merge (Merged p both) reads = HasMerged (own_header reads p) p both
+HasWritten task.Reweigh (Reweighed p rows) reads = HasReweighed (own_header (exchanged reads) p) p rows
 HasWritten _ _ reads = λ name before after. ⊥
 
--- what may be left of a result file that can't be written: a byte prefix of one of the plan, of a part's own rows, or of that of `merge`, with the
--- bytes that were kept
+-- what may be left of a result file that can't be written: a byte prefix of one of the plan, of a part's own rows, or of that of `merge` and of
+-- `reweigh`, with the bytes that were kept
 abbrev pub MayLeave : Task → Judged → Reads → (before after : Content) → Type 0
 MayLeave (task.Shard part parts) (Planned p) reads before after = LeftPart part parts (own_header reads p) p after
 MayLeave _ (Planned p) reads before after = LeftPrefix (own_header reads p) p (true_planes p) after
 MayLeave _ (Begun p k) reads before after =
     LeftPrefix (own_header reads p) p (checkpointed_or_true p k) after × IsIfKnown after (λ bytes. BeginsWith bytes (take k.whole (bytes_of before)))
 MayLeave _ (Merged p both) reads before after = IsPrefixOf after (own_header reads p ++ flat_map row_text both)
+MayLeave _ (Reweighed p rows) reads before after = IsPrefixOf after (own_header (exchanged reads) p ++ flat_map row_text rows)
 MayLeave _ _ reads before after = ⊥
 
 -- ROWS THAT WERE WRITTEN STAY: known or not, up to the call that failed it was written so from the kept bytes on, and was not cut again
@@ -127,6 +135,7 @@ MayStop (task.Shard part parts) (Planned p) reads = StoppedPart part parts (own_
 MayStop _ (Planned p) reads = StoppedRows (own_header reads p) p (true_planes p) 0 []
 MayStop _ (Begun p k) reads = StoppedRows (own_header reads p) p (checkpointed_or_true p k) k.whole (kept_entries k)
 MayStop _ (Merged p both) reads = StopsOn 0 (own_header reads p ++ flat_map row_text both)
+MayStop _ (Reweighed p rows) reads = StopsOn 0 (own_header (exchanged reads) p ++ flat_map row_text rows)
 MayStop _ _ reads = λ given before after. ⊥
 
 -- a command that writes the result file of this name: files of other names are as before. All was written; or `out` failed, and all is as

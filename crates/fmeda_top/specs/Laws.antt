@@ -9,17 +9,20 @@ use Rattle.circuit.specs.declared.parts.NetId.{NetId}
 use Rattle.circuit.specs.Circuit.{Circuit}
 use Rattle.circuit.specs.Loop.{HasNoLoop}
 use Rattle.campaign_plan.specs.Analysis.{Analysis}
-use Rattle.campaign_plan.specs.Batches.{AreDistinct, AreTrue, true_planes}
+use Rattle.campaign_plan.specs.Batches.{AreDistinct, AreTrue, in_order, true_planes}
+use Rattle.campaign_plan.specs.declared.Settings.{Settings}
 use Rattle.result_file.specs.declared.KeptRows.{KeptRows}
 use Rattle.result_file.specs.declared.Row.{Row}
-use Rattle.result_file.specs.ResultText.{row_text}
+use Rattle.result_file.specs.ResultText.{result_rows, row_text}
 use Rattle.result_file.specs.KeptRows.{kept_entries}
 use Rattle.result_file.specs.RowPlanes.{planes_in}
 use Rattle.pair_list.specs.Chosen.{pair_refusal}
 use Rattle.pair_campaign.specs.PairText.{pairs_text}
 use Rattle.campaign_run.specs.Left.{LeftPrefix}
 use Rattle.result_merge.specs.Merged.{merged}
+use Rattle.result_reweigh.specs.Laws.{DifferInRates}
 use Rattle.commands.specs.declared.command.Kind.{Kind}
+use Rattle.commands.specs.declared.command.Kind.TheVariants as kind
 use Rattle.commands.specs.declared.command.Which.{Which}
 use Rattle.commands.specs.declared.command.Which.TheVariants as which
 use Rattle.commands.specs.Commands.{Command, files_of, kind_of}
@@ -28,8 +31,8 @@ use Rattle.refusals.specs.declared.status.Status.{Status}
 use Rattle.refusals.specs.declared.status.Status.TheVariants as status
 use Rattle.refusals.specs.WantOfMemory.{IsMemory}
 use Rattle.command_reads.specs.declared.files.FileRead.TheVariants.{Failed}
-use Rattle.command_reads.specs.Files.{Reads, WereRead, given}
-use Rattle.command_reads.specs.FirstRefusal.{IsLoopAnswer, Judged, Driven, Rated, Planned, Begun, Merged}
+use Rattle.command_reads.specs.Files.{Reads, WereRead, exchanged, given}
+use Rattle.command_reads.specs.FirstRefusal.{IsLoopAnswer, Judged, Driven, Rated, Planned, Begun, Merged, Reweighed, judge, own_header, plan_of, rows_in}
 use Rattle.fmeda_top.specs.TaskRefusals.{judged}
 use Rattle.fmeda_top.specs.Promises.{CommandEnds, Promises, RanOut}
 use Rattle.fmeda_top.specs.Program.{ProgramEnds}
@@ -42,6 +45,7 @@ circuit_in (Driven c runs set) = c
 circuit_in (Rated c table) = c
 circuit_in (Begun p k) = p.circuit
 circuit_in (Merged p both) = p.circuit
+circuit_in (Reweighed p rows) = p.circuit
 
 -- OF THE COMMAND: who knows which command the words are has what is promised of it, or memory has run out
 abbrev pub AreOfTheCommand : Type 0
@@ -113,3 +117,23 @@ abbrev pub MergedAreStopped : Type 0
 MergedAreStopped =
     (own : Bytes) (p : Analysis) (first second : KeptRows) (both : List Row) → merged p first.rows second.rows ≡ Ok both
     → AreTrue p (kept_entries first) → AreTrue p (kept_entries second) → LeftPrefix own p (true_planes p) (Held (own ++ flat_map row_text both))
+
+-- rows by other rates: RESULT has these by the plan with RATES, and `p` is the plan of a `run` with NEWRATES, from which that one differs in nothing
+-- but its rates. Where RESULT's rows are true, NEWRESULT is such a file as this run leaves that was stopped, so that `resume` reports it; and where they
+-- are all, in rising order, it is the file of this run by one worker
+pub record AreOfTheRun (netlist : Bytes) (set : Settings) (reads : Reads) (p : Analysis) (rows : List Row) : Type 0 where
+  pub before : Analysis
+  pub k : KeptRows
+  pub planned : plan_of netlist None set reads ≡ Ok before
+  pub kept : rows_in which.First reads before ≡ Ok k
+  pub run : plan_of netlist None set (exchanged reads) ≡ Ok p
+  pub rates : DifferInRates before p
+  pub stopped : AreTrue before (kept_entries k)
+      → LeftPrefix (own_header (exchanged reads) p) p (true_planes p) (Held (own_header (exchanged reads) p ++ flat_map row_text rows))
+  pub whole : k.rows ≡ result_rows before (in_order before (true_planes before)) → rows ≡ result_rows p (in_order p (true_planes p))
+
+-- OF OTHER RATES: so of all rows that `reweigh` writes
+abbrev pub ReweighedAreOfTheRun : Type 0
+ReweighedAreOfTheRun =
+    (netlist : Bytes) (set : Settings) (reads : Reads) (p : Analysis) (rows : List Row)
+    → judge netlist None set reads kind.Reweighed ≡ Ok (Reweighed p rows) → AreOfTheRun netlist set reads p rows

@@ -16,7 +16,7 @@ use crate::check::tell_check;
 use crate::classes::tell_classes;
 use crate::ended::Ended;
 use crate::kept::{tell_faults, tell_progress};
-use crate::merge::merge;
+use crate::merge::{merge, reweigh};
 use crate::pairs::tell_pairs;
 use crate::parts::tell_parts;
 use crate::prepare::prepared;
@@ -103,7 +103,8 @@ fn print<R: Threads + Sync, O: Sink>(
         | Task::Resume { .. }
         | Task::Gen { .. }
         | Task::Shard { .. }
-        | Task::Merge => unreachable!(),
+        | Task::Merge
+        | Task::Reweigh => unreachable!(),
     }
 }
 
@@ -138,6 +139,11 @@ fn do_at_once<R: Threads + Sync, F: Shelf + Drop, O: Sink>(
     match task {
         Task::Merge => {
             let end = merge(alloc, judged.merged(), names.result, &mut shelf, out);
+            let status = say_end(out, names, end);
+            Ended { status, shelf }
+        }
+        Task::Reweigh => {
+            let end = reweigh(alloc, judged.reweighed(), names.result, &mut shelf, out);
             let status = say_end(out, names, end);
             Ended { status, shelf }
         }

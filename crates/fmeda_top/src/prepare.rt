@@ -27,5 +27,5 @@ pub(crate) fn prepared<F: Shelf>(
 {
     let kind = task.kind();
     let reads = read_files(alloc, shelf, names, kind)?;
-    judge(alloc, names.netlist, settings, &reads, kind)
+    judge(alloc, names.netlist, settings, reads, kind)
 }

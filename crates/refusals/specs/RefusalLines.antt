@@ -14,6 +14,7 @@ use Rattle.rate_table.specs.declared.RatesKind.TheVariants as rates
 use Rattle.alarm_points.specs.declared.PointsKind.{PointsKind}
 use Rattle.alarm_points.specs.declared.PointsKind.TheVariants as points
 use Rattle.campaign_plan.specs.declared.Outcome.{Outcome}
+use Rattle.campaign_plan.specs.declared.PlanRefusal.{PlanRefusal}
 use Rattle.campaign_plan.specs.declared.PlanRefusal.TheVariants as plan
 use Rattle.result_file.specs.declared.ResultRefusal.TheVariants.{Foreign, BadRow}
 use Rattle.result_file.specs.declared.RowFault.{RowFault}
@@ -99,6 +100,16 @@ abbrev pub row_why : RowFault → List Bytes
 row_why w = codes (elim w [ Form ↦ "Form" | Range ↦ "Range" | Repeated ↦ "Repeated" | UnusedLane ↦ "UnusedLane" | Sums _ _ ↦ "Sums kept" ])
     ∷ elim w [ Sums kept computed ↦ sums_words kept ++ codes "computed" ∷ sums_words computed | _ ↦ [] ]
 
+-- the line of what makes no plan, by the words before a net that has no rate, and by those behind a part that has an idle one
+abbrev pub plan_line : (no_rate has_rate : Bytes) → PlanRefusal → Bytes
+plan_line no_rate has_rate cause = elim cause [
+  | plan.MissingRate net name ↦ line (codes "refused:" ∷ no_rate ∷ name ∷ [])
+  | plan.IdleRate part permanent ↦ line (codes "refused:" ∷ codes "part" ∷ part ∷ has_rate
+      ∷ (if permanent then codes "permanent" else codes "transient") ∷ codes "rate and no such fault" ∷ [])
+  | plan.TooManyFaults ↦ codes "refused: more than 1048576 faults\n"
+  | plan.Memory no_room ↦ codes "refused: out of memory\n"
+]
+
 -- the line of a refusal, where the files have these names and the netlist is this circuit; no line after Done, nor for a fault of `out`
 unfoldable pub refusal_line : (Which → Bytes) → Circuit → Status → Bytes
 refusal_line file c ended =
@@ -111,13 +122,11 @@ refusal_line file c ended =
       | status.Bench fault ↦ line (codes "refused: bench line" ∷ decimal fault.line ∷ bench_kind fault.kind ∷ [])
       | status.Loop walk ↦ line (codes "refused:" ∷ codes "loop" ∷ map (λ net. net_name c net.0) walk)
       | status.Rates fault ↦ line (codes "refused: rates row" ∷ decimal fault.row ∷ rates_kind fault.kind ∷ [])
+      | status.NewRates fault ↦ line (codes "refused: new rates row" ∷ decimal fault.row ∷ rates_kind fault.kind ∷ [])
       | status.Points fault ↦ line (codes "refused: points row" ∷ decimal fault.row ∷ points_kind fault.kind ∷ [])
       | status.Workload fault ↦ line (codes "refused: workload row" ∷ decimal fault.row ∷ workload_kind fault.kind ∷ [])
-      | status.Plan (plan.MissingRate net name) ↦ line (codes "refused: no rate for net" ∷ name ∷ [])
-      | status.Plan (plan.IdleRate part permanent) ↦ line (codes "refused: part" ∷ part
-          ∷ codes "has a" ∷ (if permanent then codes "permanent" else codes "transient") ∷ codes "rate and no such fault" ∷ [])
-      | status.Plan plan.TooManyFaults ↦ codes "refused: more than 1048576 faults\n"
-      | status.Plan (plan.Memory no_room) ↦ codes "refused: out of memory\n"
+      | status.Plan cause ↦ plan_line (codes "no rate for net") (codes "has a") cause
+      | status.NewPlan cause ↦ plan_line (codes "no new rate for net") (codes "has a new") cause
       | status.ManyOutputs ↦ codes "refused: more than 1024 outputs\n"
       | status.TooLong which ↦ line (codes "refused:" ∷ file which ∷ codes "is longer than 67108864 bytes" ∷ [])
       | status.Result (Foreign it own) ↦ line (codes "refused: foreign result file, found" ∷ (head it ++ codes ",") ∷ codes "own" ∷ take 88 own ∷ [])
@@ -135,6 +144,10 @@ refusal_line file c ended =
       | _ ↦ []
     ]
 
+-- the exit code of what makes no plan
+abbrev pub plan_code : PlanRefusal → ℕ
+plan_code cause = elim cause [ plan.MissingRate net name ↦ 6 | plan.IdleRate part permanent ↦ 7 | plan.TooManyFaults ↦ 10 | plan.Memory no_room ↦ 30 ]
+
 -- the exit code of a status
 abbrev pub code_of : Status → ℕ
 code_of status.Done = 0
@@ -143,7 +156,9 @@ code_of (status.Netlist fault) = 3
 code_of (status.Bench fault) = 14
 code_of (status.Loop walk) = 4
 code_of (status.Rates fault) = 5
-code_of (status.Plan refusal) = elim refusal [ plan.MissingRate net name ↦ 6 | plan.IdleRate part permanent ↦ 7 | plan.TooManyFaults ↦ 10 | plan.Memory no_room ↦ 30 ]
+code_of (status.NewRates fault) = 5
+code_of (status.Plan refusal) = plan_code refusal
+code_of (status.NewPlan refusal) = plan_code refusal
 code_of (status.Points fault) = 8
 code_of (status.Workload fault) = 9
 code_of status.ManyOutputs = 10

@@ -1,4 +1,4 @@
--- The one-line texts of `audit`, `shard` and `merge`, and the text of `check`.
+-- The one-line texts of `audit`, `shard`, `merge` and `reweigh`, and the text of `check`.
 use Rattle.std.specs.Prelude.{ℕ, [], ◌∷◌, ◌++◌, ◌==◌, length, if◌then◌else◌, codes, decimal}
 use Rattle.workload.specs.Runs.{all_cycles}
 use Rattle.alarm_points.specs.PointsFile.{observed}
@@ -25,7 +25,17 @@ shard_line part parts rows = line (codes "shard" ∷ decimal part ∷ codes "of"
 abbrev pub merge_line : (rows batches : ℕ) → Bytes
 merge_line rows batches = line (codes "merge" ∷ decimal rows ∷ codes "of" ∷ decimal batches ∷ codes "rows" ∷ [])
 
+-- so many rows have sums by other rates, of so many batches
+abbrev pub reweigh_line : (rows batches : ℕ) → Bytes
+reweigh_line rows batches = line (codes "reweigh" ∷ decimal rows ∷ codes "of" ∷ decimal batches ∷ codes "rows" ∷ [])
+
 -- so many rows agree, each N-th of a file's, of so many batches; that it is each N-th stands there where N isn't 1
 abbrev pub audit_line : (every rows batches : ℕ) → Bytes
 audit_line every rows batches =
     line (codes "audit" ∷ decimal rows ∷ codes "of" ∷ decimal batches ∷ codes "rows agree" ∷ (if every == 1 then [] else codes "every" ∷ decimal every ∷ []))
+
+-- ---- a shape of private steps
+
+-- behind the word of a command, how many rows its file has, of so many batches
+abbrev pub rows_line : (word : Bytes) → (rows batches : ℕ) → Bytes
+rows_line word rows batches = line (word ∷ decimal rows ∷ codes "of" ∷ decimal batches ∷ codes "rows" ∷ [])

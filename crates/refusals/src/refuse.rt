@@ -6,7 +6,7 @@ ghost use Rattle.refusals.specs.Said.{IsSaid};
 ghost use Rattle.refusals.specs.Refusals.{status_of, HasItsNets, IsSaidOf};
 ghost use Rattle.fm_base.specs.Names.{Bytes};
 ghost use Rattle.commands.specs.Commands.{name_by};
-ghost use Rattle.refusals.specs.RefusalLines.{refused, refusal_line};
+ghost use Rattle.refusals.specs.RefusalLines.{plan_line, refused, refusal_line};
 
 use crate::lines::{refuse_bad_row, refuse_foreign, refuse_incomplete, refuse_planes};
 use crate::refusal::{
@@ -41,9 +41,9 @@ fn rate_word(permanent: bool) -> &'static [u8]
 }
 
 // The line of a part that has a rate and no fault of its kind.
-fn refuse_idle<'a, O: Sink>(out: &mut O, part: &'a [u8], kind: &'a [u8])
+fn refuse_idle<'a, O: Sink>(out: &mut O, part: &'a [u8], has_rate: &'a [u8], kind: &'a [u8])
     ensures { IsSaid (O.seen out.old) (O.seen out.new)
-        (refused (codes "part" ∷ part.now ∷ codes "has a" ∷ kind.now ∷ codes "rate and no such fault" ∷ [])) }
+        (refused (codes "part" ∷ part.now ∷ has_rate.now ∷ kind.now ∷ codes "rate and no such fault" ∷ [])) }
 {
     say(
         out,
@@ -51,25 +51,27 @@ fn refuse_idle<'a, O: Sink>(out: &mut O, part: &'a [u8], kind: &'a [u8])
             b"refused:",
             b"part",
             part,
-            b"has a",
+            has_rate,
             kind,
             b"rate and no such fault",
         ],
     )
 }
 
-// The line of what makes no plan.
-fn refuse_plan<O: Sink>(out: &mut O, cause: &PlanRefusal)
-    ensures { (file : Which → Bytes) (c : Circuit) → IsSaid (O.seen out.old) (O.seen out.new) (refusal_line file c (Status.Plan cause.now)) }
+// The line of what makes no plan, by the words of a net that has no rate, and by those of a part that has an idle one.
+fn refuse_plan<'a, O: Sink>(
+    out: &mut O,
+    cause: &'a PlanRefusal,
+    no_rate: &'a [u8],
+    has_rate: &'a [u8],
+)
+    ensures { IsSaid (O.seen out.old) (O.seen out.new) (plan_line no_rate.now has_rate.now cause.now) }
 {
     match cause {
         PlanRefusal::TooManyFaults => say(out, &[b"refused:", b"more than 1048576 faults"]),
-        PlanRefusal::MissingRate(_, net) => say(
-            out,
-            &[b"refused:", b"no rate for net", net.as_slice()],
-        ),
+        PlanRefusal::MissingRate(_, net) => say(out, &[b"refused:", no_rate, net.as_slice()]),
         PlanRefusal::IdleRate { part, permanent } => {
-            refuse_idle(out, part.as_slice(), rate_word(*permanent))
+            refuse_idle(out, part.as_slice(), has_rate, rate_word(*permanent))
         }
         PlanRefusal::Memory(_) => say(out, &[b"refused:", b"out of memory"]),
     }
@@ -151,12 +153,17 @@ pub fn refuse<O: Sink>(out: &mut O, names: &FileNames, nets: &[Name], status: &S
         Status::Bench(fault) => refuse_bench(out, fault),
         Status::Loop(walk) => refuse_loop(out, nets, walk.as_slice()),
         Status::Rates(fault) => refuse_row(out, b"rates row", fault.row, rates_kind(fault.kind)),
+        Status::NewRates(fault) => {
+            let kind = rates_kind(fault.kind);
+            refuse_row(out, b"new rates row", fault.row, kind)
+        }
         Status::Points(fault) => refuse_row(out, b"points row", fault.row, points_kind(fault.kind)),
         Status::Workload(fault) => {
             let kind = workload_kind(fault.kind);
             refuse_row(out, b"workload row", fault.row, kind)
         }
-        Status::Plan(cause) => refuse_plan(out, cause),
+        Status::Plan(cause) => refuse_plan(out, cause, b"no rate for net", b"has a"),
+        Status::NewPlan(cause) => refuse_plan(out, cause, b"no new rate for net", b"has a new"),
         Status::Result(cause) => refuse_result(out, cause),
         Status::Disagrees(row) => refuse_disagreeing(out, row),
         Status::Merge(cause) => refuse_merge(out, *cause),

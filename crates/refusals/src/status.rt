@@ -1,6 +1,6 @@
 // How a call ends.
 ghost use Rattle.std.specs.Prelude.{◌≡◌, OnOk, OnErr};
-ghost use Rattle.refusals.specs.RefusalLines.{code_of};
+ghost use Rattle.refusals.specs.RefusalLines.{code_of, plan_code as plan_code_of};
 
 use alarm_points::PointsFault;
 use bench_reader::BenchFault;
@@ -25,9 +25,11 @@ pub enum Status {
     Bench(BenchFault),
     Loop(Walk),
     Rates(RatesFault),
+    NewRates(RatesFault),
     Points(PointsFault),
     Workload(WorkloadFault),
     Plan(PlanRefusal),
+    NewPlan(PlanRefusal),
     ManyOutputs,
     TooLong(Which),
     Result(ResultRefusal),
@@ -43,6 +45,18 @@ pub enum Status {
     Memory(NoRoom),
 }
 
+// The exit status of what makes no plan.
+fn plan_code(cause: &PlanRefusal) -> u8
+    ensures { result ≡ plan_code_of cause.now }
+{
+    match cause {
+        PlanRefusal::MissingRate(_, _) => 6,
+        PlanRefusal::IdleRate { .. } => 7,
+        PlanRefusal::TooManyFaults => 10,
+        PlanRefusal::Memory(_) => 30,
+    }
+}
+
 impl Status {
     /// The exit status of the program: 0 is done, 2 to 17 are refusals of what it was given, 20 and 21 are faults of the
     /// outside, and 30 is want of memory.
@@ -55,12 +69,10 @@ impl Status {
             Status::Netlist(_) => 3,
             Status::Bench(_) => 14,
             Status::Loop(_) => 4,
-            Status::Rates(_) => 5,
+            Status::Rates(_) | Status::NewRates(_) => 5,
             Status::Points(_) => 8,
             Status::Workload(_) => 9,
-            Status::Plan(PlanRefusal::MissingRate(_, _)) => 6,
-            Status::Plan(PlanRefusal::IdleRate { .. }) => 7,
-            Status::Plan(PlanRefusal::TooManyFaults) => 10,
+            Status::Plan(cause) | Status::NewPlan(cause) => plan_code(cause),
             Status::ManyOutputs | Status::TooLong(_) => 10,
             Status::Result(ResultRefusal::Foreign { .. }) => 11,
             Status::Result(ResultRefusal::BadRow { .. }) => 12,
@@ -71,7 +83,7 @@ impl Status {
             Status::NoRun | Status::NoFault | Status::NoNet => 17,
             Status::ReadFault(_) => 20,
             Status::ResultFault | Status::OutFault => 21,
-            Status::Plan(PlanRefusal::Memory(_)) | Status::Memory(_) => 30,
+            Status::Memory(_) => 30,
         }
     }
 }

@@ -1,16 +1,18 @@
--- Result files of parts of a campaign, and what becomes of two of them.
-use Rattle.std.proofs.Common.{◌≡◌, ℕ, ◌++◌, List, [], ◌∷◌, length, refl, codes}
-use Rattle.std.specs.Prelude.{Some, None, Ok, Err}
+-- Result files of parts of a campaign, what becomes of two of them, and of one by other rates.
+use Rattle.std.proofs.Common.{◌≡◌, ℕ, ◌++◌, false, List, [], ◌∷◌, length, refl, codes}
+use Rattle.std.specs.Prelude.{Some, None, Ok, Err, flat_map}
 use Rattle.test_definitions.specs.Opened.{opened}
 use Rattle.campaign_plan.specs.declared.Outcome.{Outcome}
+use Rattle.campaign_plan.specs.declared.PlanRefusal.TheVariants.{IdleRate}
 use Rattle.campaign_plan.specs.Analysis.{Analysis, batch_count}
 use Rattle.campaign_plan.specs.Batches.{Entry}
-use Rattle.result_file.specs.ResultText.{result_rows, result_text}
+use Rattle.result_file.specs.ResultText.{result_rows, result_text, row_text}
 use Rattle.result_merge.specs.declared.merge.MergeRefusal.TheVariants.{Differs}
 use Rattle.result_merge.specs.Union.{union}
 use Rattle.result_merge.specs.Merged.{first_other, merged}
 use Rattle.result_merge.specs.Parts.{part_batches}
-use Rattle.refusals.specs.Texts.{shard_line, merge_line}
+use Rattle.result_reweigh.specs.Reweighed.{reweighed}
+use Rattle.refusals.specs.Texts.{shard_line, merge_line, reweigh_line}
 use Rattle.commands.specs.declared.command.Which.{Which}
 use Rattle.refusals.specs.declared.status.Status.TheVariants as status
 use Rattle.refusals.specs.RefusalLines.{refusal_line, code_of}
@@ -205,3 +207,26 @@ nothing = refl
 pub second_alone : union 6 [] a ≡ (0, planes 10) ∷ (3, planes 30) ∷ []
 unfolding opened
 second_alone = refl
+
+-- ---- other rates
+
+-- the same campaign with twice the rate: each of the 66 faults weighs 2,000,000
+pub doubled : Analysis
+unfolding opened
+doubled = plan_of (chain 32) chain_workload (chain_rates 66) (chain_points 32) 0 []
+
+-- rows in their order, with the sums of 2 faults and of 66
+pub reweighed_file : own ++ flat_map row_text (reweighed doubled (result_rows plan33 ((1, rest) ∷ (0, full) ∷ []))) ≡ own ++ codes "r 00000001 0000000000000003 0000000000000000 00000000003d0900 00000000003d0900 0000000000000000 0000000000000000 0000000000000000\nr 00000000 ffffffffffffffff 0000000000000000 0000000007de2900 0000000007de2900 0000000000000000 0000000000000000 0000000000000000\n"
+unfolding plan33 doubled opened
+reweighed_file = refl
+
+pub reweigh_said : reweigh_line 2 (batch_count doubled) ≡ codes "reweigh 2 of 2 rows\n"
+unfolding doubled opened
+reweigh_said = refl
+
+pub idle_said : refusal_line no_name dup (status.NewPlan (IdleRate (codes "in") false)) ≡ codes "refused: part in has a new transient rate and no such fault\n"
+unfolding opened
+idle_said = refl
+
+pub idle_code : code_of (status.NewPlan (IdleRate (codes "in") false)) ≡ 7
+idle_code = refl

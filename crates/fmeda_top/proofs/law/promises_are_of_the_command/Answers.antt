@@ -1,4 +1,5 @@
 use Rattle.fmeda_top.proofs.Causing.{have_no_loop, held_read, memory_refused, of_the_command, others_caused, read_fault_rose, usage_of_words}
+use Rattle.fmeda_top.proofs.Reweighing.{of_the_run}
 use Rattle.fmeda_top.proofs.RowTexts.{pairs_are_true}
 use Rattle.fmeda_top.proofs.Writing.{merged_stopped}
 use Rattle.fmeda_top.proofs.law.promises_are_of_the_command.Goals as goal
@@ -29,3 +30,6 @@ returns-clause-pairs c = pairs_are_true c.pairs_are_told.ensures
 
 pub returns-clause-merged : goal.returns-clause-merged
 returns-clause-merged c = merged_stopped c.merges_are_lawful.ensures
+
+pub returns-clause-reweighed : goal.returns-clause-reweighed
+returns-clause-reweighed c = of_the_run c.reweighs_are_lawful.ensures

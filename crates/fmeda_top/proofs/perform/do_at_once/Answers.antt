@@ -22,6 +22,18 @@ returns-in-Merge g c =
     told_does names set c.args.task.now task.Merge c.args.judged.now (made.Merged both) reads c.say_end-status.result before c.in-Merge.is c.merged.ensures
     after shelf out c.merge-end.result refl refl (c.merge-end.ensures reads own.0) c.say_end-status.ensures refl
 
+pub returns-in-Reweigh : goal.returns-in-Reweigh
+returns-in-Reweigh g c =
+    let names = name_by c.args.names.now in
+    let it = c.reweighed.result.now in
+    let shelf = g.F.Shelf.seen c.reweigh-end.new.shelf in
+    let before : Outside = outside (g.F.Shelf.seen c.args.shelf) (g.O.Sink.seen c.args.out.now) in
+    let after : Outside = outside shelf (g.O.Sink.seen c.reweigh-end.new.out) in
+    λ held reads set ready.
+    let own = subst (IsReady held reads) c.reweighed.ensures ready in
+    told_does names set c.args.task.now task.Reweigh c.args.judged.now (made.Reweighed it) reads c.say_end-status-in-Reweigh.result before c.in-Reweigh.is c.reweighed.ensures
+    after shelf (g.O.Sink.seen c.say_end-status-in-Reweigh.new.out) c.reweigh-end.result refl refl (c.reweigh-end.ensures reads own.0) c.say_end-status-in-Reweigh.ensures refl
+
 pub returns-in_default : goal.returns-in_default
 returns-in_default g c =
     let out = g.O.Sink.seen c.args.out.now in

@@ -40,6 +40,10 @@ pub returns-in-Rates : goal.returns-in-Rates
 unfolding refusal_line
 returns-in-Rates g c = λ k names. said_as _ _ (name_by c.args.names.now) k c.args.status.now _ c.in-Rates.is (words_said _ _ _ _ (ap (λ (w : Bytes). codes "rates row" ∷ decimal c.in-Rates.fault.row ∷ w ∷ []) c.rates_kind.ensures) c.refuse_row.ensures)
 
+pub returns-in-NewRates : goal.returns-in-NewRates
+unfolding refusal_line
+returns-in-NewRates g c = λ k names. said_as _ _ (name_by c.args.names.now) k c.args.status.now _ c.in-NewRates.is (words_said _ _ _ _ (ap (λ (w : Bytes). codes "new rates row" ∷ decimal c.in-NewRates.fault.row ∷ w ∷ []) c.rates_kind-kind.ensures) c.refuse_row-in-NewRates.ensures)
+
 pub returns-in-Points : goal.returns-in-Points
 unfolding refusal_line
 returns-in-Points g c = λ k names. said_as _ _ (name_by c.args.names.now) k c.args.status.now _ c.in-Points.is (words_said _ _ _ _ (ap (λ (w : Bytes). codes "points row" ∷ decimal c.in-Points.fault.row ∷ w ∷ []) c.points_kind.ensures) c.refuse_row-in-Points.ensures)
@@ -68,7 +72,12 @@ unfolding refusal_line
 returns-in-ManyOutputs g c = λ k names. said_as _ _ (name_by c.args.names.now) k c.args.status.now _ c.in-ManyOutputs.is (c.say-in-ManyOutputs.ensures)
 
 pub returns-in-Plan : goal.returns-in-Plan
-returns-in-Plan g c = λ k names. said_as _ _ (name_by c.args.names.now) k c.args.status.now _ c.in-Plan.is (c.refuse_plan.ensures (name_by c.args.names.now) k)
+unfolding refusal_line
+returns-in-Plan g c = λ k names. said_as _ _ (name_by c.args.names.now) k c.args.status.now _ c.in-Plan.is c.refuse_plan.ensures
+
+pub returns-in-NewPlan : goal.returns-in-NewPlan
+unfolding refusal_line
+returns-in-NewPlan g c = λ k names. said_as _ _ (name_by c.args.names.now) k c.args.status.now _ c.in-NewPlan.is c.refuse_plan-in-NewPlan.ensures
 
 pub returns-in-Result : goal.returns-in-Result
 returns-in-Result g c = λ k names. said_as _ _ (name_by c.args.names.now) k c.args.status.now _ c.in-Result.is (c.refuse_result.ensures (name_by c.args.names.now) k)
