@@ -98,7 +98,7 @@ module _ (c : Circuit) (reads : Reads) where
 -- a step that gives something gives it behind what stood before it
 pub bound : {A B : Type 0} (first : Result A Status) (next : A → Result B Status) (y : B) → (first >>= next) ≡ Ok y → (x : A) × (first ≡ Ok x) × (next x ≡ Ok y)
 bound (Ok x) next y e = (x, refl, e)
-bound {B = B} (Err ended) next y e = let bad : Err {A = B} ended ≡ Ok y = e in cc bad
+bound (Err ended) next y e = let bad : Err ended ≡ Ok y = e in cc bad
 
 -- the parts of a plan are those that its files stand for
 pub record AreParts (netlist : Bytes) (set : Settings) (reads : Reads) (p : Analysis) : Type 0 where

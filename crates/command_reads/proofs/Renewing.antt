@@ -161,8 +161,7 @@ module _ (netlist : Bytes) (set : Settings) (reads : Reads) where
       looped walk ended is =
           let first = loop_plan reads walk net_read.0 net_read.1 in
           let second = loop_plan (exchanged reads) walk net_read.0 net_read.1 in
-          let same : Err {A = Analysis} (status.Loop walk) ≡ Err ended = sym second ∙ is in
-          reweighs_is (Some walk) ∙ ap (λ r. r >>= behind (Some walk)) first ∙ ap (λ (r : Result Analysis Status). told_of_new r >>= weighed k) same
+          reweighs_is (Some walk) ∙ ap (λ r. r >>= behind (Some walk)) first ∙ ap (λ (r : Result Analysis Status). told_of_new r >>= weighed k) (sym second ∙ is)
 
       -- the plan with NEWRATES is refused
       pub unweighed : (refused : Refused) → TakesAs netlist (exchanged reads) new_plans (Err refused) → TakesAs netlist reads reweighs (Err (refused_new refused))
@@ -217,11 +216,11 @@ pub record AreRenewed (netlist : Bytes) (set : Settings) (reads : Reads) (q : An
 
 refused_none : (r : Result KeptRows ResultRefusal) (k : KeptRows) → or_refuse status.Result r ≡ Ok k → r ≡ Ok k
 refused_none (Ok other) k e = ap (λ x. Ok x) (ok_same (or_refuse status.Result (Ok other)) other k refl e)
-refused_none (Err why) k e = let bad : Err {A = KeptRows} (status.Result why) ≡ Ok k = e in cc bad
+refused_none (Err why) k e = let bad : Err (status.Result why) ≡ Ok k = e in cc bad
 
 told_ok : {A : Type 0} (r : Result A Status) (x : A) → told_of_new r ≡ Ok x → r ≡ Ok x
 told_ok (Ok y) x e = e
-told_ok {A = A} (Err ended) x e = let bad : Err {A = A} (of_new ended) ≡ Ok x = e in cc bad
+told_ok (Err ended) x e = let bad : Err (of_new ended) ≡ Ok x = e in cc bad
 
 -- the plan and the rows of what is worked on
 plan_in : Analysis → Judged → Analysis

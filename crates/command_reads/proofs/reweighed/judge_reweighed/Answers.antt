@@ -16,8 +16,8 @@ returns-in-Ok-clause-reweighs c =
     reweighed_as c.args.netlist.now c.args.set c.in_ok-again.again (reads_by c.args.reads) (reads_by c.exchanged-reads.result) c.in_ok-kept.kept c.as_slice.result.now
     c.in_ok-kept.ensures c.in_ok-again.ensures c.exchanged-reads.ensures c.as_slice.ensures c.in-Ok.made c.in-Ok.ensures.weighs
 
-pub returns-in-Err-clause-reweighs : goal.returns-in-Err-clause-reweighs
-returns-in-Err-clause-reweighs c =
+pub returns-clause-reweighs : goal.returns-clause-reweighs
+returns-clause-reweighs c =
     rw c.refused_of_new.ensures
     (unweighed_as c.args.netlist.now c.args.set c.in_ok-again.again (reads_by c.args.reads) (reads_by c.exchanged-reads.result) c.in_ok-kept.kept c.as_slice.result.now
     c.in_ok-kept.ensures c.in_ok-again.ensures c.exchanged-reads.ensures c.as_slice.ensures c.in-Err.refused c.in-Err.ensures.weighs)
