@@ -1,6 +1,7 @@
 -- What may be answered for every workload: to each fault of a list, and to each part of a netlist.
 use Rattle.std.specs.Prelude.{◌≡◌, ◌≢◌, ◌⊎◌, ◌<◌, ◌≤◌, ⊤, ℕ, Bool, true, false, List, length, All, Some, Result, Ok, Err, slice_index}
 use Rattle.std.specs.List.{slice_get}
+use Rattle.circuit.specs.Circuit.{Circuit}
 use Rattle.circuit.specs.Value.{bit_at}
 use Rattle.circuit.specs.declared.parts.Fault.{Fault}
 use Rattle.circuit.specs.declared.parts.NetId.{NetId}
@@ -13,6 +14,7 @@ use Rattle.claim_search.specs.declared.faults.FaultAnswer.{FaultAnswer}
 use Rattle.claim_search.specs.declared.faults.FaultAnswer.TheVariants.{OfClaim}
 use Rattle.coverage_claim.specs.Claim.{Claim}
 use Rattle.coverage_claim.specs.Laws.{with_window}
+use Rattle.fault_list.specs.Faults.{fault_at, net_of_fault}
 use Rattle.always_answers.specs.Nets.{AreOpen, IsSeen, all_but, is_of_part, marked_nets}
 use Rattle.always_answers.specs.declared.answers.Answers.{Answers}
 use Rattle.always_answers.specs.declared.answers.NoAnswers.{NoAnswers}
@@ -67,6 +69,10 @@ pub record AreAnswers (claim : Claim) (faults : List Fault) (part_of : ℕ → �
   pub open_nets : AreOpen claim answers.open.items
   pub part_count_is : length answers.parts.items ≡ part_count
   pub parts_are : (part : ℕ) (answer : PartAnswer) → slice_get answers.parts.items part ≡ Some answer → IsPartAnswer claim part_of answers.open.items part answer
+
+-- each fault acts on a net of the netlist
+abbrev pub AreOn : Circuit → List Fault → Type 0
+AreOn c faults = (i : ℕ) → i < length faults → net_of_fault c (fault_at faults i) < length c.drivers
 
 -- the claim that is asked of, where nothing is done anywhere
 abbrev pub claim_of : Inquiry → Claim

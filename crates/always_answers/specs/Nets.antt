@@ -41,7 +41,7 @@ is_of_part c part_of part net = nat_lt net (length c.drivers) && part_of net == 
 
 -- how many nets of the part are marked
 abbrev pub marked_nets : Circuit → (part_of : ℕ → ℕ) → (part : ℕ) → List Bool → ℕ
-marked_nets c part_of part marks = count_by (λ net. is_of_part c part_of part net && bit_at marks net) (below (length c.drivers))
+marked_nets c part_of part marks = count_by (λ net. (part_of net == part) && bit_at marks net) (below (length c.drivers))
 
 -- anything at all nets of the part but those that are marked
 abbrev pub all_but : Circuit → (part_of : ℕ → ℕ) → (part : ℕ) → List Bool → Region

@@ -3,11 +3,14 @@ use alarm_points::Points;
 use circuit::netlist::Netlist;
 use coverage_claim::Held;
 use fault_list::FaultList;
+use netlist_levels::Order;
 
 /// What is asked of a netlist: for which runs and windows, of which faults, and which nets are a part.
 #[derive(Clone, Copy)]
 pub struct Inquiry<'a> {
     pub netlist: &'a Netlist,
+    /// An order of evaluation of its tables.
+    pub order: &'a Order,
     /// The nets that shall not differ without an alarm, and the alarm nets.
     pub points: &'a Points,
     /// The inputs that are held.

@@ -13,7 +13,7 @@ use Rattle.coverage_claim.specs.Claim.{Claim}
 use Rattle.coverage_claim.specs.Region.{Region, region_of}
 use Rattle.coverage_claim.specs.declared.parts.Site.{Site}
 use Rattle.coverage_claim.specs.declared.parts.Site.TheVariants.{Free, Intact, Only}
-use Rattle.reach.specs.Paths.{ActsOn, CanChangeSome}
+use Rattle.reach.specs.Paths.{ActsOn, CanChangeSome, LeadsToSome}
 use Rattle.claim_search.specs.Answer.{IsAnswer, is_of_parts}
 use Rattle.claim_search.specs.Question.{IsPosed, with_region}
 use Rattle.claim_search.specs.Sites.{IsAnswerAt, IsAt}
@@ -59,16 +59,20 @@ pub can_change : (c other : Circuit) (fault : Fault) (nets goals : List NetId) �
 can_change c other fault nets goals same points can =
     subst (λ (net : Circuit). CanChangeSome net fault goals) same (subst (λ (all : List NetId). CanChangeSome other fault all) points can)
 
+-- a net that is stuck leads there itself
+pub stuck_leads : (c : Circuit) (fault : Fault) (goals : List NetId) (net : NetId) (value : Bool) → fault ≡ Stuck net value → CanChangeSome c fault goals → LeadsToSome c net goals
+stuck_leads c fault goals net value is can = subst (λ (each : NetId). LeadsToSome c each goals) (sym (subst (ActsOn c can.0) is can.1)) can.2
+
 module _ (c : Circuit) (fault : Fault) (goals : List NetId) (can : CanChangeSome c fault goals) (claim : Claim) (answer : Answer)
-    (answered : (net : NetId) → ActsOn c net fault → IsAnswerAt (with_region claim (region_of c fault)) net Free answer) where
+    (answered : (net : NetId) → ActsOn c net fault → LeadsToSome c net goals → IsAnswerAt (with_region claim (region_of c fault)) net Free answer) where
   pub flip_answer : (l cycle : ℕ) → fault ≡ Flip l cycle → IsAnswer (with_region claim (region_of c fault)) answer
   flip_answer l cycle is =
       let acts = subst (ActsOn c can.0) is can.1 in
-      answered can.0 can.1 (subst (λ (each : Fault). IsAt (can.0 ∷ []) Free (region_of c each)) (sym is)
+      answered can.0 can.1 can.2 (subst (λ (each : Fault). IsAt (can.0 ∷ []) Free (region_of c each)) (sym is)
       (subst (λ (net : NetId). IsAt (net ∷ []) Free (region_of c (Flip l cycle))) acts.2 (flip_at c l cycle acts.0 acts.1)))
 
   pub pulse_answer : (net : NetId) (cycle : ℕ) → fault ≡ Pulse net cycle → IsAnswer (with_region claim (region_of c fault)) answer
   pulse_answer net cycle is =
       let acts = subst (ActsOn c can.0) is can.1 in
-      answered can.0 can.1 (subst (λ (each : Fault). IsAt (can.0 ∷ []) Free (region_of c each)) (sym is)
+      answered can.0 can.1 can.2 (subst (λ (each : Fault). IsAt (can.0 ∷ []) Free (region_of c each)) (sym is)
       (subst (λ (one : NetId). IsAt (one ∷ []) Free (region_of c (Pulse net cycle))) acts (pulse_at c net cycle)))

@@ -9,3 +9,4 @@ pub mod Marking
 pub mod Regions
 pub mod Halving
 pub mod Faulty
+pub mod Contradicting

@@ -50,5 +50,5 @@ module _ (nets : List NetId) (site : Site) (old new : List Site) (there : All (�
   ]
 
 -- what was written is there, where as much was
-pub written : (new rest : List Site) (len : ℕ) → length new ≡ len → take len (new ++ rest) ≡ new
-written new rest len same = subst (λ n. take n (new ++ rest) ≡ new) same (take-append_seam new rest)
+pub written : {X : Type 0} (new rest : List X) (len : ℕ) → length new ≡ len → take len (new ++ rest) ≡ new
+written {X} new rest len same = subst (λ n. take n (new ++ rest) ≡ new) same (take-append_seam new rest)

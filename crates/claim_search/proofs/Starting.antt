@@ -74,7 +74,7 @@ begins_so c q claim starts b many sound asked frames sites held first silent unt
 module _ (claim : Claim) (pairs : Latch → Pairs)
     (fewer : (l : ℕ) (latch : Latch) → slice_get claim.circuit.latches l ≡ Some latch → (a b : Bool) → pairs latch a b ≡ true → claim.apart latch a b ≡ true) where
   -- sets that are settled with fewer starts are so with more
-  settled_more : (r : Sets) → AreSettled (window_of (with_pairs claim pairs)) r → AreSettled (window_of claim) r
+  pub settled_more : (r : Sets) → AreSettled (window_of (with_pairs claim pairs)) r → AreSettled (window_of claim) r
   settled_more r settled frame net a b le e (by_table k own within is driver none) =
       settled frame net a b le e (by_table k own within is driver (λ golden faulty agree. none golden faulty
       (record { own = agree.own; reads = agree.reads; golden_is = agree.golden_is; faulty_may = agree.faulty_may })))

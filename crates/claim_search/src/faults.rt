@@ -4,7 +4,7 @@ ghost use Rattle.alarm_points.specs.PointsFile.{observed};
 ghost use Rattle.circuit.specs.Sound.{IsNet};
 ghost use Rattle.circuit.specs.declared.parts.NetId.{NetId as OneNet};
 ghost use Rattle.coverage_claim.specs.Claim.{Claim};
-ghost use Rattle.reach.specs.Paths.{ActsOn};
+ghost use Rattle.reach.specs.Paths.{ActsOn, LeadsToSome};
 ghost use Rattle.claim_search.specs.Faults.{IsFaultAnswer};
 ghost use Rattle.claim_search.specs.Question.{IsPosed, IsSearched, MayBePosed};
 ghost use Rattle.claim_search.specs.Sites.{IsAnswerAt, IsReady};
@@ -49,8 +49,8 @@ impl AnswerSearch {
         self.answer(searched, posed, &[net], Site::Only(value))
     }
 
-    /// The answer to a fault, where `free` is that to its net, whatever goes wrong there: of `answer_free`. A net that isn't proved so is
-    /// asked of once more for each value that it is stuck at.
+    /// The answer to a fault, where `free` is that to its net, whatever goes wrong there: of `answer_free`, or anything where no path leads
+    /// from it to an observation net. A net that isn't proved so is asked of once more for each value that it is stuck at.
     pub fn answer_fault(
         &mut self,
         searched: &Searched<'_>,
@@ -66,7 +66,7 @@ impl AnswerSearch {
         requires points { observed reach.now.points ≡ posed.now.observed.now }
         requires net { (net : OneNet) → ActsOn searched.now.netlist.now net fault → IsNet searched.now.netlist.now net }
         requires free { (claim : Claim) → IsPosed searched.now.netlist.now posed.now claim → (net : OneNet) → ActsOn searched.now.netlist.now net fault
-            → IsAnswerAt claim net Site.Free free }
+            → LeadsToSome searched.now.netlist.now net posed.now.observed.now → IsAnswerAt claim net Site.Free free }
         ensures ready { IsReady searched.now posed.now self.new }
         ensures answer { (claim : Claim) → IsPosed searched.now.netlist.now posed.now claim → IsFaultAnswer searched.now.netlist.now claim fault result }
     {

@@ -5,6 +5,7 @@ ghost use Rattle.coverage_claim.specs.Largest.{IsProvedSimply};
 ghost use Rattle.coverage_claim.specs.Rules.{everything};
 ghost use Rattle.region_search.specs.Going.{GoesOn, sets_of};
 ghost use Rattle.region_search.specs.Search.{places_of};
+ghost use Rattle.region_search.specs.Settled.{NothingWaits};
 ghost use Rattle.region_search.specs.Work.{pairs_left};
 ghost use Rattle.claim_search.specs.Question.{IsAsked, IsSearched, MayBeAsked, with_pairs};
 ghost use Rattle.claim_search.specs.Window.{Allows, AreKept, HasShown, IsOver, WindowsGoOn, starts_of};
@@ -51,7 +52,12 @@ impl WindowSearch {
     }
 
     // The largest sets of the windows that start so.
-    fn begin(&mut self, searched: &Searched<'_>, question: &Question<'_>, starts: &[PairSet])
+    pub(crate) fn begin(
+        &mut self,
+        searched: &Searched<'_>,
+        question: &Question<'_>,
+        starts: &[PairSet],
+    )
         requires searched { IsSearched searched.now }
         requires asked { MayBeAsked searched.now.netlist.now question.now }
         requires over { IsOver searched.now.watchers.now (question.now.posed.window + question.now.posed.ahead + 1) self.old }
@@ -59,6 +65,8 @@ impl WindowSearch {
         ensures over { IsOver searched.now.watchers.now (question.now.posed.window + question.now.posed.ahead + 1) self.new }
         ensures goes_on { (claim : Claim) → IsAsked searched.now.netlist.now question.now claim
             → GoesOn searched.now.watchers.now (window_of (with_pairs claim (starts_of searched.now.netlist.now starts.now))) everything (sets_of self.new.search.sets) self.new.search }
+        ensures settled { self.new.search.empty ≡ false → (claim : Claim) → IsAsked searched.now.netlist.now question.now claim
+            → NothingWaits (window_of (with_pairs claim (starts_of searched.now.netlist.now starts.now))) (sets_of self.new.search.sets) }
     {
         let beginning = Beginning {
             sites: question.sites,

@@ -25,3 +25,13 @@ returns-clause-goes_on c = λ claim asked.
     let begun = c.begin.ensures.goes_on o s c.requires.searched.netlist c.requires.over.search
     (begins_so net c.args.question.now claim c.args.starts.now _ c.args.self.now.search.sets.frames sound asked c.requires.over.frames refl refl refl refl refl refl) in
     c.settle.ensures.goes_on s everything (record { each = asked.sites }) (again o s everything everything c.begin.new.self begun)
+
+pub returns-clause-settled : goal.returns-clause-settled
+returns-clause-settled c = λ e claim asked.
+    let o = c.args.searched.now.watchers.now in
+    let net = c.args.searched.now.netlist.now in
+    let s = window_of (with_pairs claim (starts_of net c.args.starts.now)) in
+    let sound = subst IsNetlist c.requires.searched.netlist c.requires.searched.sound in
+    let begun = c.begin.ensures.goes_on o s c.requires.searched.netlist c.requires.over.search
+    (begins_so net c.args.question.now claim c.args.starts.now _ c.args.self.now.search.sets.frames sound asked c.requires.over.frames refl refl refl refl refl refl) in
+    c.settle.ensures.settled e s everything (record { each = asked.sites }) (again o s everything everything c.begin.new.self begun)
