@@ -112,7 +112,7 @@ def of_runs(runs, asked):
     missions = [run for run in runs if run[1] == "mission"]
     if not missions:
         yield Hint("missions", "All runs are of kind test: no fault can be dangerous in them, so SPFM says nothing.")
-    for option, listed in (("--flips", asked.flips), ("--pulses", asked.pulses)):
+    for option, listed in (("--upsets" if "-" in asked.flips else "--flips", asked.flips), ("--pulses", asked.pulses)):
         late = [c for c in cycles(listed) if all(c >= len(run[2]) for run in missions)]
         if late:
             late = late if len(late) <= 16 else [f"{late[0]} to {late[-1]}"]

@@ -9,10 +9,11 @@ import hints
 
 LISTS = ("verilog", "headers", "liberty", "techmap", "parameters", "defines", "include")
 CYCLES = re.compile(r"none|[0-9]+(,[0-9]+)*")
+STRETCH = re.compile(r"none|[0-9]+-[0-9]+(/[0-9]+)?")
 KEYS = {
     "design": ("verilog", "headers", "top", "netlist", "latches", "liberty", "script", "techmap", "synth", "start", "parameters", "defines", "include"),
     "workload": ("file", "scope", "clock", "unknown", "nets", "without", "skip"),
-    "campaign": ("rates", "points", "interval", "intervals", "flips", "pulses", "asil", "workers"),
+    "campaign": ("rates", "points", "interval", "intervals", "flips", "upsets", "pulses", "asil", "workers"),
     "output": ("folder", "title"),
 }
 
@@ -59,6 +60,7 @@ class Settings:
     interval: str = "0"
     intervals: str = "none"
     flips: str = "none"
+    upsets: str = "none"
     pulses: str = "none"
     asil: str = "D"
     workers: str = "1"
@@ -69,6 +71,11 @@ class Settings:
     def made(self, name):
         """The name of a file that the flow makes."""
         return f"{self.out}/{name}"
+
+    @property
+    def flip_cycles(self):
+        """The cycles of flips, as either key has them."""
+        return self.flips if self.upsets == "none" else self.upsets
 
     @property
     def netlist(self):
@@ -140,9 +147,11 @@ def look_at_values(said):
         text = getattr(said, key)
         if not (re.fullmatch("[0-9]{1,6}", text) and least <= int(text) <= most or key == "latches" and not text):
             raise Wrong(f"{key} is a number from {least} to {most}, and not {text}")
-    for key, pattern, meaning in (*[(key, CYCLES, "none, or cycles as 1,5,40") for key in ("flips", "pulses", "intervals")], ("asil", "[BCD]", "B, C or D"), ("unknown", "[01]?", "0 or 1"), ("start", "[01]?", "0 or 1")):
+    for key, pattern, meaning in (*[(key, CYCLES, "none, or cycles as 1,5,40") for key in ("flips", "pulses", "intervals")], ("upsets", STRETCH, "none, or a stretch as 3-40 or 3-40/2"), ("asil", "[BCD]", "B, C or D"), ("unknown", "[01]?", "0 or 1"), ("start", "[01]?", "0 or 1")):
         if not re.fullmatch(pattern, getattr(said, key)):
             raise Wrong(f"{key} is {meaning}, and not {getattr(said, key)}")
+    if said.flips != "none" and said.upsets != "none":
+        raise Wrong("[campaign] has either flips or upsets")
     out = pathlib.PurePath(said.out)
     if out.is_absolute() or ".." in out.parts or not out.parts:
         raise Wrong(f"[output] folder is a folder of its own below that of the settings, and not {said.out}")

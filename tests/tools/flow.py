@@ -319,6 +319,20 @@ def the_shares_of_flips_and_pulses(folder, program):
     assert "main 66 % and 34 %" in pathlib.Path(folder, "flow", "page.html").read_text()
 
 
+def flips_over_a_stretch(folder, program):
+    """The stretch of cycle 2 alone has the flips of `flips = 2`, so the report is the same, and so is the look at a stretch that no run reaches."""
+    _design(folder, SETTINGS)
+    _flow(folder, program)
+    report = pathlib.Path(folder, "flow", "report.txt")
+    listed = report.read_text()
+    pathlib.Path(folder, "flow.ini").write_text(_with(("campaign", "upsets = 2-2"), without=("flips = 2",)))
+    printed, _ = _flow(folder, program)
+    assert "the rows of another campaign" in printed and report.read_text() == listed, printed
+    pathlib.Path(folder, "flow.ini").write_text(_with(("campaign", "upsets = 2-6/4"), without=("flips = 2",)))
+    _, said = _flow(folder, program, status=1)
+    assert "--upsets: no mission run has the cycles 6" in said, said
+
+
 def what_was_not_compared_or_not_known(folder, program):
     """q's copy has no signal in the dump; d is x in cycle 0; and then the dump is a cycle shorter, and ends with values."""
     _design(folder, _with(("workload", "nets = all\nunknown = 0")), drive__vcd=_dump().replace("#0\n0!\n0#", "#0\n0!\nx#"))
@@ -552,6 +566,7 @@ def settings_that_say_something_wrong(folder, program):
             (_with(without=("points = points.csv",)), "[campaign] points must be given"), (_with(without=("drive = mission drive.vcd",)), "[workload] file, or runs"),
             (_with(("runs", "second = drive.vcd")), "a run has its kind"), (_with(("runs", "second = drive drive.vcd")), "a run has its kind"), (_with(("runs", "drive = test drive.vcd")), "already exists"),
             (_with(("runs", "second = test none.vcd:0-3")), "there is no file none.vcd"), (_with(("campaign", "interval = 4097")), "interval is a number from 0 to 4096"),
+            (_with(("campaign", "upsets = 2-4")), "either flips or upsets"), (_with(("campaign", "upsets = 2"), without=("flips = 2",)), "upsets is none, or a stretch"),
             (_with(("campaign", "workers = 0")), "workers is a number from 1 to 32"), (_with(("campaign", "pulses = 1;2")), "pulses is none, or cycles"), (SETTINGS.replace("= C", "= A"), "asil is B, C or D"),
             (_with(("output", "folder = ../other")), "folder of its own"), (_with(("output", "folder = .")), "folder of its own"), (_with(("accepted", "missions = why not")), "[accepted] has no key missions"),
             (_with(("design", "liberty = drive.vcd")), "liberty is for verilog, and not for netlist"), (VERILOG.format("script = drive.vcd\nsynth = -nofsm"), "synth belongs into the script drive.vcd"),

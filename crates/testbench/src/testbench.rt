@@ -10,8 +10,8 @@ ghost use Rattle.testbench.specs.Resting.{Rest};
 ghost use Rattle.testbench.specs.Testbench.{testbench_of};
 ghost use Rattle.golden_difference.specs.Lanes.{IsMadeFor};
 
-use alarm_points::Points;
 use crate::stretches::Stretches;
+use alarm_points::Points;
 use campaign_plan::Plan;
 use circuit::netlist::Netlist;
 use circuit::parts::Fault;
@@ -172,8 +172,7 @@ impl<'a> Testbench<'a> {
         let nets = self.net.nets();
         match fault {
             Fault::Stuck(net, value) => {
-                (net.0 as usize) < nets
-                    && self.stretches.have_alone(run, from, to, net, value)
+                (net.0 as usize) < nets && self.stretches.have_alone(run, from, to, net, value)
             }
             Fault::Flip(_, own) => is_outside(own, from, to),
             Fault::Pulse(_, own) => is_outside(own, from, to),

@@ -26,12 +26,12 @@ loop-run-preserved c =
     record {
       room = c.add_cycles.ensures.room;
       seen = record {
-      ones_are = λ net lt.
-          c.add_cycles.ensures.ones net lt ∙ ap (λ b. b || some_below (cycles_of run) (golden_of circuit net run)) (inv.ones_are net lt)
-          ∙ sym (list_any_more (λ (r : Run). some_below (cycles_of r) (golden_of circuit net r)) runs n none within);
-      zeros_are = λ net lt.
-          c.add_cycles.ensures.zeros net lt ∙ ap (λ b. b || some_below (cycles_of run) (λ t. not (golden_of circuit net run t))) (inv.zeros_are net lt)
-          ∙ sym (list_any_more (λ (r : Run). some_below (cycles_of r) (λ t. not (golden_of circuit net r t))) runs n none within);
+        ones_are = λ net lt.
+            c.add_cycles.ensures.ones net lt ∙ ap (λ b. b || some_below (cycles_of run) (golden_of circuit net run)) (inv.ones_are net lt)
+            ∙ sym (list_any_more (λ (r : Run). some_below (cycles_of r) (golden_of circuit net r)) runs n none within);
+        zeros_are = λ net lt.
+            c.add_cycles.ensures.zeros net lt ∙ ap (λ b. b || some_below (cycles_of run) (λ t. not (golden_of circuit net run t))) (inv.zeros_are net lt)
+            ∙ sym (list_any_more (λ (r : Run). some_below (cycles_of r) (λ t. not (golden_of circuit net r t))) runs n none within);
       };
     }
 
