@@ -249,6 +249,7 @@ module _ (HasFailed : Which → Type 0) where
           and_then (or_refuse status.Merge (merged p one.rows two.rows)) (λ both. Ok (stands.Merged p both)) (λ both. Unit {0}) _
           (told_meets status.Merge (merged p one.rows two.rows) (λ both. Unit {0}) (λ both is. tt) (λ e. tt))
           (λ both got u. (none, (four.0, (four.1.0, (four.1.1.0, (four.1.1.1.0, ((own.0, own.1), ((other.0, other.1), tt)))))), tt)))))
+      others_meet set kind.Reweighed other each = elim other [ ]
       others_meet set (kind.Generated stages) other each =
           plan_then generated_settings (λ p. Ok (stands.Planned p)) _ each (λ p none four. (none, tt, tt))
 
