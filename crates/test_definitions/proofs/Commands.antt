@@ -53,6 +53,7 @@ name which.Points = codes "p.csv"
 name which.Result = codes "res"
 name which.First = codes "one"
 name which.Second = codes "two"
+name which.NewRates = codes "n.csv"
 
 pub usage : refusal_line name dup status.Usage ≡ codes "refused: usage\n"
 unfolding opened
