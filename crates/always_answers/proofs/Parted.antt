@@ -150,15 +150,18 @@ module _ (c : Circuit) (p : Posed) (greatest : ℕ) (parts : Parts) (are : ArePa
 
       -- with the greatest window
       pub never_widest : p.window ≡ greatest → SomeSeen claim part_of open_nets part false → answer ≡ Open → IsPartAnswer claim part_of open_nets part Alone
-      never_widest same some is = inr (some, subst (IsAnswer (with_part claim part_of open_nets part)) is (answered (with_part claim part_of open_nets part) (record {
-        circuit = posed.circuit;
-        observed = posed.observed;
-        alarms = posed.alarms;
-        held = posed.held;
-        from = posed.from;
-        window = posed.window ∙ sym same;
-        ahead = posed.ahead;
-      }) at_part))
+      never_widest same some is = inr (
+        some,
+        subst (IsAnswer (with_part claim part_of open_nets part)) is (answered (with_part claim part_of open_nets part) (record {
+          circuit = posed.circuit;
+          observed = posed.observed;
+          alarms = posed.alarms;
+          held = posed.held;
+          from = posed.from;
+          window = posed.window ∙ sym same;
+          ahead = posed.ahead;
+        }) at_part),
+      )
 
       pub whole_widest : p.window ≡ greatest → SomeSeen claim part_of open_nets part false → (count : ℕ)
           → count ≡ count_by (λ n. (part_of n == part) && bit_at open_nets n) (below (length parts.of_nets.now))

@@ -33,8 +33,10 @@ module _ (test : ℕ → Bool) (count : ℕ) (nets : List NetId) (are : ArePicke
           let it = are.all n less e in
           (it.0, omega (arith, it.1, length_push nets (net count)), ap (λ (one : NetId). one.0) (get_or_append_left nets (net count ∷ []) (record { 0 = 0 }) it.0 it.1) ∙ it.2))
       | inr ge ↦ (
-          length nets, omega (arith, length_push nets (net count)),
-          ap (λ (one : NetId). one.0) (get_or_push nets (net count) (record { 0 = 0 }) (length nets) refl) ∙ omega (arith, ge, lt))
+        length nets,
+        omega (arith, length_push nets (net count)),
+        ap (λ (one : NetId). one.0) (get_or_push nets (net count) (record { 0 = 0 }) (length nets) refl) ∙ omega (arith, ge, lt),
+      )
     ];
   }
 

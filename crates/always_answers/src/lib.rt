@@ -9,7 +9,7 @@ mod inquiry;
 mod nets;
 mod parts;
 
-pub use ask::answers_to;
 pub use answers::{Answers, NoAnswers, PartAnswer};
+pub use ask::answers_to;
 pub use claim_search::Contradiction;
 pub use inquiry::Inquiry;

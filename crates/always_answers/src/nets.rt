@@ -23,7 +23,10 @@ pub(crate) fn seen_nets(
     let mut seen = with_room(alloc, netlist.nets())?;
     for n in 0..netlist.nets() as u32 {
         let fault = Fault::Stuck(NetId(n), false);
-        push(&mut seen, reach.can_change(netlist.latches(), fault, Sort::Observation))?;
+        push(
+            &mut seen,
+            reach.can_change(netlist.latches(), fault, Sort::Observation),
+        )?;
     }
     Ok(seen)
 }

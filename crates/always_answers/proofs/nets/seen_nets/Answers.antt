@@ -27,6 +27,7 @@ loop-n-preserved c =
           (λ j less. inv.each j (omega (arith, less, inv.size)))
           (subst (λ j. (found ≡ true → LeadsToSome own (net j) goals) × (found ≡ false → ¬ (LeadsToSome own (net j) goals))) (sym inv.size) (
             λ e. (let can = c.can_change.ensures.0 e in here (subst (λ (one : NetId). LeadsToSome c.args.reach.now.circuit one goals) (sym can.1) can.2)),
-            λ e leads. clash found (c.can_change.ensures.1 (net c.loop-n.n, refl, back leads)) e))
+            λ e leads. clash found (c.can_change.ensures.1 (net c.loop-n.n, refl, back leads)) e,
+          ))
           k (omega (arith, lt, inv.size)));
     }

@@ -19,14 +19,14 @@ loop-n-preserved c =
     let inv = c.loop-n.invariant in
     elim c.if-of_nets-n.branch [
       | then-of_nets-n+then-marks-n w ↦ record {
-          is = w.count-is ∙ ap (λ k. k + 1) inv.is ∙ sym (counted_yes test n (both_true (slice_index c.args.of_nets.now n == c.args.part) (bit_at c.args.marks.now n) (eq-eqb (slice_index c.args.of_nets.now n) c.args.part w.if-of_nets-n.true) w.if-marks-n.true));
-          few = (let it = w.count-is in omega (arith, it, inv.few));
-        }
+        is = w.count-is ∙ ap (λ k. k + 1) inv.is ∙ sym (counted_yes test n (both_true (slice_index c.args.of_nets.now n == c.args.part) (bit_at c.args.marks.now n) (eq-eqb (slice_index c.args.of_nets.now n) c.args.part w.if-of_nets-n.true) w.if-marks-n.true));
+        few = (let it = w.count-is in omega (arith, it, inv.few));
+      }
       | else-of_nets-n w ↦ record {
-          is = w.count-is ∙ inv.is ∙ sym (counted_no test n (and_no (slice_index c.args.of_nets.now n == c.args.part) (bit_at c.args.marks.now n) (elim w.else-of_nets-n.branch [
-            | else-of_nets-n-via-then-of_nets-n+else-marks-n v ↦ inr v.if-marks-n.false
-            | else-of_nets-n-via-else-of_nets-n v ↦ inl (ne_eqb (slice_index c.args.of_nets.now n) c.args.part v.if-of_nets-n.false)
-          ])));
-          few = (let it = w.count-is in omega (arith, it, inv.few));
-        }
+        is = w.count-is ∙ inv.is ∙ sym (counted_no test n (and_no (slice_index c.args.of_nets.now n == c.args.part) (bit_at c.args.marks.now n) (elim w.else-of_nets-n.branch [
+          | else-of_nets-n-via-then-of_nets-n+else-marks-n v ↦ inr v.if-marks-n.false
+          | else-of_nets-n-via-else-of_nets-n v ↦ inl (ne_eqb (slice_index c.args.of_nets.now n) c.args.part v.if-of_nets-n.false)
+        ])));
+        few = (let it = w.count-is in omega (arith, it, inv.few));
+      }
     ]
