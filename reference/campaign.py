@@ -275,8 +275,15 @@ def cycles_text(cycles):
     return ",".join(map(str, cycles)) or "none"
 
 
+def settings_words(plan):
+    pulses, flips = cycles_text(plan.pulses), plan.flips
+    if isinstance(flips, range):
+        return f"3 {plan.ftti} {flips.start}-{flips.stop - 1}/{flips.step} {pulses}"
+    return f"2 {plan.ftti} {cycles_text(flips)} {pulses}" if plan.pulses else f"1 {plan.ftti} {cycles_text(flips)}"
+
+
 def header(plan):
-    settings = f"fmeda-settings {2 if plan.pulses else 1} {plan.ftti} {cycles_text(plan.flips)}" + (f" {cycles_text(plan.pulses)}" if plan.pulses else "")
+    settings = f"fmeda-settings {settings_words(plan)}"
     digest = hashlib.sha256(settings.encode() + b"\n" + b"".join(hashlib.sha256(t).hexdigest().encode() + b"\n" for t in plan.texts))
     return f"fmeda-result 1 {digest.hexdigest()} {plan.batches:08x}\n".encode()
 

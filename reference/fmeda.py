@@ -14,11 +14,11 @@ import waves
 from campaign import Refused
 
 USAGE = Refused(2, b"usage")
-OPTIONS = {"classes": "", "check": "flips pulses", "run": "ftti flips pulses workers asil", "resume": "ftti flips pulses workers asil",
-           "audit": "every alone ftti flips pulses", "gen": "workers", "report": "ftti flips pulses asil", "shard": "part of ftti flips pulses",
-           "merge": "ftti flips pulses", "pairs": "ftti flips pulses workers", "parts": "", "faults": "ftti flips pulses",
-           "progress": "ftti flips pulses asil", "breakdown": "ftti flips pulses asil intervals workers", "latencies": "ftti flips pulses asil workers",
-           "coverage": "ftti flips pulses asil workers", "trace": "run fault flips pulses nets"}
+OPTIONS = {"classes": "", "check": "flips upsets pulses", "run": "ftti flips upsets pulses workers asil", "resume": "ftti flips upsets pulses workers asil",
+           "audit": "every alone ftti flips upsets pulses", "gen": "workers", "report": "ftti flips upsets pulses asil", "shard": "part of ftti flips upsets pulses",
+           "merge": "ftti flips upsets pulses", "pairs": "ftti flips upsets pulses workers", "parts": "", "faults": "ftti flips upsets pulses",
+           "progress": "ftti flips upsets pulses asil", "breakdown": "ftti flips upsets pulses asil intervals workers", "latencies": "ftti flips upsets pulses asil workers",
+           "coverage": "ftti flips upsets pulses asil workers", "trace": "run fault flips upsets pulses nets"}
 PLACES = {"classes": 2, "check": 4, "run": 5, "resume": 5, "audit": 5, "gen": 2, "report": 4, "shard": 5, "merge": 7, "pairs": 5, "parts": 2,
           "faults": 5, "progress": 5, "breakdown": 4, "latencies": 4, "coverage": 4, "trace": 2}
 MOST_PARTS, MOST_PAIRS = 1024, 2**20
@@ -40,6 +40,14 @@ def cycles(text, most, last=65535):
     if len(found) > most or found[-1] > last or any(a >= b for a, b in zip(found, found[1:])):
         raise USAGE
     return found
+
+
+def stretch(text):
+    found = re.fullmatch("(0|[1-9][0-9]{0,4})-(0|[1-9][0-9]{0,4})(?:/([1-9][0-9]{0,4}))?", text)
+    first, last, step = (int(n or 1) for n in found.groups()) if found else (1, 0, 1)
+    if first > last or max(last, step) > 65535:
+        raise USAGE
+    return range(first, last + 1, step)
 
 
 def words_of(words):
@@ -69,12 +77,16 @@ def words_of(words):
             raise USAGE
         said["of"] = number(said["of"], 1, MOST_PARTS)
         said["part"] = number(said["part"], 0, said["of"] - 1)
-    said = {"ftti": "0", "flips": "none", "pulses": "none", "workers": "1", "asil": "D", "intervals": "none", "every": "1", "run": "1", "fault": None, "nets": None, **said}
+    said = {"ftti": "0", "flips": "none", "upsets": "none", "pulses": "none", "workers": "1", "asil": "D", "intervals": "none", "every": "1", "run": "1", "fault": None, "nets": None, **said}
     said["ftti"], said["workers"] = number(said["ftti"], 0, 4096), number(said["workers"], 1, 32)
     said["run"] = number(said["run"], 1, 65536)
     said["every"] = number(said["every"], 1, 16384)
     said["intervals"] = cycles(said["intervals"], 16, 4096)
     said["flips"], said["pulses"] = cycles(said["flips"], 16), cycles(said["pulses"], 4)
+    if said["upsets"] != "none":
+        if said["flips"]:
+            raise USAGE
+        said["flips"] = stretch(said["upsets"])
     if said["asil"] not in ("B", "C", "D"):
         raise USAGE
     if command == "gen":

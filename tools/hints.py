@@ -37,6 +37,11 @@ def read_points(name, design):
 
 
 def cycles(text):
+    """Of a list, as 1,5, or of a stretch, as 3-40 or 3-40/5."""
+    bounds, _, step = text.partition("/")
+    first, hyphen, last = bounds.partition("-")
+    if hyphen:
+        return range(int(first), int(last) + 1, int(step or 1))
     return [] if text == "none" else [int(it) for it in text.split(",")]
 
 
@@ -110,6 +115,7 @@ def of_runs(runs, asked):
     for option, listed in (("--flips", asked.flips), ("--pulses", asked.pulses)):
         late = [c for c in cycles(listed) if all(c >= len(run[2]) for run in missions)]
         if late:
+            late = late if len(late) <= 16 else [f"{late[0]} to {late[-1]}"]
             yield Hint("cycles", f"{option}: no mission run has the cycles {', '.join(map(str, late))}, so these faults do nothing and count as safe.")
 
 

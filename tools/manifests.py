@@ -23,6 +23,10 @@ def campaign_digest(names, options):
         return None
     flips, pulses = options.get("--flips", "none"), options.get("--pulses", "none")
     ftti = int(options.get("--ftti", "0"))
-    settings = f"fmeda-settings 1 {ftti} {flips}\n" if pulses == "none" else f"fmeda-settings 2 {ftti} {flips} {pulses}\n"
+    upsets = options.get("--upsets", "none")
+    if upsets != "none":
+        settings = f"fmeda-settings 3 {ftti} {upsets if '/' in upsets else upsets + '/1'} {pulses}\n"
+    else:
+        settings = f"fmeda-settings 1 {ftti} {flips}\n" if pulses == "none" else f"fmeda-settings 2 {ftti} {flips} {pulses}\n"
     text = settings + "".join(digest_of(names[kind]).get("sha256", "") + "\n" for kind in INPUTS)
     return hashlib.sha256(text.encode()).hexdigest()

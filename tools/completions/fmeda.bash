@@ -8,21 +8,21 @@ _fmeda() {
     fi
     case $previous in
         --asil) COMPREPLY=($(compgen -W "B C D" -- "$current")); return ;;
-        --flips | --pulses | --intervals) COMPREPLY=($(compgen -W "none" -- "$current")); return ;;
+        --flips | --upsets | --pulses | --intervals) COMPREPLY=($(compgen -W "none" -- "$current")); return ;;
         --nets) COMPREPLY=($(compgen -W "differing all" -- "$current")); return ;;
         --ftti | --workers | --part | --of | --every | --run | --fault) return ;;
     esac
     case $command in
-        check) options="--flips --pulses" ;;
-        run | resume) options="--ftti --flips --pulses --asil --workers" ;;
-        audit) options="--every --alone --ftti --flips --pulses" ;;
-        merge | faults) options="--ftti --flips --pulses" ;;
-        report | progress) options="--ftti --flips --pulses --asil" ;;
-        shard) options="--part --of --ftti --flips --pulses" ;;
-        breakdown) options="--ftti --flips --pulses --asil --intervals --workers" ;;
-        trace) options="--run --fault --flips --pulses --nets" ;;
-        latencies|coverage) options="--ftti --flips --pulses --asil --workers" ;;
-        pairs) options="--ftti --flips --pulses --workers" ;;
+        check) options="--flips --upsets --pulses" ;;
+        run | resume) options="--ftti --flips --upsets --pulses --asil --workers" ;;
+        audit) options="--every --alone --ftti --flips --upsets --pulses" ;;
+        merge | faults) options="--ftti --flips --upsets --pulses" ;;
+        report | progress) options="--ftti --flips --upsets --pulses --asil" ;;
+        shard) options="--part --of --ftti --flips --upsets --pulses" ;;
+        breakdown) options="--ftti --flips --upsets --pulses --asil --intervals --workers" ;;
+        trace) options="--run --fault --flips --upsets --pulses --nets" ;;
+        latencies|coverage) options="--ftti --flips --upsets --pulses --asil --workers" ;;
+        pairs) options="--ftti --flips --upsets --pulses --workers" ;;
         gen) options="--workers" ;;
     esac
     case $current in

@@ -1,9 +1,9 @@
 -- Texts that are taken apart: at a separator, by their lengths, and numbers in them.
-use Rattle.std.proofs.Common.{◌≡◌, ◌≢◌, ℕ, ◌+◌, ◌*◌, ◌%◌, ◌<◌, ◌≤◌, ◌^◌, Bool, true, false, ◌⊎◌, inl, inr, List, [], ◌∷◌, ◌++◌, length, take, drop, map, refl, ap, ap₂, sym, ◌∙◌, length-append, arith}
+use Rattle.std.proofs.Common.{◌≡◌, ◌≢◌, ℕ, ◌+◌, ◌*◌, ◌<◌, ◌^◌, Bool, true, false, ◌⊎◌, inl, inr, List, [], ◌∷◌, ◌++◌, length, take, drop, map, refl, ap, ap₂, sym, ◌∙◌, length-append, arith}
 use Rattle.std.specs.Prelude.{All, bytes_eq, codes, decimal}
 use Rattle.std.specs.List.{join_with_byte}
 use Rattle.std.proofs.Math.Seq.{drop-append_seam, take-append_seam}
-use Rattle.std.proofs.lemmas.Fmt.{decimal_by_steps, decimal_injective, decimal_nonempty}
+use Rattle.std.proofs.lemmas.Fmt.{decimal_injective, decimal_nonempty}
 use Rattle.std.proofs.lemmas.List.{append-nil}
 use Rattle.std.proofs.lemmas.List.Elements.{All-head, All-tail}
 use Rattle.fm_base.specs.Names.{Bytes}
@@ -14,6 +14,7 @@ use Rattle.fm_base.proofs.Distinct.{is_same, same_name}
 use Rattle.result_file.specs.KeptRows.{hex_value}
 use Rattle.result_file.specs.ResultText.{cycles_text, digest_text}
 use Rattle.result_file.proofs.Numbers.{hex_back}
+use Rattle.result_file.proofs.Separators.{decimal_lacks, first_same, lacks_both, no_separator}
 
 -- two byte lists are the same or not
 pub same_or_not : (a b : Bytes) → (a ≡ b) ⊎ (a ≢ b)
@@ -35,41 +36,6 @@ pub ends_same : (a b x y : Bytes) → length x ≡ length y → a ++ x ≡ b ++ 
 ends_same a b x y size e =
     let whole : length (a ++ x) ≡ length (b ++ y) = ap length e in
     parts_same a b x y (omega (arith, whole, length-append a x, length-append b y, size)) e
-
--- ---- at a separator
-
-pub lacks_both : (a b : Bytes) (c : ℕ) → Lacks a c → Lacks b c → Lacks (a ++ b) c
-lacks_both [] b c no_a no_b = no_b
-lacks_both (x ∷ a) b c no_a no_b = (no_a.0, lacks_both a b c no_a.1 no_b)
-
--- what lacks the separator has none behind its front
-no_separator : (a front rest : Bytes) (c : ℕ) → Lacks a c → a ≡ front ++ c ∷ rest → ⊥
-no_separator [] [] rest c none e = absurd (cc)
-no_separator [] (x ∷ front) rest c none e = absurd (cc)
-no_separator (y ∷ a) [] rest c none e = none.0 (cc)
-no_separator (y ∷ a) (x ∷ front) rest c none e = no_separator a front rest c none.1 (cc)
-
-pub first_same : (a b x y : Bytes) (c : ℕ) → Lacks a c → Lacks b c → a ++ c ∷ x ≡ b ++ c ∷ y → (a ≡ b) × (x ≡ y)
-first_same [] [] x y c no_a no_b e = (refl, cc)
-first_same [] (k ∷ b) x y c no_a no_b e = (let here : k ≡ c = cc in absurd (no_b.0 here))
-first_same (h ∷ a) [] x y c no_a no_b e = (let here : h ≡ c = cc in absurd (no_a.0 here))
-first_same (h ∷ a) (k ∷ b) x y c no_a no_b e =
-    let tails : a ++ c ∷ x ≡ b ++ c ∷ y = cc in
-    let heads : h ≡ k = cc in
-    let rest = first_same a b x y c no_a.1 no_b.1 tails in
-    (ap₂ (λ (d : ℕ) (ds : Bytes). d ∷ ds) heads rest.0, rest.1)
-
--- ---- numbers in decimal
-
--- they lack each byte that is no digit
-pub decimal_lacks : (n c : ℕ) → n < 2 ^ 64 → (c < 48) ⊎ (57 < c) → Lacks (decimal n) c
-decimal_lacks n c small other = decimal_by_steps (λ _ digits. Lacks digits c) one more n small
-  where
-    one : (d : ℕ) → d < 10 → Lacks ((48 + d) ∷ []) c
-    one d lt = (let apart : (48 + d) ≢ c = elim other as (λ _. (48 + d) ≢ c) [ inl low ↦ omega arith | inr high ↦ omega arith ] in apart, tt)
-
-    more : (m : ℕ) (digits : List ℕ) → 10 ≤ m → Lacks digits c → Lacks (digits ++ (48 + m % 10) ∷ []) c
-    more m digits many before = lacks_both digits ((48 + m % 10) ∷ []) c before (one (m % 10) (omega arith))
 
 -- ---- cycles
 

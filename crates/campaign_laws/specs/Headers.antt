@@ -1,11 +1,12 @@
 -- What the header of a result file says of the inputs that it is made of. The digest is SHA-256 of FIPS 180-4.
-use Rattle.std.specs.Prelude.{◌≡◌, ◌≢◌, ◌⊎◌, ℕ, List, [], ◌∷◌, ◌++◌, flat_map, codes, decimal}
+use Rattle.std.specs.Prelude.{◌≡◌, ◌≢◌, ◌⊎◌, ℕ, List, [], ◌∷◌, ◌++◌, flat_map, codes, decimal, None, Some}
 use Rattle.sha2.specs.Sha256.{sha256}
 use Rattle.fm_base.specs.Names.{Bytes}
 use Rattle.fm_base.specs.Text.{hex, line}
+use Rattle.fault_list.specs.declared.stretch.Stretch.{Stretch}
 use Rattle.campaign_plan.specs.declared.Settings.{Settings}
 use Rattle.campaign_plan.specs.Kept.{AreSettings}
-use Rattle.result_file.specs.ResultText.{cycles_text, header_text, own_digest}
+use Rattle.result_file.specs.ResultText.{cycles_text, header_text, own_digest, stretch_text}
 
 -- the settings and the bytes of the four files
 pub record Sources : Type 0 where
@@ -20,7 +21,9 @@ abbrev pub digested : Sources → Bytes
 digested s =
     let set = s.settings in
     let words : Bytes → List Bytes = λ form. codes "fmeda-settings" ∷ form ∷ decimal set.ftti ∷ cycles_text set.flips ∷ [] in
-    let settings : List Bytes = elim set.pulses [ [] ↦ words (codes "1") | c ∷ cs ↦ words (codes "2") ++ cycles_text (c ∷ cs) ∷ [] ] in
+    let listed : List Bytes = elim set.pulses [ [] ↦ words (codes "1") | c ∷ cs ↦ words (codes "2") ++ cycles_text (c ∷ cs) ∷ [] ] in
+    let of_stretch : Stretch → List Bytes = λ s. codes "fmeda-settings" ∷ codes "3" ∷ decimal set.ftti ∷ stretch_text s ∷ cycles_text set.pulses ∷ [] in
+    let settings : List Bytes = elim set.stretch [ None ↦ listed | Some s ↦ of_stretch s ] in
     let of_file : Bytes → Bytes = λ bytes. line (flat_map (hex 2) (sha256 bytes) ∷ []) in
     line settings ++ of_file s.netlist ++ of_file s.workload ++ of_file s.rates ++ of_file s.points
 
@@ -28,10 +31,11 @@ digested s =
 abbrev pub digest_of : Sources → Bytes
 digest_of s = own_digest s.settings s.netlist s.workload s.rates s.points
 
--- the same interval, flips and pulses, and the same four files to the byte
+-- the same interval, flips, given in the same way, and pulses, and the same four files to the byte
 pub record AreSame (s t : Sources) : Type 0 where
   pub ftti : s.settings.ftti ≡ t.settings.ftti
   pub flips : s.settings.flips ≡ t.settings.flips
+  pub stretch : s.settings.stretch ≡ t.settings.stretch
   pub pulses : s.settings.pulses ≡ t.settings.pulses
   pub netlist : s.netlist ≡ t.netlist
   pub workload : s.workload ≡ t.workload

@@ -12,11 +12,12 @@ use Rattle.circuit.specs.declared.parts.Fault.{Fault}
 use Rattle.fm_base.specs.Lists.{below}
 use Rattle.campaign_plan.specs.PlanFaults.{plan_refusal}
 use Rattle.fault_list.specs.Faults.{AreCycles}
+use Rattle.fault_list.specs.Stretch.{AreFlipCycles}
 
 -- the settings lie within their limits
 pub record AreSettings (set : Settings) : Type 0 where
   pub ftti : set.ftti ≤ 4096
-  pub flips : AreCycles 16 set.flips
+  pub flips : AreFlipCycles set.stretch set.flips
   pub pulses : AreCycles 4 set.pulses
 
 -- a netlist without a loop, a workload and points for it, rates, and settings, with at most 2^20 faults, a part for

@@ -21,7 +21,7 @@ use alarm_points::Points;
 pub use batch::{class_with, has_bit, own_sums};
 use circuit::netlist::Netlist;
 use circuit::parts::{Name, NetId};
-use fault_list::{FaultList, Flips};
+use fault_list::{FaultList, Flips, Stretch};
 pub use law::{faults_are_alone, sums_are_consistent, weights_sum_to_rates};
 use metric_sums::Asil;
 use numbers::{Inputs, kept};
@@ -33,10 +33,12 @@ use tables::{FaultTables, fault_tables};
 use workload::run::Workload;
 
 /// The fault tolerant time interval of goals without one of their own, in cycles; the cycles of flips and of pulses; the ASIL.
+/// Where the cycles of flips weren't listed, they are those of `stretch`.
 #[derive(Drop)]
 pub struct Settings {
     pub ftti: u32,
     pub flips: Flips,
+    pub stretch: Option<Stretch>,
     pub pulses: Flips,
     pub asil: Asil,
 }

@@ -18,6 +18,7 @@ use Rattle.command_line.specs.WordsSteps.{IsMet}
 use Rattle.command_line.specs.Table.{fmeda_app, tasks, word_of}
 use Rattle.command_line.proofs.CycleLists.{same_cycles, same_numbers}
 use Rattle.command_line.proofs.Numbers.{same_number}
+use Rattle.command_line.proofs.Stretches.{same_flips}
 use Rattle.std.proofs.lemmas.Option.{same_Some}
 
 -- texts that are told apart aren't equal
@@ -63,10 +64,10 @@ module _ (rows : List Row) where
   same_settings : (a b : Settings) → HasSettings rows a → HasSettings rows b → a ≡ b
   same_settings a b p q =
       let ftti : a.ftti ≡ b.ftti = same_number rows (codes "0") (codes "ftti") 0 4096 a.ftti b.ftti p.ftti q.ftti in
-      let flips : a.flips ≡ b.flips = same_cycles 16 (text_or rows (codes "none") (codes "flips")) a.flips b.flips p.flips q.flips in
+      let given = same_flips (text_or rows (codes "none") (codes "flips")) (text_or rows (codes "none") (codes "upsets")) a.stretch b.stretch a.flips b.flips p.flips q.flips in
       let pulses : a.pulses ≡ b.pulses = same_cycles 4 (text_or rows (codes "none") (codes "pulses")) a.pulses b.pulses p.pulses q.pulses in
       let asil : a.asil ≡ b.asil = same_asil a.asil b.asil (sym p.asil ∙ q.asil) in
-      λ i. record { ftti = ftti i; flips = flips i; pulses = pulses i; asil = asil i }
+      λ i. record { ftti = ftti i; flips = given.1 i; stretch = given.0 i; pulses = pulses i; asil = asil i }
 
   same_workers : (a b : ℕ) → HasNumber rows [] (codes "workers") 1 32 a → HasNumber rows [] (codes "workers") 1 32 b → a ≡ b
   same_workers = same_number rows [] (codes "workers") 1 32

@@ -20,7 +20,7 @@ row_of own =
     let within : ℕ → ℕ → Rule → List Rule = λ low high rule. record rule { parser = Some (vp.Signed (pos low) (pos high)) } ∷ [] in
     let inputs : List Rule = map place (codes "netlist" ∷ codes "workload" ∷ codes "rates" ∷ codes "points" ∷ []) in
     let ftti : List Rule = within 0 4096 (option (codes "ftti") (codes "0")) in
-    let lists : List Rule = option (codes "flips") (codes "none") ∷ option (codes "pulses") (codes "none") ∷ [] in
+    let lists : List Rule = map (λ id. option id (codes "none")) (codes "flips" ∷ codes "upsets" ∷ codes "pulses" ∷ []) in
     let workers : List Rule = within 1 32 (option (codes "workers") (codes "1")) in
     let asil : List Rule = option (codes "asil") (codes "D") ∷ [] in
     let run : List Rule = within 1 65536 (option (codes "run") (codes "1")) in

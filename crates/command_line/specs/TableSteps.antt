@@ -48,6 +48,7 @@ rule_for argument.Second = positional (codes "second")
 rule_for argument.Stages = bounded (positional (codes "stages")) 1 1000
 rule_for argument.Ftti = bounded (option (codes "ftti") (codes "0")) 0 4096
 rule_for argument.Flips = option (codes "flips") (codes "none")
+rule_for argument.Upsets = option (codes "upsets") (codes "none")
 rule_for argument.Pulses = option (codes "pulses") (codes "none")
 rule_for argument.Workers = bounded (option (codes "workers") (codes "1")) 1 32
 rule_for argument.Asil = option (codes "asil") (codes "D")

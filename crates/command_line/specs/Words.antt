@@ -1,13 +1,16 @@
 -- Which command words are. The first word is the program's name.
-use Rattle.std.specs.Prelude.{◌≡◌, ◌≢◌, ℕ, ◌<◌, ◌≤◌, List, [], Some, Ok, codes, unwrap_or}
+use Rattle.std.specs.Prelude.{◌≡◌, ◌≢◌, ◌⊎◌, ℕ, ◌<◌, ◌≤◌, List, [], ◌∷◌, ◌++◌, Option, Some, None, Ok, codes, decimal, unwrap_or}
+use Rattle.std.specs.Str.{byte}
 use Rattle.std.specs.List.{AllByRecursion as ForEach}
 use Rattle.std.specs.Str.Parse.{ParsesUnsigned}
 use Rattle.std.specs.declared.num.ParseIntError.{ParseIntError}
 use Rattle.clap.specs.Faults.{fault_of}
 use Rattle.clap.specs.Words.{Row, Text, first_of, one_of, subcommand_of}
 use Rattle.fault_list.specs.Faults.{AreCycles}
+use Rattle.fault_list.specs.Stretch.{AreFlipCycles}
+use Rattle.fault_list.specs.declared.stretch.Stretch.{Stretch}
 use Rattle.campaign_plan.specs.declared.Settings.{Settings}
-use Rattle.result_file.specs.ResultText.{cycles_text}
+use Rattle.result_file.specs.ResultText.{cycles_text, stretch_text}
 use Rattle.metric_sums.specs.Words.{asil_word}
 use Rattle.commands.specs.declared.command.AuditBy.{AuditBy}
 use Rattle.commands.specs.declared.command.AuditBy.TheVariants.{Lanes, Alone}
@@ -25,6 +28,15 @@ file_word = by_file (codes "netlist") (codes "workload") (codes "rates") (codes 
 abbrev pub alone_word : AuditBy → Text
 alone_word by = elim by [ Lanes ↦ codes "false" | Alone ↦ codes "true" ]
 
+-- the text of a stretch: FIRST-LAST/STEP, or FIRST-LAST where STEP is 1
+abbrev pub IsStretchText : Text → Stretch → Type 0
+IsStretchText text s = (text ≡ stretch_text s) ⊎ ((text ≡ decimal s.first ++ byte "-" ∷ decimal s.last) × (s.step ≡ 1))
+
+-- the cycles of flips, by the texts of `--flips` and of `--upsets`: one of the two is `none`, and a list has at most 16
+abbrev pub AreFlips : (listed upsets : Text) → Option Stretch → List ℕ → Type 0
+AreFlips listed upsets None flips = (upsets ≡ codes "none") × (listed ≡ cycles_text flips) × AreFlipCycles None flips
+AreFlips listed upsets (Some s) flips = (listed ≡ codes "none") × IsStretchText upsets s × AreFlipCycles (Some s) flips
+
 -- ---- what stands behind a command's word: rows are the arguments there, with what `clap` finds for each
 
 module _ (rows : List Row) where
@@ -37,11 +49,11 @@ module _ (rows : List Row) where
     pub number : ParsesUnsigned {E = ParseIntError} 32 10 (unwrap_or (one_of id rows) default) (Ok n)
     pub within : (low ≤ n) × (n ≤ high)
 
-  -- the interval in cycles; the cycles of flips, at most 16, and of pulses, at most 4: `none`, or decimal numbers joined by commas, strictly
-  -- rising, up to 65535; the ASIL. Where the command has no such option: 0, `none`, `none` and D
+  -- the interval in cycles; the cycles of flips, as `--flips` lists them or `--upsets` spans them, and those of pulses, at most 4: `none`,
+  -- or decimal numbers joined by commas, strictly rising, up to 65535; the ASIL. Where the command has no such option: 0, `none` and D
   pub record HasSettings (set : Settings) : Type 0 where
     pub ftti : HasNumber (codes "0") (codes "ftti") 0 4096 set.ftti
-    pub flips : (text_or (codes "none") (codes "flips") ≡ cycles_text set.flips) × AreCycles 16 set.flips
+    pub flips : AreFlips (text_or (codes "none") (codes "flips")) (text_or (codes "none") (codes "upsets")) set.stretch set.flips
     pub pulses : (text_or (codes "none") (codes "pulses") ≡ cycles_text set.pulses) × AreCycles 4 set.pulses
     pub asil : text_or (codes "D") (codes "asil") ≡ asil_word set.asil
 

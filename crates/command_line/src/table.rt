@@ -12,7 +12,7 @@ use crate::entries::{manner_of, number_of, text_of};
 use crate::read::WordsRefusal;
 use Argument::{
     Alone, Asil, Every, Fault, First, Flips, Ftti, Intervals, Netlist, Nets, Of, Part, Points,
-    Pulses, Rates, ResultFile, Run, Second, Stages, Workers, Workload,
+    Pulses, Rates, ResultFile, Run, Second, Stages, Upsets, Workers, Workload,
 };
 use clap::{Arg, ArgAction, ArgMatches, Command, value_parser};
 use commands::Task;
@@ -33,6 +33,7 @@ enum Argument {
     Stages,
     Ftti,
     Flips,
+    Upsets,
     Pulses,
     Workers,
     Asil,
@@ -56,7 +57,7 @@ struct Row(&'static str, &'static [Argument], &'static [Argument]);
 const INPUTS: &[Argument] = &[Netlist, Workload, Rates, Points];
 
 const PLAN: &[Argument] = &[
-    Netlist, Workload, Rates, Points, ResultFile, Ftti, Flips, Pulses,
+    Netlist, Workload, Rates, Points, ResultFile, Ftti, Flips, Upsets, Pulses,
 ];
 
 fn named_arg<'a>(alloc: Global, id: &'a str) -> Arg<'a>
@@ -110,6 +111,7 @@ fn arg_of<'a>(alloc: Global, argument: Argument) -> Arg<'a>
         Stages => named_arg(alloc, "stages").value_parser(value_parser!(u32).range(1..=1000)),
         Ftti => option_arg(alloc, "ftti", "0").value_parser(value_parser!(u32).range(0..=4096)),
         Flips => option_arg(alloc, "flips", "none"),
+        Upsets => option_arg(alloc, "upsets", "none"),
         Pulses => option_arg(alloc, "pulses", "none"),
         Workers => option_arg(alloc, "workers", "1").value_parser(value_parser!(u32).range(1..=32)),
         Asil => option_arg(alloc, "asil", "D"),
@@ -130,12 +132,12 @@ fn command_rows() -> &'static [Row]
 {
     &[
         Row("classes", &[], &[Netlist, Workload]),
-        Row("check", INPUTS, &[Flips, Pulses]),
+        Row("check", INPUTS, &[Flips, Upsets, Pulses]),
         Row("run", PLAN, &[Workers, Asil]),
         Row("resume", PLAN, &[Workers, Asil]),
         Row("audit", PLAN, &[Every, Alone]),
         Row("gen", &[], &[Stages, ResultFile, Workers]),
-        Row("report", INPUTS, &[Ftti, Flips, Pulses, Asil]),
+        Row("report", INPUTS, &[Ftti, Flips, Upsets, Pulses, Asil]),
         Row("shard", PLAN, &[Part, Of]),
         Row("merge", PLAN, &[First, Second]),
         Row("pairs", PLAN, &[Workers]),
@@ -145,14 +147,22 @@ fn command_rows() -> &'static [Row]
         Row(
             "breakdown",
             INPUTS,
-            &[Ftti, Flips, Pulses, Asil, Intervals, Workers],
+            &[Ftti, Flips, Upsets, Pulses, Asil, Intervals, Workers],
         ),
-        Row("latencies", INPUTS, &[Ftti, Flips, Pulses, Asil, Workers]),
-        Row("coverage", INPUTS, &[Ftti, Flips, Pulses, Asil, Workers]),
+        Row(
+            "latencies",
+            INPUTS,
+            &[Ftti, Flips, Upsets, Pulses, Asil, Workers],
+        ),
+        Row(
+            "coverage",
+            INPUTS,
+            &[Ftti, Flips, Upsets, Pulses, Asil, Workers],
+        ),
         Row(
             "trace",
             &[Netlist, Workload],
-            &[Run, Fault, Flips, Pulses, Nets],
+            &[Run, Fault, Flips, Upsets, Pulses, Nets],
         ),
     ]
 }

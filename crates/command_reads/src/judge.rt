@@ -41,6 +41,7 @@ fn sample_settings(alloc: Global) -> Result<Settings, NoRoom>
     Ok(Settings {
         ftti: 0,
         flips,
+        stretch: None,
         pulses: Seq::new(alloc),
         asil: Asil::D,
     })

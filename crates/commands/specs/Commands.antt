@@ -1,5 +1,5 @@
 -- A command: the names of its files, its settings, and what it does.
-use Rattle.std.specs.Prelude.{ℕ, ◌<◌, ◌≤◌, List, [], ◌∷◌, ◌++◌, All, length}
+use Rattle.std.specs.Prelude.{ℕ, ◌<◌, ◌≤◌, List, [], ◌∷◌, ◌++◌, All, length, None}
 use Rattle.std.specs.List.Sorted.{IsStrictlyIncreasing}
 use Rattle.fm_base.specs.Names.{Bytes}
 use Rattle.metric_sums.specs.declared.Asil.TheVariants.{D}
@@ -40,9 +40,9 @@ inputs_of kind =
 abbrev pub files_of : Kind → List Which
 files_of kind = inputs_of kind ++ elim kind [ Begun ↦ Result ∷ [] | _ ↦ [] ]
 
--- the settings of a command that has none but flips and pulses
+-- the settings of a command that has none but listed flips and pulses
 abbrev pub settings_of : (flips pulses : List ℕ) → Settings
-settings_of flips pulses = record { ftti = 0; flips = flips; pulses = pulses; asil = D }
+settings_of flips pulses = record { ftti = 0; flips = flips; stretch = None; pulses = pulses; asil = D }
 
 -- the names of words that are no command
 abbrev pub no_names : Which → Bytes

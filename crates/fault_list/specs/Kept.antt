@@ -5,6 +5,10 @@ use Rattle.std.specs.Prelude.{ℕ, ◌+◌, ◌*◌, ◌^◌, ◌≤◌, List, l
 abbrev pub most_faults : ℕ
 most_faults = 2 ^ 20
 
+-- the greatest number of cycles of flips
+abbrev pub most_flips : ℕ
+most_flips = 65536
+
 -- the number of stuck-at faults, of flips, and of all faults
 abbrev pub stuck_count : ℕ → ℕ
 stuck_count nets = nets * 2
@@ -18,6 +22,6 @@ count_for nets latches flips pulses = stuck_count nets + flip_count latches flip
 pub record IsShort (nets latches : ℕ) (flips pulses : List ℕ) : Type 0 where
   pub nets_few : nets ≤ 2 ^ 18
   pub latches_few : latches ≤ 2 ^ 18
-  pub flips_few : length flips ≤ 16
+  pub flips_few : length flips ≤ most_flips
   pub pulses_few : length pulses ≤ 4
   pub few : count_for nets latches flips pulses ≤ most_faults

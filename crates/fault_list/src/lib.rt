@@ -5,11 +5,12 @@ ghost use Rattle.std.specs.Prelude.{◌≡◌, ◌<◌, ◌≤◌, ◌+◌, ◌*
 ghost use Rattle.fault_list.specs.declared.FaultRefusal.TheVariants.{Memory};
 ghost use Rattle.fault_list.specs.Answers.{AnswersFaults};
 ghost use Rattle.fault_list.specs.Faults.{AreCycles, batches_for, fault_at, fault_in_lane, fault_name, faults_for, faults_of, used_plane};
-ghost use Rattle.fault_list.specs.Kept.{IsShort, count_for, most_faults};
+ghost use Rattle.fault_list.specs.Kept.{IsShort, count_for, most_faults, most_flips};
 ghost use Rattle.fm_base.specs.Planes.{lanes};
 ghost use Rattle.fm_shelf.specs.Sink.{Sends};
 
 mod name;
+mod stretch;
 
 use circuit::netlist::Netlist;
 use circuit::parts::{Fault, NetId};
@@ -19,8 +20,9 @@ pub use name::net_of;
 use room::{NoRoom, from_slice};
 use std::alloc::Global;
 use std::marker::Model;
+pub use stretch::Stretch;
 
-const MOST_FAULTS: u32 = 1 << 20;
+const MOST_FAULTS: u64 = 1 << 20;
 
 const LANES: u64 = 64;
 
@@ -69,7 +71,7 @@ impl From<NoRoom> for FaultRefusal {
 // In a table of rows that are as long as the list of cycles: the row of place i, and the cycle there.
 fn row_and_cycle(cycles: &[u32], i: u32) -> (u32, u32)
     requires some { 0 < length cycles.now }
-    requires few { length cycles.now ≤ 16 }
+    requires few { length cycles.now ≤ most_flips }
     ensures row { result.0 ≡ i / length cycles.now }
     ensures cycle { result.1 ≡ slice_index cycles.now (i % length cycles.now) }
 {
@@ -78,26 +80,28 @@ fn row_and_cycle(cycles: &[u32], i: u32) -> (u32, u32)
 }
 
 // The number of faults.
-fn count(nets: u32, latches: u32, flips: &[u32], pulses: &[u32]) -> u32
+fn count(nets: u32, latches: u32, flips: &[u32], pulses: &[u32]) -> u64
     requires nets { nets ≤ 2 ^ 18 }
     requires latches { latches ≤ 2 ^ 18 }
-    requires flips { length flips.now ≤ 16 }
+    requires flips { length flips.now ≤ most_flips }
     requires pulses { length pulses.now ≤ 4 }
     ensures { result ≡ count_for nets latches flips.now pulses.now }
 {
-    nets * 2 + latches * flips.len() as u32 + nets * pulses.len() as u32
+    let stuck = u64::from(nets) * 2;
+    let flipped = u64::from(latches) * flips.len() as u64;
+    stuck + flipped + u64::from(nets) * pulses.len() as u64
 }
 
 impl FaultList {
-    /// The faults of a netlist, with a flip of each latch and a pulse on each net in these cycles: at most 16 and 4
-    /// cycles, strictly rising, each at most 65,535.
+    /// The faults of a netlist, with a flip of each latch and a pulse on each net in these cycles: at most 65,536 and
+    /// 4 cycles, strictly rising, each at most 65,535.
     pub fn new(
         alloc: Global,
         net: &Netlist,
         flips: &[u32],
         pulses: &[u32],
     ) -> Result<FaultList, FaultRefusal>
-        requires flips { AreCycles 16 flips.now }
+        requires flips { AreCycles most_flips flips.now }
         requires pulses { AreCycles 4 pulses.now }
         ensures { AnswersFaults (faults_of net.now flips.now pulses.now) result }
     {
@@ -138,7 +142,7 @@ impl FaultList {
             self.latches,
             self.flips.as_slice(),
             self.pulses.as_slice(),
-        )
+        ) as u32
     }
 
     /// The number of batches of 64 faults; the last may have fewer.

@@ -11,3 +11,4 @@ pub mod OverShown
 pub mod Beyond
 pub mod WholeShown
 pub mod Sends
+pub mod Rested

@@ -1,5 +1,5 @@
 -- Faults that were followed until they had shown all that they can have all that counts of the run.
-use Rattle.std.proofs.Common.{◌≡◌, ℕ, ◌<◌, ◌≤◌, ◌⊎◌, Bool, true, false, not, List, [], length, get_or, inl, inr, is_some, ap, sym, ◌∙◌}
+use Rattle.std.proofs.Common.{◌≡◌, ℕ, ◌≤◌, true, false, not, List, get_or, inl, inr, is_some, ap, sym, ◌∙◌}
 use Rattle.std.specs.List.{All, list_any}
 use Rattle.std.proofs.lemmas.Bool.{true≢false}
 use Rattle.std.proofs.lemmas.List.Folds.{list_any_none}
@@ -13,7 +13,7 @@ use Rattle.workload.specs.Runs.{cycles_of, is_mission, is_test}
 use Rattle.alarm_points.specs.declared.Points.{Points}
 use Rattle.campaign_plan.specs.Danger.{differs, golden, with_faults}
 use Rattle.fm_base.specs.Lists.{same_bit}
-use Rattle.first_cycles.specs.FirstCycles.{first_below, is_raised_at}
+use Rattle.first_cycles.specs.FirstCycles.{is_raised_at}
 use Rattle.first_cycles.specs.Shown.{is_silenced_at, shown_in}
 use Rattle.first_cycles.proofs.Notices.{some_first}
 use Rattle.fault_runs.specs.Followed.{IsFollowed}

@@ -6,3 +6,4 @@ pub mod Over
 pub mod Followed
 pub mod Whole
 pub mod Draw
+pub mod Resting

@@ -9,6 +9,7 @@ mod over;
 mod paths;
 mod points;
 mod record;
+mod resting;
 mod run;
 mod see;
 mod start;

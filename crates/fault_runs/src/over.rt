@@ -31,8 +31,8 @@ fn are_idle_from(faults: &[Option<Fault>], cycle: u32) -> bool
     true
 }
 
-// Whether a set has no place.
-fn is_empty(set: &PlaceSet) -> bool
+/// Whether a set has no place.
+pub fn is_empty(set: &PlaceSet) -> bool
     ensures { result ≡ true → (p : ℕ) → has set.now p ≡ false }
 {
     match set.next_from(0) {

@@ -14,16 +14,17 @@ use crate::leaving::{LeavingRule, leave_active};
 use crate::members::fill_group;
 use crate::record::FaultRecords;
 use crate::start::start_run;
-use crate::stretch::{STRETCH, follow_stretch};
+use crate::resting::Stretch;
+use crate::stretch::follow_stretch;
 use circuit::parts::Fault;
 use differential_kernel::DifferentialLanes;
 use fm_base::Steps;
 use lane_words::Word;
 use place_set::PlaceSet;
 use std::sync::ledger::Ledger;
-use testbench::Testbench;
+use testbench::{STRETCH, Testbench};
 
-// Follows all active faults through the next stretch of a run, group after group. `group` is room for the members of a group, one
+// Follows all active faults through the next stretch of a run, group after group, but for those that are at rest in it. `group` is room for the members of a group, one
 // for each lane.
 fn follow_active<W: Word, L: Ledger>(
     bench: &Testbench<'_>,
@@ -57,9 +58,19 @@ fn follow_active<W: Word, L: Ledger>(
     ensures cost { steps.new ≤ steps.old + div_ceil (length draw.now) W.lanes * ((min (cycles_of (run_at bench.now.runs run)) (from + 256) - from) * length bench.now.circuit.tables) }
 {
     let _some = W::words();
+    let _fit = bench.points();
+    let to = bench.cycles(run).min(from + STRETCH);
     let mut next = 0;
     'groups: while let Some(first) = active.next_from(next) {
-        let members = fill_group(active, first, group);
+        let stretch = Stretch {
+            bench,
+            run,
+            from,
+            to,
+            draw,
+            states,
+        };
+        let members = fill_group(active, &stretch, first, group);
         follow_stretch(
             bench,
             run,
@@ -84,7 +95,7 @@ fn goes_on(active: &PlaceSet, t: u32, cycles: u32) -> bool
 }
 
 /// Follows all faults of a draw through a run from its start: in groups, which are made anew of the faults that are still followed at each
-/// 256 cycles. Once what was seen of a fault is enough by the rule, or nothing more comes of it, it leaves the run, before the first cycle
+/// 256 cycles; a fault that changes nothing in them, and has changed no latch, is in no group. Once what was seen of a fault is enough by the rule, or nothing more comes of it, it leaves the run, before the first cycle
 /// or at the end of a stretch. The record of each fault then has what was seen of it. `draw` has up to two faults for each number, `states`, `records` and `active` are room for the same numbers, and
 /// `group` is room for a number in each lane; what they held before is no matter, nor what the lanes held. It takes at most one step for each
 /// table, cycle and group of as many faults as there are lanes, and no memory.

@@ -19,10 +19,7 @@ use fm_base::Steps;
 use lane_words::Word;
 use place_set::PlaceSet;
 use std::sync::ledger::Ledger;
-use testbench::Testbench;
-
-/// The most cycles of a stretch, between which faults are put into groups anew.
-pub const STRETCH: u32 = 256;
+use testbench::{STRETCH, Testbench};
 
 // The number of lanes that a group takes.
 fn lanes_of<W: Word>(group: &[u32]) -> u32
@@ -187,6 +184,9 @@ pub fn follow_stretch<W: Word, L: Ledger>(
 {
     let cycles = bench.cycles(run);
     let to = cycles.min(from + STRETCH);
+    if group.is_empty() {
+        return to;
+    }
     lanes.empty(from);
     put_group(draw, group, states, lanes);
     records.begin();

@@ -1,8 +1,8 @@
 -- The values of the golden run, word by word and cycle by cycle; and the faults of a list are faults of its circuit.
-use Rattle.std.proofs.Common.{◌≡◌, ◌≢◌, ℕ, ◌+◌, ◌*◌, ◌/◌, ◌%◌, ◌<◌, ◌≤◌, max, Bool, true, false, not, ◌||◌, List, [], ◌∷◌, ◌++◌, length, map, get_or, set, inl, inr, add-one, refl, ap, ap₂, sym, ◌∙◌, arith, get_or-set_other, get_or-set_same}
+use Rattle.std.proofs.Common.{◌≡◌, ℕ, ◌+◌, ◌<◌, max, Bool, true, false, not, ◌||◌, List, [], ◌∷◌, ◌++◌, length, map, get_or, inl, inr, add-one, refl, ap, ap₂, sym, ◌∙◌, arith}
 use Rattle.std.specs.Prelude.{nat_lt}
 use Rattle.std.specs.List.{All, flat_map, list_any}
-use Rattle.std.proofs.lemmas.Bool.{cases_eq, cases_lt, le-ltb, lt-ltb}
+use Rattle.std.proofs.lemmas.Bool.{cases_lt, le-ltb, lt-ltb}
 use Rattle.std.proofs.lemmas.List.Elements.{All-append, All-cons, All-get_or, All-head, All-map, All-nil, All-tail, All-weaker}
 use Rattle.circuit.specs.declared.parts.Fault.{Fault}
 use Rattle.circuit.specs.declared.parts.Fault.TheVariants.{Flip, Pulse, Stuck}
@@ -10,40 +10,14 @@ use Rattle.circuit.specs.declared.parts.NetId.{NetId}
 use Rattle.circuit.specs.Circuit.{Circuit}
 use Rattle.fault_list.specs.Faults.{fault_at, faults_for, faults_of}
 use Rattle.fm_base.specs.Lists.{below, same_bit, some_below}
-use Rattle.fm_base.specs.Planes.{bit}
 use Rattle.fm_base.proofs.Below.{below_small}
-use Rattle.place_set.specs.Places.{value_in}
 use Rattle.workload.specs.declared.run.Run.{Run}
 use Rattle.workload.specs.Runs.{cycles_of}
 use Rattle.campaign_plan.specs.Danger.{golden}
-use Rattle.golden_values.specs.Golden.{IsFaultIn, golden_of, some_cycle}
-
--- ---- a word
-
--- where one word has more bits, the values of its places do, and all others stay
-pub word_more : (words : List ℕ) (at word : ℕ) (more old : ℕ → Bool) → at < length words
-    → ((k : ℕ) → k < 64 → bit word k ≡ (bit (get_or words at 0) k || more (64 * at + k)))
-    → ((net : ℕ) → net / 64 < at → value_in words net ≡ (old net || more net))
-    → ((net : ℕ) → at ≤ net / 64 → value_in words net ≡ old net)
-    → (net : ℕ) → net / 64 < at + 1 → value_in (set words at word) net ≡ (old net || more net)
-word_more words at word more old lt bits done left net within =
-    elim (cases_eq (net / 64) at) [
-      | inl same ↦
-          let number : 64 * at + net % 64 ≡ net = omega (arith, same) in
-          let small : net % 64 < 64 = omega arith in
-          let own : at ≤ net / 64 = omega (arith, same) in
-          ap (λ i. bit (get_or (set words at word) i 0) (net % 64)) same
-          ∙ ap (λ w. bit w (net % 64)) (get_or-set_same words at word 0 lt)
-          ∙ bits (net % 64) small
-          ∙ ap₂ (λ a b. a || b) (ap (λ i. bit (get_or words i 0) (net % 64)) (sym same) ∙ left net own) (ap more number)
-      | inr apart ↦ ap (λ w. bit w (net % 64)) (get_or-set_other words at (net / 64) word 0 apart) ∙ done net (omega (arith, within, apart))
-    ]
-
-pub word_left : (words : List ℕ) (at word : ℕ) (old : ℕ → Bool) → ((net : ℕ) → at ≤ net / 64 → value_in words net ≡ old net)
-    → (net : ℕ) → at + 1 ≤ net / 64 → value_in (set words at word) net ≡ old net
-word_left words at word old left net past =
-    let apart : net / 64 ≢ at = omega (arith, past) in
-    ap (λ w. bit w (net % 64)) (get_or-set_other words at (net / 64) word 0 apart) ∙ left net (omega (arith, past))
+use Rattle.circuit.specs.Sound.{IsNet}
+use Rattle.testbench.specs.Seen.{is_seen}
+use Rattle.golden_values.specs.Golden.{HasSeenGolden, IsFaultIn, golden_of, some_cycle}
+use Rattle.golden_values.specs.declared.values.GoldenValues.{GoldenValues}
 
 -- ---- a cycle, and a run
 
@@ -86,6 +60,11 @@ other_zero false = refl
 
 pub has_one : (c : Circuit) (runs : List Run) (n : NetId) → some_cycle runs (golden_of c n.0) ≡ list_any (λ run. some_below (cycles_of run) (λ t. not (same_bit false (golden c run t n)))) runs
 has_one c runs n = λ i. list_any (λ run. some_below (cycles_of run) (λ t. other_zero (golden c run t n) i)) runs
+
+pub seen_other : (c : Circuit) (runs : List Run) (values : GoldenValues) → HasSeenGolden c runs values → (n : NetId) → IsNet c n → (v : Bool)
+    → is_seen values.seen n.0 (not v) ≡ list_any (λ run. some_below (cycles_of run) (λ t. not (same_bit v (golden c run t n)))) runs
+seen_other c runs values has n net true = has.seen.zeros_are n.0 net
+seen_other c runs values has n net false = has.seen.ones_are n.0 net ∙ has_one c runs n
 
 -- ---- faults of a circuit
 

@@ -10,6 +10,7 @@ use Rattle.place_set.specs.Places.{value_in}
 use Rattle.workload.specs.declared.run.Run.{Run}
 use Rattle.workload.specs.Runs.{cycles_of}
 use Rattle.campaign_plan.specs.Danger.{golden}
+use Rattle.testbench.specs.Seen.{SeenValues}
 use Rattle.golden_values.specs.declared.values.GoldenValues.{GoldenValues}
 
 -- some cycle of some run passes
@@ -20,14 +21,14 @@ some_cycle runs test = list_any (λ run. some_below (cycles_of run) (test run)) 
 abbrev pub golden_of : Circuit → ℕ → Run → ℕ → Bool
 golden_of c net run t = golden c run t (record { 0 = net })
 
--- of each net the words tell whether the golden run has 1 in some cycle of these runs, and whether it has 0
-pub record AreSeenIn (c : Circuit) (runs : List Run) (ones zeros : List ℕ) : Type 0 where
-  pub ones_are : (net : ℕ) → net < length c.drivers → value_in ones net ≡ some_cycle runs (golden_of c net)
-  pub zeros_are : (net : ℕ) → net < length c.drivers → value_in zeros net ≡ some_cycle runs (λ run t. not (golden_of c net run t))
+-- of each net it tells whether the golden run has 1 in some cycle of these runs, and whether it has 0
+pub record AreSeenIn (c : Circuit) (runs : List Run) (seen : SeenValues) : Type 0 where
+  pub ones_are : (net : ℕ) → net < length c.drivers → value_in seen.ones net ≡ some_cycle runs (golden_of c net)
+  pub zeros_are : (net : ℕ) → net < length c.drivers → value_in seen.zeros net ≡ some_cycle runs (λ run t. not (golden_of c net run t))
 
 -- of all runs, and the number of cycles of the longest
 pub record HasSeenGolden (c : Circuit) (runs : List Run) (values : GoldenValues) : Type 0 where
-  pub seen : AreSeenIn c runs values.ones.items values.zeros.items
+  pub seen : AreSeenIn c runs values.seen
   pub longest : (t : ℕ) → nat_lt t values.longest ≡ list_any (λ run. nat_lt t (cycles_of run)) runs
 
 -- a fault of this circuit

@@ -1,5 +1,5 @@
 // What the golden run tells of whether faults are excited.
-ghost use Rattle.std.specs.Prelude.{◌≡◌, ◌<◌, ◌/◌, ◌||◌, [], ℕ, IfOk, List, false, length, nat_lt, not, slice_index_or};
+ghost use Rattle.std.specs.Prelude.{◌≡◌, ◌<◌, ◌||◌, [], ℕ, IfOk, List, false, length, nat_lt, not};
 ghost use Rattle.std.specs.List.{list_any};
 ghost use Rattle.circuit.specs.declared.parts.NetId.{NetId as NetValue};
 ghost use Rattle.circuit.specs.Circuit.{Circuit};
@@ -12,73 +12,46 @@ ghost use Rattle.campaign_plan.specs.Analysis.{Analysis, fault_count, fault_numb
 ghost use Rattle.place_set.specs.Places.{value_in};
 ghost use Rattle.workload.specs.Runs.{cycles_of, run_at};
 ghost use Rattle.readings.specs.Latencies.{is_excited};
+ghost use Rattle.testbench.specs.Seen.{HasRoom};
 ghost use Rattle.golden_values.specs.Golden.{AreSeenIn, HasSeenGolden, IsFaultIn, golden_of};
 
 use campaign_plan::Plan;
 use circuit::parts::{Fault, NetId};
-use place_set::value_in_words;
 use readings::{stuck_at_is_excited, transients_are_excited};
-use room::{NoRoom, filled};
+use room::NoRoom;
 use std::alloc::Global;
-use testbench::Testbench;
-
-const LANES: usize = 64;
+use testbench::{SeenValues, Testbench};
 
 /// Of each net whether it is 1, and whether it is 0, in some cycle of the golden run; and the number of cycles of the longest run.
 #[derive(Drop)]
 pub struct GoldenValues {
-    ones: Vec<u64>,
-    zeros: Vec<u64>,
+    seen: SeenValues,
     longest: u32,
 }
 
-// The word of a row; behind the end it is 0.
-fn word_of(row: &[u64], at: usize) -> u64
-    ensures { result ≡ slice_index_or row.now at 0 }
-{
-    match row.get(at) {
-        Some(word) => *word,
-        None => 0,
-    }
-}
-
-// Adds the values of a cycle.
-fn add_row(row: &[u64], ones: &mut [u64], zeros: &mut [u64])
-    requires { length zeros.old ≡ length ones.old }
-    ensures ones { (net : ℕ) → net / 64 < length ones.old → value_in ones.new net ≡ (value_in ones.old net || value_in row.now net) }
-    ensures zeros { (net : ℕ) → net / 64 < length ones.old → value_in zeros.new net ≡ (value_in zeros.old net || not (value_in row.now net)) }
-{
-    for at in 0..ones.len() {
-        let word = word_of(row, at);
-        ones[at] |= word;
-        zeros[at] |= !word;
-    }
-}
-
 // Adds the values of the cycles of a run.
-fn add_cycles(bench: &Testbench<'_>, run: u32, ones: &mut [u64], zeros: &mut [u64])
+fn add_cycles(bench: &Testbench<'_>, run: u32, seen: &mut SeenValues)
     requires run { run < length bench.now.runs }
-    requires count { length zeros.old ≡ length ones.old }
-    requires room { (net : ℕ) → net < length bench.now.circuit.drivers → net / 64 < length ones.old }
+    requires room { HasRoom (length bench.now.circuit.drivers) seen.old }
+    ensures room { HasRoom (length bench.now.circuit.drivers) seen.new }
     ensures ones { (net : ℕ) → net < length bench.now.circuit.drivers
-        → value_in ones.new net ≡ (value_in ones.old net || some_below (cycles_of (run_at bench.now.runs run)) (golden_of bench.now.circuit net (run_at bench.now.runs run))) }
+        → value_in seen.new.ones net ≡ (value_in seen.old.ones net || some_below (cycles_of (run_at bench.now.runs run)) (golden_of bench.now.circuit net (run_at bench.now.runs run))) }
     ensures zeros { (net : ℕ) → net < length bench.now.circuit.drivers
-        → value_in zeros.new net ≡ (value_in zeros.old net || some_below (cycles_of (run_at bench.now.runs run)) (λ t. not (golden_of bench.now.circuit net (run_at bench.now.runs run) t))) }
+        → value_in seen.new.zeros net ≡ (value_in seen.old.zeros net || some_below (cycles_of (run_at bench.now.runs run)) (λ t. not (golden_of bench.now.circuit net (run_at bench.now.runs run) t))) }
 {
     for t in 0..bench.cycles(run) {
-        add_row(bench.row(run, t), ones, zeros);
+        seen.see(bench.row(run, t));
     }
 }
 
 // Adds the values of all runs, where none have been added.
-fn add_runs(bench: &Testbench<'_>, ones: &mut [u64], zeros: &mut [u64])
-    requires count { length zeros.old ≡ length ones.old }
-    requires room { (net : ℕ) → net < length bench.now.circuit.drivers → net / 64 < length ones.old }
-    requires nothing { (net : ℕ) → (value_in ones.old net ≡ false) × (value_in zeros.old net ≡ false) }
-    ensures { AreSeenIn bench.now.circuit bench.now.runs ones.new zeros.new }
+fn add_runs(bench: &Testbench<'_>, seen: &mut SeenValues)
+    requires room { HasRoom (length bench.now.circuit.drivers) seen.old }
+    requires nothing { (net : ℕ) → (value_in seen.old.ones net ≡ false) × (value_in seen.old.zeros net ≡ false) }
+    ensures { AreSeenIn bench.now.circuit bench.now.runs seen.new }
 {
     for run in 0..bench.runs() {
-        add_cycles(bench, run, ones, zeros);
+        add_cycles(bench, run, seen);
     }
 }
 
@@ -98,28 +71,12 @@ impl GoldenValues {
     pub fn new(alloc: Global, bench: &Testbench<'_>) -> Result<GoldenValues, NoRoom>
         ensures { IfOk result (HasSeenGolden bench.now.circuit bench.now.runs) }
     {
-        let words = bench.net().nets().div_ceil(LANES);
-        let mut ones = filled(alloc, 0, words)?;
-        let mut zeros = filled(alloc, 0, words)?;
-        add_runs(bench, ones.as_mut_slice(), zeros.as_mut_slice());
+        let mut seen = SeenValues::new(alloc, bench.net().nets())?;
+        add_runs(bench, &mut seen);
         Ok(GoldenValues {
-            ones,
-            zeros,
+            seen,
             longest: longest_run(bench),
         })
-    }
-
-    // Whether a net is 1 in some cycle, and whether it is 0.
-    fn is_one(&self, net: NetId) -> bool
-        ensures { result ≡ value_in self.now.ones.items net.0 }
-    {
-        value_in_words(&self.ones, net.0 as usize)
-    }
-
-    fn is_zero(&self, net: NetId) -> bool
-        ensures { result ≡ value_in self.now.zeros.items net.0 }
-    {
-        value_in_words(&self.zeros, net.0 as usize)
     }
 
     // Whether a net has another value than this one in some cycle.
@@ -127,11 +84,7 @@ impl GoldenValues {
         ensures { (c : Circuit) (runs : List Run) → HasSeenGolden c runs self.now → IsNet c net
             → result ≡ list_any (λ run. some_below (cycles_of run) (λ t. not (same_bit value (with_faults c [] run t net)))) runs }
     {
-        if value {
-            self.is_zero(net)
-        } else {
-            self.is_one(net)
-        }
+        self.seen.has(net, !value)
     }
 
     // Whether a fault of the circuit is excited: a stuck-at fault where its net has the other value in the golden run, a flip or a

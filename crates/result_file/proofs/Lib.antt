@@ -13,3 +13,4 @@ pub mod Feeds
 pub mod Lanes
 pub mod RowPlanes
 pub mod TrueRows
+pub mod Separators

@@ -3,11 +3,12 @@ ghost use Rattle.std.specs.Prelude.{◌≡◌, ◌++◌, ◌∷◌, [], ℕ, Lis
 ghost use Rattle.std.specs.List.{flat_map};
 ghost use Rattle.sha2.specs.Hashers.{Holds256};
 ghost use Rattle.fm_base.specs.Text.{spaced};
-ghost use Rattle.result_file.specs.ResultText.{settings_words, settings_line, own_digest};
+ghost use Rattle.result_file.specs.ResultText.{listed_words, settings_words, settings_line, stretch_text, stretch_words, own_digest};
 ghost use Rattle.result_file.specs.Feeding.{digest_line, after_comma, cycles_fed};
 
 use crate::text::put_digest;
 use campaign_plan::Settings;
+use fault_list::Stretch;
 use fm_base::Line;
 use itoa::Buffer;
 use sha2::{Digest, Sha256};
@@ -53,9 +54,9 @@ fn feed_form(hasher: &mut Sha256, form: &[u8], ftti: u32, flips: &[u32])
     feed_cycles(hasher, flips);
 }
 
-// The words of the settings; pulse cycles are named only where there are some.
+// The words of settings with listed flips; pulse cycles are named only where there are some.
 fn feed_words(hasher: &mut Sha256, ftti: u32, flips: &[u32], pulses: &[u32])
-    ensures { (m : List ℕ) → Holds256 hasher.old m → Holds256 hasher.new (m ++ spaced (settings_words ftti flips.now pulses.now)) }
+    ensures { (m : List ℕ) → Holds256 hasher.old m → Holds256 hasher.new (m ++ spaced (listed_words ftti flips.now pulses.now)) }
 {
     if pulses.is_empty() {
         feed_form(hasher, b"fmeda-settings 1 ", ftti, flips);
@@ -66,15 +67,45 @@ fn feed_words(hasher: &mut Sha256, ftti: u32, flips: &[u32], pulses: &[u32])
     }
 }
 
+// FIRST-LAST/STEP.
+fn feed_stretch(hasher: &mut Sha256, stretch: Stretch)
+    ensures { (m : List ℕ) → Holds256 hasher.old m → Holds256 hasher.new (m ++ stretch_text stretch) }
+{
+    feed_decimal(hasher, stretch.first);
+    hasher.update(b"-".as_slice());
+    feed_decimal(hasher, stretch.last);
+    hasher.update(b"/".as_slice());
+    feed_decimal(hasher, stretch.step);
+}
+
+// The words of settings with flips in a stretch.
+fn feed_stretch_words(hasher: &mut Sha256, interval: u32, stretch: Stretch, pulses: &[u32])
+    ensures { (m : List ℕ) → Holds256 hasher.old m → Holds256 hasher.new (m ++ spaced (stretch_words interval stretch pulses.now)) }
+{
+    hasher.update(b"fmeda-settings 3 ".as_slice());
+    feed_decimal(hasher, interval);
+    hasher.update(b" ".as_slice());
+    feed_stretch(hasher, stretch);
+    hasher.update(b" ".as_slice());
+    feed_cycles(hasher, pulses);
+}
+
+// The words of the settings.
+fn feed_settings_words(hasher: &mut Sha256, set: &Settings)
+    ensures { (m : List ℕ) → Holds256 hasher.old m
+        → Holds256 hasher.new (m ++ spaced (settings_words set.now.ftti set.now.stretch set.now.flips set.now.pulses)) }
+{
+    let pulses = set.pulses.as_slice();
+    match set.stretch {
+        Some(stretch) => feed_stretch_words(hasher, set.ftti, stretch, pulses),
+        None => feed_words(hasher, set.ftti, set.flips.as_slice(), pulses),
+    }
+}
+
 fn feed_settings(hasher: &mut Sha256, set: &Settings)
     ensures { (m : List ℕ) → Holds256 hasher.old m → Holds256 hasher.new (m ++ settings_line set.now) }
 {
-    feed_words(
-        hasher,
-        set.ftti,
-        set.flips.as_slice(),
-        set.pulses.as_slice(),
-    );
+    feed_settings_words(hasher, set);
     hasher.update(b"\n".as_slice());
 }
 

@@ -11,6 +11,7 @@ use Rattle.metric_sums.specs.declared.Class.TheVariants.{Detected, Residual}
 use Rattle.metric_sums.specs.Metrics.{spfm_transient, term}
 use Rattle.fm_base.specs.Lists.{below}
 use Rattle.fault_list.specs.Faults.{fault_name, faults_of, batches_for, used_plane}
+use Rattle.fault_list.specs.Stretch.{cycles_within}
 use Rattle.campaign_plan.specs.Analysis.{Analysis, fault_numbered}
 use Rattle.campaign_plan.specs.PlanFaults.{plan_refusal}
 use Rattle.campaign_plan.specs.Batches.{true_planes, class_of_fault, own_sums, in_order}
@@ -55,7 +56,7 @@ pub whole_term : term (own_sums plan 0 (true_planes plan 0)) ≡ 6000000
 unfolding plan opened
 whole_term = refl
 
--- the two forms of the settings
+-- the three forms of the settings
 pub settings : settings_line (plan.settings) ≡ codes "fmeda-settings 2 0 none 3\n"
 unfolding plan opened
 settings = refl
@@ -67,6 +68,15 @@ settings_both = refl
 pub settings_none : settings_line (record plan.settings { ftti = 12; flips = 1 ∷ 30 ∷ []; pulses = [] }) ≡ codes "fmeda-settings 1 12 1,30\n"
 unfolding plan opened
 settings_none = refl
+
+pub settings_stretch : settings_line (record plan.settings { ftti = 12; stretch = Some (record { first = 3; last = 40; step = 5 }); pulses = 0 ∷ 7 ∷ [] }) ≡ codes "fmeda-settings 3 12 3-40/5 0,7\n"
+unfolding plan opened
+settings_stretch = refl
+
+-- and the cycles of a stretch
+pub stretch_cycles : cycles_within (record { first = 3; last = 14; step = 5 }) ≡ 3 ∷ 8 ∷ 13 ∷ []
+unfolding below
+stretch_cycles = refl
 
 -- ---- an input d and a latch from d to q, cycle by cycle
 

@@ -1,1 +1,4 @@
 pub mod LoadIsKept
+pub mod Resting
+pub mod Words
+pub mod SeenMore

@@ -1,17 +1,20 @@
 // What faults are simulated on, as one argument.
-ghost use Rattle.std.specs.Prelude.{◌≡◌, ◌<◌, ◌≤◌, ◌+◌, ◌++◌, ◌∷◌, [], Bool, List, IfOk, length};
+ghost use Rattle.std.specs.Prelude.{◌≡◌, ◌≢◌, ◌<◌, ◌≤◌, ◌+◌, ◌++◌, ◌∷◌, [], ℕ, Bool, List, IfOk, length, true};
 ghost use Rattle.circuit.specs.Order.{IsOrder};
 ghost use Rattle.workload.specs.Runs.{cycles_of, run_at};
 ghost use Rattle.workload.specs.RunsKept.{AreRuns};
 ghost use Rattle.alarm_points.specs.PointsKept.{ArePointsFor};
 ghost use Rattle.golden_difference.specs.Beside.{AreBeside, AreBetween, IsGoldenRow};
 ghost use Rattle.testbench.specs.Load.{load_of};
+ghost use Rattle.testbench.specs.Resting.{Rest};
 ghost use Rattle.testbench.specs.Testbench.{testbench_of};
 ghost use Rattle.golden_difference.specs.Lanes.{IsMadeFor};
 
 use alarm_points::Points;
+use crate::stretches::Stretches;
 use campaign_plan::Plan;
 use circuit::netlist::Netlist;
+use circuit::parts::Fault;
 use differential_kernel::DifferentialLanes;
 use fm_base::Steps;
 use golden_run::Golden;
@@ -33,20 +36,29 @@ pub struct Testbench<'a> {
     work: &'a Workload,
     points: &'a Points,
     golden: Golden,
+    stretches: Stretches,
     reach: Reach,
 }
 
 impl<'a> Model for Testbench<'a> {
-    ghost use Rattle.std.specs.Prelude.{◌≡◌};
+    ghost use Rattle.std.specs.Prelude.{◌≡◌, length};
     ghost use Rattle.circuit.specs.Order.{IsOrder};
     ghost use Rattle.alarm_points.specs.PointsKept.{ArePointsFor};
+    ghost use Rattle.testbench.specs.Seen.{AreStretches};
     ghost use Rattle.testbench.specs.Testbench.{Testbench};
 
     ghost Value = { Testbench };
 
     ghost view = { λ b. record { circuit = b.net.now; order = b.order.now; runs = b.work.now; points = b.points.now } };
 
-    ghost invariant = { λ b. (b.golden ≡ record { circuit = b.net.now; order = b.order.now; runs = b.work.now }) × (b.reach ≡ record { circuit = b.net.now; points = b.points.now }) × IsOrder b.net.now b.order.now × ArePointsFor b.net.now b.points.now };
+    ghost invariant = { λ b. (b.golden ≡ record { circuit = b.net.now; order = b.order.now; runs = b.work.now }) × (b.reach ≡ record { circuit = b.net.now; points = b.points.now }) × IsOrder b.net.now b.order.now × ArePointsFor b.net.now b.points.now × AreStretches b.net.now b.work.now (length b.work.now) b.stretches.runs.items };
+}
+
+// Whether a cycle is none of those from one to before another.
+fn is_outside(cycle: u32, from: u32, to: u32) -> bool
+    ensures { result ≡ true → (u : ℕ) → from ≤ u → u < to → cycle ≢ u }
+{
+    cycle < from || to <= cycle
 }
 
 impl<'a> Testbench<'a> {
@@ -64,6 +76,7 @@ impl<'a> Testbench<'a> {
         ensures { IfOk result (λ bench. bench ≡ record { circuit = net.now; order = order.now; runs = work.now; points = points.now }) }
     {
         let golden = Golden::new(alloc, net, order, work)?;
+        let stretches = Stretches::new(alloc, &golden, net, work)?;
         let reach = Reach::new(alloc, net, points)?;
         Ok(Testbench {
             net,
@@ -71,6 +84,7 @@ impl<'a> Testbench<'a> {
             work,
             points,
             golden,
+            stretches,
             reach,
         })
     }
@@ -145,6 +159,25 @@ impl<'a> Testbench<'a> {
         ensures { IsGoldenRow self.now.circuit (run_at self.now.runs run).vectors t result.now }
     {
         self.golden.row(run, t)
+    }
+
+    /// Whether a fault, alone, changes nothing in the cycles of a run from one to before another, where no latch differs before them: a
+    /// stuck-at fault on a net that has no other value in the stretches of 256 cycles that they are in, or a flip or a pulse in none of them.
+    pub fn rests(&self, run: u32, from: u32, to: u32, fault: Fault) -> bool
+        requires run { run < length self.now.runs }
+        requires from { from ≤ to }
+        requires to { to ≤ cycles_of (run_at self.now.runs run) }
+        ensures { result ≡ true → Rest self.now.circuit (fault ∷ []) (run_at self.now.runs run).vectors from to }
+    {
+        let nets = self.net.nets();
+        match fault {
+            Fault::Stuck(net, value) => {
+                (net.0 as usize) < nets
+                    && self.stretches.have_alone(run, from, to, net, value)
+            }
+            Fault::Flip(_, own) => is_outside(own, from, to),
+            Fault::Pulse(_, own) => is_outside(own, from, to),
+        }
     }
 
     /// Simulates the next cycle in all lanes, where `row` has the golden value of each net in this cycle.

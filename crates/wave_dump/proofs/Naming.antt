@@ -76,6 +76,11 @@ module _ {X Y : Type 0} (p : Y → Bool) (f : X → Y) (xs : List X) (i : ℕ) (
   pub found_now : p (f (get_or xs i d)) ≡ true → find p (map f (drop i xs)) ≡ Some (f (get_or xs i d))
   found_now e = rw (drop_more xs i d lt, e) refl
 
+-- none of a list's items
+pub found_nowhere : {X Y : Type 0} (p : Y → Bool) (f : X → Y) (xs : List X) → ((x : X) → p (f x) ≡ false) → find p (map f xs) ≡ None
+found_nowhere p f [] none = refl
+found_nowhere p f (x ∷ xs) none = rw (none x) (found_nowhere p f xs none)
+
 -- ---- the list of a netlist
 
 module _ (p : Fault → Bool) (nets latches : ℕ) (flips pulses : List ℕ) where

@@ -74,6 +74,17 @@ fn flip_of(net: &Netlist, latch: u32, cycles: &[u32], name: &[u8]) -> Option<Fau
     None
 }
 
+// The same of a name that begins as that of the latch's net does: where it doesn't, no cycle is looked at.
+fn flip_on(net: &Netlist, latch: u32, cycles: &[u32], name: &[u8]) -> Option<Fault>
+    ensures { result ≡ find (is_fault_named net.now name.now) (flips_of cycles.now latch) }
+{
+    if name.starts_with(net.name(net_of(net, Fault::Flip(latch, 0)))) {
+        flip_of(net, latch, cycles, name)
+    } else {
+        None
+    }
+}
+
 // The pulse on a net, in one of these cycles, that has a name.
 fn pulse_on(net: &Netlist, n: u32, cycles: &[u32], name: &[u8]) -> Option<Fault>
     ensures { result ≡ find (is_fault_named net.now name.now) (pulses_on cycles.now n) }
@@ -105,7 +116,7 @@ fn find_flip(net: &Netlist, cycles: &[u32], name: &[u8]) -> Option<Fault>
     ensures { result ≡ find (is_fault_named net.now name.now) (flat_map (flips_of cycles.now) (below (length net.now.latches))) }
 {
     for latch in 0..net.latches().len() as u32 {
-        if let Some(fault) = flip_of(net, latch, cycles, name) {
+        if let Some(fault) = flip_on(net, latch, cycles, name) {
             return Some(fault);
         }
     }

@@ -7,8 +7,10 @@ use Rattle.lane_words.specs.Loads.{loaded_faults}
 use Rattle.place_set.specs.Places.{has}
 use Rattle.fault_runs.specs.First.{IsNotIn, fault_in}
 use Rattle.fault_runs.specs.Records.{record_of}
+use Rattle.fault_runs.specs.Resting.{AreAtRest}
 use Rattle.fault_runs.specs.Stretch.{Stands, state_at}
 use Rattle.fault_runs.proofs.Groups.{group_more, groups_all}
+use Rattle.fault_runs.proofs.Rested.{rested}
 use Rattle.fault_runs.proofs.Standing.{same_self, same_then, stands_same}
 use Rattle.fault_runs.proofs.run.follow_active.Goals as goal
 
@@ -78,6 +80,7 @@ groups-preserved g c =
     let states = c.groups.states in
     let states' = c.follow_stretch.new.states in
     let to = min (cycles_of run) (c.args.from + 256) in
+    let to_is : c.min-to.result ≡ to = c.min-to.ensures ∙ ap (λ n. min n (c.args.from + 256)) c.cycles.ensures.count in
     let first_in : first < active.bound = found.1 in
     let from_next : next ≤ first = found.0 in
     let behind : after ≤ active.bound = fill.inside (omega (arith, first_in)) in
@@ -102,12 +105,23 @@ groups-preserved g c =
                   | inr from ↦ absurd (clash (has active i) is (found.3 i from early))
                 ])
             | inr late ↦
-                (let k : ℕ = (fill.all i late less is).0 in
-                let lt : k < count = (fill.all i late less is).1 in
-                let in_slice : k < length (take count group) = omega (arith, lt, size group count fill.count) in
-                let at : fault_in (take count group) k ≡ i = there group count fill.count k in_slice ∙ (fill.all i late less is).2 in
-                subst (λ n. Stands bench.circuit bench.points run (loaded_faults draw i) n (state_at states' i) (record_of new i)) ran.to
-                (subst (λ j. Stands bench.circuit bench.points run (loaded_faults draw j) c.follow_stretch.result (state_at states' j) (record_of new j)) at (ran.stand k in_slice)))
+                elim (fill.all i late less is) as (λ _. Stands bench.circuit bench.points run (loaded_faults draw i) to (state_at states' i) (record_of new i)) [
+                  | inl among ↦
+                      (let k : ℕ = among.0 in
+                      let lt : k < count = among.1 in
+                      let in_slice : k < length (take count group) = omega (arith, lt, size group count fill.count) in
+                      let at : fault_in (take count group) k ≡ i = there group count fill.count k in_slice ∙ among.2 in
+                      subst (λ n. Stands bench.circuit bench.points run (loaded_faults draw i) n (state_at states' i) (record_of new i)) ran.to
+                      (subst (λ j. Stands bench.circuit bench.points run (loaded_faults draw j) c.follow_stretch.result (state_at states' j) (record_of new j)) at (ran.stand k in_slice)))
+                  | inr rests ↦
+                      (let out = outside group count fill.count i rests.1 in
+                      stands_same bench.circuit bench.points run (loaded_faults draw i) to (state_at states i) (state_at states' i) (record_of old i) (record_of new i)
+                      (ran.other_states i out) (ran.other_records i out)
+                      (rested bench.circuit bench.points run (loaded_faults draw i) c.args.from to (state_at states i) (record_of old i)
+                      c.points-fit.ensures.fit (omega (arith, c.requires.from)) (omega arith)
+                      (subst (λ n. AreAtRest bench.circuit run (loaded_faults draw i) c.args.from n (state_at states i)) to_is rests.0)
+                      (inv.left i small (omega (arith, late, from_next)) is)))
+                ]
           ];
       left = λ i small le is.
           let out = outside group count fill.count i (λ k lt same. absurd (omega (arith, fill.high k lt, same, le))) in

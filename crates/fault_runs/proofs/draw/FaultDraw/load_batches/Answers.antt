@@ -1,4 +1,4 @@
-use Rattle.std.proofs.Common.{◌≡◌, ◌∙◌, List, length, ap, arith}
+use Rattle.std.proofs.Common.{◌≡◌, ◌∙◌, List, length, ap}
 use Rattle.std.specs.Prelude.{Option}
 use Rattle.circuit.specs.declared.parts.Fault.{Fault}
 use Rattle.fm_base.proofs.Lists.{written_whole}

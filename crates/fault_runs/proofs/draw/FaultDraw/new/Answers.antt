@@ -1,4 +1,4 @@
-use Rattle.std.proofs.Common.{◌≡◌, ◌<◌, length, ap, sym, subst, ◌∙◌, arith}
+use Rattle.std.proofs.Common.{◌≡◌, length, ap, sym, subst, ◌∙◌, arith}
 use Rattle.circuit.specs.Circuit.{Circuit}
 use Rattle.alarm_points.specs.declared.Points.{Points}
 use Rattle.fault_runs.specs.Records.{AreRecordsFor}

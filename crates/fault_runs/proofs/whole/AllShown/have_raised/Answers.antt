@@ -1,4 +1,4 @@
-use Rattle.std.proofs.Common.{◌≡◌, ◌<◌, ◌⊎◌, ℕ, true, is_some, length, ap, ◌∙◌, arith, below_more}
+use Rattle.std.proofs.Common.{◌≡◌, ◌<◌, ◌⊎◌, true, is_some, length, ap, ◌∙◌, arith, below_more}
 use Rattle.alarm_points.specs.declared.Points.{Points}
 use Rattle.lane_words.specs.Loads.{somes}
 use Rattle.fault_runs.specs.First.{first_of}

@@ -2,8 +2,8 @@ use Rattle.std.proofs.Common.{◌≡◌, ◌+◌, ◌-◌, ◌*◌, ◌/◌, ◌
 use Rattle.fm_base.proofs.Bits.{bit_of_not, bit_of_or}
 use Rattle.fm_base.specs.Planes.{bit}
 use Rattle.place_set.specs.Places.{value_in}
-use Rattle.golden_values.proofs.Exciting.{word_left, word_more}
-use Rattle.golden_values.proofs.values.add_row.Goals as goal
+use Rattle.testbench.proofs.Words.{word_left, word_more}
+use Rattle.testbench.proofs.seen.add_row.Goals as goal
 
 -- a word of a row has the values of its places
 of_row : (row : List ℕ) (at k : ℕ) → k < 64 → bit (get_or row at 0) k ≡ value_in row (64 * at + k)

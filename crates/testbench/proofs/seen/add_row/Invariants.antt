@@ -1,6 +1,6 @@
 use Rattle.std.proofs.Common.{◌≡◌, ◌/◌, ◌<◌, ◌≤◌, ◌||◌, ℕ, not}
 use Rattle.place_set.specs.Places.{value_in}
-use Rattle.golden_values.proofs.values.add_row.Given as goal
+use Rattle.testbench.proofs.seen.add_row.Given as goal
 
 -- the words so far have the values of the row too, and the others are as they were
 abbrev pub invariant-loop-at : goal.invariant-loop-at

@@ -1,0 +1,8 @@
+mod Standing
+mod Whole
+mod Printing
+mod Holding
+mod Tallying
+mod Summing
+mod Telling
+mod Worked

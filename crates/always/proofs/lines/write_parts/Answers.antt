@@ -1,0 +1,43 @@
+use Rattle.std.proofs.Common.{◌≡◌, ◌<◌, ℕ, length, ap, arith}
+use Rattle.std.specs.List.{flat_map}
+use Rattle.std.proofs.lemmas.List.{get_or_default}
+use Rattle.std.proofs.lemmas.Result.{err_from_is_err_and}
+use Rattle.fm_base.specs.Lists.{below}
+use Rattle.fm_base.specs.Names.{Bytes}
+use Rattle.always_answers.specs.declared.answers.PartAnswer.{PartAnswer}
+use Rattle.always_answers.specs.declared.answers.PartAnswer.TheVariants.{Alone, NoPath}
+use Rattle.campaign_plan.specs.Analysis.{part_count}
+use Rattle.fm_shelf.proofs.Sending.{sends_as, sends_no_number, sends_number, sends_number_torn}
+use Rattle.always.specs.Text.{part_answer, part_line}
+use Rattle.always.specs.Verdict.{verdict_at}
+use Rattle.always.proofs.lines.write_parts.Goals as goal
+
+pub loop-number-init : goal.loop-number-init
+loop-number-init g c =
+    let text : ℕ → Bytes = λ k. part_line c.args.plan.now (verdict_at c.args.plan.now c.args.from c.args.answers.now) (part_answer c.args.parts.now k) k in
+    sends_no_number text _
+
+pub loop-number-preserved : goal.loop-number-preserved
+loop-number-preserved g c =
+    let text : ℕ → Bytes = λ k. part_line c.args.plan.now (verdict_at c.args.plan.now c.args.from c.args.answers.now) (part_answer c.args.parts.now k) k in
+    let lt : c.loop-number.number < length c.args.parts.now = omega (arith, c.loop-number-test.true, c.parts-number-end.ensures.count, c.requires.parts) in
+    sends_number text c.loop-number.number c.loop-number.invariant
+    (sends_as (ap (λ (own : PartAnswer). part_line c.args.plan.now (verdict_at c.args.plan.now c.args.from c.args.answers.now) own c.loop-number.number)
+    (get_or_default c.args.parts.now c.loop-number.number NoPath Alone lt)) c.in_ok-write_part.ensures)
+
+pub returns-in_err-write_part : goal.returns-in_err-write_part
+returns-in_err-write_part g c =
+    let p = err_from_is_err_and c.from_residual.result c.from_residual.ensures.1 in
+    let plan = c.args.plan.now in
+    let text : ℕ → Bytes = λ k. part_line plan (verdict_at plan c.args.from c.args.answers.now) (part_answer c.args.parts.now k) k in
+    let lt : c.loop-number.number < part_count plan = omega (arith, c.loop-number-test.true, c.parts-number-end.ensures.count) in
+    rw p.1 (sends_number_torn text (part_count plan) c.loop-number.number p.0 lt c.loop-number.invariant
+    (sends_as (ap (λ (own : PartAnswer). part_line plan (verdict_at plan c.args.from c.args.answers.now) own c.loop-number.number)
+    (get_or_default c.args.parts.now c.loop-number.number NoPath Alone (omega (arith, lt, c.requires.parts)))) c.in_err-write_part.ensures))
+
+pub returns : goal.returns
+returns g c =
+    let plan = c.args.plan.now in
+    let text : ℕ → Bytes = λ k. part_line plan (verdict_at plan c.args.from c.args.answers.now) (part_answer c.args.parts.now k) k in
+    let end : c.loop-number.number ≡ part_count plan = omega (arith, c.loop-number-test.false, c.loop-number.auto.number-end, c.parts-number-end.ensures.count) in
+    sends_as (ap (λ n. flat_map text (below n)) end) c.loop-number.invariant

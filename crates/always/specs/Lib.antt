@@ -1,0 +1,5 @@
+pub mod Verdict
+pub mod Text
+pub mod Laws
+pub mod Tally
+pub mod Steps

@@ -1,0 +1,18 @@
+//! What a safety mechanism covers for every workload, as a text.
+#![tactic(auto)]
+
+mod law;
+mod lines;
+mod metrics;
+mod names;
+mod sums;
+mod tally;
+mod text;
+mod verdict;
+mod words;
+
+pub use law::{
+    faults_are_harmless, printed_spfm_holds, text_is_of_no_runs, whole_parts_are_covered,
+};
+pub use text::write_always;
+pub use verdict::Verdict;

@@ -1,0 +1,4 @@
+pub mod HeldFile
+pub mod HeldKept
+pub mod First
+pub mod Steps

@@ -1,0 +1,2 @@
+pub mod Reweighed
+pub mod Laws
