@@ -1,6 +1,6 @@
 -- The answers to parts.
 use Rattle.std.proofs.Common.{◌≡◌, ◌⊎◌, inl, inr, ℕ, ◌+◌, ◌<◌, ◌≤◌, Bool, true, false, not, ◌&&◌, List, [], ◌∷◌, ◌++◌, length, set, refl, ap, sym, subst, ◌∙◌, arith, get_or-set_same, get_or-set_other}
-use Rattle.std.specs.Prelude.{◌==◌, nat_lt, slice_index, count_by, if◌then◌else◌}
+use Rattle.std.specs.Prelude.{◌==◌, All, nat_lt, slice_index, count_by, if◌then◌else◌}
 use Rattle.std.proofs.lemmas.Bool.{cases_Bool, cases_lt, lt-ltb, ltb-true}
 use Rattle.std.proofs.lemmas.List.{get_or_default, length_push}
 use Rattle.fm_base.specs.Lists.{below, same_bit}
@@ -252,3 +252,28 @@ set_tried P answers n answer lt before own i less = elim (cases_lt i n) as (λ _
       let it : n ≡ i = omega (arith, less, last) in
       subst (λ j. P j (part_answer_at (set answers n answer) j)) it (subst (P n) (sym (get_or-set_same answers n answer NoPath lt)) own))
 ]
+
+-- the nets of a part are nets of the netlist
+pub all_within : (test : ℕ → Bool) (count : ℕ) (nets : List NetId) → ArePicked test count nets → (bound : ℕ) → count ≡ bound → All (λ (one : NetId). one.0 < bound) nets
+all_within test count nets are bound same i d lt =
+    subst (λ (one : NetId). one.0 < bound) (get_or_default nets i (record { 0 = 0 }) d lt) (let it = (are.each i lt).0 in omega (arith, it, same))
+
+pub some_there : (n : ℕ) (empty : Bool) → (n ≡ 0 → empty ≡ true) → empty ≡ false → 0 < n
+some_there n empty none filled = elim (cases_lt 0 n) as (λ _. 0 < n) [
+  | inl lt ↦ lt
+  | inr ge ↦ absurd (clash empty (none (omega (arith, ge))) filled)
+]
+
+-- ---- what is posed with another window
+
+-- what is posed is posed with its own window
+pub as_wide : (c : Circuit) (p : Posed) (claim : Claim) → IsPosed c p claim → IsPosed c (with_shorter p p.window) claim
+as_wide c p claim posed = record {
+  circuit = posed.circuit;
+  observed = posed.observed;
+  alarms = posed.alarms;
+  held = posed.held;
+  from = posed.from;
+  window = posed.window;
+  ahead = posed.ahead;
+}
