@@ -1,6 +1,6 @@
 -- All that is answered, put together.
-use Rattle.std.proofs.Common.{◌≡◌, ◌≢◌, ℕ, ◌<◌, false, true, List, Some, length, refl, ap, sym, subst, ◌∙◌, arith}
-use Rattle.std.specs.Prelude.{All, slice_index}
+use Rattle.std.proofs.Common.{◌≡◌, ◌≢◌, ℕ, ◌<◌, Bool, false, true, List, Some, length, refl, ap, sym, subst, ◌∙◌, arith}
+use Rattle.std.specs.Prelude.{All, Err, slice_index}
 use Rattle.std.specs.List.{slice_get}
 use Rattle.std.proofs.lemmas.List.{get_or_default}
 use Rattle.std.proofs.lemmas.Option.{get_or_from_slice_get, slice_get_within}
@@ -14,17 +14,21 @@ use Rattle.claim_search.specs.declared.answer.Answer.{Answer}
 use Rattle.claim_search.specs.declared.answer.Answer.TheVariants.{NoRuns}
 use Rattle.claim_search.specs.declared.faults.FaultAnswer.{FaultAnswer}
 use Rattle.claim_search.specs.declared.faults.FaultAnswer.TheVariants.{NoPath as NoPathOfFault, OfClaim}
+use Rattle.claim_search.specs.declared.hypotheses.Contradiction.TheVariants.{Alarms, Held}
 use Rattle.claim_search.specs.declared.question.Posed.{Posed}
 use Rattle.coverage_claim.specs.Claim.{Claim}
 use Rattle.fault_list.specs.Faults.{fault_at}
-use Rattle.always_answers.specs.Answers.{AreAnswers, IsPartAnswer}
+use Rattle.always_answers.specs.Answers.{AreAnswers, AreAnswersTo, IsPartAnswer, claim_of}
 use Rattle.always_answers.specs.PartSteps.{AreParts, ArePartsSoFar, IsPartSoFar}
-use Rattle.always_answers.specs.Steps.{AreFirstAnswers, AreFree, AreMarked, AreSeen, fault_answer_at, is_runless}
+use Rattle.always_answers.specs.Steps.{AreFirstAnswers, AreFree, AreMarked, AreSeen, HasCause, MarksOpen, fault_answer_at, is_runless}
 use Rattle.always_answers.specs.declared.answers.Answers.{Answers}
+use Rattle.always_answers.specs.declared.answers.NoAnswers.{NoAnswers}
+use Rattle.always_answers.specs.declared.answers.NoAnswers.TheVariants.{Contradiction, Memory}
 use Rattle.always_answers.specs.declared.answers.PartAnswer.{PartAnswer}
 use Rattle.always_answers.specs.declared.answers.PartAnswer.TheVariants.{NoPath}
+use Rattle.always_answers.specs.declared.inquiry.Inquiry.{Inquiry}
 use Rattle.always_answers.specs.declared.parts.Parts.{Parts}
-use Rattle.always_answers.proofs.Opened.{are_open, open_seen}
+use Rattle.always_answers.proofs.Opened.{are_open, one_has_none, open_seen}
 use Rattle.always_answers.proofs.Parted.{all_tried}
 use Rattle.always_answers.proofs.Picking.{within_marks}
 
@@ -72,3 +76,15 @@ module _ (c : Circuit) (p : Posed) (claim : Claim) (posed : IsPosed c p claim) (
     parts_are = λ part answer found. subst (λ marks. IsPartAnswer claim (slice_index parts.of_nets.now) marks part answer) (sym same)
         (part_is parts count p.window (sym posed.window) of_parts part answer found);
   }
+
+-- ---- why there are none
+
+pub cause_answers : (asked : Inquiry) (c : Circuit) (p : Posed) (why : NoAnswers) → IsPosed c p (claim_of asked) → HasCause c p why → AreAnswersTo asked (Err why)
+cause_answers asked c p (Contradiction why) posed cause = cause (claim_of asked) posed
+cause_answers asked c p (Memory no_room) posed cause = tt
+
+pub marks_cause : (asked : Inquiry) (c : Circuit) (p : Posed) (seen : List Bool) (free : List Answer) (why : NoAnswers) → AreSeen c p.observed.now seen → AreFree c p seen free
+    → IsPosed c p (claim_of asked) → MarksOpen free seen (Err why) → AreAnswersTo asked (Err why)
+marks_cause asked c p seen free (Contradiction Held) are answered posed it = one_has_none c p seen free are answered (claim_of asked) posed it.0 it.1 it.2
+marks_cause asked c p seen free (Contradiction Alarms) are answered posed it = absurd it
+marks_cause asked c p seen free (Memory no_room) are answered posed it = tt

@@ -258,12 +258,6 @@ pub all_within : (test : ℕ → Bool) (count : ℕ) (nets : List NetId) → Are
 all_within test count nets are bound same i d lt =
     subst (λ (one : NetId). one.0 < bound) (get_or_default nets i (record { 0 = 0 }) d lt) (let it = (are.each i lt).0 in omega (arith, it, same))
 
-pub some_there : (n : ℕ) (empty : Bool) → (n ≡ 0 → empty ≡ true) → empty ≡ false → 0 < n
-some_there n empty none filled = elim (cases_lt 0 n) as (λ _. 0 < n) [
-  | inl lt ↦ lt
-  | inr ge ↦ absurd (clash empty (none (omega (arith, ge))) filled)
-]
-
 -- ---- what is posed with another window
 
 -- what is posed is posed with its own window
