@@ -1,9 +1,10 @@
 -- All that is answered, put together.
 use Rattle.std.proofs.Common.{◌≡◌, ◌≢◌, ℕ, ◌<◌, Bool, false, true, List, Some, length, refl, ap, sym, subst, ◌∙◌, arith}
-use Rattle.std.specs.Prelude.{All, Err, slice_index}
+use Rattle.std.specs.Prelude.{All, IsErrAnd, Result, Err, slice_index}
 use Rattle.std.specs.List.{slice_get}
 use Rattle.std.proofs.lemmas.List.{get_or_default}
 use Rattle.std.proofs.lemmas.Option.{get_or_from_slice_get, slice_get_within}
+use Rattle.std.proofs.lemmas.Result.{err_from_is_err_and}
 use Rattle.fm_base.proofs.Tests.{clash}
 use Rattle.circuit.specs.Circuit.{Circuit}
 use Rattle.circuit.specs.declared.parts.Fault.{Fault}
@@ -78,6 +79,11 @@ module _ (c : Circuit) (p : Posed) (claim : Claim) (posed : IsPosed c p claim) (
   }
 
 -- ---- why there are none
+
+pub passed_on : (asked : Inquiry) (result : Result Answers NoAnswers) (why : NoAnswers) → IsErrAnd result (λ e. e ≡ why) → AreAnswersTo asked (Err why) → AreAnswersTo asked result
+passed_on asked result why is it =
+    let from = err_from_is_err_and result is in
+    subst (AreAnswersTo asked) (sym (from.1 ∙ ap Err from.2)) it
 
 pub cause_answers : (asked : Inquiry) (c : Circuit) (p : Posed) (why : NoAnswers) → IsPosed c p (claim_of asked) → HasCause c p why → AreAnswersTo asked (Err why)
 cause_answers asked c p (Contradiction why) posed cause = cause (claim_of asked) posed
