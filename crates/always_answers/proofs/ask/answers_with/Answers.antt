@@ -1,4 +1,4 @@
-use Rattle.std.proofs.Common.{◌+◌, ◌≤◌, Bool, List, length, sym, subst, arith}
+use Rattle.std.proofs.Common.{◌+◌, Bool, List, length, sym, subst, arith}
 use Rattle.std.specs.Prelude.{Err}
 use Rattle.circuit.specs.declared.parts.NetId.{NetId}
 use Rattle.claim_search.specs.declared.answer.Answer.{Answer}

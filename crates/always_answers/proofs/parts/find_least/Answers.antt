@@ -1,4 +1,4 @@
-use Rattle.std.proofs.Common.{◌+◌, ◌≤◌, ◌<◌, arith}
+use Rattle.std.proofs.Common.{◌+◌, arith}
 use Rattle.always_answers.proofs.Bounded.{few_waiting}
 use Rattle.always_answers.proofs.parts.find_least.Goals as goal
 

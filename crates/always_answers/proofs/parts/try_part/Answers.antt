@@ -1,4 +1,4 @@
-use Rattle.std.proofs.Common.{◌≡◌, ◌+◌, ◌<◌, ◌≤◌, false, length, slice_index, sym, subst, ◌∙◌, arith}
+use Rattle.std.proofs.Common.{false, length, slice_index, sym, subst, arith}
 use Rattle.always_answers.specs.PartSteps.{IsPartSoFar}
 use Rattle.always_answers.specs.Steps.{ArePicked, is_picked}
 use Rattle.always_answers.proofs.Parted.{all_within, found_before, none, not_shorter, shorter_found}
