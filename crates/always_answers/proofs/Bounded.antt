@@ -1,9 +1,8 @@
 -- How many nets a search is about, and how many places wait in it.
-use Rattle.std.proofs.Common.{◌≡◌, ℕ, ◌+◌, ◌*◌, ◌^◌, ◌<◌, ◌≤◌, length, ap, subst, ◌∙◌, arith}
+use Rattle.std.proofs.Common.{ℕ, ◌*◌, ◌^◌, ◌<◌, ◌≤◌, length, subst, arith}
 use Rattle.std.proofs.lemmas.Nat.{mul-le}
 use Rattle.circuit.proofs.FewTables.{few_tables}
 use Rattle.circuit.specs.Circuit.{Circuit}
-use Rattle.circuit.specs.Sound.{IsNetlist}
 use Rattle.claim_search.specs.Question.{IsSearched}
 use Rattle.claim_search.specs.declared.question.Posed.{Posed}
 use Rattle.claim_search.specs.declared.question.Searched.{Searched}

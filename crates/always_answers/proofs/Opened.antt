@@ -1,10 +1,9 @@
 -- Nets that are open alone, and what is answered where something contradicts itself.
-use Rattle.std.proofs.Common.{◌≡◌, ◌⊎◌, inl, inr, ℕ, ◌<◌, Bool, true, false, ◌&&◌, List, [], ◌∷◌, length, refl, ap, sym, subst, ◌∙◌, arith}
+use Rattle.std.proofs.Common.{◌≡◌, ◌⊎◌, inl, inr, ℕ, ◌<◌, Bool, true, false, ◌&&◌, List, length, refl, ap, sym, subst, ◌∙◌, arith}
 use Rattle.std.proofs.lemmas.Bool.{cases_Bool}
 use Rattle.fm_base.proofs.Tests.{and_both, clash}
 use Rattle.alarm_points.specs.PointsFile.{observed}
 use Rattle.circuit.specs.Circuit.{Circuit}
-use Rattle.circuit.specs.Sound.{IsNet}
 use Rattle.circuit.specs.Value.{bit_at}
 use Rattle.circuit.specs.declared.parts.NetId.{NetId}
 use Rattle.claim_search.proofs.Faulty.{pulse_at}
@@ -20,7 +19,7 @@ use Rattle.claim_search.specs.declared.hypotheses.Contradiction.TheVariants.{Hel
 use Rattle.claim_search.specs.declared.question.Posed.{Posed}
 use Rattle.coverage_claim.specs.Claim.{Claim}
 use Rattle.reach.specs.Paths.{LeadsToSome}
-use Rattle.always_answers.specs.Nets.{AreOpen, IsCoveredAlone, IsOpenAlone, IsSeen, alone}
+use Rattle.always_answers.specs.Nets.{AreOpen, IsSeen, alone}
 use Rattle.always_answers.specs.Steps.{AreFree, AreMarked, AreSeen, is_none, is_open}
 
 open_is : (claim : Claim) (answer : Answer) → is_open answer ≡ true → IsAnswer claim answer → IsNeverProvedSimply claim

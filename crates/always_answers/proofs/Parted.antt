@@ -20,13 +20,12 @@ use Rattle.claim_search.specs.declared.hypotheses.Contradiction.TheVariants.{Hel
 use Rattle.claim_search.specs.declared.question.Posed.{Posed}
 use Rattle.coverage_claim.specs.Claim.{Claim}
 use Rattle.coverage_claim.specs.Laws.{with_window}
-use Rattle.coverage_claim.specs.Region.{Region}
 use Rattle.coverage_claim.specs.declared.parts.Site.TheVariants.{Free, Intact}
 use Rattle.reach.specs.Paths.{LeadsToSome}
-use Rattle.always_answers.specs.Answers.{IsPartAnswer, IsWhole, SomeSeen, with_part}
-use Rattle.always_answers.specs.Nets.{IsSeen, all_but, is_of_part, marked_nets}
+use Rattle.always_answers.specs.Answers.{IsPartAnswer, SomeSeen, with_part}
+use Rattle.always_answers.specs.Nets.{IsSeen, all_but, is_of_part}
 use Rattle.always_answers.specs.PartSteps.{AreParts, ArePartsSoFar, IsPartSoFar, IsWholeSoFar, part_answer_at, with_shorter}
-use Rattle.always_answers.specs.Steps.{ArePicked, is_picked, net}
+use Rattle.always_answers.specs.Steps.{ArePicked, is_picked}
 use Rattle.always_answers.specs.declared.answers.PartAnswer.{PartAnswer}
 use Rattle.always_answers.specs.declared.answers.PartAnswer.TheVariants.{Alone, NoPath, Whole}
 use Rattle.always_answers.specs.declared.parts.Parts.{Parts}

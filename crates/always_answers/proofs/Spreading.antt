@@ -1,5 +1,5 @@
 -- Answers to the nets of a part, written at their numbers.
-use Rattle.std.proofs.Common.{◌≡◌, ◌⊎◌, inl, inr, ℕ, ◌+◌, ◌<◌, Bool, true, List, length, refl, ap, sym, subst, ◌∙◌, arith}
+use Rattle.std.proofs.Common.{◌≡◌, ◌⊎◌, inl, inr, ℕ, ◌+◌, ◌<◌, Bool, true, List, length, ap, sym, subst, arith}
 use Rattle.std.specs.Prelude.{◌==◌, slice_index, All}
 use Rattle.std.proofs.lemmas.Bool.{cases_eq, eq-eqb}
 use Rattle.fm_base.specs.Lists.{same_bit}

@@ -22,8 +22,8 @@ returns-in_err-open c =
     let answered = subst (λ (each : List Bool). AreFree own p each free) c.deref.ensures.value c.in_ok-free.ensures.free.1 in
     let why = c.in_err-open.field-0.0 in
     let marked = (
-        subst (λ (each : List Answer). MarksOpen each marks (Err why)) c.deref-2.ensures.value
-        (subst (λ (each : List Bool). MarksOpen c.deref-2.result.now each (Err why)) c.deref-3.ensures.value c.in_err-open.ensures)) in
+    subst (λ (each : List Answer). MarksOpen each marks (Err why)) c.deref-2.ensures.value
+    (subst (λ (each : List Bool). MarksOpen c.deref-2.result.now each (Err why)) c.deref-3.ensures.value c.in_err-open.ensures)) in
     passed_on asked c.from_residual-in_err-open.result why c.from_residual-in_err-open.ensures.1
     (marks_cause asked own p marks free why seen answered c.requires.of_claim marked)
 
@@ -53,15 +53,15 @@ part_answers-requires-clause-parts c =
     let open_nets = c.in_ok-open.open.items in
     let back = sym c.deref-6.ensures.value in
     let seen = (
-        subst (AreSeen own p.observed.now) back
-        (subst (λ (goals : List NetId). AreSeen own goals c.in_ok-seen.seen.items) c.requires.points c.in_ok-seen.ensures)) in
+    subst (AreSeen own p.observed.now) back
+    (subst (λ (goals : List NetId). AreSeen own goals c.in_ok-seen.seen.items) c.requires.points c.in_ok-seen.ensures)) in
     let answered = (
-        subst (λ (each : List Bool). AreFree own p each free) back
-        (subst (λ (each : List Bool). AreFree own p each free) c.deref.ensures.value c.in_ok-free.ensures.free.1)) in
+    subst (λ (each : List Bool). AreFree own p each free) back
+    (subst (λ (each : List Bool). AreFree own p each free) c.deref.ensures.value c.in_ok-free.ensures.free.1)) in
     let marked = (
-        subst (λ (each : List Bool). AreMarked free each (length each) open_nets) back
-        (subst (λ (each : List Bool). AreMarked free each (length each) open_nets) c.deref-3.ensures.value
-        (subst (λ (each : List Answer). AreMarked each c.deref-3.result.now (length c.deref-3.result.now) open_nets) c.deref-2.ensures.value c.in_ok-open.ensures))) in
+    subst (λ (each : List Bool). AreMarked free each (length each) open_nets) back
+    (subst (λ (each : List Bool). AreMarked free each (length each) open_nets) c.deref-3.ensures.value
+    (subst (λ (each : List Answer). AreMarked each c.deref-3.result.now (length c.deref-3.result.now) open_nets) c.deref-2.ensures.value c.in_ok-open.ensures))) in
     are_parts own p (claim_of c.args.asked.now) c.requires.of_claim free (record { of_nets = c.args.asked.now.parts; seen = c.deref-6.result; «open» = c.deref-7.result }) c.requires.parts
     seen answered (subst (AreMarked free marks (length marks)) (sym c.deref-7.ensures.value) marked)
 
@@ -81,15 +81,15 @@ returns c =
     let open_nets = c.in_ok-open.open.items in
     let back = sym c.deref-6.ensures.value in
     let seen = (
-        subst (AreSeen own p.observed.now) back
-        (subst (λ (goals : List NetId). AreSeen own goals c.in_ok-seen.seen.items) c.requires.points c.in_ok-seen.ensures)) in
+    subst (AreSeen own p.observed.now) back
+    (subst (λ (goals : List NetId). AreSeen own goals c.in_ok-seen.seen.items) c.requires.points c.in_ok-seen.ensures)) in
     let answered = (
-        subst (λ (each : List Bool). AreFree own p each free) back
-        (subst (λ (each : List Bool). AreFree own p each free) c.deref.ensures.value c.in_ok-free.ensures.free.1)) in
+    subst (λ (each : List Bool). AreFree own p each free) back
+    (subst (λ (each : List Bool). AreFree own p each free) c.deref.ensures.value c.in_ok-free.ensures.free.1)) in
     let marked = (
-        subst (λ (each : List Bool). AreMarked free each (length each) open_nets) back
-        (subst (λ (each : List Bool). AreMarked free each (length each) open_nets) c.deref-3.ensures.value
-        (subst (λ (each : List Answer). AreMarked each c.deref-3.result.now (length c.deref-3.result.now) open_nets) c.deref-2.ensures.value c.in_ok-open.ensures))) in
+    subst (λ (each : List Bool). AreMarked free each (length each) open_nets) back
+    (subst (λ (each : List Bool). AreMarked free each (length each) open_nets) c.deref-3.ensures.value
+    (subst (λ (each : List Answer). AreMarked each c.deref-3.result.now (length c.deref-3.result.now) open_nets) c.deref-2.ensures.value c.in_ok-open.ensures))) in
     are_answers own p (claim_of asked) c.requires.of_claim (record { faults = c.in_ok-faults.faults; «open» = c.in_ok-open.open; parts = c.in_ok-parts.parts }) asked.faults.now
     (record { of_nets = asked.parts; seen = c.deref-6.result; «open» = c.deref-7.result }) asked.part_count free (c.in_default.ensures.answer (claim_of asked) c.requires.of_claim)
     c.in_ok-faults.ensures.answers seen answered marked (sym c.deref-7.ensures.value) c.in_ok-parts.ensures

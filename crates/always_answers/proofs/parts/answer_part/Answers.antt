@@ -32,10 +32,10 @@ returns-then-not-has_unmarked-clause-answer c = λ claim posed.
     let parts = c.args.parts.now in
     let picked = subst (ArePicked (is_picked parts.of_nets.now c.args.part parts.seen.now true) (length parts.of_nets.now)) (sym c.deref.ensures.value) c.in_ok-seen.ensures in
     let some : 0 < length c.deref.result.now = (
-        let filled = eqb-false _ 0 (sym c.is_empty.ensures ∙ c.if-is_empty.false) in
-        let size = c.in_ok-seen.seen.ok.0 in
-        let same = ap (λ (nets : List NetId). length nets) c.deref.ensures.value in
-        omega (arith, filled, size, same)) in
+    let filled = eqb-false _ 0 (sym c.is_empty.ensures ∙ c.if-is_empty.false) in
+    let size = c.in_ok-seen.seen.ok.0 in
+    let same = ap (λ (nets : List NetId). length nets) c.deref.ensures.value in
+    omega (arith, filled, size, same)) in
     all_open own p p.window parts c.requires.parts c.args.part claim (as_wide own p claim posed) c.deref.result.now picked some (c.has_unmarked.ensures.none c.if-not-has_unmarked.true)
 
 pub returns-in-Open-clause-answer : goal.returns-in-Open-clause-answer
