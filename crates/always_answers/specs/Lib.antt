@@ -1,2 +1,4 @@
 pub mod Nets
 pub mod Answers
+pub mod Steps
+pub mod PartSteps
