@@ -51,6 +51,8 @@ cases: build/fmeda
 	tests/program/resumed build/fmeda
 	tests/program/kept build/fmeda
 	tests/program/coverage_agrees build/fmeda
+	tests/program/cycles_agree build/fmeda
+	tests/program/always_holds build/fmeda 1 1000
 	tests/program/shards build/fmeda
 	tests/program/hostile build/fmeda
 	tests/program/memory build/fmeda

@@ -28,7 +28,7 @@ def held(name):
 
 
 def row_fault(fault):
-    return Refused({"rates": 5, "points": 8, "workload": 9}[fault.file], f"{fault.file} row {fault.row} {fault.kind}".encode())
+    return Refused({"rates": 5, "points": 8, "workload": 9, "held": 18}[fault.file], f"{fault.file} row {fault.row} {fault.kind}".encode())
 
 
 class Plan:

@@ -81,6 +81,23 @@ class Told:
         for value, target in zip(lines[2:6], lines[6:]):
             yield f"found {value} target {target.split()[-1]}".encode()
 
+    def upset_lines(self):
+        """How many upsets of the mission were tried, and what the flips of each cycle weigh; the latches of other hardware are in no metric."""
+        plan = self.plan
+        if not plan.flips:
+            return
+        counted = {n for n in plan.net.latches if plan.parts[plan.owner[n]][1] != "other"}
+        missions = [len(vectors) for _, kind, vectors in plan.runs if kind == b"mission"]
+        tried = sum(1 for kind, n, t in plan.faults if kind == "flip" and n in counted for cycles in missions if t < cycles)
+        yield f"upsets {tried} of {sum(len(counted) * cycles for cycles in missions)}".encode()
+        own = {t: [] for t in plan.flips}
+        for i, (kind, n, t) in enumerate(plan.faults):
+            if kind == "flip" and n in counted:
+                own[t].append(i)
+        for t, flips in own.items():
+            rate, harm = self.weight(flips), self.weight(i for i in flips if self.kinds[i] == "harm")
+            yield f"cycle {t} harm {harm} rate {rate} spfm transient {c.fraction(rate - harm, rate)}".encode()
+
     def bound_lines(self, word, free):
         lasting = self.weight(i for i in free if self.plan.permanent[i])
         yield f"{word} faults {len(free)} permanent {lasting} transient {self.weight(free) - lasting}".encode()
@@ -93,6 +110,7 @@ class Told:
     def lines(self):
         yield from self.part_lines()
         yield from self.found_lines()
+        yield from self.upset_lines()
         yield from self.bound_lines("unexcited", self.free("never"))
         yield from self.bound_lines("unreached", self.free("never", "quiet"))
 

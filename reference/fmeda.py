@@ -5,6 +5,7 @@ import re
 import sys
 
 sys.path.insert(0, str(pathlib.Path(__file__).resolve().parent))
+import always
 import campaign as c
 import coverage
 import kept
@@ -18,9 +19,9 @@ OPTIONS = {"classes": "", "check": "flips upsets pulses", "run": "ftti flips ups
            "audit": "every alone ftti flips upsets pulses", "gen": "workers", "report": "ftti flips upsets pulses asil", "shard": "part of ftti flips upsets pulses",
            "merge": "ftti flips upsets pulses", "reweigh": "ftti flips upsets pulses", "pairs": "ftti flips upsets pulses workers", "parts": "", "faults": "ftti flips upsets pulses",
            "progress": "ftti flips upsets pulses asil", "breakdown": "ftti flips upsets pulses asil intervals workers", "latencies": "ftti flips upsets pulses asil workers",
-           "coverage": "ftti flips upsets pulses asil workers", "trace": "run fault flips upsets pulses nets"}
+           "coverage": "ftti flips upsets pulses asil workers", "trace": "run fault flips upsets pulses nets", "always": "ftti window ahead flips upsets pulses asil"}
 PLACES = {"classes": 2, "check": 4, "run": 5, "resume": 5, "audit": 5, "gen": 2, "report": 4, "shard": 5, "merge": 7, "reweigh": 7, "pairs": 5, "parts": 2,
-          "faults": 5, "progress": 5, "breakdown": 4, "latencies": 4, "coverage": 4, "trace": 2}
+          "faults": 5, "progress": 5, "breakdown": 4, "latencies": 4, "coverage": 4, "trace": 2, "always": 4}
 WRITTEN = {"reweigh": 6}  # the place of the file that is written, which is the fifth in other commands
 MOST_PARTS, MOST_PAIRS = 1024, 2**20
 
@@ -79,9 +80,11 @@ def words_of(words):
             raise USAGE
         said["of"] = number(said["of"], 1, MOST_PARTS)
         said["part"] = number(said["part"], 0, said["of"] - 1)
-    said = {"ftti": "0", "flips": "none", "upsets": "none", "pulses": "none", "workers": "1", "asil": "D", "intervals": "none", "every": "1", "run": "1", "fault": None, "nets": None, **said}
+    said = {"ftti": "0", "flips": "none", "upsets": "none", "pulses": "none", "workers": "1", "asil": "D", "intervals": "none", "every": "1", "run": "1", "fault": None, "nets": None, "window": None, "ahead": "1", **said}
     said["ftti"], said["workers"] = number(said["ftti"], 0, 4096), number(said["workers"], 1, 32)
     said["run"] = number(said["run"], 1, 65536)
+    said["ahead"] = number(said["ahead"], 0, 8)
+    said["window"] = None if said["window"] is None else number(said["window"], 0, 8)
     said["every"] = number(said["every"], 1, 16384)
     said["intervals"] = cycles(said["intervals"], 16, 4096)
     said["flips"], said["pulses"] = cycles(said["flips"], 16), cycles(said["pulses"], 4)
@@ -126,6 +129,22 @@ def trace(names, said):
         raise c.row_fault(fault)
     name, wanted = (None if said[option] is None else said[option].encode() for option in ("fault", "nets"))
     return waves.trace(net, runs, c.faults_of(net, said["flips"], said["pulses"]), said["run"], name, wanted)
+
+
+def always_text(names, said):
+    """The plan has no workload: nothing is said of the runs."""
+    texts = [c.held(names[0])]
+    net = c.read_netlist(texts[0], names[0])
+    try:
+        texts.append(c.held(names[1]))
+        rates = tables.read_rates(texts[1])
+        texts.append(c.held(names[2]))
+        points = tables.read_points(texts[2], net)
+        plan = c.plan_of(c.Plan(), texts, net, [], *rates, *points, said["flips"], said["pulses"], said["ftti"], said["asil"])
+        held = tables.read_held(c.held(names[3]), net)
+    except tables.RowFault as fault:
+        raise c.row_fault(fault)
+    return always.always(plan, held, said["window"], said["ahead"])
 
 
 def check(plan):
@@ -206,6 +225,8 @@ def done(command, names, said):
         return parts(*names)
     if command == "trace":
         return trace(names, said)
+    if command == "always":
+        return always_text(names, said)
     if command == "gen":
         texts = generated(names[0])
         net = c.read_netlist(texts[0], "")

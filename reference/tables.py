@@ -1,4 +1,4 @@
-"""The three CSV files, read once more from the rules in docs/."""
+"""The CSV files, read once more from the rules in docs/."""
 import re
 
 
@@ -162,3 +162,31 @@ def read_points(text, net):
     if not goals:
         raise fault(1, "NoObserve")
     return goals, alarms
+
+
+def read_held(text, net):
+    """(net, first cycle, value before or None, value) of each held input."""
+    rows, fault = records(text), lambda row, kind: RowFault("held", row, kind)
+    if not rows or rows[0] != [b"input", b"from", b"before", b"value"]:
+        raise fault(1, "BadCsv")
+    places, found = {net.names[n]: n for n in net.inputs}, {}
+    for number, row in enumerate(rows[1:], 2):
+        if len(row) != 4:
+            raise fault(number, "BadCsv")
+        name, start, before, value = row
+        if name not in places:
+            raise fault(number, "UnknownInput")
+        if name in found:
+            raise fault(number, "Twice")
+        if number == 1026:
+            raise fault(number, "TooLarge")
+        if not is_number(start, 65535):
+            raise fault(number, "BadFrom")
+        if before not in (b"0", b"1", b"-"):
+            raise fault(number, "BadBefore")
+        if before != b"-" and start == b"0":
+            raise fault(number, "NoCycleBefore")
+        if value not in (b"0", b"1"):
+            raise fault(number, "BadValue")
+        found[name] = places[name], int(start), None if before == b"-" else int(before), int(value)
+    return list(found.values())

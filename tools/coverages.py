@@ -12,10 +12,11 @@ MOST_NAMES = 12
 
 class Reading:
     """The lines of one reading: `parts` are (name, role, kind, {what: weight}, coverage), `found` is (value, verdict) of each metric, and `bounds` for
-    each of FREE the number of faults, and (least, greatest, standing) of each metric."""
+    each of FREE the number of faults, and (least, greatest, standing) of each metric. `upsets` is how many were tried and how many there are, and
+    `cycles` has (cycle, harm, rate) of each that is listed."""
 
     def __init__(self, words):
-        self.words, self.parts, self.found, self.bounds = words, [], {}, {}
+        self.words, self.parts, self.found, self.bounds, self.upsets, self.cycles = words, [], {}, {}, None, []
 
 
 def value(text):
@@ -32,6 +33,13 @@ def take(reading, line):
         label, _, more = rest.partition(" target ")
         metric, _, shown = label.rpartition(" ")
         reading.found[metric] = value(shown), more
+    elif first == "upsets":
+        reading.upsets = int(words[0]), int(words[2])
+    elif first == "cycle":
+        cycle, harm, rate = int(words[0]), int(words[2]), int(words[4])
+        if value(words[-1]) != ((rate - harm, rate) if rate else None):
+            raise ValueError(line)
+        reading.cycles.append((cycle, harm, rate))
     elif first in FREE and words[0] == "faults":
         reading.bounds[first] = int(words[1]), {}
     elif first in FREE:

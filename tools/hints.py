@@ -104,7 +104,7 @@ ROWS = {
 # Those that make a metric untrue, or one that says nothing; what isn't here is worth a look. The first may be meant, for a reason; the others never.
 MAY_BE_MEANT = ("outside", "patterns", "rates", "weights", "mechanisms", "alarms", "harm", "unexcited", "goals")
 # What is worth a look alone, and may be told to be known.
-LOOKED_AT = ("outputs", "unread", "early", "safe", "start", "compared", "unknown", "ended", "shares", "neighbours")
+LOOKED_AT = ("outputs", "unread", "early", "safe", "start", "compared", "unknown", "ended", "shares", "neighbours", "admitted")
 WRONG = (*MAY_BE_MEANT, "latches", "cycles", "missions", "golden", "end", "kept")
 
 

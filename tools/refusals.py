@@ -6,7 +6,7 @@ import designs
 from designs import tables
 
 # A tool that was refused says its own name and that of the file before it.
-ROW = re.compile(r"^(?:.*refused: )?(workload|rates|points) row (\d+) (\w+)$", re.M)
+ROW = re.compile(r"^(?:.*refused: )?(workload|rates|points|held) row (\d+) (\w+)$", re.M)
 LINE = re.compile(r"^(?:.*: )?refused: (?:netlist|bench) line (\d+) ", re.M)
 MOST_NETS = 4
 
@@ -37,7 +37,7 @@ def of_row(kind, name, number, nets):
     row = row_of(name, number)
     if row is None:
         return []
-    found = like(row[-1], nets) if kind == "UnknownNet" else []
+    found = like(row[{"UnknownNet": -1, "UnknownInput": 0}[kind]], nets) if kind in ("UnknownNet", "UnknownInput") else []
     return [f"row {number} of {pathlib.Path(name).name} is {','.join(row)}", *([f"the netlist has {', '.join(found)}"] if found else [])]
 
 
@@ -46,19 +46,19 @@ def of_line(name, number):
     return [f"line {number} of {pathlib.Path(name).name} is {lines[number - 1].strip()[:200]}"] if 0 < number <= len(lines) else []
 
 
-def nets_of(netlist):
+def nets_of(netlist, kind):
     try:
-        return designs.read(netlist).names
+        return {"UnknownNet": designs.read(netlist).names, "UnknownInput": designs.read(netlist).inputs}.get(kind, [])
     except designs.Refused:
         return []
 
 
-def explained(text, netlist, workload, rates, points):
+def explained(text, netlist, workload, rates, points, held=""):
     """Lines that say more of a refusal, or none where there is no more to say."""
     row, line = ROW.search(text), LINE.search(text)
     try:
         if row:
-            return of_row(row[3], {"workload": workload, "rates": rates, "points": points}[row[1]], int(row[2]), nets_of(netlist) if row[3] == "UnknownNet" else [])
+            return of_row(row[3], {"workload": workload, "rates": rates, "points": points, "held": held}[row[1]], int(row[2]), nets_of(netlist, row[3]))
         return of_line(netlist, int(line[1])) if line else []
     except (OSError, designs.Refused):
         return []

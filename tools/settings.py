@@ -14,6 +14,7 @@ KEYS = {
     "design": ("verilog", "headers", "top", "netlist", "latches", "liberty", "script", "techmap", "synth", "start", "parameters", "defines", "include"),
     "workload": ("file", "scope", "clock", "unknown", "nets", "without", "skip"),
     "campaign": ("rates", "points", "interval", "intervals", "flips", "upsets", "pulses", "asil", "workers"),
+    "always": ("file", "rows", "window", "ahead"),
     "output": ("folder", "title"),
 }
 
@@ -64,6 +65,10 @@ class Settings:
     pulses: str = "none"
     asil: str = "D"
     workers: str = "1"
+    held_file: str = ""
+    held_rows: str = ""
+    window: str = ""
+    ahead: str = "1"
     out: str = "flow"
     title: str = ""
     accepted: dict = field(default_factory=dict)
@@ -76,6 +81,11 @@ class Settings:
     def flip_cycles(self):
         """The cycles of flips, as either key has them."""
         return self.flips if self.upsets == "none" else self.upsets
+
+    @property
+    def held(self):
+        """The file of the held inputs, which the flow makes of rows; nothing where there is no section [always]."""
+        return self.held_file or (self.made("held.csv") if self.held_rows else "")
 
     @property
     def netlist(self):
@@ -126,7 +136,7 @@ def runs_of(parser):
 
 def values_of(parser):
     """The settings by their names here, those that are left out being left out."""
-    renamed = {("design", "netlist"): "given_netlist", ("workload", "file"): "given_workload", ("output", "folder"): "out"}
+    renamed = {("design", "netlist"): "given_netlist", ("workload", "file"): "given_workload", ("output", "folder"): "out", ("always", "file"): "held_file", ("always", "rows"): "held_rows"}
     found = {renamed.get((section, key), key): value.strip() for section in KEYS if parser.has_section(section) for key, value in parser[section].items()}
     for key in LISTS:
         if key in found:
@@ -150,6 +160,9 @@ def look_at_values(said):
     for key, pattern, meaning in (*[(key, CYCLES, "none, or cycles as 1,5,40") for key in ("flips", "pulses", "intervals")], ("upsets", STRETCH, "none, or a stretch as 3-40 or 3-40/2"), ("asil", "[BCD]", "B, C or D"), ("unknown", "[01]?", "0 or 1"), ("start", "[01]?", "0 or 1")):
         if not re.fullmatch(pattern, getattr(said, key)):
             raise Wrong(f"{key} is {meaning}, and not {getattr(said, key)}")
+    for key, text in (("window", said.window or "0"), ("ahead", said.ahead)):
+        if not re.fullmatch("[0-8]", text):
+            raise Wrong(f"{key} is a number from 0 to 8, and not {text}")
     if said.flips != "none" and said.upsets != "none":
         raise Wrong("[campaign] has either flips or upsets")
     out = pathlib.PurePath(said.out)
@@ -177,7 +190,7 @@ def look_at_synthesis(said):
 
 
 def missing_files(said):
-    named = [*said.verilog, *said.headers, *said.liberty, *said.techmap, said.script, said.given_netlist, said.given_workload, said.rates, said.points, *[re.sub(r":\d+-\d+$", "", run.dump) for run in said.runs]]
+    named = [*said.verilog, *said.headers, *said.liberty, *said.techmap, said.script, said.given_netlist, said.given_workload, said.rates, said.points, said.held_file, *[re.sub(r":\d+-\d+$", "", run.dump) for run in said.runs]]
     return [name for name in named if name and not (said.folder / name).is_file()]
 
 
@@ -190,6 +203,8 @@ def read(name):
             raise Wrong(f"[campaign] {key} must be given")
     accepted = dict(parser["accepted"]) if parser.has_section("accepted") else {}
     said = Settings(folder=pathlib.Path(name).resolve().parent, runs=runs_of(parser), accepted=accepted, **values)
+    if parser.has_section("always") and bool(said.held_file) == bool(said.held_rows):
+        raise Wrong("[always] has either file or rows")
     look_at_values(said)
     missing = missing_files(said)
     if missing:

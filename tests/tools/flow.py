@@ -162,12 +162,57 @@ def a_step_is_left_out_where_nothing_changed(folder, program):
     _design(folder)
     _flow(folder, program)
     for name, text, wanted in (("rates.csv", RATES, ()), ("rates.csv", RATES.replace("0.1,0", "0.10,0.000"), ()), ("flow.ini", SETTINGS + "[output]\ntitle = another\n", ("page",)),
-                               ("flow.ini", SETTINGS.replace("asil = C", "asil = B"), ("run", "coverage", "latencies", "breakdown", "page", "manifest")), ("points.csv", POINTS + "observe,c\n", ("check", "alarms", "run", "coverage", "latencies", "breakdown", "page", "manifest")),
-                               ("drive.vcd", _dump() + "#60\n0!\n", ("workload", "golden")), ("rates.csv", RATES.replace("0.1", "0.2"), ("parts", "check", "run", "coverage", "latencies", "breakdown", "page", "manifest"))):
+                               ("flow.ini", SETTINGS.replace("asil = C", "asil = B"), ("reweigh", "reweighed", "run", "coverage", "latencies", "breakdown", "page", "manifest")), ("points.csv", POINTS + "observe,c\n", ("check", "alarms", "run", "coverage", "latencies", "breakdown", "page", "manifest")),
+                               ("drive.vcd", _dump() + "#60\n0!\n", ("workload", "golden")), ("rates.csv", RATES.replace("0.1", "0.2"), ("parts", "check", "reweigh", "reweighed", "run", "coverage", "latencies", "breakdown", "page", "manifest"))):
         pathlib.Path(folder, name).write_text(text)
         printed, _ = _flow(folder, program)
         assert _done(printed) == wanted, (name, printed)
         assert _done(_flow(folder, program)[0]) == (), name
+
+
+def _report_of_other_rates(folder, program, changes, reweighed):
+    """What the flow says when the rates, and what `changes` names, are other ones; the report must be that of a flow in an empty folder."""
+    held(folder, rates__csv=RATES.replace("0.1,0", "0.3,0").replace("al,copy,mechanism,no,2,4", "al,alarm,mechanism,yes,5,0"), **changes)
+    printed, _ = _flow(folder, program)
+    assert ("reweighed" in _done(printed), " resume " in printed) == (reweighed, reweighed), printed
+    made = pathlib.Path(folder, "flow")
+    found = {name: made.joinpath(name).read_bytes() for name in ("report.txt", "result", "coverage.txt")}
+    aside = made.rename(made.with_name("before"))
+    _flow(folder, program)
+    anew = {name: made.joinpath(name).read_bytes() for name in found}
+    shutil.rmtree(aside)
+    assert found == anew, (changes, found, anew)
+    return printed
+
+
+def other_rates_alone_simulate_nothing(folder, program):
+    """Only the rates have changed, with a part of its own and a claim: the rows are reweighed. With a file, a setting or another program beside them, or
+    with rows that were damaged, the campaign begins anew."""
+    cases = ({}, True, None), ({"points__csv": POINTS + "observe,c\n"}, False, None), ({"flow__ini": _with(("campaign", "interval = 1"))}, False, None), ({}, False, b"r 00000000 000000000000000f")
+    for changes, reweighed, damage in cases:
+        shutil.rmtree(pathlib.Path(folder, "flow"), ignore_errors=True)
+        _design(folder)
+        _flow(folder, program)
+        result = pathlib.Path(folder, "flow", "result")
+        if damage:
+            result.write_bytes(result.read_bytes()[:89] + damage + result.read_bytes()[89 + len(damage):])
+        printed = _report_of_other_rates(folder, program, changes, reweighed)
+        assert not damage or "aren't reweighed, and the campaign begins anew: refused: result row 1" in printed, printed
+    _design(folder)
+    fake = _program(folder, "fmeda", f'if [ "$1" = run ]; then [ ! -e simulated ] || exit 9; touch simulated; fi\nexec "{program}" "$@"\n')
+    shutil.rmtree(pathlib.Path(folder, "flow"))
+    _flow(folder, fake)
+    for rates in (RATES.replace("0.1,0", "0.4,0"), RATES, RATES.replace("0.1,0", "0.4,0")):
+        held(folder, rates__csv=rates)
+        assert "reweigh" in _done(_flow(folder, fake)[0])
+    report = pathlib.Path(folder, "flow", "report.txt")
+    held(folder, rates__csv=RATES)
+    _flow(folder, fake)
+    assert report.read_text().endswith(METRICS)
+    _program(folder, "fmeda", f'exec "{program}" "$@" # another\n')
+    held(folder, rates__csv=RATES.replace("0.1,0", "0.4,0"))
+    printed, _ = _flow(folder, fake)
+    assert "reweigh" not in _done(printed) and " resume " not in printed, printed
 
 
 def what_was_made_and_changed_is_made_again(folder, program):
@@ -475,6 +520,71 @@ def a_target_that_hangs_on_what_no_run_excited(folder, program):
     assert page.index("What the metrics rest on") < page.index("Metrics and targets") and "Accepted: d is tied to 0 in this variant" in page
 
 
+# d reaches both flip-flops alike; whatever is done to q raises the alarm in the cycle in which it differs, and nothing leads from c or al to q.
+EVERY = """fmeda-always 1
+nets 4 latches 2 faults 10 ftti 0 asil C
+window 0 ahead 1
+assumes no alarm without a fault from cycle 0 on
+part pins mission uncovered whole no window - faults 2 no-path 0 alarmed 0 early 0 open 2
+part main mission covered whole yes window 0 faults 3 no-path 0 alarmed 3 early 0 open 0
+part copy mechanism uncovered whole yes window - faults 5 no-path 5 alarmed 0 early 0 open 0
+spfm permanent since 0 at-least 4000000/4100000 target met
+spfm transient since 0 at-least 8000000/8000000 target met
+spfm permanent since 0 at-least 4000000/4100000 target met
+spfm transient since 0 at-least 8000000/8000000 target met
+open d/0 50000
+open d/1 50000
+end
+"""
+
+
+def what_holds_for_every_workload(folder, program):
+    _design(folder, _with(("always", "rows = none")))
+    printed, _ = _flow(folder, program, "--met")
+    assert _done(printed) == (*STEPS[:7], "always", *STEPS[7:]), printed
+    assert "#   as simulated 97.56 %, met; for every workload at least 97.56 %, met, since cycle 0\n" in printed, printed
+    flow = pathlib.Path(folder, "flow")
+    assert flow.joinpath("held.csv").read_text() == "input,from,before,value\n" and flow.joinpath("always.txt").read_text() == EVERY, flow.joinpath("always.txt").read_text()
+    assert "did no harm in the simulation" not in flow.joinpath("page.html").read_text()
+    printed, _ = _flow(folder, program)
+    assert _done(printed) == (), printed
+    # d is never 0: what is stuck there at 1 isn't seen in the simulation.
+    _design(folder, _with(("always", "file = held.csv\nahead = 0"), ("workload", "file = w.csv"), without=("[runs]", "drive = mission drive.vcd")), held__csv="input,from,before,value\n",
+            w__csv="workload,kind,d\n" + "w,mission,1\n" * 4)
+    printed, _ = _flow(folder, program)
+    assert "#   as simulated 98.78 %, met; for every workload at least 97.56 %, met, since cycle 0\n" in printed, printed
+    assert flow.joinpath("always.txt").read_text() == EVERY.replace("ahead 1", "ahead 0")
+    said = " ".join(re.sub("<[^>]*>", " ", flow.joinpath("page.html").read_text()).split())
+    for wanted in ("1 open faults, 0.05 FIT, did no harm in the simulation", "the proof is too weak: d/1.", "spfm permanent at least 97 % 98.78 % met 97.56 % met 97.56 % met", "main yes 0 3 0 3 0 0"):
+        assert wanted in said, (wanted, said)
+
+
+def runs_of_which_nothing_is_said(folder, program):
+    """d is 0 1 1 0 1 0."""
+    for rows, why in (("d,1,-,0", "d is 1 in cycle 1, and held at 0."), ("d,2,1,1", "d is 0 in cycle 0, and held at 1."), ("d,6,-,0", "it has 6 cycles, and cycle 6 is the first that is spoken of.")):
+        _design(folder, _with(("always", f"rows = {rows}")))
+        printed, _ = _flow(folder, program)
+        assert f"#   look: Nothing is said for every workload of run drive: {why}\n" in printed, (rows, printed)
+        assert f"Nothing is said for every workload of run drive: {why}" in pathlib.Path(folder, "flow", "page.html").read_text()
+    _design(folder, _with(("always", "rows = d,4,-,0"), ("accepted", "admitted = a drive of another kind")))
+    printed, _ = _flow(folder, program)
+    assert "accepted, admitted: Nothing is said" in printed and "a drive of another kind" in printed, printed
+    # The alarm is q itself: it is 1 in the golden run behind the first 1 of d.
+    _design(folder, _with(("always", "rows = none"), ("accepted", "alarms = it tells nothing")), design__blif=NETLIST.replace("10 1\n01 1\n", "1- 1\n"), drive__vcd=_dump().replace("0%\n", ""))
+    printed, _ = _flow(folder, program)
+    assert "silence" in _done(printed) and "of run drive: al is 1 in its golden run in cycle 2." in printed, printed
+
+
+def held_inputs_that_are_refused(folder, program):
+    for rows, wanted in (("e,0,-,0", "refused: held row 2 UnknownInput (status 18)\n  row 2 of held.csv is e,0,-,0"), ("D,0,-,0", "the netlist has d"), ("d,0,1,0", "held row 2 NoCycleBefore (status 18)")):
+        _design(folder, _with(("always", f"rows = {rows}")))
+        _, said = _flow(folder, program, status=3)
+        assert "stopped at always: " in said and wanted in said, (rows, said)
+    _design(folder, _with(("always", "rows = none\nwindow = 1")))
+    _, said = _flow(folder, program, status=3)
+    assert "refused: window 1 is longer than the shortest interval, 0 (status 19)" in said, said
+
+
 def harmful_faults_that_weigh_nothing(folder, program):
     """A pulse at d in cycle 2 makes both flip-flops wrong in cycle 3, and the pins have no transient rate."""
     said = _stopped(folder, program, "1 residual, single-point or latent faults have the weight 0, since their part has no rate, as d~2", "no part got its rate 0", settings=_with(("campaign", "pulses = 2")))
@@ -573,6 +683,9 @@ def settings_that_say_something_wrong(folder, program):
             (VERILOG.format("liberty = drive.vcd\nsynth = -nofsm"), "synth has no meaning for cells of a library: nothing is synthesised"), (VERILOG.format("liberty = drive.vcd\nstart = 0"), "start has no meaning"),
             (VERILOG.format("start = 2"), "start is 0 or 1, and not 2"), (_with(("design", "start = 0")), "start is for verilog, and not for netlist"), (VERILOG.format("parameters = WIDTH 8"), "parameters is a list of NAME=VALUE, and not WIDTH"),
             (VERILOG.format("defines = A-B"), "defines is a list of NAME or NAME=VALUE, and not A-B"), (VERILOG.format("include = none"), "there is no folder none"), (VERILOG.format("techmap = none.v"), "there is no file none.v"),
+            (_with(("always", "window = 1")), "[always] has either file or rows"), (_with(("always", "rows = none\nfile = rates.csv")), "[always] has either file or rows"),
+            (_with(("always", "rows = none\nwindow = 9")), "window is a number from 0 to 8, and not 9"), (_with(("always", "rows = none\nahead = -1")), "ahead is a number from 0 to 8"),
+            (_with(("always", "file = none.csv")), "there is no file none.csv"),
             (_with(("accepted", "goals =")), "[accepted] goals has no value"), ("rates\n", "no section headers"), (SETTINGS.replace("rates.csv", "none.csv"), "there is no file none.csv")):
         _design(folder, settings)
         _, said = _flow(folder, program, status=2)

@@ -177,6 +177,58 @@ def what_the_metrics_rest_on(folder, program):
         assert wanted in refusal, refusal
 
 
+def upsets_by_cycle_and_by_latch(folder, _):
+    """By the stored texts of watchdog: in cycle 30 4 of 6.666667 FIT harm, in 51 and 72 3.2; step[0] harms in 30 and 51, step[2] in 30 and 72."""
+    copy = _made_page(folder, "watchdog", "--coverage", "coverage.txt").parent
+    text = copy.joinpath("page.html").read_text()
+    said = _section(text, "moments")
+    for wanted in ("30 of 1280 upsets were tried, 2.34 %", "3 of 3 cycles miss the 90 %; in 0 no flip does harm", "30 40.00 % 4 of 6.666667 72 51.99 %", "goal heater", "u_controller.heat controller 3 of 3 2.4 30, 51, 72",
+                   "u_controller.step[0] controller 2 of 3 1.6 30, 51", "u_controller.step[2] controller 2 of 3 1.6 30, 72"):
+        assert wanted in said, (wanted, said)
+    assert text.count('class="stem low"') == 9 and 'class="stem"' not in text and "the least is 40.00 % in cycle 30" in text
+    assert 'id="section-moments"' not in _made_page(folder, "voter", "--coverage", "coverage.txt").read_text()
+    text = _made_page(folder, "parity", "--coverage", "coverage.txt").read_text()
+    assert text.count('class="stem"') == 2 and "No flip of a latch does harm." in text and "in 2 no flip does harm" in text
+    whole = copy.joinpath("coverage.txt").read_text()
+    for change in (whole.replace("spfm transient 2666667/6666667", "spfm transient 2666668/6666667"), whole.replace("upsets 30 of", "upsets all of", 1)):
+        copy.joinpath("coverage.txt").write_text(change)
+        _, refusal = tool("page", *FILES, "report.txt", "--coverage", "coverage.txt", folder=copy, status=1)
+        assert "is no line of coverage" in refusal, refusal
+
+
+def very_many_cycles(folder, _):
+    """65,536 cycles are drawn as columns, each with the worst of its cycles: the page stays small, and no cycle that misses the target is hidden."""
+    copy = _made_page(folder, "watchdog").parent
+    whole = copy.joinpath("coverage.txt").read_text()
+    lines = [f"cycle {t} harm {5 if t == 40001 else 0} rate 10 spfm transient {5 if t == 40001 else 10}/10" for t in range(65536)]
+    copy.joinpath("coverage.txt").write_text(re.sub(r"(cycle .*\n)+", "\n".join(lines) + "\n", whole))
+    tool("page", *FILES, "report.txt", "--coverage", "coverage.txt", "-o", "page.html", folder=copy)
+    text = copy.joinpath("page.html").read_text()
+    assert len(text) < 500000 and text.count('class="stem low"') == 3 and "40001 50.00 %" in _section(text, "moments"), len(text)
+
+
+def what_holds_for_every_workload_stands_on_the_page(folder, program):
+    """By hand, each fault being 1 FIT: y/0 and y/1 raise the alarm at once, and nothing leads from z or al to y. a and b reach both gates alike: they are open, and a/1 alone harms in these runs."""
+    copy = pathlib.Path(folder, "x")
+    shutil.copytree(EXAMPLES / "duplicated", copy)
+    files = ("gate.blif", "vectors.csv", "rates.csv", "points.csv")
+    copy.joinpath("vectors.csv").write_text(FEW)
+    copy.joinpath("held.csv").write_text("input,from,before,value\n")
+    for words, name in ((("report", *files), "report.txt"), (("always", files[0], *files[2:], "held.csv"), "a.txt")):
+        with open(copy / name, "wb") as out:
+            subprocess.run([program, *words], cwd=copy, check=True, stdout=out)
+    tool("page", *files, "report.txt", "--always", "a.txt", "-o", "page.html", folder=copy)
+    said = _section(copy.joinpath("page.html").read_text(), "always")
+    for wanted in ("For every workload that keeps this: no alarm without a fault from cycle 0 on.", "nothing is said of the last 1 cycles of a run", "spfm permanent at least 99 % 90.00 % missed 60.00 % open 60.00 % open",
+                   "in no - 4 0 0 0 4", "out yes 0 2 0 2 0 0", "dup yes - 4 4 0 0 0", "3 open faults, 3 FIT, did no harm in the simulation", ": a/0, b/0, b/1."):
+        assert wanted in said, (wanted, said)
+    whole = copy.joinpath("a.txt").read_text()
+    for change, wanted in ((whole[:-4], "cut off"), (whole.replace("nets 5", "nets 6"), "another campaign"), (whole.replace("target open", "target missed", 1), "is no line of always")):
+        copy.joinpath("a.txt").write_text(change)
+        _, refusal = tool("page", *files, "report.txt", "--always", "a.txt", folder=copy, status=1)
+        assert wanted in refusal, refusal
+
+
 def names_are_no_markup(folder, _):
     held(folder, n__blif=".model m\n.inputs <b>a\n.outputs y\n.names <b>a y\n1 1\n.end\n", w__csv="workload,kind,<b>a\nw,mission,1\n",
          r__csv="pattern,part,role,covered,permanent,transient\n*,all,mission,no,1,0\n", p__csv="kind,net\nobserve,y\n")

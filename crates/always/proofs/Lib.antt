@@ -6,3 +6,4 @@ mod Tallying
 mod Summing
 mod Telling
 mod Worked
+pub mod Asking

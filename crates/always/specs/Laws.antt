@@ -1,5 +1,5 @@
 -- What the text of `always` promises of every workload.
-use Rattle.std.specs.Prelude.{◌≡◌, ◌+◌, ◌<◌, ◌≤◌, ℕ, Bool, true, false, not, ◌&&◌, List, [], ◌∷◌, ◌++◌, All, Contains, Option, Some, None, codes}
+use Rattle.std.specs.Prelude.{◌≡◌, ◌+◌, ◌<◌, ◌≤◌, ℕ, true, false, not, ◌&&◌, List, [], ◌∷◌, ◌++◌, All, Contains, Option, Some, None, codes}
 use Rattle.std.specs.List.{slice_get}
 use Rattle.alarm_points.specs.PointsFile.{observed}
 use Rattle.alarm_points.specs.declared.Goal.{Goal}

@@ -3,3 +3,4 @@ pub mod Text
 pub mod Laws
 pub mod Tally
 pub mod Steps
+pub mod Asked

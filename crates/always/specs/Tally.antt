@@ -1,5 +1,5 @@
 -- How many faults of a part stand in each way, fault by fault: how the text keeps the numbers of a part's line.
-use Rattle.std.specs.Prelude.{ℕ, ◌+◌, ◌≤◌, ◌^◌, Bool, ◌==◌, List, count_by, filter, length}
+use Rattle.std.specs.Prelude.{ℕ, ◌+◌, ◌≤◌, ◌^◌, Bool, ◌==◌, count_by, filter, length}
 use Rattle.fm_base.specs.Lists.{below}
 use Rattle.campaign_plan.specs.Analysis.{Analysis, fault_numbered, part_of}
 use Rattle.always.specs.Verdict.{is_verdict}

@@ -19,7 +19,6 @@ use Rattle.campaign_plan.specs.Analysis.{Analysis, fault_count, fault_numbered, 
 use Rattle.campaign_plan.specs.Weights.{weight}
 use Rattle.fmeda_report.specs.Words.{covering_word, fraction_word}
 use Rattle.coverage_claim.specs.declared.parts.Held.{Held}
-use Rattle.claim_search.specs.declared.faults.FaultAnswer.{FaultAnswer}
 use Rattle.claim_laws.specs.Metrics.{open_sums}
 use Rattle.always_answers.specs.declared.answers.Answers.{Answers}
 use Rattle.always_answers.specs.declared.answers.PartAnswer.{PartAnswer}

@@ -1,4 +1,5 @@
 // Laws of the text, for readers of it. They compute nothing.
+ghost use Rattle.always.specs.Asked.{AskedTermsFit};
 ghost use Rattle.always.specs.Laws.{AlarmedIsHarmless, EarlyIsHarmless, NoPathIsHarmless, PrintedLaterSpfmHolds, PrintedSpfmHolds, TextIsOfNoRuns, WholePartIsCovered};
 
 use claim_laws::{alarms_come, faults_lie_within, metric_is_at_least, unreached_is_not_dangerous};
@@ -35,4 +36,9 @@ pub fn printed_spfm_holds()
 /// The text is the same whatever the runs of the plan.
 pub fn text_is_of_no_runs()
     ensures { TextIsOfNoRuns }
+{}
+
+/// What is asked of a plan and isn't refused fits it, whichever inputs are held.
+pub fn asked_terms_fit()
+    ensures { AskedTermsFit }
 {}

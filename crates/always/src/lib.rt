@@ -1,6 +1,7 @@
 //! What a safety mechanism covers for every workload, as a text.
 #![tactic(auto)]
 
+mod asked;
 mod law;
 mod lines;
 mod metrics;
@@ -11,8 +12,10 @@ mod text;
 mod verdict;
 mod words;
 
+pub use asked::{AskedFault, answer_plan, asked_fault};
 pub use law::{
-    faults_are_harmless, printed_spfm_holds, text_is_of_no_runs, whole_parts_are_covered,
+    asked_terms_fit, faults_are_harmless, printed_spfm_holds, text_is_of_no_runs,
+    whole_parts_are_covered,
 };
 pub use text::write_always;
 pub use verdict::Verdict;

@@ -55,6 +55,7 @@ fn answers_with(
     if let Some(why) = search.contradiction(searched, posed) {
         return Err(NoAnswers::Contradiction(why));
     }
+    search.find_forced(searched, posed);
     let seen = seen_nets(alloc, searched.netlist, reach)?;
     let free = free_answers(
         alloc,

@@ -78,7 +78,7 @@ fn answer_part(
         return Ok(PartAnswer::Alone);
     }
     let nets = nets_of_part(alloc, parts.of_nets, part, parts.open, false)?;
-    match search.answer(searched, posed, &nets, Site::Free) {
+    match search.answer(searched, posed, &nets, Site::Free, true) {
         Answer::Open => Ok(PartAnswer::Alone),
         Answer::NoRuns => Err(NoAnswers::Contradiction(Contradiction::Held)),
         Answer::Alarmed | Answer::Early => Ok(PartAnswer::Whole {
@@ -140,7 +140,7 @@ fn try_part(
         return Ok(answer);
     }
     let nets = nets_of_part(alloc, parts.of_nets, part, parts.open, false)?;
-    match search.answer(searched, shorter, &nets, Site::Free) {
+    match search.answer(searched, shorter, &nets, Site::Free, false) {
         Answer::Open => Ok(answer),
         Answer::NoRuns => Err(NoAnswers::Contradiction(Contradiction::Held)),
         Answer::Alarmed | Answer::Early => Ok(PartAnswer::Whole {
@@ -186,9 +186,11 @@ fn try_window(
     Ok(())
 }
 
-// The least window of each part that is covered as a whole. A search of its own is made for each window, and all parts are tried with it.
+// The least window of each part that is covered as a whole. A search of its own is made for each window, which knows the same pairs to be
+// forced, and all parts are tried with it.
 fn find_least(
     alloc: Global,
+    search: &AnswerSearch,
     searched: &Searched<'_>,
     posed: &Posed<'_>,
     parts: &Parts<'_>,
@@ -197,6 +199,7 @@ fn find_least(
     requires searched { IsSearched searched.now }
     requires posed { MayBePosed searched.now.netlist.now posed.now }
     requires frames { posed.now.window + posed.now.ahead + 1 ≤ 2 ^ 11 }
+    requires ready { IsReady searched.now posed.now search.now }
     requires parts { AreParts searched.now.netlist.now posed.now parts.now }
     requires few { length answers.old < 2 ^ 32 }
     requires so_far { ArePartsSoFar searched.now.netlist.now posed.now parts.now (length answers.old) 0 answers.old }
@@ -204,10 +207,10 @@ fn find_least(
 {
     for window in 0..posed.window {
         let shorter = Posed { window, ..*posed };
-        let mut search = AnswerSearch::new(alloc, searched, &shorter)?;
+        let mut trial = search.shorter(alloc, searched, posed, window)?;
         try_window(
             alloc,
-            &mut search,
+            &mut trial,
             searched,
             &shorter,
             posed.window,
@@ -235,6 +238,6 @@ pub(crate) fn part_answers(
     ensures { AnswersParts searched.now.netlist.now posed.now parts.now part_count posed.now.window result }
 {
     let mut answers = widest_answers(alloc, search, searched, posed, parts, part_count)?;
-    find_least(alloc, searched, posed, parts, &mut answers)?;
+    find_least(alloc, search, searched, posed, parts, &mut answers)?;
     Ok(answers)
 }

@@ -27,7 +27,7 @@ module _ (claim : Claim) (first : List PairSet) (leaves : LeavesStarts claim fir
   )
 
   -- A CLAIM THAT IS PROVED SIMPLY allows them
-  allows : (pairs : Latch → Pairs) → IsProvedSimply (with_pairs claim pairs) → Allows (with_pairs claim pairs) first
+  pub allows : (pairs : Latch → Pairs) → IsProvedSimply (with_pairs claim pairs) → Allows (with_pairs claim pairs) first
   allows pairs proof l latch at a b e = elim (cases_Bool (pairs latch a b)) as (λ _. pairs latch a b ≡ true) [
     | inl there ↦ there
     | inr out ↦ absurd (leaves.simply l latch at a b e (proof.begins l latch at a b out))

@@ -1,5 +1,5 @@
 -- Whether held inputs and silent alarms contradict each other, by the sets of the first window.
-use Rattle.std.proofs.Common.{◌≡◌, inl, inr, ℕ, ◌≤◌, Bool, true, List, Some, refl, ap₂, sym, subst, ◌∙◌}
+use Rattle.std.proofs.Common.{◌≡◌, inl, inr, ℕ, Bool, true, List, Some, refl, ap₂, sym, subst, ◌∙◌}
 use Rattle.std.specs.List.{slice_get}
 use Rattle.std.proofs.lemmas.Bool.{cases_Bool}
 use Rattle.std.proofs.lemmas.Option.{get_or_from_slice_get}
@@ -8,9 +8,9 @@ use Rattle.fm_base.proofs.Tests.{and_both, clash, same_bit_true}
 use Rattle.circuit.specs.Circuit.{Circuit}
 use Rattle.circuit.specs.Sound.{IsNetlist}
 use Rattle.circuit.specs.declared.parts.Latch.{Latch}
-use Rattle.coverage_claim.specs.Claim.{Claim, lead_in, window_of}
+use Rattle.coverage_claim.specs.Claim.{Claim, window_of}
 use Rattle.coverage_claim.specs.Rules.{Sets, everything, this_pair}
-use Rattle.coverage_claim.specs.Stretch.{AreSo, Pairs, Values}
+use Rattle.coverage_claim.specs.Stretch.{AreSo}
 use Rattle.coverage_claim.specs.declared.parts.Site.{Site}
 use Rattle.coverage_claim.specs.declared.parts.Site.TheVariants.{Intact}
 use Rattle.pair_sets.specs.Choice.{set_at}
@@ -19,7 +19,7 @@ use Rattle.pair_sets.specs.declared.pairs.PairSet.{PairSet}
 use Rattle.region_search.proofs.Settling.{empty_holds_none, settles}
 use Rattle.region_search.specs.Going.{IsSomeEmpty}
 use Rattle.region_search.specs.Settled.{AreSome, HoldsAll, NothingWaits}
-use Rattle.claim_search.specs.Hypotheses.{Contradict, ContradictSimply, as_in, bare, nowhere}
+use Rattle.claim_search.specs.Hypotheses.{Contradict, ContradictSimply, bare, nowhere}
 use Rattle.claim_search.specs.LeadIn.{LeavesStarts}
 use Rattle.claim_search.specs.Question.{IsAsked, IsPosed, with_pairs}
 use Rattle.claim_search.specs.Sites.{site_at}

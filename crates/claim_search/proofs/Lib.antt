@@ -10,3 +10,5 @@ pub mod Regions
 pub mod Halving
 pub mod Faulty
 pub mod Contradicting
+pub mod Lesser
+pub mod Forcing

@@ -62,7 +62,7 @@ module _ (claim : Claim) (more : Region) (less : (n : ℕ) (own shown : Bool) �
         both_true (same_bit g latch.start) (may_show (more latch.to.0) latch.start f) both.0 (less latch.to.0 latch.start f both.1));
   }
 
-  leaves_less : (pairs : Latch → Pairs) (latch : Latch) (a b : Bool) → leaves (with_pairs (with_region claim more) pairs) latch a b ≡ false → leaves (with_pairs claim pairs) latch a b ≡ false
+  pub leaves_less : (pairs : Latch → Pairs) (latch : Latch) (a b : Bool) → leaves (with_pairs (with_region claim more) pairs) latch a b ≡ false → leaves (with_pairs claim pairs) latch a b ≡ false
   leaves_less pairs latch a b e =
       let low : Bool = may_show (more latch.to.0) b false && not (pairs latch a false) in
       let high : Bool = may_show (more latch.to.0) b true && not (pairs latch a true) in

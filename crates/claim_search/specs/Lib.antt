@@ -5,3 +5,4 @@ pub mod Answer
 pub mod Sites
 pub mod Faults
 pub mod Hypotheses
+pub mod Forced

@@ -7,6 +7,7 @@ use Rattle.coverage_claim.specs.declared.parts.Site.{Site}
 use Rattle.coverage_claim.specs.declared.parts.Site.TheVariants.{Intact}
 use Rattle.region_search.specs.Going.{IsFor}
 use Rattle.claim_search.specs.Answer.{IsAnswer}
+use Rattle.claim_search.specs.Forced.{AreForced}
 use Rattle.claim_search.specs.Window.{IsOver}
 use Rattle.claim_search.specs.declared.answer.Answer.{Answer}
 use Rattle.claim_search.specs.declared.answer.Answer.TheVariants.{Open}
@@ -28,6 +29,8 @@ pub record IsReady (searched : Searched) (p : Posed) (search : AnswerSearch) : T
   pub lead : IsFor searched.watchers.now search.lead
   pub frame : search.lead.sets.frames ≡ 1
   pub window : IsOver searched.watchers.now (p.window + p.ahead + 1) search.window
+  pub forced_count : length search.forced.items ≡ length searched.netlist.now.latches
+  pub forced : AreForced searched.netlist.now p search.forced.items
   pub starts : length search.starts.items ≡ length searched.netlist.now.latches
   pub sites : length search.sites.items ≡ length searched.netlist.now.drivers
   pub intact : (n : ℕ) → site_at search.sites.items n ≡ Intact

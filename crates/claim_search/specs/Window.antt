@@ -13,7 +13,7 @@ use Rattle.fanout.specs.Readers.{Ordered}
 use Rattle.pair_sets.specs.Choice.{set_at}
 use Rattle.pair_sets.specs.Pairs.{has}
 use Rattle.pair_sets.specs.declared.pairs.PairSet.{PairSet}
-use Rattle.region_search.specs.Going.{IsFor}
+use Rattle.region_search.specs.Going.{AreFor, IsFor}
 use Rattle.claim_search.specs.Question.{with_pairs}
 use Rattle.claim_search.specs.declared.window.Seen.{Seen}
 use Rattle.claim_search.specs.declared.window.Seen.TheVariants.{Closed, Grown, Open}
@@ -39,12 +39,12 @@ Allows claim starts = (l : ℕ) (latch : Latch) → slice_get claim.circuit.latc
 abbrev pub AreKept : (old new : List PairSet) → Type 0
 AreKept old new = (l : ℕ) (a b : Bool) → has (set_at old l) a b ≡ true → has (set_at new l) a b ≡ true
 
--- both searches are those of a netlist, with so many frames
+-- all searches are those of a netlist, with so many frames
 pub record IsOver (o : Ordered) (many : ℕ) (w : WindowSearch) : Type 0 where
   pub search : IsFor o w.search
-  pub trial : IsFor o w.trial
+  pub trial : AreFor o w.trial
   pub frames : w.search.sets.frames ≡ many
-  pub trial_frames : w.trial.sets.frames ≡ many
+  pub trial_frames : w.trial.pair.sets.frames ≡ many
 
 -- ---- private steps, which the public contracts don't cite
 

@@ -46,7 +46,7 @@ impl AnswerSearch {
         if free.is_of_parts() {
             return free;
         }
-        self.answer(searched, posed, &[net], Site::Only(value))
+        self.answer(searched, posed, &[net], Site::Only(value), true)
     }
 
     /// The answer to a fault, where `free` is that to its net, whatever goes wrong there: of `answer_free`, or anything where no path leads

@@ -9,7 +9,7 @@ mod question;
 mod sites;
 mod window;
 
-pub use answer::{Answer, answer_claim};
+pub use answer::{Answer, answer_by_cases, answer_claim};
 pub use faults::FaultAnswer;
 pub use hypotheses::Contradiction;
 pub use lead::{LeadIn, lead_in};

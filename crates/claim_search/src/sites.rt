@@ -5,10 +5,11 @@ ghost use Rattle.circuit.specs.Sound.{IsNet};
 ghost use Rattle.coverage_claim.specs.Claim.{Claim};
 ghost use Rattle.region_search.specs.Search.{places_of};
 ghost use Rattle.claim_search.specs.Answer.{IsAnswer};
+ghost use Rattle.claim_search.specs.Forced.{AreThoseFor, with_length};
 ghost use Rattle.claim_search.specs.Question.{IsPosed, IsSearched, MayBePosed};
 ghost use Rattle.claim_search.specs.Sites.{IsAnswerAt, IsAt, IsReady, answer_at, site_at};
 
-use crate::answer::{Answer, answer_claim};
+use crate::answer::{Answer, answer_by_cases, forced_pairs};
 use crate::question::{Posed, Question, Searched};
 use crate::window::WindowSearch;
 use circuit::parts::NetId;
@@ -26,6 +27,8 @@ pub struct AnswerSearch {
     pub window: WindowSearch,
     /// The pairs that each latch may show.
     pub starts: Vec<PairSet>,
+    /// Those with which each latch has to start, wherever nets may stay as they are.
+    pub forced: Vec<PairSet>,
     /// What faults may do at each net: between two answers nothing anywhere.
     pub sites: Vec<Site>,
 }
@@ -53,8 +56,18 @@ fn note(answers: &mut [Answer], start: usize, end: usize, answer: Answer)
     }
 }
 
+// The pairs that are forced where nets have this site. Where they are held at a value none is known to be.
+fn forced_for(forced: &[PairSet], site: Site) -> &[PairSet]
+    ensures { AreThoseFor site forced.now result.now }
+{
+    match site {
+        Site::Free => forced,
+        Site::Intact | Site::Only(_) => &[],
+    }
+}
+
 impl AnswerSearch {
-    /// A search for what is posed of a netlist. It takes the memory of all that it does: two bytes for each net and frame of a window, and
+    /// A search for what is posed of a netlist. It takes the memory of all that it does: three bytes for each net and frame of a window, and
     /// a few for each net and latch.
     pub fn new(
         alloc: Global,
@@ -71,17 +84,62 @@ impl AnswerSearch {
             lead: Search::new(alloc, searched.netlist, searched.watchers, 1)?,
             window: WindowSearch::new(alloc, searched, frames)?,
             starts: filled(alloc, PairSet::NONE, searched.netlist.latches().len())?,
+            forced: filled(alloc, PairSet::NONE, searched.netlist.latches().len())?,
             sites: filled(alloc, Site::Intact, searched.netlist.nets())?,
         })
     }
 
-    /// The answer to a claim in whose region these nets have this site, and all others are intact.
+    /// A search with a shorter window, which knows the same pairs to be forced. It takes as much memory as `new`.
+    pub fn shorter(
+        &self,
+        alloc: Global,
+        searched: &Searched<'_>,
+        posed: &Posed<'_>,
+        window: u32,
+    ) -> Result<AnswerSearch, NoRoom>
+        requires searched { IsSearched searched.now }
+        requires ready { IsReady searched.now posed.now self.now }
+        requires less { window ≤ posed.now.window }
+        requires frames { posed.now.window + posed.now.ahead + 1 ≤ 2 ^ 16 }
+        requires few { (posed.now.window + posed.now.ahead + 1) * places_of searched.now.watchers.now < 2 ^ 32 }
+        ensures { IfOk result (IsReady searched.now (with_length posed.now window)) }
+    {
+        let shorter = Posed { window, ..*posed };
+        let mut made = AnswerSearch::new(alloc, searched, &shorter)?;
+        made.forced.copy_from_slice(&self.forced);
+        Ok(made)
+    }
+
+    /// Looks for the pairs with which each latch has to start, wherever nets may stay as they are: those with which windows go on where
+    /// nothing is done anywhere. Each claim in whose region nets are free begins with them, and needs few looks more.
+    pub fn find_forced(&mut self, searched: &Searched<'_>, posed: &Posed<'_>)
+        requires searched { IsSearched searched.now }
+        requires posed { MayBePosed searched.now.netlist.now posed.now }
+        requires ready { IsReady searched.now posed.now self.old }
+        ensures ready { IsReady searched.now posed.now self.new }
+    {
+        let question = Question {
+            posed: *posed,
+            sites: &self.sites,
+        };
+        forced_pairs(
+            &mut self.lead,
+            &mut self.window,
+            searched,
+            &question,
+            &mut self.forced,
+        );
+    }
+
+    /// The answer to a claim in whose region these nets have this site, and all others are intact; where it is open, by cases too, if they are
+    /// asked for.
     pub fn answer(
         &mut self,
         searched: &Searched<'_>,
         posed: &Posed<'_>,
         nets: &[NetId],
         site: Site,
+        by_cases: bool,
     ) -> Answer
         requires searched { IsSearched searched.now }
         requires posed { MayBePosed searched.now.netlist.now posed.now }
@@ -95,19 +153,23 @@ impl AnswerSearch {
             posed: *posed,
             sites: &self.sites,
         };
-        let answer = answer_claim(
+        let forced = forced_for(&self.forced, site);
+        let answer = answer_by_cases(
             &mut self.lead,
             &mut self.window,
             searched,
             &question,
+            forced,
             &mut self.starts,
+            by_cases,
         );
         mark(&mut self.sites, nets, Site::Intact);
         answer
     }
 
     /// The answers to claims in whose regions one of these nets is free, for the nets from one place to another. All of them are asked of at
-    /// once; where that tells nothing of each, they are halved. So few open nets of many cost few answers.
+    /// once; where that tells nothing of each, they are halved. So few open nets of many cost few answers. All nets at once, and each
+    /// by itself, are asked of by cases too.
     pub fn answer_free(
         &mut self,
         searched: &Searched<'_>,
@@ -132,7 +194,8 @@ impl AnswerSearch {
         if start == end {
             return;
         }
-        let whole = self.answer(searched, posed, &nets[start..end], Site::Free);
+        let by_cases = end - start == 1 || end - start == nets.len();
+        let whole = self.answer(searched, posed, &nets[start..end], Site::Free, by_cases);
         if whole.is_of_parts() {
             note(answers, start, end, whole);
             return;

@@ -12,15 +12,15 @@ ghost use Rattle.claim_search.specs.Window.{Allows, AreKept, HasShown, IsOver, W
 
 use crate::question::{Question, Searched};
 use pair_sets::PairSet;
-use region_search::{Beginning, Search};
+use region_search::{Beginning, Search, Trial};
 use room::NoRoom;
 use std::alloc::Global;
 
-/// The search of a window, and a second one in which pairs are tried.
+/// The search of a window, and what pairs are tried in.
 #[derive(Drop)]
 pub struct WindowSearch {
     pub search: Search,
-    pub trial: Search,
+    pub trial: Trial,
 }
 
 // What one look at a window has shown.
@@ -35,7 +35,7 @@ enum Seen {
 }
 
 impl WindowSearch {
-    /// Searches of windows with so many frames. It takes the memory of all that `close` does: two bytes for each net and frame.
+    /// Searches of windows with so many frames. It takes the memory of all that `close` does: three bytes for each net and frame.
     pub fn new(
         alloc: Global,
         searched: &Searched<'_>,
@@ -47,7 +47,7 @@ impl WindowSearch {
         ensures { IfOk result (IsOver searched.now.watchers.now frames) }
     {
         let search = Search::new(alloc, searched.netlist, searched.watchers, frames)?;
-        let trial = Search::new(alloc, searched.netlist, searched.watchers, frames)?;
+        let trial = Trial::new(alloc, searched.netlist, searched.watchers, frames)?;
         Ok(WindowSearch { search, trial })
     }
 

@@ -17,7 +17,7 @@ use Rattle.command_line.specs.Words.{alone_word, text_or, HasNumber, HasOwn, Has
 use Rattle.command_line.specs.WordsSteps.{IsMet}
 use Rattle.command_line.specs.Table.{fmeda_app, tasks, word_of}
 use Rattle.command_line.proofs.CycleLists.{same_cycles, same_numbers}
-use Rattle.command_line.proofs.Numbers.{same_number}
+use Rattle.command_line.proofs.Numbers.{same_number, same_window}
 use Rattle.command_line.proofs.Stretches.{same_flips}
 use Rattle.std.proofs.lemmas.Option.{same_Some}
 
@@ -50,6 +50,7 @@ plain (task.Breakdown ns n) = task.Breakdown [] 0
 plain (task.Latencies n) = task.Latencies 0
 plain (task.Coverage n) = task.Coverage 0
 plain (task.Trace n f ns) = task.Trace 0 None None
+plain (task.Always w a) = task.Always None 0
 plain other = other
 
 -- which the table has in one place alone, by its word
@@ -100,6 +101,10 @@ module _ (rows : List Row) where
       let fault : f ≡ g = sym p.1 ∙ q.1 in
       let nets : ns ≡ ms = sym p.2 ∙ q.2 in
       λ i. task.Trace (run i) (fault i) (nets i)
+  same_own (task.Always w a) (task.Always v b) e p q =
+      let window : w ≡ v = same_window rows w v p.0 q.0 in
+      let ahead : a ≡ b = same_number rows [] (codes "ahead") 0 8 a b p.1 q.1 in
+      λ i. task.Always (window i) (ahead i)
   same_own a (task.Run m) e p q = cc
   same_own a b e p q = cc
 

@@ -1,6 +1,7 @@
 -- Where the number of workers can't be read, the words are no task that has it.
 use Rattle.std.proofs.Common.{◌≡◌, ◌∙◌, ℕ, List, [], refl, codes, sym}
-use Rattle.clap.specs.Words.{Row, Text}
+use Rattle.std.specs.Prelude.{None, Some}
+use Rattle.clap.specs.Words.{Row, Text, first_of}
 use Rattle.commands.specs.declared.command.Task.{Task}
 use Rattle.commands.specs.declared.command.Task.TheVariants as task
 use Rattle.command_line.specs.Table.{word_of}
@@ -28,3 +29,15 @@ module _ (rows : List Row) (none : (workers : ℕ) → ¬ (HasNumber rows [] (co
   pub no_coverage : word ≡ codes "coverage" → (own : Task) → ¬ (IsTaskOf word rows own)
   no_coverage e (task.Coverage workers) is = none workers is.1
   no_coverage e other is = absurd (apart (codes "coverage") (word_of other) refl (sym e ∙ is.0))
+
+module _ (rows : List Row) where
+  pub no_ahead : ((ahead : ℕ) → ¬ (HasNumber rows [] (codes "ahead") 0 8 ahead)) → (own : Task) → ¬ (IsTaskOf (codes "always") rows own)
+  no_ahead none (task.Always window ahead) is = none ahead is.1.1
+  no_ahead none other is = absurd (apart (codes "always") (word_of other) refl is.0)
+
+  -- of a window that stands there
+  pub no_window : (text : Text) → first_of (codes "window") rows ≡ Some text → ((cycles : ℕ) → ¬ (HasNumber rows [] (codes "window") 0 8 cycles))
+      → (own : Task) → ¬ (IsTaskOf (codes "always") rows own)
+  no_window text stands none (task.Always (Some cycles) ahead) is = none cycles is.1.0
+  no_window text stands none (task.Always None ahead) is = cc
+  no_window text stands none other is = absurd (apart (codes "always") (word_of other) refl is.0)

@@ -24,6 +24,7 @@ row_of own =
     let workers : List Rule = within 1 32 (option (codes "workers") (codes "1")) in
     let asil : List Rule = option (codes "asil") (codes "D") ∷ [] in
     let run : List Rule = within 1 65536 (option (codes "run") (codes "1")) in
+    let window : List Rule = within 0 8 (free (codes "window")) ++ within 0 8 (option (codes "ahead") (codes "1")) in
     let plan : List Rule = inputs ++ place (codes "result") ∷ ftti ++ lists in
     elim own [
       | task.Classes ↦ (codes "classes", map place (codes "netlist" ∷ codes "workload" ∷ []))
@@ -44,6 +45,7 @@ row_of own =
       | task.Latencies n ↦ (codes "latencies", inputs ++ ftti ++ lists ++ asil ++ workers)
       | task.Coverage n ↦ (codes "coverage", inputs ++ ftti ++ lists ++ asil ++ workers)
       | task.Trace n f ns ↦ (codes "trace", map place (codes "netlist" ∷ codes "workload" ∷ []) ++ run ++ free (codes "fault") ∷ lists ++ free (codes "nets") ∷ [])
+      | task.Always w a ↦ (codes "always", map place (codes "netlist" ∷ codes "rates" ∷ codes "points" ∷ codes "held" ∷ []) ++ ftti ++ window ++ lists ++ asil)
     ]
 
 abbrev pub word_of : Task → Text
@@ -54,7 +56,7 @@ abbrev pub tasks : List Task
 tasks =
     task.Classes ∷ task.Check ∷ task.Run 0 ∷ task.Resume 0 ∷ task.Audit 0 Lanes ∷ task.Gen 0 0 ∷ task.Report ∷ task.Shard 0 0 ∷ task.Merge ∷ task.Reweigh
     ∷ task.Pairs 0 ∷ task.Parts ∷ task.Faults ∷ task.Progress ∷ task.Breakdown [] 0 ∷ task.Latencies 0 ∷ task.Coverage 0
-    ∷ task.Trace 0 None None ∷ []
+    ∷ task.Trace 0 None None ∷ task.Always None 0 ∷ []
 
 -- the program, of which one command must be named
 abbrev pub fmeda_app : App

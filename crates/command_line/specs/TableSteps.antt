@@ -46,6 +46,7 @@ rule_for argument.ResultFile = positional (codes "result")
 rule_for argument.First = positional (codes "first")
 rule_for argument.Second = positional (codes "second")
 rule_for argument.NewRates = positional (codes "newrates")
+rule_for argument.Held = positional (codes "held")
 rule_for argument.Stages = bounded (positional (codes "stages")) 1 1000
 rule_for argument.Ftti = bounded (option (codes "ftti") (codes "0")) 0 4096
 rule_for argument.Flips = option (codes "flips") (codes "none")
@@ -61,6 +62,8 @@ rule_for argument.Intervals = option (codes "intervals") (codes "none")
 rule_for argument.Run = bounded (option (codes "run") (codes "1")) 1 65536
 rule_for argument.Fault = free_option (codes "fault")
 rule_for argument.Nets = free_option (codes "nets")
+rule_for argument.Window = bounded (free_option (codes "window")) 0 8
+rule_for argument.Ahead = bounded (option (codes "ahead") (codes "1")) 0 8
 
 -- a command with this argument behind its others
 abbrev pub with_argument : App → Argument → App

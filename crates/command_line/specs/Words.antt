@@ -1,5 +1,5 @@
 -- Which command words are. The first word is the program's name.
-use Rattle.std.specs.Prelude.{◌≡◌, ◌≢◌, ◌⊎◌, ℕ, ◌<◌, ◌≤◌, List, [], ◌∷◌, ◌++◌, Option, Some, None, Ok, codes, decimal, unwrap_or}
+use Rattle.std.specs.Prelude.{◌≡◌, ◌≢◌, ◌⊎◌, ℕ, ◌<◌, ◌≤◌, List, [], ◌∷◌, ◌++◌, Option, Some, None, Ok, MatchOption, codes, decimal, unwrap_or}
 use Rattle.std.specs.Str.{byte}
 use Rattle.std.specs.List.{AllByRecursion as ForEach}
 use Rattle.std.specs.Str.Parse.{ParsesUnsigned}
@@ -23,6 +23,7 @@ use Rattle.command_line.specs.Table.{fmeda_app, word_of}
 -- the argument that names a file. Of `reweigh` the word RESULT of its page is the argument `first`, and NEWRESULT is `result`
 abbrev pub file_word : Which → Text
 file_word = by_file (codes "netlist") (codes "workload") (codes "rates") (codes "points") (codes "result") (codes "first") (codes "second") (codes "newrates")
+    (codes "held")
 
 -- whether `--alone` is given
 abbrev pub alone_word : AuditBy → Text
@@ -57,7 +58,7 @@ module _ (rows : List Row) where
     pub pulses : (text_or (codes "none") (codes "pulses") ≡ cycles_text set.pulses) × AreCycles 4 set.pulses
     pub asil : text_or (codes "D") (codes "asil") ≡ asil_word set.asil
 
-  -- what is a task's own
+  -- what is a task's own; the window of `always` is one only where its option stands there
   abbrev pub HasOwn : Task → Type 0
   HasOwn own =
       let HasWorkers : ℕ → Type 0 = λ workers. HasNumber [] (codes "workers") 1 32 workers in
@@ -72,6 +73,8 @@ module _ (rows : List Row) where
         | task.Latencies workers ↦ HasWorkers workers
         | task.Coverage workers ↦ HasWorkers workers
         | task.Trace run fault nets ↦ HasNumber [] (codes "run") 1 65536 run × (first_of (codes "fault") rows ≡ fault) × (first_of (codes "nets") rows ≡ nets)
+        | task.Always window ahead ↦ MatchOption window (first_of (codes "window") rows ≡ None) (λ cycles. HasNumber [] (codes "window") 0 8 cycles)
+            × HasNumber [] (codes "ahead") 0 8 ahead
         | _ ↦ Unit {0}
       ]
 

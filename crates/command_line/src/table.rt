@@ -11,8 +11,9 @@ use crate::cycles::read_numbers;
 use crate::entries::{manner_of, number_of, text_of};
 use crate::read::WordsRefusal;
 use Argument::{
-    Alone, Asil, Every, Fault, First, Flips, Ftti, Intervals, Netlist, Nets, NewRates, Of, Part,
-    Points, Pulses, Rates, ResultFile, Run, Second, Stages, Upsets, Workers, Workload,
+    Ahead, Alone, Asil, Every, Fault, First, Flips, Ftti, Held, Intervals, Netlist, Nets, NewRates,
+    Of, Part, Points, Pulses, Rates, ResultFile, Run, Second, Stages, Upsets, Window, Workers,
+    Workload,
 };
 use clap::{Arg, ArgAction, ArgMatches, Command, value_parser};
 use commands::Task;
@@ -31,6 +32,7 @@ enum Argument {
     First,
     Second,
     NewRates,
+    Held,
     Stages,
     Ftti,
     Flips,
@@ -46,6 +48,8 @@ enum Argument {
     Run,
     Fault,
     Nets,
+    Window,
+    Ahead,
 }
 
 const MOST_INTERVALS: usize = 16;
@@ -110,6 +114,7 @@ fn arg_of<'a>(alloc: Global, argument: Argument) -> Arg<'a>
         First => named_arg(alloc, "first"),
         Second => named_arg(alloc, "second"),
         NewRates => named_arg(alloc, "newrates"),
+        Held => named_arg(alloc, "held"),
         Stages => named_arg(alloc, "stages").value_parser(value_parser!(u32).range(1..=1000)),
         Ftti => option_arg(alloc, "ftti", "0").value_parser(value_parser!(u32).range(0..=4096)),
         Flips => option_arg(alloc, "flips", "none"),
@@ -125,6 +130,8 @@ fn arg_of<'a>(alloc: Global, argument: Argument) -> Arg<'a>
         Run => option_arg(alloc, "run", "1").value_parser(value_parser!(u32).range(1..=65536)),
         Fault => free_arg(alloc, "fault"),
         Nets => free_arg(alloc, "nets"),
+        Window => free_arg(alloc, "window").value_parser(value_parser!(u32).range(0..=8)),
+        Ahead => option_arg(alloc, "ahead", "1").value_parser(value_parser!(u32).range(0..=8)),
     }
 }
 
@@ -170,6 +177,11 @@ fn command_rows() -> &'static [Row]
             "trace",
             &[Netlist, Workload],
             &[Run, Fault, Flips, Upsets, Pulses, Nets],
+        ),
+        Row(
+            "always",
+            &[Netlist, Rates, Points, Held],
+            &[Ftti, Window, Ahead, Flips, Upsets, Pulses, Asil],
         ),
     ]
 }
@@ -265,6 +277,18 @@ fn audit_of(matches: &ArgMatches) -> Option<Task>
     Some(Task::Audit { every, by })
 }
 
+// The window is one only where its option stands there.
+fn always_of(matches: &ArgMatches) -> Option<Task>
+    ensures { Finds (IsTaskOf (codes "always") (rows_of (found_of matches.now))) result }
+{
+    let ahead = number_of(matches, "ahead", "", 0, 8)?;
+    let window = match matches.get_str("window") {
+        Some(_) => Some(number_of(matches, "window", "", 0, 8)?),
+        None => None,
+    };
+    Some(Task::Always { window, ahead })
+}
+
 // The task of this word where it has neither lists nor texts of its own.
 fn plain_task_of(word: &str, matches: &ArgMatches) -> Option<Task>
     requires lists { word.now ≢ codes "breakdown" }
@@ -298,6 +322,7 @@ fn plain_task_of(word: &str, matches: &ArgMatches) -> Option<Task>
         "coverage" => Some(Task::Coverage {
             workers: workers_of(matches)?,
         }),
+        "always" => always_of(matches),
         _ => None,
     }
 }

@@ -1,5 +1,5 @@
 -- What is judged behind a netlist and behind a plan.
-use Rattle.std.proofs.Common.{◌≡◌, ap, refl, List, [], inl, inr}
+use Rattle.std.proofs.Common.{◌≡◌, ap, refl, List, inl, inr}
 use Rattle.std.specs.Prelude.{Option, Some, None, Result, Ok, Err, length, nat_lt, if◌then◌else◌}
 use Rattle.fm_base.specs.Names.{Bytes}
 use Rattle.circuit.specs.declared.parts.NetId.{NetId}

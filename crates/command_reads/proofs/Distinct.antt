@@ -1,6 +1,6 @@
 -- The rows that are kept of a file are of distinct batches of the plan.
-use Rattle.std.proofs.Common.{◌≡◌, ◌∙◌, ap, sym, refl, subst, ℕ, ◌<◌, Bool, true, false, not, List, [], ◌∷◌, ◌++◌, map, take, arith, append_assoc, append-nil}
-use Rattle.std.specs.Prelude.{◌==◌, Option, Some, None, Result, Ok, Err, nat_le}
+use Rattle.std.proofs.Common.{◌≡◌, ◌∙◌, sym, refl, subst, ℕ, ◌<◌, Bool, true, false, not, List, [], ◌∷◌, ◌++◌, map, take, arith, append_assoc, append-nil}
+use Rattle.std.specs.Prelude.{◌==◌, Option, Some, None, Ok, nat_le}
 use Rattle.std.specs.List.{list_any}
 use Rattle.std.specs.Str.{bytes_eq}
 use Rattle.std.proofs.lemmas.Bool.Decides.{nat_tests}

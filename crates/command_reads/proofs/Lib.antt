@@ -5,5 +5,6 @@ pub mod Netlists
 pub mod Plans
 pub mod Reading
 pub mod Renewing
+pub mod Runless
 pub mod Steps
 pub mod Wholes

@@ -1,11 +1,10 @@
 -- A result file by other rates: the plan with RATES, RESULT, and the plan with NEWRATES.
 use Rattle.std.proofs.Common.{◌≡◌, ◌∙◌, ap, refl, subst, sym, List, [], inl, inr}
-use Rattle.std.specs.Prelude.{Option, Some, None, Result, Ok, Err, map, option_map}
+use Rattle.std.specs.Prelude.{Option, Some, None, Result, Ok, Err}
 use Rattle.fm_base.specs.Names.{Bytes}
 use Rattle.circuit.specs.declared.parts.NetId.{NetId}
 use Rattle.circuit.specs.Circuit.{Circuit}
 use Rattle.workload.specs.WorkloadFile.{workload_of}
-use Rattle.rate_table.specs.RatesFile.{rates_of}
 use Rattle.alarm_points.specs.PointsFile.{points_of}
 use Rattle.campaign_plan.specs.declared.Settings.{Settings}
 use Rattle.campaign_plan.specs.Analysis.{Analysis}
@@ -13,12 +12,11 @@ use Rattle.campaign_plan.specs.Batches.{AreDistinct}
 use Rattle.result_file.specs.declared.KeptRows.{KeptRows}
 use Rattle.result_file.specs.declared.ResultRefusal.{ResultRefusal}
 use Rattle.result_file.specs.declared.Row.{Row}
-use Rattle.result_file.specs.KeptRows.{entry_of, kept as kept_of, kept_entries}
+use Rattle.result_file.specs.KeptRows.{kept as kept_of, kept_entries}
 use Rattle.result_reweigh.specs.Laws.{DifferInRates}
 use Rattle.result_reweigh.specs.Reweighed.{reweighed}
 use Rattle.result_reweigh.proofs.Lawful.{lawful}
 use Rattle.commands.specs.declared.command.Kind.TheVariants as kind
-use Rattle.commands.specs.declared.command.Which.{Which}
 use Rattle.commands.specs.declared.command.Which.TheVariants as which
 use Rattle.refusals.specs.declared.refused.Refused.{Refused}
 use Rattle.refusals.specs.declared.refused.Refused.TheVariants.{By, Looped}
@@ -29,8 +27,8 @@ use Rattle.refusals.specs.Refusals.{HasItsNets, IsPlain, status_of}
 use Rattle.refusals.specs.WantOfMemory.{IsMemory}
 use Rattle.refusals.proofs.Refusals.{ok_same}
 use Rattle.command_reads.specs.declared.reweighed.Reweighed.{Reweighed as ReweighedOf}
-use Rattle.command_reads.specs.Answers.{AnswersAs, AreBefore, LoopsAnswered, ReweighsAs, StayDistinct, TakesAs, WeighsAs, plan_behind, refused_new}
-use Rattle.command_reads.specs.Files.{AreShort, IsShort, Reads, exchanged, known_by}
+use Rattle.command_reads.specs.Answers.{AnswersAs, AreBefore, ReweighsAs, StayDistinct, TakesAs, WeighsAs, plan_behind, refused_new}
+use Rattle.command_reads.specs.Files.{AreShort, Reads, exchanged, known_by}
 use Rattle.command_reads.specs.FirstRefusal.{Judged, Reweighed, judge, netlist_read, netlist_step, of_new, own_header, plan_of, read_as, rows_in, told_of_new, unless, whole, ◌>>=◌}
 use Rattle.command_reads.proofs.Distinct.{kept_distinct}
 use Rattle.command_reads.proofs.Plans.{AreParts, bound, parts_of, plan_is}
@@ -46,6 +44,7 @@ short_exchanged reads short which.Result = short which.Result
 short_exchanged reads short which.First = short which.First
 short_exchanged reads short which.Second = short which.Second
 short_exchanged reads short which.NewRates = short which.Rates
+short_exchanged reads short which.Held = short which.Held
 
 -- ---- a refusal of RATES, told of NEWRATES
 

@@ -24,6 +24,7 @@ use Rattle.result_file.specs.declared.Row.{Row}
 use Rattle.result_file.specs.KeptRows.{entry_of, kept_entries}
 use Rattle.result_merge.specs.Merged.{merged}
 use Rattle.result_reweigh.specs.Reweighed.{reweighed}
+use Rattle.held_inputs.specs.HeldKept.{AreHeldFor}
 use Rattle.commands.specs.declared.command.Kind.TheVariants as kind
 use Rattle.commands.specs.declared.command.Which.TheVariants as which
 use Rattle.commands.specs.Commands.{settings_of}
@@ -42,9 +43,12 @@ use Rattle.command_reads.specs.declared.observed.Observed.{Observed}
 use Rattle.command_reads.specs.declared.planned.Planned.{Planned}
 use Rattle.command_reads.specs.declared.rated.Rated.{Rated}
 use Rattle.command_reads.specs.declared.reweighed.Reweighed.{Reweighed}
+use Rattle.command_reads.specs.declared.supposed.Runless.{Runless}
+use Rattle.command_reads.specs.declared.supposed.RunlessTables.{RunlessTables}
+use Rattle.command_reads.specs.declared.supposed.Supposed.{Supposed}
 use Rattle.command_reads.specs.declared.tables.Tables.{Tables}
 use Rattle.command_reads.specs.Files.{Reads, known_by}
-use Rattle.command_reads.specs.FirstRefusal.{Judged, Planned as StandsPlanned, Driven as StandsDriven, Rated as StandsRated, Begun as StandsBegun, Merged as StandsMerged, Reweighed as StandsReweighed, judge, netlist_read, of_new, netlist_step, own_header, plan_of, read_as, rows_in, unless, ◌>>=◌}
+use Rattle.command_reads.specs.FirstRefusal.{Judged, Planned as StandsPlanned, Driven as StandsDriven, Rated as StandsRated, Begun as StandsBegun, Merged as StandsMerged, Reweighed as StandsReweighed, Supposed as StandsSupposed, judge, netlist_read, of_new, netlist_step, own_header, plan_of, read_as, rows_in, runless_plan_of, unless, ◌>>=◌}
 
 -- a step over bytes: it gives this, or refuses by a status that names no net; want of memory is free
 abbrev pub AnswersAs : {A : Type 0} → Result A Status → Result A Status → Type 0
@@ -203,3 +207,44 @@ abbrev pub RatesAs : (netlist : Bytes) → Settings → Reads → Result Rated R
 RatesAs netlist set reads (Ok made) =
     TakesAs netlist reads (λ walk. judge netlist walk set reads kind.Rated) (Ok (StandsRated made.ordered.net made.rates))
 RatesAs netlist set reads (Err refused) = TakesAs netlist reads (λ walk. judge netlist walk set reads kind.Rated) (Err refused)
+
+-- what `always` works on fits together: a plan that has no runs, an order of its tables, and held inputs of its netlist
+pub record IsSupposed (made : Supposed) : Type 0 where
+  pub plan : IsPlan made.plan
+  pub order : IsOrder made.plan.circuit made.order
+  pub no_loop : HasNoLoop made.plan.circuit
+  pub held : AreHeldFor made.plan.circuit made.held
+  pub runs : made.plan.runs ≡ []
+
+abbrev pub SupposesAs : (netlist : Bytes) → Settings → Reads → Result Supposed Refused → Type 0
+SupposesAs netlist set reads (Ok made) =
+    TakesAs netlist reads (λ walk. judge netlist walk set reads kind.Supposed) (Ok (StandsSupposed made.plan made.held))
+SupposesAs netlist set reads (Err refused) = TakesAs netlist reads (λ walk. judge netlist walk set reads kind.Supposed) (Err refused)
+
+-- the plan without runs behind a netlist
+unfoldable pub runless_behind : Circuit → Settings → Reads → Result Analysis Status
+runless_behind c set reads = do
+  rates ← read_as which.Rates status.Rates rates_of reads
+  points ← read_as which.Points status.Points (points_of c) reads
+  plan_step (record { circuit = c; runs = []; rates = rates; points = points; settings = set })
+
+-- RATES, POINTS behind a netlist, or the first refusal, whichever the settings
+abbrev pub RunlessTablesAs : Circuit → Reads → Result RunlessTables Status → Type 0
+RunlessTablesAs c reads (Ok made) =
+    (read_as which.Rates status.Rates rates_of reads ≡ Ok made.rates) × (read_as which.Points status.Points (points_of c) reads ≡ Ok made.points)
+RunlessTablesAs c reads (Err ended) = (IsMemory ended ⊎ ((set : Settings) → runless_behind c set reads ≡ Err ended)) × IsPlain ended
+
+-- the plan of what was read
+abbrev pub RunlessAs : Analysis → Result Runless Status → Type 0
+RunlessAs p (Ok made) = AnswersAs (plan_step p) (Ok made.plan)
+RunlessAs p (Err ended) = AnswersAs (plan_step p) (Err ended)
+
+-- the plan without runs of the three files
+abbrev pub RunlessPlansAs : (netlist : Bytes) → Settings → Reads → Result Runless Refused → Type 0
+RunlessPlansAs netlist set reads (Ok made) = TakesAs netlist reads (λ walk. runless_plan_of netlist walk set reads) (Ok made.plan)
+RunlessPlansAs netlist set reads (Err refused) = TakesAs netlist reads (λ walk. runless_plan_of netlist walk set reads) (Err refused)
+
+-- it has no runs, and the order is one of its tables
+pub record IsRunless (made : Runless) : Type 0 where
+  pub order : IsOrder made.plan.circuit made.order
+  pub runs : made.plan.runs ≡ []

@@ -30,7 +30,7 @@ WasRead before after name Failed = CountRose (before.read_faults name) (after.re
 
 -- the texts that are generated for so many stages
 abbrev pub generated : ℕ → Which → Bytes
-generated stages = by_file (netlist_text stages) (workload_text stages) rates_text points_text [] [] [] []
+generated stages = by_file (netlist_text stages) (workload_text stages) rates_text points_text [] [] [] [] []
 
 -- each file of a command of this kind was read; or the generated texts stand for them
 abbrev pub WereRead : (before after : ShelfState) → (names : Which → Bytes) → Reads → Kind → Type 0
@@ -48,7 +48,7 @@ bytes_of _ = []
 abbrev pub exchanged : Reads → Reads
 exchanged reads =
     by_file (reads which.Netlist) (reads which.Workload) (reads which.NewRates) (reads which.Points) (reads which.Result) (reads which.First)
-    (reads which.Second) (reads which.Rates)
+    (reads which.Second) (reads which.Rates) (reads which.Held)
 
 -- ---- what the code has of it
 
@@ -58,7 +58,7 @@ given bytes = if nat_le (length bytes) greatest then Whole bytes else TooLong
 
 -- what was read of each file
 abbrev pub reads_by : ReadsOf → Reads
-reads_by reads = by_file reads.netlist reads.workload reads.rates reads.points reads.result reads.first reads.second reads.new_rates
+reads_by reads = by_file reads.netlist reads.workload reads.rates reads.points reads.result reads.first reads.second reads.new_rates reads.held
 
 -- what is known of a file by what was read of it
 abbrev pub known_by : FileRead → Content

@@ -1,5 +1,5 @@
 -- THE ORDER OF THE CHECKS. Each step gives what it reads, or the refusal; a line is reached only where no line above it refuses.
-use Rattle.std.specs.Prelude.{◌≡◌, Bool, not, ◌&&◌, List, [], ◌∷◌, length, Option, Some, None, Result, Ok, Err, find, option_map, if◌then◌else◌, nat_lt, ◌==◌, true, false, codes}
+use Rattle.std.specs.Prelude.{◌≡◌, List, [], ◌∷◌, length, Option, Some, None, Result, Ok, Err, option_map, if◌then◌else◌, nat_lt, true, false, codes}
 use Rattle.fm_base.specs.Names.{Bytes}
 use Rattle.metric_sums.specs.declared.Role.TheVariants.{Mission}
 use Rattle.circuit.specs.declared.parts.NetId.{NetId}
@@ -12,25 +12,22 @@ use Rattle.rate_table.specs.Table.{RateTable}
 use Rattle.rate_table.specs.declared.Part.{Part}
 use Rattle.alarm_points.specs.declared.Points.{Points}
 use Rattle.alarm_points.specs.PointsFile.{points_of}
-use Rattle.campaign_plan.specs.declared.Outcome.{Outcome}
 use Rattle.campaign_plan.specs.declared.Settings.{Settings}
 use Rattle.campaign_plan.specs.Analysis.{Analysis, batch_count}
 use Rattle.campaign_plan.specs.PlanFaults.{plan_refusal}
-use Rattle.campaign_plan.specs.Batches.{true_planes}
 use Rattle.result_file.specs.declared.KeptRows.{KeptRows}
 use Rattle.result_file.specs.declared.Row.{Row}
 use Rattle.result_file.specs.ResultText.{own_digest, header_text}
 use Rattle.result_file.specs.KeptRows.{kept}
 use Rattle.result_merge.specs.Merged.{merged}
 use Rattle.result_reweigh.specs.Reweighed.{reweighed}
-use Rattle.pair_list.specs.Chosen.{pair_refusal}
+use Rattle.coverage_claim.specs.declared.parts.Held.{Held}
+use Rattle.held_inputs.specs.HeldFile.{held_of}
 use Rattle.commands.specs.declared.command.Kind.{Kind}
 use Rattle.commands.specs.declared.command.Kind.TheVariants as kind
-use Rattle.commands.specs.declared.command.Task.{Task}
-use Rattle.commands.specs.declared.command.Task.TheVariants as task
 use Rattle.commands.specs.declared.command.Which.{Which}
 use Rattle.commands.specs.declared.command.Which.TheVariants as which
-use Rattle.commands.specs.Commands.{Command, kind_of, settings_of}
+use Rattle.commands.specs.Commands.{settings_of}
 use Rattle.refusals.specs.declared.status.Status.{Status}
 use Rattle.refusals.specs.declared.status.Status.TheVariants as status
 use Rattle.refusals.specs.NetlistFile.{netlist_in, or_refuse}
@@ -73,6 +70,15 @@ plan_of netlist walk set reads = do
   let p : Analysis = record { circuit = c; runs = runs; rates = rates; points = points; settings = set }
   unless (option_map status.Plan (plan_refusal p)) p
 
+-- the plan without runs of three files, or the first refusal: NETLIST of this name, RATES, POINTS; TOO MANY FAULTS, MISSING RATE, IDLE RATE
+unfoldable pub runless_plan_of : Bytes → Option (List NetId) → Settings → Reads → Result Analysis Status
+runless_plan_of netlist walk set reads = do
+  c ← netlist_step netlist walk reads
+  rates ← read_as which.Rates status.Rates rates_of reads
+  points ← read_as which.Points status.Points (points_of c) reads
+  let p : Analysis = record { circuit = c; runs = []; rates = rates; points = points; settings = set }
+  unless (option_map status.Plan (plan_refusal p)) p
+
 -- the plan of `classes`, or the first refusal: NETLIST, more than 1,024 outputs, WORKLOAD; one goal has all outputs, one part all nets
 unfoldable pub classes_plan_of : Bytes → Option (List NetId) → Reads → Result Analysis Status
 classes_plan_of netlist walk reads = do
@@ -111,8 +117,8 @@ abbrev pub told_of_new : {A : Type 0} → Result A Status → Result A Status
 told_of_new (Ok x) = Ok x
 told_of_new (Err ended) = Err (of_new ended)
 
--- what the files stand for: a plan; a netlist, its workload and settings; a netlist and rates; a plan and its kept rows, or those of two files; or
--- a plan with other rates, and rows by its weights
+-- what the files stand for: a plan; a netlist, its workload and settings; a netlist and rates; a plan and its kept rows, or those of two files;
+-- a plan with other rates, and rows by its weights; or a plan without runs, and its held inputs
 pub data Judged : Type 0 where
   Planned : (p : Analysis) → Judged
   Driven : (c : Circuit) → (runs : List Run) → (set : Settings) → Judged
@@ -120,9 +126,10 @@ pub data Judged : Type 0 where
   Begun : (p : Analysis) → (k : KeptRows) → Judged
   Merged : (p : Analysis) → (both : List Row) → Judged
   Reweighed : (p : Analysis) → (rows : List Row) → Judged
+  Supposed : (p : Analysis) → (held : List Held) → Judged
 
 -- what the files of this kind stand for, or the first refusal. Of two result files FIRST is judged whole before SECOND, and then the batches
--- of both; of RESULT (FIRST) and NEWRATES, RESULT by the plan with RATES before the plan with NEWRATES; with a netlist and rates alone a net may lack a rate; a generated netlist has no name, is BLIF, and has flips in cycle 1 and no pulses
+-- of both; of RESULT (FIRST) and NEWRATES, RESULT by the plan with RATES before the plan with NEWRATES; the plan without runs before HELD; with a netlist and rates alone a net may lack a rate; a generated netlist has no name, is BLIF, and has flips in cycle 1 and no pulses
 unfoldable pub judge : Bytes → Option (List NetId) → Settings → Reads → Kind → Result Judged Status
 judge netlist walk set reads kind.Observed = classes_plan_of netlist walk reads >>= (λ p. Ok (Planned p))
 judge netlist walk set reads kind.Planned = plan_of netlist walk set reads >>= (λ p. Ok (Planned p))
@@ -150,6 +157,10 @@ judge netlist walk set reads kind.Reweighed = do
   k ← rows_in which.First reads p
   q ← told_of_new (plan_of netlist walk set (exchanged reads))
   Ok (Reweighed q (reweighed q k.rows))
+judge netlist walk set reads kind.Supposed = do
+  p ← runless_plan_of netlist walk set reads
+  held ← read_as which.Held status.Held (held_of p.circuit) reads
+  Ok (Supposed p held)
 
 -- where the file of this name was read and is a netlist, it is `c`, and `walk` is what is answered of its loops
 abbrev pub IsLoopAnswer : Bytes → Reads → Circuit → Option (List NetId) → Type 0

@@ -12,8 +12,8 @@ use Rattle.refusals.specs.declared.refused.Refused.{Refused}
 use Rattle.command_reads.specs.declared.judge.Judged.{Judged as Made}
 use Rattle.command_reads.specs.declared.judge.Judged.TheVariants as made
 use Rattle.command_reads.specs.Files.{Reads, exchanged}
-use Rattle.command_reads.specs.FirstRefusal.{Judged, Driven, Rated, Planned, Begun, Merged, Reweighed, judge}
-use Rattle.command_reads.specs.Answers.{IsObserved, IsSound, TakesAs, classes_plan}
+use Rattle.command_reads.specs.FirstRefusal.{Judged, Driven, Rated, Planned, Begun, Merged, Reweighed, Supposed, judge}
+use Rattle.command_reads.specs.Answers.{IsObserved, IsSound, IsSupposed, TakesAs, classes_plan}
 
 -- what was made, as the definition has it
 abbrev pub made_by : Made → Judged
@@ -24,6 +24,7 @@ made_by (made.Planned d) = Planned d.plan
 made_by (made.Begun b) = Begun b.planned.plan b.kept
 made_by (made.Merged m) = Merged m.planned.plan m.rows
 made_by (made.Reweighed r) = Reweighed r.planned.plan r.rows
+made_by (made.Supposed s) = Supposed s.plan s.held
 
 -- it is what a command of this kind works on
 abbrev pub IsOfKind : Kind → Made → Type 0
@@ -34,6 +35,7 @@ IsOfKind kind.Planned (made.Planned d) = Unit {0}
 IsOfKind kind.Begun (made.Begun b) = Unit {0}
 IsOfKind kind.Merged (made.Merged m) = Unit {0}
 IsOfKind kind.Reweighed (made.Reweighed r) = Unit {0}
+IsOfKind kind.Supposed (made.Supposed s) = Unit {0}
 IsOfKind (kind.Generated stages) (made.Planned d) = Unit {0}
 IsOfKind _ _ = ⊥
 
@@ -46,6 +48,7 @@ AreSound reads (made.Planned d) = IsSound reads d
 AreSound reads (made.Begun b) = IsSound reads b.planned × AreDistinct b.planned.plan (kept_entries b.kept)
 AreSound reads (made.Merged m) = IsSound reads m.planned
 AreSound reads (made.Reweighed r) = IsSound (exchanged reads) r.planned
+AreSound reads (made.Supposed s) = IsSupposed s
 
 -- what the files of a command of this kind stand for, or the first refusal; want of memory is free
 abbrev pub JudgesAs : (netlist : Bytes) → Settings → Reads → Kind → Result Made Refused → Type 0

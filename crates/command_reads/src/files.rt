@@ -39,6 +39,7 @@ pub struct Reads {
     pub first: FileRead,
     pub second: FileRead,
     pub new_rates: FileRead,
+    pub held: FileRead,
 }
 
 impl Reads {
@@ -55,6 +56,7 @@ impl Reads {
             first: FileRead::Failed,
             second: FileRead::Failed,
             new_rates: FileRead::Failed,
+            held: FileRead::Failed,
         }
     }
 
@@ -72,6 +74,7 @@ impl Reads {
             Which::First => self.first = read,
             Which::Second => self.second = read,
             Which::NewRates => self.new_rates = read,
+            Which::Held => self.held = read,
         }
     }
 
@@ -88,6 +91,7 @@ impl Reads {
             result: self.result,
             first: self.first,
             second: self.second,
+            held: self.held,
         }
     }
 
@@ -104,6 +108,7 @@ impl Reads {
             Which::First => &self.first,
             Which::Second => &self.second,
             Which::NewRates => &self.new_rates,
+            Which::Held => &self.held,
         }
     }
 

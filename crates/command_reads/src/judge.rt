@@ -16,6 +16,7 @@ use crate::observed::{Observed, judge_observed};
 use crate::planned::{Planned, judge_plan};
 use crate::rated::{Rated, judge_rated};
 use crate::reweighed::{Reweighed, judge_reweighed};
+use crate::supposed::{Supposed, judge_supposed};
 use campaign_plan::Settings;
 use commands::Kind;
 use fm_base::Seq;
@@ -34,6 +35,7 @@ pub enum Judged {
     Begun(Begun),
     Merged(Merged),
     Reweighed(Reweighed),
+    Supposed(Supposed),
 }
 
 // The settings of the generated campaign: flips in cycle 1, and no pulses.
@@ -80,6 +82,7 @@ fn judge_as_read(
         Kind::Planned => Ok(Judged::Planned(judge_plan(alloc, netlist, settings, reads)?)),
         Kind::Begun => Ok(Judged::Begun(judge_begun(alloc, netlist, settings, reads)?)),
         Kind::Merged => Ok(Judged::Merged(judge_merged(alloc, netlist, settings, reads)?)),
+        Kind::Supposed => Ok(Judged::Supposed(judge_supposed(alloc, netlist, settings, reads)?)),
         Kind::Generated(_) => Ok(Judged::Planned(generated_plan(alloc, netlist, reads)?)),
         Kind::Reweighed => unreachable!(),
     }
@@ -189,6 +192,17 @@ impl Judged {
     {
         match self {
             Judged::Reweighed(reweighed) => reweighed,
+            _ => unreachable!(),
+        }
+    }
+
+    /// A plan without runs, and its held inputs.
+    pub fn supposed(&self) -> &Supposed
+        requires { IsOfKind kind.Supposed self.now }
+        ensures { self.now ≡ made.Supposed result.now }
+    {
+        match self {
+            Judged::Supposed(supposed) => supposed,
             _ => unreachable!(),
         }
     }

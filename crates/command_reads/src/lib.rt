@@ -12,4 +12,5 @@ pub mod planned;
 pub mod rated;
 pub mod reweighed;
 mod sample;
+pub mod supposed;
 mod tables;

@@ -34,7 +34,7 @@ pub struct Planned {
 }
 
 // The plan of what was read.
-fn plan_from(
+pub(crate) fn plan_from(
     alloc: Global,
     net: Netlist,
     work: Workload,

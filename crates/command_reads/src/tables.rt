@@ -56,8 +56,8 @@ pub(crate) fn rates_of(alloc: Global, reads: &Reads) -> Result<Rates, Status>
     }
 }
 
-// The points that were read.
-fn points_of(alloc: Global, reads: &Reads, net: &Netlist) -> Result<Points, Status>
+/// The points that were read.
+pub(crate) fn points_of(alloc: Global, reads: &Reads, net: &Netlist) -> Result<Points, Status>
     requires { AreShort (reads_by reads.now) }
     ensures answers { AnswersAs (read_as PointsFile PointsStatus (points_in net.now) (reads_by reads.now)) result }
     ensures fit { IfOk result (ArePointsFor net.now) }

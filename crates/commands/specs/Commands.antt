@@ -1,5 +1,5 @@
 -- A command: the names of its files, its settings, and what it does.
-use Rattle.std.specs.Prelude.{ℕ, ◌<◌, ◌≤◌, List, [], ◌∷◌, ◌++◌, All, length, None}
+use Rattle.std.specs.Prelude.{ℕ, ◌<◌, ◌≤◌, List, [], ◌∷◌, ◌++◌, All, IfSome, length, None}
 use Rattle.std.specs.List.Sorted.{IsStrictlyIncreasing}
 use Rattle.fm_base.specs.Names.{Bytes}
 use Rattle.metric_sums.specs.declared.Asil.TheVariants.{D}
@@ -8,11 +8,11 @@ use Rattle.campaign_plan.specs.declared.Settings.{Settings}
 use Rattle.commands.specs.declared.command.Asked.{Asked}
 use Rattle.commands.specs.declared.command.FileNames.{FileNames}
 use Rattle.commands.specs.declared.command.Kind.{Kind}
-use Rattle.commands.specs.declared.command.Kind.TheVariants.{Observed, Driven, Rated, Planned, Begun, Merged, Reweighed, Generated}
+use Rattle.commands.specs.declared.command.Kind.TheVariants.{Observed, Driven, Rated, Planned, Begun, Merged, Reweighed, Supposed, Generated}
 use Rattle.commands.specs.declared.command.Task.{Task}
 use Rattle.commands.specs.declared.command.Task.TheVariants as task
 use Rattle.commands.specs.declared.command.Which.{Which}
-use Rattle.commands.specs.declared.command.Which.TheVariants.{Netlist, Workload, Rates, Points, Result, First, Second, NewRates}
+use Rattle.commands.specs.declared.command.Which.TheVariants.{Netlist, Workload, Rates, Points, Result, First, Second, NewRates, Held}
 
 -- a command with what its words say; a file that it doesn't have has no name. Of `reweigh` Result is its word NEWRESULT, and First its RESULT
 pub record Command : Type 0 where
@@ -20,9 +20,10 @@ pub record Command : Type 0 where
   pub settings : Settings
   pub task : Task
 
--- what each of the eight files has
-abbrev pub by_file : {A : Type 0} → (netlist workload rates points result first second new_rates : A) → Which → A
-by_file n w r p s a b t = elim [ Netlist ↦ n | Workload ↦ w | Rates ↦ r | Points ↦ p | Result ↦ s | First ↦ a | Second ↦ b | NewRates ↦ t ]
+-- what each of the nine files has
+abbrev pub by_file : {A : Type 0} → (netlist workload rates points result first second new_rates held : A) → Which → A
+by_file n w r p s a b t h =
+    elim [ Netlist ↦ n | Workload ↦ w | Rates ↦ r | Points ↦ p | Result ↦ s | First ↦ a | Second ↦ b | NewRates ↦ t | Held ↦ h ]
 
 -- what a task reads; most read the plan of the four inputs, with its result file or without
 abbrev pub kind_of : Task → Kind
@@ -35,6 +36,7 @@ kind_of own =
       | task.Reweigh ↦ Reweighed
       | task.Gen stages n ↦ Generated stages
       | task.Trace run fault nets ↦ Driven
+      | task.Always window ahead ↦ Supposed
       | _ ↦ plan
     ]
 
@@ -48,6 +50,7 @@ inputs_of kind =
       | Rated ↦ Netlist ∷ Rates ∷ []
       | Merged ↦ plan ++ First ∷ Second ∷ []
       | Reweighed ↦ plan ++ First ∷ NewRates ∷ []
+      | Supposed ↦ Netlist ∷ Rates ∷ Points ∷ Held ∷ []
       | Generated n ↦ []
       | _ ↦ plan
     ]
@@ -84,6 +87,7 @@ HasFitNumbers (task.Breakdown intervals workers) = AreRising 16 4096 intervals �
 HasFitNumbers (task.Latencies workers) = (0 < workers) × (workers ≤ 32)
 HasFitNumbers (task.Coverage workers) = (0 < workers) × (workers ≤ 32)
 HasFitNumbers (task.Trace run fault nets) = (1 ≤ run) × (run ≤ 65536)
+HasFitNumbers (task.Always window ahead) = IfSome window (λ cycles. cycles ≤ 8) × (ahead ≤ 8)
 HasFitNumbers _ = Unit {0}
 
 -- the settings of a command and the numbers of its task lie within their limits
@@ -95,7 +99,7 @@ pub record IsFit (command : Command) : Type 0 where
 
 -- the name of each file
 abbrev pub name_by : FileNames → Which → Bytes
-name_by names = by_file names.netlist.now names.workload.now names.rates.now names.points.now names.result.now names.first.now names.second.now names.new_rates.now
+name_by names = by_file names.netlist.now names.workload.now names.rates.now names.points.now names.result.now names.first.now names.second.now names.new_rates.now names.held.now
 
 -- the command that was asked for
 abbrev pub told_by : Asked → Command

@@ -5,8 +5,8 @@ ghost use Rattle.commands.specs.Commands.{files_of as files_of_kind, inputs_of, 
 use campaign_plan::Settings;
 use fm_base::{Name, Seq};
 
-/// One of the files of a command: the four inputs, the result file, the two that `merge` reads, of which `reweigh` reads the first, and the
-/// other rates of `reweigh`. Where a command writes a result file, it is `Result`.
+/// One of the files of a command: the four inputs, the result file, the two that `merge` reads, of which `reweigh` reads the first, the other
+/// rates of `reweigh`, and the held inputs of `always`. Where a command writes a result file, it is `Result`.
 #[derive(Clone, Copy, Debug, PartialEq, Eq)]
 pub enum Which {
     Netlist,
@@ -17,6 +17,7 @@ pub enum Which {
     First,
     Second,
     NewRates,
+    Held,
 }
 
 /// The names of the files that a command has, as its words give them; those that it doesn't have are empty.
@@ -30,6 +31,7 @@ pub struct FileNames<'a> {
     pub first: &'a str,
     pub second: &'a str,
     pub new_rates: &'a str,
+    pub held: &'a str,
 }
 
 impl<'a> FileNames<'a> {
@@ -46,6 +48,7 @@ impl<'a> FileNames<'a> {
             first: "",
             second: "",
             new_rates: "",
+            held: "",
         }
     }
 
@@ -62,6 +65,7 @@ impl<'a> FileNames<'a> {
             Which::First => self.first,
             Which::Second => self.second,
             Which::NewRates => self.new_rates,
+            Which::Held => self.held,
         }
     }
 }
@@ -73,12 +77,13 @@ pub enum Kind {
     Observed,
     Driven,
     Rated,
-    /// The plan of the four inputs; with its result file; with two of them; with one and other rates; that of generated texts of so many
-    /// stages.
+    /// The plan of the four inputs; with its result file; with two of them; with one and other rates; a plan without runs, and its held
+    /// inputs; the plan of generated texts of so many stages.
     Planned,
     Begun,
     Merged,
     Reweighed,
+    Supposed,
     Generated(u32),
 }
 
@@ -114,6 +119,7 @@ impl Kind {
                 Which::First,
                 Which::NewRates,
             ],
+            Kind::Supposed => &[Which::Netlist, Which::Rates, Which::Points, Which::Held],
             Kind::Generated(_) => &[],
         }
     }
@@ -138,7 +144,8 @@ pub enum AuditBy {
 
 /// What a command does, with what is its own alone: 1 to 32 workers, 1 to 1,000 stages of generated texts, one of up to 1,024 parts of a
 /// campaign, which has the batches b with b mod `parts` = `part`, each N-th row to audit, 1 to 16,384, at most 16 rising intervals of up to
-/// 4,096 cycles, a run from 1 to 65,536, whether there is one or not, with the names of a fault and of nets where they were given.
+/// 4,096 cycles, a run from 1 to 65,536, whether there is one or not, with the names of a fault and of nets where they were given, and the
+/// cycles of a window, 0 to 8, where they were given, with 0 to 8 cycles ahead of it.
 #[derive(Drop)]
 pub enum Task {
     Classes,
@@ -185,6 +192,10 @@ pub enum Task {
         fault: Option<Name>,
         nets: Option<Name>,
     },
+    Always {
+        window: Option<u32>,
+        ahead: u32,
+    },
 }
 
 impl Task {
@@ -204,6 +215,7 @@ impl Task {
             Task::Reweigh => Kind::Reweighed,
             Task::Gen { stages, .. } => Kind::Generated(*stages),
             Task::Trace { .. } => Kind::Driven,
+            Task::Always { .. } => Kind::Supposed,
             _ => Kind::Planned,
         }
     }

@@ -21,6 +21,7 @@ usage: fmeda COMMAND FILES [OPTIONS]
   latencies INPUTS                     when each fault shows and is noticed
   coverage INPUTS                      what the metrics rest on, and their bounds
   trace NETLIST WORKLOAD               waves of a run, and of a fault
+  always NETLIST RATES POINTS HELD     what the alarms cover for every workload
   progress INPUTS RESULT               bounds of each metric, while a campaign runs
   pairs INPUTS RESULT                  faults that harm beside a latent one
   gen STAGES RESULT                    a generated campaign

@@ -1,6 +1,6 @@
 -- What is true of each step of a command's checks: what it gives has no loop and was read whole, and what it refuses is no Usage, nor a fault
 -- of reading but of a file of which a read has failed.
-use Rattle.std.proofs.Common.{◌≡◌, ◌∙◌, ap, refl, subst, ℕ, Bool, true, false, List, [], ◌∷◌, length, Ok, Err}
+use Rattle.std.proofs.Common.{◌≡◌, ◌∙◌, ap, refl, subst, Bool, true, false, List, [], ◌∷◌, length, Ok, Err}
 use Rattle.std.specs.Prelude.{Option, Some, None, Result, MatchOption, MatchResult, option_map, if◌then◌else◌, nat_lt}
 use Rattle.std.specs.List.{AllByRecursion as ForEach}
 use Rattle.fm_base.specs.Names.{Bytes}
@@ -20,6 +20,10 @@ use Rattle.result_merge.specs.Merged.{merged}
 use Rattle.result_reweigh.specs.Reweighed.{reweighed}
 use Rattle.row_audit.specs.Audited.{first_false}
 use Rattle.result_file.specs.declared.FalseRow.{FalseRow}
+use Rattle.always.specs.Asked.{asked_fault}
+use Rattle.always.specs.declared.asked.AskedFault.{AskedFault}
+use Rattle.always.specs.declared.asked.AskedFault.TheVariants.{LongWindow, NoAlarm}
+use Rattle.held_inputs.specs.HeldFile.{held_of}
 use Rattle.wave_dump.specs.Asked.{waves_asked}
 use Rattle.wave_dump.specs.declared.DumpFault.{DumpFault}
 use Rattle.wave_dump.specs.declared.DumpFault.TheVariants as dump
@@ -39,8 +43,8 @@ use Rattle.command_reads.specs.declared.files.FileRead.{FileRead}
 use Rattle.command_reads.specs.declared.files.FileRead.TheVariants.{Whole, TooLong, Failed}
 use Rattle.command_reads.specs.Answers.{LoopsAnswered, generated_settings}
 use Rattle.command_reads.specs.Files.{Reads, bytes_of as bytes_read, exchanged}
-use Rattle.command_reads.specs.FirstRefusal.{Judged, classes_plan_of, judge, netlist_read, netlist_step, new_file, of_new, own_header, plan_of, read_as, rows_in, told_of_new, unless, whole, ◌>>=◌}
-use Rattle.fmeda_top.specs.TaskRefusals.{judged, not_there, refusal_in, task_refusal}
+use Rattle.command_reads.specs.FirstRefusal.{Judged, classes_plan_of, judge, netlist_read, netlist_step, new_file, of_new, own_header, plan_of, read_as, rows_in, runless_plan_of, told_of_new, unless, whole, ◌>>=◌}
+use Rattle.fmeda_top.specs.TaskRefusals.{judged, not_asked, not_there, refusal_in, task_refusal}
 use Rattle.command_reads.specs.FirstRefusal as stands
 use Rattle.fmeda_top.specs.Laws.{circuit_in}
 
@@ -72,8 +76,9 @@ abbrev pub IsJudgedOf : Reads → List Which → Judged → Type 0
 IsJudgedOf reads files made = HasNoLoop (circuit_in made) × AreWhole reads files × AreKept reads made
 
 module _ (HasFailed : Which → Type 0) where
-  -- it is no Usage, and no fault of reading but of a file of which a read has failed
+  -- it is a refusal, no Usage, and no fault of reading but of a file of which a read has failed
   abbrev pub IsOfFiles : Status → Type 0
+  IsOfFiles status.Done = ⊥
   IsOfFiles status.Usage = ⊥
   IsOfFiles (status.ReadFault file) = HasFailed file
   IsOfFiles _ = Unit {0}
@@ -138,11 +143,20 @@ module _ (HasFailed : Which → Type 0) where
   waves_of_files P h (Ok waves) = h
   waves_of_files P h (Err why) = not_there_is_of_files why
 
+  not_asked_is_of_files : (why : AskedFault) → IsOfFiles (not_asked why)
+  not_asked_is_of_files NoAlarm = tt
+  not_asked_is_of_files (LongWindow window least) = tt
+
+  asked_of_files : (P : Type 0) → P → (why : Option AskedFault) → MatchOption (option_map not_asked why) P IsOfFiles
+  asked_of_files P h None = h
+  asked_of_files P h (Some why) = not_asked_is_of_files why
+
   task_of_files : (P : Type 0) → P → (own : Task) (made : Judged) → MatchOption (task_refusal own made) P IsOfFiles
   task_of_files P h (task.Audit every by) (stands.Begun p k) = row_of_files P h (first_false p every k.rows)
   task_of_files P h (task.Pairs workers) (stands.Begun p k) = pairs_of_files P h (pair_refusal p k.rows)
   task_of_files P h (task.Trace run fault nets) (stands.Driven c runs set) =
       waves_of_files P h (waves_asked c runs set.flips set.pulses run fault nets)
+  task_of_files P h (task.Always window ahead) (stands.Supposed p held) = asked_of_files P h (asked_fault p window)
   task_of_files P h _ _ = h
 
   -- ---- over what was read
@@ -213,6 +227,21 @@ module _ (HasFailed : Which → Type 0) where
       plan_then set next Q each rest =
           and_then (plan_of netlist walk set reads) next IsOfFour Q (plan_meets set each) (λ p got fits. rest p fits.0 fits.1)
 
+      -- a plan's circuit has no loop, and its three files were read whole
+      abbrev IsOfThree : Analysis → Type 0
+      IsOfThree p = HasNoLoop p.circuit × AreWhole reads (which.Netlist ∷ which.Rates ∷ which.Points ∷ [])
+
+      -- the plan without runs of three files
+      runless_meets : (set : Settings) → ForEach IfFailed (which.Netlist ∷ which.Rates ∷ which.Points ∷ []) → Meets (runless_plan_of netlist walk set reads) IsOfThree
+      unfolding runless_plan_of
+      runless_meets set (net, (rates, (points, end))) =
+          netlist_then _ IsOfThree net (λ c none first.
+          file_then which.Rates status.Rates rates_of _ IsOfThree rates (λ f. tt) (λ table second.
+          file_then which.Points status.Points (points_of c) _ IsOfThree points (λ f. tt) (λ observed third.
+          causes_meet (plan_refusal (record { circuit = c; runs = []; rates = table; points = observed; settings = set }))
+          (record { circuit = c; runs = []; rates = table; points = observed; settings = set }) IsOfThree
+          (none, (first, ((second.0, second.1), ((third.0, third.1), tt)))))))
+
       -- the rows of a result file, and then what follows them
       rows_then : {B : Type 0} (file : Which) (p : Analysis) (next : KeptRows → Result B Status) (Q : B → Type 0) → IfFailed file
           → ((k : KeptRows) → StandsFor file (kept (own_header reads p) p) k → Meets (next k) Q) → Meets (rows_in file reads p >>= next) Q
@@ -250,6 +279,10 @@ module _ (HasFailed : Which → Type 0) where
           (told_meets status.Merge (merged p one.rows two.rows) (λ both. Unit {0}) (λ both is. tt) (λ e. tt))
           (λ both got u. (none, (four.0, (four.1.0, (four.1.1.0, (four.1.1.1.0, ((own.0, own.1), ((other.0, other.1), tt)))))), tt)))))
       others_meet set kind.Reweighed other each = elim other [ ]
+      others_meet set kind.Supposed other (net, (rates, (points, (held, end)))) =
+          and_then (runless_plan_of netlist walk set reads) _ IsOfThree _ (runless_meets set (net, (rates, (points, tt))))
+          (λ p got fits. file_then which.Held status.Held (held_of p.circuit) _ _ held (λ f. tt) (λ inputs fourth.
+          (fits.0, (fits.1.0, (fits.1.1.0, (fits.1.1.1.0, ((fourth.0, fourth.1), tt)))), tt)))
       others_meet set (kind.Generated stages) other each =
           plan_then generated_settings (λ p. Ok (stands.Planned p)) _ each (λ p none four. (none, tt, tt))
 

@@ -1,12 +1,17 @@
 -- A task that prints has done what it promises.
-use Rattle.std.proofs.Common.{◌≡◌, ◌≤◌, ◌∙◌, refl, sym, subst, Ok, Err, inl, inr}
-use Rattle.std.specs.Prelude.{◌⊎◌, Option, Some, Result, MatchOption}
+use Rattle.std.proofs.Common.{◌≡◌, ◌≤◌, refl, sym, subst, Ok, Err, inl, inr}
+use Rattle.std.specs.Prelude.{◌⊎◌, Option, Some, None, Result, MatchOption}
+use Rattle.std.proofs.lemmas.Option.{none-some}
 use Rattle.fm_base.specs.Names.{Bytes}
 use Rattle.fm_shelf.specs.Content.{Content, Unknown}
 use Rattle.fm_shelf.specs.Outside.{Outside, outside}
 use Rattle.fm_shelf.specs.Shelf.{IsUnchanged, ShelfState}
 use Rattle.fm_shelf.specs.Sink.{SinkState, Wrote, WrotePrefix}
 use Rattle.campaign_run.specs.Outside.{KeepsOthers}
+use Rattle.campaign_plan.specs.Analysis.{Analysis}
+use Rattle.always.specs.Verdict.{Terms}
+use Rattle.commands.specs.declared.command.Task.{Task}
+use Rattle.commands.specs.declared.command.Task.TheVariants as task
 use Rattle.commands.specs.declared.command.Which.TheVariants as which
 use Rattle.commands.specs.Commands.{Command}
 use Rattle.refusals.specs.declared.refused.Refused.{Refused}
@@ -18,9 +23,14 @@ use Rattle.refusals.specs.WantOfMemory.{IsMemory}
 use Rattle.command_reads.specs.Files.{Reads, known_by}
 use Rattle.command_reads.specs.FirstRefusal.{Judged}
 use Rattle.fmeda_top.specs.TaskRefusals.{task_refusal}
-use Rattle.fmeda_top.specs.Ends.{IsDoneOrFailed, IsSimulated, PrintsAs, WritesAs}
+use Rattle.fmeda_top.specs.Ends.{HasAnswered, IsDoneOrFailed, IsSimulated, PrintsAs, WritesAs, asked_of, text_of}
 use Rattle.fmeda_top.specs.Doing.{DoesAs, DoesItsTask, HasRefused, PrintedAs, TellsAs}
 use Rattle.fmeda_top.proofs.Ending.{memory_said}
+
+-- a task that has a text of its own asks nothing
+asks_nothing : (own : Task) (made : Judged) (text : Bytes) → text_of own made ≡ Some text → asked_of own made ≡ None
+asks_nothing (task.Always window ahead) made text is = absurd (none-some text is)
+asks_nothing _ made text is = refl
 
 module _ (command : Command) (made : Judged) (reads : Reads) (shelf : ShelfState) (out mid now : SinkState) (ended : Status) where
   abbrev before : Outside
@@ -42,6 +52,10 @@ module _ (command : Command) (made : Judged) (reads : Reads) (shelf : ShelfState
       MatchOption text (KeepsOthers before.shelf after.shelf name × WritesAs command.task made reads name before after ended)
       (λ t. PrintsAs t ended before after × IsSimulated command.task)
 
+  -- what it has done, where it asks so
+  abbrev HasDone : Option (Analysis × Terms) → Type 0
+  HasDone asked = MatchOption asked (HasTold (text_of command.task made)) (λ asked. HasAnswered command.files asked.0 asked.1 ended before after)
+
   unchanged : IsUnchanged shelf shelf
   unchanged = record { content = refl; changed = refl }
 
@@ -49,7 +63,7 @@ module _ (command : Command) (made : Judged) (reads : Reads) (shelf : ShelfState
   does_print : (how : Status) → TellsAs command.task made out mid (Ok how) → PrintedAs (Ok how) ended mid now command.files
       → DoesItsTask command made reads ended before after
   does_print how (free, grows, (text, is, sent), by) (same, kept) =
-      inl (subst DoesUnless (sym free) (subst HasTold (sym is) ((unchanged, by_sent sent), by)))
+      inl (subst DoesUnless (sym free) (subst HasDone (sym (asks_nothing command.task made text is)) (subst HasTold (sym is) ((unchanged, by_sent sent), by))))
     where
       by_sent : ((how ≡ status.Done) × Wrote out mid text) ⊎ ((how ≡ status.OutFault) × WrotePrefix out mid text)
           → ((ended ≡ status.Done) × Wrote out now text) ⊎ ((ended ≡ status.OutFault) × WrotePrefix out now text)

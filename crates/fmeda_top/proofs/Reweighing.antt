@@ -1,21 +1,17 @@
 -- Rows by other rates are those of a campaign with these.
-use Rattle.std.proofs.Common.{◌≡◌, ◌∙◌, ap, sym, subst, ℕ, List, length, ◌++◌, arith}
-use Rattle.std.specs.Prelude.{flat_map, map}
+use Rattle.std.proofs.Common.{◌≡◌, ◌∙◌, ap, sym, subst, List, length, arith}
 use Rattle.std.proofs.lemmas.List.{take_all}
 use Rattle.fm_base.specs.Names.{Bytes}
 use Rattle.fm_shelf.specs.Content.{Held}
-use Rattle.campaign_plan.specs.Analysis.{Analysis}
-use Rattle.campaign_plan.specs.Batches.{AreTrue, Entry, true_planes}
-use Rattle.result_file.specs.declared.Row.{Row}
-use Rattle.result_file.specs.ResultText.{result_text, row_text}
+use Rattle.campaign_plan.specs.Batches.{Entry}
+use Rattle.result_file.specs.ResultText.{result_text}
 use Rattle.result_file.specs.KeptRows.{kept_entries}
 use Rattle.result_reweigh.specs.Laws.{ReweighLaws, ReweighsAreLawful}
-use Rattle.campaign_run.specs.Left.{IsPrefixOf, LeftPrefix}
-use Rattle.commands.specs.declared.command.Which.TheVariants as which
+use Rattle.campaign_run.specs.Left.{IsPrefixOf}
 use Rattle.command_reads.specs.Files.{exchanged}
 use Rattle.command_reads.specs.FirstRefusal.{own_header}
 use Rattle.command_reads.proofs.Renewing.{AreRenewed, are_renewed, differ, kept_distinct_before}
-use Rattle.fmeda_top.specs.Laws.{AreOfTheRun, ReweighedAreOfTheRun}
+use Rattle.fmeda_top.specs.Laws.{ReweighedAreOfTheRun}
 use Rattle.fmeda_top.specs.Written.{rows_file}
 
 -- OF OTHER RATES

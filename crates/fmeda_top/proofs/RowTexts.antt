@@ -1,6 +1,6 @@
 -- `audit` and `pairs`, by the rows that are kept.
 use Rattle.std.proofs.Common.{◌≡◌, ◌∙◌, ap, inr, sym, refl, subst, ℕ, ◌+◌, ◌<◌, List, [], ◌∷◌, suc, Bool, true, false, not, map, arith}
-use Rattle.std.specs.Prelude.{◌⊎◌, Option, Some, None, Err, find, option_map, ◌==◌, Contains}
+use Rattle.std.specs.Prelude.{◌⊎◌, Some, None, Err, option_map, ◌==◌, Contains}
 use Rattle.std.specs.List.{list_any}
 use Rattle.std.proofs.lemmas.Bool.Decides.{nat_tests}
 use Rattle.std.proofs.lemmas.List.Folds.{list_any_at}

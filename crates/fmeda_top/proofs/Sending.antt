@@ -1,7 +1,7 @@
 -- What is promised of a call holds also where more writes have failed since.
 use Rattle.std.proofs.Common.{ℕ, List, [], ◌++◌, ◌≡◌, ◌≤◌, ◌∙◌, ap, refl, sym, subst, take, inl, inr, arith}
 use Rattle.std.proofs.lemmas.List.{append-nil}
-use Rattle.std.specs.Prelude.{◌⊎◌, ◌<◌, ◌^◌, ◌-◌, Option, Some, None, MatchOption, MatchResult, Result, Ok, Err, IfOk, OnErr, codes}
+use Rattle.std.specs.Prelude.{◌<◌, Option, Some, None, MatchOption, MatchResult, Result, Ok, Err, IfOk, OnErr, codes}
 use Rattle.fm_base.specs.Names.{Bytes}
 use Rattle.fm_shelf.specs.declared.shelf.Failed.{Failed}
 use Rattle.fm_shelf.specs.Shelf.{CountRose, ShelfState}
@@ -11,8 +11,11 @@ use Rattle.fm_shelf.proofs.Sends.{with_more-append}
 use Rattle.campaign_plan.specs.declared.Outcome.{Outcome}
 use Rattle.campaign_plan.specs.Analysis.{Analysis}
 use Rattle.campaign_run.specs.Reported.{HasReported, ResumedAs}
+use Rattle.always.specs.Text.{always_text}
+use Rattle.always.specs.Verdict.{Terms}
 use Rattle.commands.specs.declared.command.Task.{Task}
 use Rattle.commands.specs.declared.command.Task.TheVariants as task
+use Rattle.commands.specs.declared.command.Which.{Which}
 use Rattle.commands.specs.declared.command.Which.TheVariants as which
 use Rattle.commands.specs.Commands.{Command}
 use Rattle.refusals.specs.declared.status.Status.{Status}
@@ -21,7 +24,7 @@ use Rattle.command_reads.specs.Files.{Reads}
 use Rattle.command_reads.specs.FirstRefusal.{Judged, Planned, Begun, Merged, Reweighed}
 use Rattle.fmeda_top.specs.TaskRefusals.{judged}
 use Rattle.campaign_run.specs.Outside.{KeepsOthers}
-use Rattle.fmeda_top.specs.Ends.{HasWritten, IsDoneOrFailed, IsSimulated, PrintsAs, RefusedAs, WritesAs, text_of}
+use Rattle.fmeda_top.specs.Ends.{HasAnswered, HasWritten, IsDoneOrFailed, IsSimulated, PrintsAs, RefusedAs, WritesAs, asked_of, text_of}
 use Rattle.fmeda_top.specs.Ends.WritesAs.{All, OutFailed, ResultFailed}
 use Rattle.fmeda_top.specs.Promises.{CommandEnds, Promises}
 use Rattle.fmeda_top.specs.Program.{ExitsWith, ProgramEnds, SendsOn, SendsRest}
@@ -50,6 +53,10 @@ module _ (before : Outside) (shelf : ShelfState) (written : Option Bytes) (low h
   prints_later : (text : Bytes) (ended : Status) → PrintsAs text ended before early → PrintsAs text ended before late
   prints_later text ended (files, inl done) = (files, inl done)
   prints_later text ended (files, inr (is, torn)) = (files, inr (is, prefix_later text torn))
+
+  answered_later : (files : Which → Bytes) (p : Analysis) (terms : Terms) (ended : Status) → HasAnswered files p terms ended before early → HasAnswered files p terms ended before late
+  answered_later files p terms ended (fit, inl (answers, right, printed)) = (fit, inl (answers, right, prints_later (always_text p terms answers) ended printed))
+  answered_later files p terms ended (fit, inr (why, holds, is, said)) = (fit, inr (why, holds, is, refused_later _ said))
 
   abbrev reported_later : (own text : Bytes) (p : Analysis) (planes : ℕ → Outcome) (kept_bytes : ℕ) (name : Bytes) → HasReported own text p planes kept_bytes name before early
       → HasReported own text p planes kept_bytes name before late
@@ -91,7 +98,7 @@ module _ (before : Outside) (shelf : ShelfState) (written : Option Bytes) (low h
 
   done_later : (command : Command) (made : Judged) (reads : Reads) (ended : Status) → IsDoneOrFailed command made reads ended before sooner
       → IsDoneOrFailed command made reads ended before later
-  done_later command made reads ended is = by_text (text_of command.task made) is
+  done_later command made reads ended is = by_asked (asked_of command.task made) is
     where
       by_text : (text : Option Bytes)
           → MatchOption text (KeepsOthers before.shelf shelf (command.files which.Result) × WritesAs command.task made reads (command.files which.Result) before sooner ended)
@@ -100,6 +107,16 @@ module _ (before : Outside) (shelf : ShelfState) (written : Option Bytes) (low h
           (λ text. PrintsAs text ended before later × IsSimulated command.task)
       by_text None (others, writes) = (others, writes_later command.task made reads (command.files which.Result) writes)
       by_text (Some text) (printed, by) = (prints_later before shelf written low high grows text ended printed, by)
+
+      by_asked : (asked : Option (Analysis × Terms))
+          → MatchOption asked (MatchOption (text_of command.task made) (KeepsOthers before.shelf shelf (command.files which.Result)
+          × WritesAs command.task made reads (command.files which.Result) before sooner ended) (λ text. PrintsAs text ended before sooner × IsSimulated command.task))
+          (λ asked. HasAnswered command.files asked.0 asked.1 ended before sooner)
+          → MatchOption asked (MatchOption (text_of command.task made) (KeepsOthers before.shelf shelf (command.files which.Result)
+          × WritesAs command.task made reads (command.files which.Result) before later ended) (λ text. PrintsAs text ended before later × IsSimulated command.task))
+          (λ asked. HasAnswered command.files asked.0 asked.1 ended before later)
+      by_asked None told = by_text (text_of command.task made) told
+      by_asked (Some asked) told = answered_later before shelf written low high grows command.files asked.0 asked.1 ended told
 
   command_later : (command : Command) (ended : Status) → CommandEnds command ended before sooner → CommandEnds command ended before later
   command_later command ended (reads, read, (c, walk, loops, ends)) = (reads, read, (c, walk, loops, by_first (judged walk command reads) ends))

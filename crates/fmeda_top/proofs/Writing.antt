@@ -1,5 +1,5 @@
 -- What a task has written, by how its campaign has run.
-use Rattle.std.proofs.Common.{ℕ, List, ◌≡◌, ◌≤◌, ◌∙◌, ap, sym, subst, Ok, inl, inr, length, arith}
+use Rattle.std.proofs.Common.{ℕ, List, ◌≡◌, ◌≤◌, ap, sym, subst, Ok, inl, inr, length, arith}
 use Rattle.std.specs.Prelude.{◌⊎◌, Option, Some, None, MatchOption, ◌∷◌, [], ◌++◌, codes, flat_map, map}
 use Rattle.std.proofs.lemmas.List.{take_all}
 use Rattle.fm_base.specs.Names.{Bytes}
@@ -31,6 +31,7 @@ use Rattle.campaign_run.specs.Ran.{Campaign, HasRun, HasStopped, IsReported, IsT
 use Rattle.campaign_run.specs.Reported.{HasReported, ResumedAs}
 use Rattle.campaign_run.specs.Starting.{no_kept_rows}
 use Rattle.campaign_run.specs.Stopped.{StoppedAreTakenUp}
+use Rattle.always.specs.Verdict.{Terms}
 use Rattle.commands.specs.declared.command.Task.{Task}
 use Rattle.commands.specs.declared.command.Task.TheVariants as task
 use Rattle.commands.specs.declared.command.Which.{Which}
@@ -48,7 +49,7 @@ use Rattle.command_reads.specs.Files.{Reads, bytes_of as bytes_read, known_by}
 use Rattle.command_reads.specs.FirstRefusal.{Judged, Begun, Planned, own_header}
 use Rattle.fmeda_top.specs.TaskRefusals.{task_refusal}
 use Rattle.fmeda_top.specs.Doing.{DoesAs, EndSaid, HasEnded, HasRefused, IsHeld, task_of_text}
-use Rattle.fmeda_top.specs.Ends.{HasWritten, IsDoneOrFailed, IsSimulated, MayLeave, MayStop, PrintsAs, WritesAs, text_of}
+use Rattle.fmeda_top.specs.Ends.{HasAnswered, HasWritten, IsDoneOrFailed, IsSimulated, MayLeave, MayStop, PrintsAs, WritesAs, asked_of, text_of}
 use Rattle.fmeda_top.specs.Ends.WritesAs.{All, OutFailed, ResultFailed}
 use Rattle.fmeda_top.specs.Written.{line_by, made_by as made_of, reads_of, rows_file, task_by}
 use Rattle.fmeda_top.specs.declared.merge.Origin.{Origin}
@@ -57,12 +58,22 @@ use Rattle.fmeda_top.specs.declared.merge.Origin.TheVariants.{Merged as ByMerge,
 -- ---- the end of a campaign, told
 
 module _ (command : Command) (it : Judged) (reads : Reads) (before after : Outside) (out : SinkState)
-    (no_text : text_of command.task it ≡ None) (no_refusal : task_refusal command.task it ≡ None) where
+    (no_asking : asked_of command.task it ≡ None) (no_text : text_of command.task it ≡ None) (no_refusal : task_refusal command.task it ≡ None) where
   abbrev name : Bytes
   name = command.files which.Result
 
   abbrev at_end : Outside
   at_end = outside after.shelf out
+
+  module _ (ended : Status) where
+    -- what it has done, where its text is so, and where it asks so
+    abbrev HasTold : Option Bytes → Type 0
+    HasTold text =
+        MatchOption text (KeepsOthers before.shelf after.shelf name × WritesAs command.task it reads name before at_end ended)
+        (λ text. PrintsAs text ended before at_end × IsSimulated command.task)
+
+    abbrev HasDone : Option (Analysis × Terms) → Type 0
+    HasDone asked = MatchOption asked (HasTold (text_of command.task it)) (λ asked. HasAnswered command.files asked.0 asked.1 ended before at_end)
 
   writes_end : (ended : Status) → before.out.faults ≤ out.faults → after.shelf.given ≡ before.shelf.given → KeepsOthers before.shelf after.shelf name → WritesAs command.task it reads name before at_end ended
       → DoesAs command it reads ended before at_end
@@ -71,10 +82,7 @@ module _ (command : Command) (it : Judged) (reads : Reads) (before after : Outsi
         (λ refusal. MatchOption refusal (IsDoneOrFailed command it reads ended before at_end)
         (λ why. (ended ≡ why) × HasRefused command.files (known_by (reads which.Netlist)) why before at_end))
         (sym no_refusal)
-        (subst
-        (λ text. MatchOption text (KeepsOthers before.shelf after.shelf name × WritesAs command.task it reads name before at_end ended)
-        (λ text. PrintsAs text ended before at_end × IsSimulated command.task))
-        (sym no_text) (others, writes))),
+        (subst (HasDone ended) (sym no_asking) (subst (HasTold ended) (sym no_text) (others, writes)))),
     grows,
     given,
   )
@@ -124,13 +132,13 @@ module _ (names : Which → Bytes) (set : Settings) (own as_own : Task) (it as_m
       subst (λ t. DoesAs (command_with names set t) (made_by it) reads ended before after) (sym own_is)
       (subst (λ other. DoesAs (command_with names set as_own) (made_by other) reads ended before after) (sym made_is) does)
 
-  pub told_does : (after : Outside) (shelf : ShelfState) (out : SinkState) (how : End) → text_of as_own (made_by as_made) ≡ None
+  pub told_does : (after : Outside) (shelf : ShelfState) (out : SinkState) (how : End) → asked_of as_own (made_by as_made) ≡ None → text_of as_own (made_by as_made) ≡ None
       → task_refusal as_own (made_by as_made) ≡ None → HasEnded how as_own (made_by as_made) reads (names which.Result) before after
       → EndSaid how ended after.out out names → shelf ≡ after.shelf → DoesAs (command_with names set own) (made_by it) reads ended before (outside shelf out)
-  told_does after shelf out how no_text no_refusal ran said same =
+  told_does after shelf out how no_asking no_text no_refusal ran said same =
       does_by (outside shelf out)
       (subst (λ other. DoesAs (command_with names set as_own) (made_by as_made) reads ended before (outside other out)) (sym same)
-      (told_ends (command_with names set as_own) (made_by as_made) reads before after out no_text no_refusal how ended ran said))
+      (told_ends (command_with names set as_own) (made_by as_made) reads before after out no_asking no_text no_refusal how ended ran said))
 
 -- ---- a campaign that begins anew
 

@@ -1,5 +1,5 @@
 -- A result file that was written anew.
-use Rattle.std.proofs.Common.{◌≡◌, ◌∙◌, ap, refl, subst, sym, Ok, Err, Result, true, false, inl, inr, List, [], ◌∷◌, ◌++◌, take, arith}
+use Rattle.std.proofs.Common.{◌≡◌, ◌∙◌, ap, refl, subst, sym, Ok, Err, Result, true, false, inl, inr, [], ◌∷◌, ◌++◌, take, arith}
 use Rattle.std.specs.Prelude.{◌⊎◌, OnErr, OnOk}
 use Rattle.std.specs.Result.{is_err}
 use Rattle.fm_base.specs.Names.{Bytes}

@@ -1,15 +1,13 @@
 -- Shapes of private steps: what a command does of what its files stand for. Nothing public cites them.
-use Rattle.std.specs.Prelude.{◌≡◌, ◌≤◌, ◌⊎◌, ℕ, Bool, not, ◌&&◌, ◌==◌, ◌∷◌, [], Some, None, option_map, MatchOption, Result, Ok, Err, codes}
+use Rattle.std.specs.Prelude.{◌≡◌, ◌≤◌, ◌⊎◌, ℕ, ◌∷◌, [], Some, None, option_map, MatchOption, Result, Ok, Err, codes}
 use Rattle.fm_base.specs.Names.{Bytes}
 use Rattle.fm_base.specs.Text.{line}
 use Rattle.fm_shelf.specs.Content.{Content, HasIfKnown}
 use Rattle.fm_shelf.specs.Shelf.{CountRose, IsUnchanged, ShelfState}
 use Rattle.fm_shelf.specs.Sink.{SinkState, Wrote, WrotePrefix}
 use Rattle.fm_shelf.specs.Outside.{Outside}
-use Rattle.campaign_plan.specs.declared.Outcome.{Outcome}
 use Rattle.campaign_plan.specs.Analysis.{Analysis}
 use Rattle.result_file.specs.declared.KeptRows.{KeptRows}
-use Rattle.result_file.specs.declared.Row.{Row}
 use Rattle.result_file.specs.KeptRows.{kept}
 use Rattle.result_file.specs.RowPlanes.{planes_in}
 use Rattle.pair_list.specs.Chosen.{Chosen, chosen, pair_refusal}
@@ -37,10 +35,17 @@ use Rattle.command_reads.specs.declared.judge.Judged.TheVariants as made
 use Rattle.command_reads.specs.Files.{Reads, WereRead, bytes_of as bytes_read, known_by}
 use Rattle.command_reads.specs.FirstRefusal.{Judged}
 use Rattle.row_audit.specs.Audited.{first_false}
+use Rattle.always_answers.specs.declared.answers.Answers.{Answers}
+use Rattle.claim_search.specs.Hypotheses.{Contradict}
+use Rattle.claim_search.specs.declared.hypotheses.Contradiction.{Contradiction}
+use Rattle.always.specs.Asked.{AreRightOf}
+use Rattle.always.specs.Laws.{AreTermsFor, claim_of}
+use Rattle.always.specs.Text.{always_text}
+use Rattle.always.specs.Verdict.{Terms}
 use Rattle.fm_base.specs.declared.Refusal.{Refusal}
 use Rattle.fm_base.specs.declared.Refusal.TheVariants.{Fault, Memory}
 use Rattle.fm_shelf.specs.declared.shelf.Failed.{Failed}
-use Rattle.fmeda_top.specs.TaskRefusals.{not_there, task_refusal}
+use Rattle.fmeda_top.specs.TaskRefusals.{task_refusal}
 use Rattle.command_reads.specs.Judging.{AreSound, IsOfKind, JudgesAs}
 use Rattle.fmeda_top.specs.Ends.{HasWritten, IsDoneOrFailed, IsSimulated, MayLeave, MayStop, text_of}
 use Rattle.fmeda_top.specs.Promises.{CommandEnds, RanOut}
@@ -101,6 +106,7 @@ Prints own = elim own [
   | task.Shard _ _ ↦ ⊥
   | task.Merge ↦ ⊥
   | task.Reweigh ↦ ⊥
+  | task.Always _ _ ↦ ⊥
   | _ ↦ Unit {0}
 ]
 
@@ -122,6 +128,17 @@ IsReady held reads it = AreSound reads it × elim it [ made.Begun begun ↦ IsHe
 abbrev pub task_of_text : Text → (workers : ℕ) → Task
 task_of_text Report workers = task.Run workers
 task_of_text (Summary stages) workers = task.Gen stages workers
+
+-- how `always` has told its text, as `TellsAs` has it of others: right answers, or what is supposed contradicts itself
+abbrev pub AnswersAs : Task → Analysis → Terms → Judged → (before after : SinkState) → Result Status Refused → Type 0
+AnswersAs own p terms made before after (Ok ended) =
+    (task_refusal own made ≡ None) × AreTermsFor p terms × (before.faults ≤ after.faults) × ((answers : Answers) × AreRightOf p terms answers
+    × (((ended ≡ status.Done) × Wrote before after (always_text p terms answers)) ⊎ ((ended ≡ status.OutFault) × WrotePrefix before after (always_text p terms answers))))
+AnswersAs own p terms made before after (Err (By ended)) =
+    (IsMemory ended ⊎ ((task_refusal own made ≡ Some ended)
+    ⊎ ((task_refusal own made ≡ None) × AreTermsFor p terms × ((why : Contradiction) × Contradict (claim_of p terms) why × (ended ≡ status.Contradiction why)))))
+    × IsPlain ended × (after ≡ before)
+AnswersAs own p terms made before after (Err (Looped walk net)) = ⊥
 
 -- how a task that prints ends: as it told, or with the line of its refusal
 abbrev pub PrintedAs : Result Status Refused → Status → (before after : SinkState) → (names : Which → Bytes) → Type 0

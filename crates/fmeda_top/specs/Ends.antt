@@ -23,6 +23,13 @@ use Rattle.metric_bounds.specs.Progress.{progress}
 use Rattle.readings.specs.Breakdown.{breakdown}
 use Rattle.readings.specs.Latencies.{latencies}
 use Rattle.coverage.specs.Coverage.{coverage}
+use Rattle.always_answers.specs.declared.answers.Answers.{Answers}
+use Rattle.claim_search.specs.Hypotheses.{Contradict}
+use Rattle.claim_search.specs.declared.hypotheses.Contradiction.{Contradiction}
+use Rattle.always.specs.Asked.{AreRightOf, terms_of_plan}
+use Rattle.always.specs.Laws.{AreTermsFor, claim_of}
+use Rattle.always.specs.Text.{always_text}
+use Rattle.always.specs.Verdict.{Terms}
 use Rattle.wave_dump.specs.Asked.{waves_asked}
 use Rattle.wave_dump.specs.Dump.{dump_text}
 use Rattle.row_audit.specs.Audited.{each_nth}
@@ -38,14 +45,16 @@ use Rattle.commands.specs.declared.command.AuditBy.{AuditBy}
 use Rattle.commands.specs.declared.command.AuditBy.TheVariants.{Lanes, Alone}
 use Rattle.commands.specs.declared.command.Task.{Task}
 use Rattle.commands.specs.declared.command.Task.TheVariants as task
+use Rattle.commands.specs.declared.command.Which.{Which}
 use Rattle.commands.specs.declared.command.Which.TheVariants as which
 use Rattle.commands.specs.Commands.{Command}
 use Rattle.refusals.specs.declared.status.Status.{Status}
 use Rattle.refusals.specs.declared.status.Status.TheVariants as status
+use Rattle.refusals.specs.RefusalLines.{refusal_line}
 use Rattle.class_table.specs.ClassTable.{classes_text}
 use Rattle.refusals.specs.Texts.{check_text, audit_line, shard_line, merge_line, reweigh_line}
 use Rattle.command_reads.specs.Files.{Reads, bytes_of as bytes_read, exchanged}
-use Rattle.command_reads.specs.FirstRefusal.{Judged, Driven, Rated, Planned, Begun, Merged, Reweighed, own_header}
+use Rattle.command_reads.specs.FirstRefusal.{Judged, Driven, Rated, Planned, Begun, Merged, Reweighed, Supposed, own_header}
 
 -- ---- commands that print
 
@@ -152,13 +161,29 @@ pub data WritesAs (own : Task) (made : Judged) (reads : Reads) (name : Bytes) (b
 
 -- ---- how a command ends
 
--- nothing was refused: it has printed its text, or written its result file, or a write has failed
-abbrev pub IsDoneOrFailed : Command → Judged → Reads → Status → (before after : Outside) → Type 0
-IsDoneOrFailed command made reads ended before after =
-    MatchOption (text_of command.task made)
-    (KeepsOthers before.shelf after.shelf (command.files which.Result) × WritesAs command.task made reads (command.files which.Result) before after ended)
-    (λ text. PrintsAs text ended before after × IsSimulated command.task)
-
 -- AFTER A REFUSAL: no file was changed, and its line was written, or a prefix of it where `out` failed
 abbrev pub RefusedAs : (line : Bytes) → (before after : Outside) → Type 0
 RefusedAs line before after = IsUnchanged before.shelf after.shelf × WroteOrFailed before.out after.out line
+
+-- what `always` asks, and of which plan
+abbrev pub asked_of : Task → Judged → Option (Analysis × Terms)
+asked_of (task.Always window ahead) (Supposed p held) = Some (p, terms_of_plan p held window ahead)
+asked_of _ _ = None
+
+-- FOR EVERY WORKLOAD: what is asked fits the plan, and the text of right answers went out, or a prefix of it where `out` failed; or what is supposed
+-- of runs contradicts itself, and the line of this went out
+abbrev pub HasAnswered : (files : Which → Bytes) → Analysis → Terms → Status → (before after : Outside) → Type 0
+HasAnswered files p terms ended before after =
+    AreTermsFor p terms
+    × (((answers : Answers) × AreRightOf p terms answers × PrintsAs (always_text p terms answers) ended before after)
+    ⊎ ((why : Contradiction) × Contradict (claim_of p terms) why × (ended ≡ status.Contradiction why)
+    × RefusedAs (refusal_line files p.circuit (status.Contradiction why)) before after))
+
+-- nothing was refused: it has answered for every workload, printed its text, or written its result file, or a write has failed
+abbrev pub IsDoneOrFailed : Command → Judged → Reads → Status → (before after : Outside) → Type 0
+IsDoneOrFailed command made reads ended before after =
+    MatchOption (asked_of command.task made)
+    (MatchOption (text_of command.task made)
+    (KeepsOthers before.shelf after.shelf (command.files which.Result) × WritesAs command.task made reads (command.files which.Result) before after ended)
+    (λ text. PrintsAs text ended before after × IsSimulated command.task))
+    (λ asked. HasAnswered command.files asked.0 asked.1 ended before after)

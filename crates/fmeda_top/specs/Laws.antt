@@ -1,10 +1,11 @@
 -- Laws under the promises of a call.
-use Rattle.std.specs.Prelude.{◌≡◌, ◌⊎◌, ◌↔◌, ◌++◌, ℕ, List, flat_map, Option, None, Ok, Err}
+use Rattle.std.specs.Prelude.{◌≡◌, ◌⊎◌, ◌↔◌, ◌++◌, ◌∷◌, [], ℕ, List, flat_map, Option, None, MatchOption, MatchResult, Ok}
 use Rattle.std.specs.List.{AllByRecursion as ForEach}
 use Rattle.fm_base.specs.Names.{Bytes}
 use Rattle.fm_shelf.specs.Content.{Held}
 use Rattle.fm_shelf.specs.Shelf.{CountRose, ShelfState}
 use Rattle.fm_shelf.specs.Outside.{Outside}
+use Rattle.fm_shelf.specs.Sink.{Wrote}
 use Rattle.circuit.specs.declared.parts.NetId.{NetId}
 use Rattle.circuit.specs.Circuit.{Circuit}
 use Rattle.circuit.specs.Loop.{HasNoLoop}
@@ -21,8 +22,18 @@ use Rattle.pair_campaign.specs.PairText.{pairs_text}
 use Rattle.campaign_run.specs.Left.{LeftPrefix}
 use Rattle.result_merge.specs.Merged.{merged}
 use Rattle.result_reweigh.specs.Laws.{DifferInRates}
+use Rattle.workload.specs.declared.run.Run.{Run}
+use Rattle.coverage_claim.specs.declared.parts.Held.{Held as HeldInput}
+use Rattle.always_answers.specs.declared.answers.Answers.{Answers}
+use Rattle.claim_search.specs.Hypotheses.{Contradict}
+use Rattle.claim_search.specs.declared.hypotheses.Contradiction.{Contradiction}
+use Rattle.always.specs.Asked.{terms_of_plan}
+use Rattle.always.specs.Laws.{AreAsSupposed, EndsSame, HoldsSpfm, StartsSame, claim_of, with_runs}
+use Rattle.always.specs.Text.{always_text}
+use Rattle.always.specs.Verdict.{Terms}
 use Rattle.commands.specs.declared.command.Kind.{Kind}
 use Rattle.commands.specs.declared.command.Kind.TheVariants as kind
+use Rattle.commands.specs.declared.command.Task.TheVariants as task
 use Rattle.commands.specs.declared.command.Which.{Which}
 use Rattle.commands.specs.declared.command.Which.TheVariants as which
 use Rattle.commands.specs.Commands.{Command, files_of, kind_of}
@@ -32,8 +43,9 @@ use Rattle.refusals.specs.declared.status.Status.TheVariants as status
 use Rattle.refusals.specs.WantOfMemory.{IsMemory}
 use Rattle.command_reads.specs.declared.files.FileRead.TheVariants.{Failed}
 use Rattle.command_reads.specs.Files.{Reads, WereRead, exchanged, given}
-use Rattle.command_reads.specs.FirstRefusal.{IsLoopAnswer, Judged, Driven, Rated, Planned, Begun, Merged, Reweighed, judge, own_header, plan_of, rows_in}
+use Rattle.command_reads.specs.FirstRefusal.{IsLoopAnswer, Judged, Driven, Rated, Planned, Begun, Merged, Reweighed, Supposed, judge, own_header, plan_of, rows_in}
 use Rattle.fmeda_top.specs.TaskRefusals.{judged}
+use Rattle.fmeda_top.specs.Ends.{asked_of}
 use Rattle.fmeda_top.specs.Promises.{CommandEnds, Promises, RanOut}
 use Rattle.fmeda_top.specs.Program.{ProgramEnds}
 use Rattle.room.specs.Refused.{WasRefused}
@@ -46,6 +58,7 @@ circuit_in (Rated c table) = c
 circuit_in (Begun p k) = p.circuit
 circuit_in (Merged p both) = p.circuit
 circuit_in (Reweighed p rows) = p.circuit
+circuit_in (Supposed p held) = p.circuit
 
 -- OF THE COMMAND: who knows which command the words are has what is promised of it, or memory has run out
 abbrev pub AreOfTheCommand : Type 0
@@ -59,11 +72,16 @@ UsageIsOfTheWords =
     (words : List Bytes) (ended : Status) (before after : Outside) → Promises words ended before after
     → ((ended ≡ status.Usage) ↔ IsNoCommand words) ⊎ IsMemory ended
 
--- the command is refused with this, as the first refusal of what was read of its files
+-- this tells truly that what is supposed of runs contradicts itself
+abbrev pub Contradicts : Status → Analysis → Terms → Type 0
+Contradicts ended p terms = (why : Contradiction) × Contradict (claim_of p terms) why × (ended ≡ status.Contradiction why)
+
+-- the command is refused with this, as the first refusal of what was read of its files, or since these suppose what contradicts itself
 abbrev pub IsOfTheFiles : Command → Status → (before after : Outside) → Type 0
 IsOfTheFiles command ended before after =
     (reads : Reads) × WereRead before.shelf after.shelf command.files reads (kind_of command.task)
-    × ((c : Circuit) × (walk : Option (List NetId)) × IsLoopAnswer (command.files which.Netlist) reads c walk × (judged walk command reads ≡ Err ended))
+    × ((c : Circuit) × (walk : Option (List NetId)) × IsLoopAnswer (command.files which.Netlist) reads c walk
+    × MatchResult (judged walk command reads) (λ made. MatchOption (asked_of command.task made) ⊥ (λ asked. Contradicts ended asked.0 asked.1)) (λ why. ended ≡ why))
 
 -- a write has failed in this call, and was counted
 abbrev pub IsOfAWrite : Command → Status → (before after : Outside) → Type 0
@@ -137,3 +155,31 @@ abbrev pub ReweighedAreOfTheRun : Type 0
 ReweighedAreOfTheRun =
     (netlist : Bytes) (set : Settings) (reads : Reads) (p : Analysis) (rows : List Row)
     → judge netlist None set reads kind.Reweighed ≡ Ok (Reweighed p rows) → AreOfTheRun netlist set reads p rows
+
+-- what the text tells of each plan with other runs, of the same netlist, rates, points and settings: where they are as is asked and end without a
+-- difference by an alarmed fault, the single-point fault metrics of its report are at least those that are printed, since cycle 0; and where nothing
+-- differs before the first cycle either, since that
+pub record HoldsForAllRuns (p : Analysis) (terms : Terms) (text : Bytes) : Type 0 where
+  pub answers : Answers
+  pub is : text ≡ always_text p terms answers
+  pub spfm : (runs : List Run) → AreAsSupposed (with_runs p runs) terms → EndsSame (with_runs p runs) terms answers → HoldsSpfm (with_runs p runs) 0 text
+  pub later : (runs : List Run) → AreAsSupposed (with_runs p runs) terms → EndsSame (with_runs p runs) terms answers
+      → StartsSame (with_runs p runs) terms answers → HoldsSpfm (with_runs p runs) terms.from text
+
+-- OF EVERY WORKLOAD: so of the text of each `always` that is done, and of the plan and the held inputs that its files stand for
+abbrev pub AlwaysHolds : Type 0
+AlwaysHolds =
+    (command : Command) (window : Option ℕ) (ahead : ℕ) (before after : Outside) → command.task ≡ task.Always window ahead
+    → CommandEnds command status.Done before after
+    → (reads : Reads) × WereRead before.shelf after.shelf command.files reads kind.Supposed
+    × ((walk : Option (List NetId)) × (p : Analysis) × (held : List HeldInput) × (judged walk command reads ≡ Ok (Supposed p held))
+    × ((text : Bytes) × Wrote before.out after.out text × HoldsForAllRuns p (terms_of_plan p held window ahead) text))
+
+-- OF REPORTS: over the same netlist, rates, points and settings, the plan of `report` is that of `always` with the runs of its workload
+abbrev pub ReportsAreOfThePlan : Type 0
+ReportsAreOfThePlan =
+    (report always : Command) (window : Option ℕ) (ahead : ℕ) (reads others : Reads) (walk loops : Option (List NetId)) (p q : Analysis) (held : List HeldInput)
+    → report.task ≡ task.Report → always.task ≡ task.Always window ahead → report.settings ≡ always.settings
+    → report.files which.Netlist ≡ always.files which.Netlist
+    → ForEach (λ file. reads file ≡ others file) (which.Netlist ∷ which.Rates ∷ which.Points ∷ [])
+    → judged walk report reads ≡ Ok (Planned p) → judged loops always others ≡ Ok (Supposed q held) → p ≡ with_runs q p.runs

@@ -1,6 +1,7 @@
 // Laws of the promises, for those who read them.
-ghost use Rattle.fmeda_top.specs.Laws.{AreOfTheCommand, HaveNoLoop, HeldIsRead, MemoryWasRefused, MergedAreStopped, OthersHaveCauses, PairsAreTrue, ReadFaultsRose, ReweighedAreOfTheRun, UsageIsOfTheWords};
+ghost use Rattle.fmeda_top.specs.Laws.{AlwaysHolds, AreOfTheCommand, HaveNoLoop, HeldIsRead, MemoryWasRefused, MergedAreStopped, OthersHaveCauses, PairsAreTrue, ReadFaultsRose, ReportsAreOfThePlan, ReweighedAreOfTheRun, UsageIsOfTheWords};
 
+use always::{printed_spfm_holds, text_is_of_no_runs};
 use pair_campaign::pairs_are_told;
 use result_merge::merges_are_lawful;
 use result_reweigh::reweighs_are_lawful;
@@ -25,4 +26,14 @@ pub fn promises_are_of_the_command()
     pairs_are_told();
     merges_are_lawful();
     reweighs_are_lawful();
+}
+
+/// Whoever holds the text of an `always` that is done, and a plan of the same files with runs that are as supposed, has at least the single-point
+/// fault metrics that are printed. The plan of each report of these files is such a plan. It computes nothing.
+pub fn always_holds()
+    ensures holds { AlwaysHolds }
+    ensures reports { ReportsAreOfThePlan }
+{
+    printed_spfm_holds();
+    text_is_of_no_runs();
 }

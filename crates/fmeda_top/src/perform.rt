@@ -11,6 +11,7 @@ ghost use Rattle.command_reads.specs.Judging.{made_by};
 ghost use Rattle.fmeda_top.specs.Doing.{DoesAs, EndSaid, IsJudged, IsReady, MayEnd, PrintedAs, Prints, TellsAs};
 ghost use Rattle.fmeda_top.specs.Words.{RunsNoCampaign, WaitsForNobody};
 
+use crate::always_text::tell_always;
 use crate::audit::tell_audit;
 use crate::check::tell_check;
 use crate::classes::tell_classes;
@@ -104,7 +105,8 @@ fn print<R: Threads + Sync, O: Sink>(
         | Task::Gen { .. }
         | Task::Shard { .. }
         | Task::Merge
-        | Task::Reweigh => unreachable!(),
+        | Task::Reweigh
+        | Task::Always { .. } => unreachable!(),
     }
 }
 
@@ -145,6 +147,11 @@ fn do_at_once<R: Threads + Sync, F: Shelf + Drop, O: Sink>(
         Task::Reweigh => {
             let end = reweigh(alloc, judged.reweighed(), names.result, &mut shelf, out);
             let status = say_end(out, names, end);
+            Ended { status, shelf }
+        }
+        Task::Always { window, ahead } => {
+            let told = tell_always(alloc, judged.supposed(), *window, *ahead, out);
+            let status = printed(names, told, out);
             Ended { status, shelf }
         }
         prints => {

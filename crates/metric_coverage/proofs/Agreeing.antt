@@ -1,6 +1,6 @@
 -- Evidence that agrees for each fault of a plan gives the same lines.
-use Rattle.std.proofs.Common.{◌≡◌, ℕ, zero, suc, ◌<◌, Bool, true, false, cond, List, [], ◌∷◌, ◌++◌, length, refl, ap, ap₂, sym, ◌∙◌, arith}
-use Rattle.std.specs.Prelude.{◌&&◌, codes, decimal, filter, flat_map, sum_by, if◌then◌else◌}
+use Rattle.std.proofs.Common.{◌≡◌, ℕ, zero, suc, ◌-◌, ◌<◌, Bool, true, false, cond, List, [], ◌∷◌, ◌++◌, length, refl, ap, ap₂, sym, ◌∙◌, arith}
+use Rattle.std.specs.Prelude.{◌&&◌, codes, decimal, filter, flat_map, nat_lt, sum_by, if◌then◌else◌}
 use Rattle.std.proofs.lemmas.List.Concat.{flat_map-append}
 use Rattle.std.proofs.lemmas.List.Elements.{filter-append}
 use Rattle.circuit.specs.Effects.{is_permanent}
@@ -11,6 +11,7 @@ use Rattle.fm_base.specs.Names.{Bytes}
 use Rattle.fm_base.proofs.Below.{below_push}
 use Rattle.metric_sums.specs.declared.Class.{Class}
 use Rattle.metric_sums.specs.declared.Sums.{Sums}
+use Rattle.metric_sums.specs.Metrics.{fraction}
 use Rattle.metric_sums.specs.Totals.{plus, sums_by}
 use Rattle.metric_sums.proofs.Running.{sums_by_push}
 use Rattle.campaign_plan.specs.declared.Outcome.{Outcome}
@@ -19,6 +20,7 @@ use Rattle.campaign_plan.specs.Batches.{class_of_fault}
 use Rattle.campaign_plan.specs.Laws.{fault_share}
 use Rattle.campaign_plan.specs.Weights.{has_part_and_kind, weight}
 use Rattle.fmeda_report.specs.Report.{all_sums}
+use Rattle.fmeda_report.specs.Words.{fraction_word}
 use Rattle.metric_bounds.specs.declared.End.{End}
 use Rattle.metric_bounds.specs.declared.End.TheVariants.{Best, Worst, MostLatent}
 use Rattle.coverage.specs.declared.Evidence.{Evidence}
@@ -26,6 +28,7 @@ use Rattle.coverage.specs.declared.Evidence.TheVariants.{NoPath, Never, Quiet, N
 use Rattle.coverage.specs.Coverage.{evidence_line, evidence_word, found_lines, free_lines, is_unexcited, is_unreached, latent_line, reading_lines, unspoken_line}
 use Rattle.coverage.specs.Evidence.{is_kind}
 use Rattle.coverage.specs.Free.{class_at_end, freed, sums_with}
+use Rattle.coverage.specs.Upsets.{all_upsets, counts, cycle_line, harm_in, is_flip_in, rate_in, tried_upsets, upset_lines}
 use Rattle.metric_coverage.specs.Text.{free_by_lines, part_by}
 use Rattle.metric_coverage.specs.Weights.{classes_below, evidence_below, weight_below}
 use Rattle.metric_coverage.proofs.Numbers.{free_told, part_told}
@@ -105,6 +108,27 @@ module _ (p : Analysis) (own other : ℕ → Evidence) (class : ℕ → Class) (
       (record { best = at Best j; worst = at Worst j; most_latent = at MostLatent j }))
       ∙ free_told p word b class
 
+  -- those of upsets
+  same_cycle : (cycle : ℕ) → cycle_line p own cycle ≡ cycle_line p other cycle
+  unfolding cycle_line
+  same_cycle cycle = λ j.
+      line (codes "cycle" ∷ decimal cycle ∷ codes "harm" ∷ decimal (harm j) ∷ codes "rate" ∷ decimal (rate_in p cycle)
+      ∷ codes "spfm transient" ∷ fraction_word (fraction (rate_in p cycle - harm j) (rate_in p cycle)) ∷ [])
+    where
+      harm : harm_in p own cycle ≡ harm_in p other cycle
+      harm =
+          ap (sum_by (weight p)) (same_filter (fault_count p)
+          (λ i. is_flip_in cycle (fault_numbered p i) && (counts p (fault_numbered p i) && is_kind (own i) Harm))
+          (λ i. is_flip_in cycle (fault_numbered p i) && (counts p (fault_numbered p i) && is_kind (other i) Harm))
+          (λ i lt. ap (λ e. is_flip_in cycle (fault_numbered p i) && (counts p (fault_numbered p i) && is_kind e Harm)) (same i lt)))
+
+  pub same_upsets : upset_lines p own ≡ upset_lines p other
+  unfolding upset_lines
+  same_upsets = λ j.
+      if nat_lt 0 (length p.settings.flips)
+      then line (codes "upsets" ∷ decimal (tried_upsets p) ∷ codes "of" ∷ decimal (all_upsets p) ∷ []) ++ flat_map (λ cycle. same_cycle cycle j) p.settings.flips
+      else []
+
 -- THE LINES OF A READING
 pub same_reading : (p : Analysis) (own other : ℕ → Evidence) (planes : ℕ → Outcome) → ((i : ℕ) → i < fault_count p → own i ≡ other i) → reading_lines p own planes ≡ reading_lines p other planes
 unfolding reading_lines
@@ -121,7 +145,8 @@ same_reading p own other planes same =
     let quiet : free_lines p (codes "unreached") (λ i. is_unreached (own i) (class i)) class ≡ free_lines p (codes "unreached") (λ i. is_unreached (other i) (class i)) class =
     same_free_lines p own other class same (codes "unreached") (λ i. is_unreached (own i) (class i)) (λ i. is_unreached (other i) (class i))
     (λ i lt. ap (λ e. is_unreached e (class i)) (same i lt)) in
-    λ j. each j ++ found_lines p (all_sums p planes) ++ never j ++ quiet j
+    let upsets : upset_lines p own ≡ upset_lines p other = same_upsets p own other class same in
+    λ j. each j ++ found_lines p (all_sums p planes) ++ upsets j ++ never j ++ quiet j
 
 -- and of the faults by name
 pub same_names : (p : Analysis) (own other : ℕ → Evidence) (class : ℕ → Class) → ((i : ℕ) → i < fault_count p → own i ≡ other i)

@@ -1,5 +1,9 @@
 pub mod Summing
 pub mod Weighing
+pub mod Flipping
+pub mod Upsetting
+pub mod Latches
+pub mod Moments
 pub mod Counting
 pub mod Numbers
 pub mod Agreeing

@@ -19,6 +19,7 @@ use Rattle.coverage.specs.declared.Evidence.{Evidence}
 use Rattle.coverage.specs.Coverage.{coverage, coverage_readings, coverage_with, evidence_line, found_lines, free_lines, latent_line, reading_lines, unspoken_line}
 use Rattle.coverage.specs.Evidence.{evidence_for}
 use Rattle.coverage.specs.Laws.{spoken}
+use Rattle.coverage.specs.Upsets.{cycle_line, upset_lines}
 use Rattle.metric_coverage.specs.declared.found.Finding.{Finding}
 use Rattle.metric_coverage.specs.declared.weights.PartWeights.{PartWeights}
 use Rattle.metric_coverage.specs.Findings.{HasFound, several}
@@ -39,7 +40,7 @@ parts_told p evidence class parts weighed =
 
 -- with other goals the same numbers give the same lines
 same_lines : (p : Analysis) (goals : List Goal) (evidence : ℕ → Evidence) (planes : ℕ → Outcome) → reading_lines p evidence planes ≡ reading_lines (with_goals p goals) evidence planes
-unfolding reading_lines evidence_line latent_line found_lines free_lines own_sums weight
+unfolding reading_lines evidence_line latent_line found_lines upset_lines cycle_line free_lines own_sums weight
 same_lines p goals evidence planes = refl
 
 -- what was found gives the lines of the plan, and those of a goal alone

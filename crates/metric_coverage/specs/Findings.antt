@@ -10,6 +10,7 @@ use Rattle.testbench.specs.Points.{goal_at}
 use Rattle.coverage.specs.Laws.{spoken}
 use Rattle.metric_coverage.specs.declared.found.Finding.{Finding}
 use Rattle.metric_coverage.specs.declared.found.Found.{Found}
+use Rattle.metric_coverage.specs.Cycles.{AreCyclesWeighed}
 use Rattle.metric_coverage.specs.Freed.{evidence_at}
 use Rattle.metric_coverage.specs.Planes.{IsPlaneTable, table_at}
 use Rattle.metric_coverage.specs.Weights.{AreWeighed}
@@ -22,10 +23,11 @@ several p = if nat_lt 1 (length p.points.goals) then p.points.goals else []
 abbrev pub goal_plan : Analysis → ℕ → Analysis
 goal_plan p g = with_goals p (goal_at p.points.goals g ∷ [])
 
--- the evidence of each fault of a plan, and the weights of the parts by it and by these planes
+-- the evidence of each fault of a plan, and the weights of the parts, by it and by these planes, and of the flips of each cycle
 pub record IsFindingBy (p : Analysis) (planes : List Outcome) (f : Finding) : Type 0 where
   pub count : length f.evidence.items ≡ fault_count p
   pub parts : AreWeighed p (evidence_at f.evidence.items) (class_of_fault p (planes_in_order planes)) f.parts.items
+  pub cycles : AreCyclesWeighed p (evidence_at f.evidence.items) f.cycles.items
 
 -- the evidence and the planes are those of a reading q of the plan
 pub record HasFound (p q : Analysis) (planes : List Outcome) (f : Finding) : Type 0 where

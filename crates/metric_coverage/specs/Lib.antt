@@ -1,6 +1,7 @@
 pub mod Freed
 pub mod Amounts
 pub mod Weights
+pub mod Cycles
 pub mod Turns
 pub mod Work
 pub mod Planes

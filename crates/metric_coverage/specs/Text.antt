@@ -1,5 +1,5 @@
 -- Shapes of private steps: the lines of the text by numbers that were counted before.
-use Rattle.std.specs.Prelude.{ℕ, ◌+◌, Bool, true, false, not, [], ◌∷◌, ◌++◌, flat_map, Option, Some, option_map, nat_lt, if◌then◌else◌, codes, decimal}
+use Rattle.std.specs.Prelude.{ℕ, ◌+◌, ◌-◌, Bool, true, false, not, [], ◌∷◌, ◌++◌, flat_map, Option, Some, option_map, nat_lt, if◌then◌else◌, codes, decimal}
 use Rattle.fm_base.specs.Lists.{below}
 use Rattle.fm_base.specs.Names.{Bytes}
 use Rattle.fm_base.specs.Text.{line}
@@ -22,6 +22,7 @@ use Rattle.readings.specs.Breakdown.{goal_word, with_goals}
 use Rattle.coverage.specs.Coverage.{reading_lines, unspoken_line}
 use Rattle.coverage.specs.Laws.{spoken}
 use Rattle.metric_coverage.specs.declared.amount.Amount.{Amount}
+use Rattle.metric_coverage.specs.declared.cycles.CycleWeights.{CycleWeights}
 use Rattle.metric_coverage.specs.declared.weights.ClassWeights.{ClassWeights}
 use Rattle.metric_coverage.specs.declared.weights.EvidenceWeights.{EvidenceWeights}
 use Rattle.metric_coverage.specs.declared.weights.PartWeights.{PartWeights}
@@ -54,6 +55,15 @@ found_by asil s =
     ++ found_line (codes "spfm transient") (fraction_word (spfm_transient s)) (option_map (meets (spfm_target asil)) (spfm_transient s))
     ++ found_line (codes "lfm") (fraction_word (lfm s)) (option_map (meets (lfm_target asil)) (lfm s))
     ++ found_line (codes "term") (decimal (term s)) (Some (nat_lt (term s) (pmhf_target asil)))
+
+-- how many upsets were tried, and the line of a cycle of flips
+abbrev pub upsets_line : ℕ → ℕ → Bytes
+upsets_line tried all = line (codes "upsets" ∷ decimal tried ∷ codes "of" ∷ decimal all ∷ [])
+
+abbrev pub cycle_by : ℕ → CycleWeights → Bytes
+cycle_by cycle w =
+    line (codes "cycle" ∷ decimal cycle ∷ codes "harm" ∷ decimal w.harm ∷ codes "rate" ∷ decimal w.rate
+    ∷ codes "spfm transient" ∷ fraction_word (fraction (w.rate - w.harm) w.rate) ∷ [])
 
 -- how many faults are free, and what they weigh
 abbrev pub amount_line : Bytes → Amount → Bytes

@@ -13,6 +13,7 @@ ghost use Rattle.metric_coverage.specs.Freed.{evidence_at};
 ghost use Rattle.metric_coverage.specs.Planes.{ArePlaneTables, table_at};
 ghost use Rattle.metric_coverage.specs.Spoken.{AreToldOf};
 
+use crate::cycles::{CycleWeights, cycle_weights};
 use crate::finding::evidence_list;
 use crate::paths::{excited_list, goal_path_list, path_list};
 use crate::planes::{BatchPlanes, planes_by, reading_tables};
@@ -28,11 +29,12 @@ use std::alloc::Global;
 use std::thread::Threads;
 use testbench::Testbench;
 
-/// The evidence of each fault in a reading, and what the faults of each part weigh by it.
+/// The evidence of each fault in a reading, and what the faults of each part, and the flips of each cycle, weigh by it.
 #[derive(Drop)]
 pub(crate) struct Finding {
     pub(crate) evidence: Vec<Evidence>,
     pub(crate) parts: Vec<PartWeights>,
+    pub(crate) cycles: Vec<CycleWeights>,
 }
 
 /// What is found by all readings: the planes of each reading of `coverage_list`, the finding of the plan itself, and those of each goal
@@ -71,7 +73,12 @@ fn finding_of(
 {
     let evidence = evidence_list(alloc, plan, planes, bare, path, excited)?;
     let parts = part_weights(alloc, plan, &evidence, planes)?;
-    Ok(Finding { evidence, parts })
+    let cycles = cycle_weights(alloc, plan, &evidence)?;
+    Ok(Finding {
+        evidence,
+        parts,
+        cycles,
+    })
 }
 
 // That of the plan itself.

@@ -3,6 +3,7 @@
 #![tactic(auto)]
 
 mod amount;
+mod cycles;
 mod evidence;
 mod fan_out;
 mod finding;
@@ -15,6 +16,7 @@ mod paths;
 mod planes;
 mod share;
 mod text;
+mod upsets;
 mod weights;
 mod worker;
 mod write;

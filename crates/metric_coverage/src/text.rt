@@ -15,6 +15,7 @@ use crate::lines::write_parts;
 use crate::metrics::{write_found_lines, write_free_lines};
 use crate::names::write_names;
 use crate::planes::{BatchPlanes, planes_by};
+use crate::upsets::write_upset_lines;
 use alarm_points::Goal;
 use campaign_plan::{Outcome, Plan};
 use fm_shelf::lines::write_line;
@@ -28,7 +29,7 @@ fn goal_word(goal: &Goal) -> &[u8]
     if name.is_empty() { b"-" } else { name }
 }
 
-// Writes the lines of a reading: those of the parts and of the metrics.
+// Writes the lines of a reading: those of the parts, of the metrics and of the upsets.
 fn write_reading<O: Sink>(
     plan: &Plan,
     finding: &Finding,
@@ -43,6 +44,7 @@ fn write_reading<O: Sink>(
     let evidence = finding.evidence.as_slice();
     write_parts(plan, finding.parts.as_slice(), out)?;
     write_found_lines(plan, evidence, planes, out)?;
+    write_upset_lines(plan, evidence, finding.cycles.as_slice(), out)?;
     write_free_lines(
         plan,
         b"unexcited",

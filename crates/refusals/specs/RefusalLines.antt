@@ -13,6 +13,9 @@ use Rattle.rate_table.specs.declared.RatesKind.{RatesKind}
 use Rattle.rate_table.specs.declared.RatesKind.TheVariants as rates
 use Rattle.alarm_points.specs.declared.PointsKind.{PointsKind}
 use Rattle.alarm_points.specs.declared.PointsKind.TheVariants as points
+use Rattle.held_inputs.specs.declared.HeldKind.{HeldKind}
+use Rattle.held_inputs.specs.declared.HeldKind.TheVariants as held
+use Rattle.claim_search.specs.declared.hypotheses.Contradiction.TheVariants as contradiction
 use Rattle.campaign_plan.specs.declared.Outcome.{Outcome}
 use Rattle.campaign_plan.specs.declared.PlanRefusal.{PlanRefusal}
 use Rattle.campaign_plan.specs.declared.PlanRefusal.TheVariants as plan
@@ -95,6 +98,17 @@ points_kind points.NoObserve = codes "NoObserve"
 points_kind points.BadGoal = codes "BadGoal"
 points_kind points.BadInterval = codes "BadInterval"
 
+-- the word of each kind of held refusal
+abbrev pub held_kind : HeldKind → Bytes
+held_kind held.BadCsv = codes "BadCsv"
+held_kind held.UnknownInput = codes "UnknownInput"
+held_kind held.Twice = codes "Twice"
+held_kind held.TooLarge = codes "TooLarge"
+held_kind held.BadFrom = codes "BadFrom"
+held_kind held.BadBefore = codes "BadBefore"
+held_kind held.NoCycleBefore = codes "NoCycleBefore"
+held_kind held.BadValue = codes "BadValue"
+
 -- why a row of the result file is refused; the kept and the computed sums follow
 abbrev pub row_why : RowFault → List Bytes
 row_why w = codes (elim w [ Form ↦ "Form" | Range ↦ "Range" | Repeated ↦ "Repeated" | UnusedLane ↦ "UnusedLane" | Sums _ _ ↦ "Sums kept" ])
@@ -124,6 +138,7 @@ refusal_line file c ended =
       | status.Rates fault ↦ line (codes "refused: rates row" ∷ decimal fault.row ∷ rates_kind fault.kind ∷ [])
       | status.NewRates fault ↦ line (codes "refused: new rates row" ∷ decimal fault.row ∷ rates_kind fault.kind ∷ [])
       | status.Points fault ↦ line (codes "refused: points row" ∷ decimal fault.row ∷ points_kind fault.kind ∷ [])
+      | status.Held fault ↦ line (codes "refused: held row" ∷ decimal fault.row ∷ held_kind fault.kind ∷ [])
       | status.Workload fault ↦ line (codes "refused: workload row" ∷ decimal fault.row ∷ workload_kind fault.kind ∷ [])
       | status.Plan cause ↦ plan_line (codes "no rate for net") (codes "has a") cause
       | status.NewPlan cause ↦ plan_line (codes "no new rate for net") (codes "has a new") cause
@@ -138,6 +153,10 @@ refusal_line file c ended =
       | status.NoRun ↦ codes "refused: no such run\n"
       | status.NoFault ↦ codes "refused: no such fault\n"
       | status.NoNet ↦ codes "refused: no such net\n"
+      | status.NoAlarm ↦ codes "refused: no alarm point\n"
+      | status.LongWindow window least ↦ line (codes "refused: window" ∷ decimal window ∷ codes "is longer than the shortest interval," ∷ decimal least ∷ [])
+      | status.Contradiction contradiction.Held ↦ codes "refused: no run has the held inputs\n"
+      | status.Contradiction contradiction.Alarms ↦ codes "refused: each run raises an alarm without a fault\n"
       | status.ReadFault which ↦ line (codes "refused: cannot read" ∷ file which ∷ [])
       | status.ResultFault ↦ line (codes "refused: cannot write" ∷ file which.Result ∷ [])
       | status.Memory no_room ↦ codes "refused: out of memory\n"
@@ -170,6 +189,10 @@ code_of (status.Pairs refusal) = elim refusal [ Incomplete have batches ↦ 16 |
 code_of status.NoRun = 17
 code_of status.NoFault = 17
 code_of status.NoNet = 17
+code_of (status.Held fault) = 18
+code_of status.NoAlarm = 19
+code_of (status.LongWindow window least) = 19
+code_of (status.Contradiction cause) = 19
 code_of (status.ReadFault which) = 20
 code_of status.ResultFault = 21
 code_of status.OutFault = 21

@@ -131,6 +131,25 @@ pub(crate) fn refuse_incomplete<O: Sink>(out: &mut O, have: u32, batches: u32)
     )
 }
 
+// The line of a window that is longer than the shortest interval.
+pub(crate) fn refuse_window<O: Sink>(out: &mut O, window: u32, least: u32)
+    ensures { IsSaid (O.seen out.old) (O.seen out.new)
+        (refused (codes "window" ∷ decimal window ∷ codes "is longer than the shortest interval," ∷ decimal least ∷ [])) }
+{
+    let mut digits = Buffer::new();
+    let mut least_digits = Buffer::new();
+    say(
+        out,
+        &[
+            b"refused:",
+            b"window",
+            digits.format(window).as_bytes(),
+            b"is longer than the shortest interval,",
+            least_digits.format(least).as_bytes(),
+        ],
+    )
+}
+
 // The line of a row that breaks a rule.
 pub(crate) fn refuse_bad_row<O: Sink>(out: &mut O, number: u32, why: RowFault)
     ensures { IsSaid (O.seen out.old) (O.seen out.new)

@@ -2,13 +2,14 @@
 ghost use Rattle.std.specs.Prelude.{◌≡◌, ◌∷◌, ◌++◌, [], map, codes, decimal, if◌then◌else◌};
 ghost use Rattle.fm_base.specs.Text.{line, hex};
 ghost use Rattle.refusals.specs.Said.{IsSaid, shown_bench_net as bench_net_behind, shown_net as net_behind};
-ghost use Rattle.refusals.specs.RefusalLines.{bench_kind, netlist_kind, workload_kind as word_of_workload, rates_kind as word_of_rates, points_kind as word_of_points, refused};
+ghost use Rattle.refusals.specs.RefusalLines.{bench_kind, netlist_kind, workload_kind as word_of_workload, rates_kind as word_of_rates, points_kind as word_of_points, held_kind as word_of_held, refused};
 
 use alarm_points::{PointsFault, PointsKind};
 use bench_reader::{BenchFault, BenchKind};
 use blif_text::{NetlistFault, NetlistKind};
 use fm_shelf::lines::write_line;
 use fm_shelf::shelf::Sink;
+use held_inputs::HeldKind;
 use itoa::Buffer;
 use rate_table::{RatesFault, RatesKind};
 use workload::file::{WorkloadFault, WorkloadKind};
@@ -166,5 +167,20 @@ pub(crate) fn points_kind(kind: PointsKind) -> &'static [u8]
         PointsKind::NoObserve => b"NoObserve",
         PointsKind::BadGoal => b"BadGoal",
         PointsKind::BadInterval => b"BadInterval",
+    }
+}
+
+pub(crate) fn held_kind(kind: HeldKind) -> &'static [u8]
+    ensures { result.now ≡ word_of_held kind }
+{
+    match kind {
+        HeldKind::BadCsv => b"BadCsv",
+        HeldKind::UnknownInput => b"UnknownInput",
+        HeldKind::Twice => b"Twice",
+        HeldKind::TooLarge => b"TooLarge",
+        HeldKind::BadFrom => b"BadFrom",
+        HeldKind::BadBefore => b"BadBefore",
+        HeldKind::NoCycleBefore => b"NoCycleBefore",
+        HeldKind::BadValue => b"BadValue",
     }
 }

@@ -8,15 +8,19 @@ ghost use Rattle.fm_base.specs.Names.{Bytes};
 ghost use Rattle.commands.specs.Commands.{name_by};
 ghost use Rattle.refusals.specs.RefusalLines.{plan_line, refused, refusal_line};
 
-use crate::lines::{refuse_bad_row, refuse_foreign, refuse_incomplete, refuse_planes};
+use crate::lines::{
+    refuse_bad_row, refuse_foreign, refuse_incomplete, refuse_planes, refuse_window,
+};
 use crate::refusal::{
-    points_kind, rates_kind, refuse_bench, refuse_netlist, refuse_row, say, workload_kind,
+    held_kind, points_kind, rates_kind, refuse_bench, refuse_netlist, refuse_row, say,
+    workload_kind,
 };
 use crate::refused::Refused;
 use crate::status::Status;
 use crate::walk::refuse_loop;
 use campaign_plan::PlanRefusal;
 use circuit::parts::Name;
+use claim_search::Contradiction;
 use commands::{FileNames, Which};
 use fm_shelf::shelf::Sink;
 use pair_list::PairRefusal;
@@ -126,6 +130,19 @@ fn refuse_disagreeing<O: Sink>(out: &mut O, row: &FalseRow)
     )
 }
 
+// The line of held inputs and silent alarms that contradict each other.
+fn refuse_contradiction<O: Sink>(out: &mut O, cause: Contradiction)
+    ensures { (file : Which → Bytes) (c : Circuit) → IsSaid (O.seen out.old) (O.seen out.new) (refusal_line file c (Status.Contradiction cause)) }
+{
+    match cause {
+        Contradiction::Held => say(out, &[b"refused:", b"no run has the held inputs"]),
+        Contradiction::Alarms => say(
+            out,
+            &[b"refused:", b"each run raises an alarm without a fault"],
+        ),
+    }
+}
+
 /// Writes the line of a refusal. `nets` has the names of the netlist's nets, for the line of a loop.
 pub fn refuse<O: Sink>(out: &mut O, names: &FileNames, nets: &[Name], status: &Status)
     ensures { (c : Circuit) → c.names ≡ nets.now
@@ -158,6 +175,7 @@ pub fn refuse<O: Sink>(out: &mut O, names: &FileNames, nets: &[Name], status: &S
             refuse_row(out, b"new rates row", fault.row, kind)
         }
         Status::Points(fault) => refuse_row(out, b"points row", fault.row, points_kind(fault.kind)),
+        Status::Held(fault) => refuse_row(out, b"held row", fault.row, held_kind(fault.kind)),
         Status::Workload(fault) => {
             let kind = workload_kind(fault.kind);
             refuse_row(out, b"workload row", fault.row, kind)
@@ -171,6 +189,9 @@ pub fn refuse<O: Sink>(out: &mut O, names: &FileNames, nets: &[Name], status: &S
         Status::NoRun => say(out, &[b"refused:", b"no such run"]),
         Status::NoFault => say(out, &[b"refused:", b"no such fault"]),
         Status::NoNet => say(out, &[b"refused:", b"no such net"]),
+        Status::NoAlarm => say(out, &[b"refused:", b"no alarm point"]),
+        Status::LongWindow { window, least } => refuse_window(out, *window, *least),
+        Status::Contradiction(cause) => refuse_contradiction(out, *cause),
     }
 }
 

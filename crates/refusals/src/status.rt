@@ -6,8 +6,10 @@ use alarm_points::PointsFault;
 use bench_reader::BenchFault;
 use blif_text::NetlistFault;
 use campaign_plan::PlanRefusal;
+use claim_search::Contradiction;
 use commands::Which;
 use fm_shelf::shelf::Failed;
+use held_inputs::HeldFault;
 use netlist_levels::Walk;
 use pair_list::PairRefusal;
 use rate_table::RatesFault;
@@ -27,6 +29,7 @@ pub enum Status {
     Rates(RatesFault),
     NewRates(RatesFault),
     Points(PointsFault),
+    Held(HeldFault),
     Workload(WorkloadFault),
     Plan(PlanRefusal),
     NewPlan(PlanRefusal),
@@ -39,6 +42,10 @@ pub enum Status {
     NoRun,
     NoFault,
     NoNet,
+    NoAlarm,
+    /// A window of so many cycles, where the shortest interval of a goal has fewer.
+    LongWindow { window: u32, least: u32 },
+    Contradiction(Contradiction),
     ReadFault(Which),
     ResultFault,
     OutFault,
@@ -58,7 +65,7 @@ fn plan_code(cause: &PlanRefusal) -> u8
 }
 
 impl Status {
-    /// The exit status of the program: 0 is done, 2 to 17 are refusals of what it was given, 20 and 21 are faults of the
+    /// The exit status of the program: 0 is done, 2 to 19 are refusals of what it was given, 20 and 21 are faults of the
     /// outside, and 30 is want of memory.
     pub fn code(&self) -> u8
         ensures { result ≡ code_of self.now }
@@ -81,6 +88,8 @@ impl Status {
             Status::Pairs(PairRefusal::Incomplete { .. }) => 16,
             Status::Pairs(PairRefusal::TooMany) => 10,
             Status::NoRun | Status::NoFault | Status::NoNet => 17,
+            Status::Held(_) => 18,
+            Status::NoAlarm | Status::LongWindow { .. } | Status::Contradiction(_) => 19,
             Status::ReadFault(_) => 20,
             Status::ResultFault | Status::OutFault => 21,
             Status::Memory(_) => 30,

@@ -21,6 +21,7 @@ use Rattle.region_search.specs.Search.{IsByRules, IsSearch, places_of}
 use Rattle.region_search.specs.Settled.{AreSome, sets_in}
 use Rattle.region_search.specs.Work.{pairs_left, work_left}
 use Rattle.region_search.specs.declared.frames.FrameSets.{FrameSets}
+use Rattle.region_search.specs.declared.refute.Trial.{Trial}
 use Rattle.region_search.specs.declared.search.Search.{Search}
 
 -- the sets of all frames
@@ -47,6 +48,12 @@ pub record IsGoing (o : Ordered) (s : Stretch) (bounds q left : Sets) (waiting :
 pub record IsFor (o : Ordered) (search : Search) : Type 0 where
   pub nets : search.sets.nets ≡ length o.circuit.drivers
   pub bound : search.waiting.bound ≡ search.sets.frames * places_of o
+
+-- and so are those in which pairs are tried, with as many frames in both
+pub record AreFor (o : Ordered) (trial : Trial) : Type 0 where
+  pub pair : IsFor o trial.pair
+  pub case : IsFor o trial.case
+  pub frames : trial.case.sets.frames ≡ trial.pair.sets.frames
 
 -- the search of these arrays goes on from some sets of a stretch with as many frames
 pub record GoesOn (o : Ordered) (s : Stretch) (bounds q : Sets) (search : Search) : Type 0 where

@@ -8,6 +8,10 @@ use Rattle.region_search.specs.declared.search.Search.{Search}
 abbrev pub NoneHave : Stretch → Sets → (frame net : ℕ) → (a b : Bool) → Type 0
 NoneHave s bounds frame net a b = (golden faulty : Values) → AreSo s golden faulty → LieIn s bounds golden faulty → golden frame net ≡ a → faulty frame net ≡ b → ⊥
 
+-- or this golden value alone
+abbrev pub NoneHaveGolden : Stretch → Sets → (frame net : ℕ) → (a : Bool) → Type 0
+NoneHaveGolden s bounds frame net a = (golden faulty : Values) → AreSo s golden faulty → LieIn s bounds golden faulty → golden frame net ≡ a → ⊥
+
 -- the sets, what waits and what is noted are those of another search
 pub record IsCopy (new old : Search) : Type 0 where
   pub nets : new.sets.nets ≡ old.sets.nets

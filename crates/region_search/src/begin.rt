@@ -58,7 +58,7 @@ fn held_at(held: Held, cycle: u64) -> Option<bool>
 }
 
 // The pairs with this golden value.
-fn golden_pairs(golden: Option<bool>) -> PairSet
+pub(crate) fn golden_pairs(golden: Option<bool>) -> PairSet
     ensures { (g f : Bool) → has result g f ≡ allows golden g f }
 {
     match golden {

@@ -4,6 +4,7 @@
 mod begin;
 mod frames;
 mod law;
+mod near;
 mod refute;
 mod search;
 mod truth;
@@ -13,7 +14,7 @@ mod window;
 pub use begin::Beginning;
 pub use frames::FrameSets;
 pub use law::{cuts_keep_search, settled_sets};
-pub use refute::PairAt;
+pub use refute::{PairAt, Trial};
 pub use search::{Search, TablePlace};
 pub use truth::placed_tables;
 pub use watch::Watchers;

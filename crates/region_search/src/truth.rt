@@ -18,7 +18,7 @@ use room::{NoRoom, filled, push, with_room};
 use std::alloc::Global;
 
 // Where a net stands first.
-fn place_of(nets: &[NetId], net: NetId) -> Option<usize>
+pub(crate) fn place_of(nets: &[NetId], net: NetId) -> Option<usize>
     ensures { MatchOption result (All (λ other. other.0 ≢ net.0) nets.now) (λ place. (place < length nets.now) × ((net_at nets.now place).0 ≡ net.0)) }
 {
     nets.iter().position(|other| other.0 == net.0)

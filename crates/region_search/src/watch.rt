@@ -1,5 +1,5 @@
 // Who looks again where a set has lost a pair.
-ghost use Rattle.std.specs.Prelude.{◌≡◌, ◌≢◌, ◌<◌, ◌≤◌, ◌+◌, ◌*◌, ◌^◌, ℕ, true, length, All, Contains, IfOk, Some, slice_index};
+ghost use Rattle.std.specs.Prelude.{◌≡◌, ◌≢◌, ◌<◌, ◌≤◌, ◌+◌, ◌*◌, ◌^◌, ℕ, true, length, All, Contains, IfOk, IfSome, Some, slice_index};
 ghost use Rattle.std.specs.List.{slice_get};
 ghost use Rattle.circuit.specs.Order.{IsOrder, net_at};
 ghost use Rattle.circuit.specs.Sound.{IsNet};
@@ -133,6 +133,16 @@ impl Watchers {
         ensures few { result.1 ≤ 2 ^ 20 }
     {
         (self.tables, self.places)
+    }
+
+    /// The place in the order of the table that drives a net, if one does.
+    pub fn table_of(&self, net: NetId) -> Option<usize>
+        requires net { IsNet self.now.circuit net }
+        ensures place { IfSome result (λ place. place < length self.now.order) }
+        ensures own { (p : ℕ) → p < length self.now.order → (net_at self.now.order p).0 ≡ net.0 → result ≡ Some p }
+    {
+        let own = self.own[net.0 as usize] as usize;
+        if own < self.tables { Some(own) } else { None }
     }
 
     /// Where the table of a place in the order waits, in a frame.

@@ -12,7 +12,7 @@ ghost use Rattle.region_search.specs.Refute.{NoneHave};
 ghost use Rattle.region_search.specs.Window.{IsForced, leaves_from};
 ghost use Rattle.region_search.specs.Work.{pair_count, pairs_left};
 
-use crate::refute::PairAt;
+use crate::refute::{PairAt, Trial};
 use crate::search::{Search, TablePlace};
 use crate::watch::Watchers;
 use circuit::parts::{Latch, NetId};
@@ -55,12 +55,12 @@ fn leaving_pairs(starts: PairSet, site: Site) -> PairSet
 }
 
 impl Search {
-    ghost use Rattle.region_search.specs.Going.{AreSites, GoesOn, IsFor, IsMade};
+    ghost use Rattle.region_search.specs.Going.{AreFor, AreSites, GoesOn, IsFor, IsMade};
 
     // Whether a pair is one of some, and not refuted.
     fn stands(
         &self,
-        trial: &mut Search,
+        trial: &mut Trial,
         watchers: &Watchers,
         tables: &[TablePlace],
         latches: &[Latch],
@@ -69,13 +69,13 @@ impl Search {
         pair: PairAt,
     ) -> bool
         requires fits { IsFor watchers.now self.now }
-        requires trial { IsFor watchers.now trial.old }
-        requires frames { trial.old.sets.frames ≡ self.now.sets.frames }
+        requires trial { AreFor watchers.now trial.old }
+        requires frames { trial.old.pair.sets.frames ≡ self.now.sets.frames }
         requires made { IsMade watchers.now tables.now latches.now sites.now }
         requires frame { pair.frame < self.now.sets.frames }
         requires net { IsNet watchers.now.circuit pair.net }
-        ensures trial { IsFor watchers.now trial.new }
-        ensures frames { trial.new.sets.frames ≡ trial.old.sets.frames }
+        ensures trial { AreFor watchers.now trial.new }
+        ensures frames { trial.new.pair.sets.frames ≡ trial.old.pair.sets.frames }
         ensures among { result ≡ true → has pairs pair.golden pair.faulty ≡ true }
         ensures none { result ≡ false → has pairs pair.golden pair.faulty ≡ true → (s : Stretch) (bounds q : Sets) → AreSites watchers.now s.region sites.now
             → GoesOn watchers.now s bounds q self.now → NoneHave s bounds pair.frame pair.net.0 pair.golden pair.faulty }
@@ -92,7 +92,7 @@ impl Search {
     // Those of some pairs of a net in a frame that aren't refuted, tried one at a time. A pair that the net hasn't is refuted at no cost.
     fn standing(
         &self,
-        trial: &mut Search,
+        trial: &mut Trial,
         watchers: &Watchers,
         tables: &[TablePlace],
         latches: &[Latch],
@@ -102,13 +102,13 @@ impl Search {
         pairs: PairSet,
     ) -> PairSet
         requires fits { IsFor watchers.now self.now }
-        requires trial { IsFor watchers.now trial.old }
-        requires frames { trial.old.sets.frames ≡ self.now.sets.frames }
+        requires trial { AreFor watchers.now trial.old }
+        requires frames { trial.old.pair.sets.frames ≡ self.now.sets.frames }
         requires made { IsMade watchers.now tables.now latches.now sites.now }
         requires frame { frame < self.now.sets.frames }
         requires net { IsNet watchers.now.circuit net }
-        ensures trial { IsFor watchers.now trial.new }
-        ensures frames { trial.new.sets.frames ≡ trial.old.sets.frames }
+        ensures trial { AreFor watchers.now trial.new }
+        ensures frames { trial.new.pair.sets.frames ≡ trial.old.pair.sets.frames }
         ensures among { (a b : Bool) → has result a b ≡ true → has pairs a b ≡ true }
         ensures none { (s : Stretch) (bounds q : Sets) → AreSites watchers.now s.region sites.now → GoesOn watchers.now s bounds q self.now
             → (a b : Bool) → has pairs a b ≡ true → has result a b ≡ false → NoneHave s bounds frame net.0 a b }
@@ -138,7 +138,7 @@ impl Search {
     /// Whether none of some nets differs in frame 0, since both unequal pairs of each are refuted.
     pub fn agrees(
         &self,
-        trial: &mut Search,
+        trial: &mut Trial,
         watchers: &Watchers,
         tables: &[TablePlace],
         latches: &[Latch],
@@ -146,13 +146,13 @@ impl Search {
         nets: &[NetId],
     ) -> bool
         requires fits { IsFor watchers.now self.now }
-        requires trial { IsFor watchers.now trial.old }
-        requires frames { trial.old.sets.frames ≡ self.now.sets.frames }
+        requires trial { AreFor watchers.now trial.old }
+        requires frames { trial.old.pair.sets.frames ≡ self.now.sets.frames }
         requires made { IsMade watchers.now tables.now latches.now sites.now }
         requires frame { 0 < self.now.sets.frames }
         requires nets { All (IsNet watchers.now.circuit) nets.now }
-        ensures trial { IsFor watchers.now trial.new }
-        ensures frames { trial.new.sets.frames ≡ trial.old.sets.frames }
+        ensures trial { AreFor watchers.now trial.new }
+        ensures frames { trial.new.pair.sets.frames ≡ trial.old.pair.sets.frames }
         ensures same { result ≡ true → (s : Stretch) (bounds q : Sets) → AreSites watchers.now s.region sites.now → GoesOn watchers.now s bounds q self.now
             → (golden faulty : Values) → AreSo s golden faulty → LieIn s bounds golden faulty → All (λ net. golden 0 net.0 ≡ faulty 0 net.0) nets.now }
         ensures open { result ≡ false → (s : Stretch) (bounds q : Sets) → AreSites watchers.now s.region sites.now → GoesOn watchers.now s bounds q self.now
@@ -172,7 +172,7 @@ impl Search {
     // lead it away and isn't refuted, and each that its own net may show then.
     fn grown(
         &self,
-        trial: &mut Search,
+        trial: &mut Trial,
         watchers: &Watchers,
         tables: &[TablePlace],
         latches: &[Latch],
@@ -181,14 +181,14 @@ impl Search {
         start: PairSet,
     ) -> PairSet
         requires fits { IsFor watchers.now self.now }
-        requires trial { IsFor watchers.now trial.old }
-        requires frames { trial.old.sets.frames ≡ self.now.sets.frames }
+        requires trial { AreFor watchers.now trial.old }
+        requires frames { trial.old.pair.sets.frames ≡ self.now.sets.frames }
         requires made { IsMade watchers.now tables.now latches.now sites.now }
         requires frame { 0 < self.now.sets.frames }
         requires from { IsNet watchers.now.circuit latch.from }
         requires to { IsNet watchers.now.circuit latch.to }
-        ensures trial { IsFor watchers.now trial.new }
-        ensures frames { trial.new.sets.frames ≡ trial.old.sets.frames }
+        ensures trial { AreFor watchers.now trial.new }
+        ensures frames { trial.new.pair.sets.frames ≡ trial.old.pair.sets.frames }
         ensures grows { (a b : Bool) → has start a b ≡ true → has result a b ≡ true }
         ensures again { (s : Stretch) (bounds q : Sets) → AreSites watchers.now s.region sites.now → GoesOn watchers.now s bounds q self.now
             → (golden faulty : Values) → AreSo s golden faulty → LieIn s bounds golden faulty
@@ -207,7 +207,7 @@ impl Search {
     // Lets the starts of a latch grow by the pairs that they are forced to have; answers whether they have grown.
     fn grow_at(
         &self,
-        trial: &mut Search,
+        trial: &mut Trial,
         watchers: &Watchers,
         tables: &[TablePlace],
         latches: &[Latch],
@@ -216,14 +216,14 @@ impl Search {
         start: &mut PairSet,
     ) -> bool
         requires fits { IsFor watchers.now self.now }
-        requires trial { IsFor watchers.now trial.old }
-        requires frames { trial.old.sets.frames ≡ self.now.sets.frames }
+        requires trial { AreFor watchers.now trial.old }
+        requires frames { trial.old.pair.sets.frames ≡ self.now.sets.frames }
         requires made { IsMade watchers.now tables.now latches.now sites.now }
         requires frame { 0 < self.now.sets.frames }
         requires from { IsNet watchers.now.circuit latch.from }
         requires to { IsNet watchers.now.circuit latch.to }
-        ensures trial { IsFor watchers.now trial.new }
-        ensures frames { trial.new.sets.frames ≡ trial.old.sets.frames }
+        ensures trial { AreFor watchers.now trial.new }
+        ensures frames { trial.new.pair.sets.frames ≡ trial.old.pair.sets.frames }
         ensures same { result ≡ false → start.new ≡ start.old }
         ensures keeps { (a b : Bool) → has start.old a b ≡ true → has start.new a b ≡ true }
         ensures again { result ≡ false → (s : Stretch) (bounds q : Sets) → AreSites watchers.now s.region sites.now → GoesOn watchers.now s bounds q self.now
@@ -245,7 +245,7 @@ impl Search {
     /// none has, each latch starts the next cycle as it may start this one.
     pub fn grow(
         &self,
-        trial: &mut Search,
+        trial: &mut Trial,
         watchers: &Watchers,
         tables: &[TablePlace],
         latches: &[Latch],
@@ -253,13 +253,13 @@ impl Search {
         starts: &mut [PairSet],
     ) -> bool
         requires fits { IsFor watchers.now self.now }
-        requires trial { IsFor watchers.now trial.old }
-        requires frames { trial.old.sets.frames ≡ self.now.sets.frames }
+        requires trial { AreFor watchers.now trial.old }
+        requires frames { trial.old.pair.sets.frames ≡ self.now.sets.frames }
         requires made { IsMade watchers.now tables.now latches.now sites.now }
         requires frame { 0 < self.now.sets.frames }
         requires starts { length starts.old ≡ length latches.now }
-        ensures trial { IsFor watchers.now trial.new }
-        ensures frames { trial.new.sets.frames ≡ trial.old.sets.frames }
+        ensures trial { AreFor watchers.now trial.new }
+        ensures frames { trial.new.pair.sets.frames ≡ trial.old.pair.sets.frames }
         ensures same { result ≡ false → starts.new ≡ starts.old }
         ensures keeps { (l : ℕ) (x y : Bool) → has (set_at starts.old l) x y ≡ true → has (set_at starts.new l) x y ≡ true }
         ensures again { result ≡ false → (s : Stretch) (bounds q : Sets) → AreSites watchers.now s.region sites.now → GoesOn watchers.now s bounds q self.now

@@ -27,7 +27,7 @@ use Rattle.refusals.specs.NetlistFile.{netlist_in, or_refuse}
 use Rattle.command_reads.specs.declared.files.FileRead.{FileRead}
 use Rattle.command_reads.specs.declared.files.FileRead.TheVariants.{Whole, TooLong, Failed}
 use Rattle.command_reads.specs.Files.{Reads}
-use Rattle.command_reads.specs.FirstRefusal.{Judged, Planned, Driven, Rated, Begun, Merged, Reweighed, judge, netlist_read, netlist_step, own_header, plan_of, read_as, rows_in, unless, whole, ◌>>=◌}
+use Rattle.command_reads.specs.FirstRefusal.{Judged, Planned, Driven, Rated, Begun, Merged, Reweighed, Supposed, judge, netlist_read, netlist_step, own_header, plan_of, read_as, rows_in, unless, whole, ◌>>=◌}
 use Rattle.fmeda_top.specs.TaskRefusals.{judged, task_refusal}
 use Rattle.stopped_runs.specs.Campaigns.{Campaign, resume_by, run_by}
 
@@ -130,7 +130,7 @@ module _ (reads : Reads) where
 -- ---- the same of the same files
 
 abbrev four : (netlist workload rates points : FileRead) → Reads
-four n w r p = by_file n w r p Failed Failed Failed Failed
+four n w r p = by_file n w r p Failed Failed Failed Failed Failed
 
 abbrev of_four : Reads → Reads
 of_four reads = four (reads which.Netlist) (reads which.Workload) (reads which.Rates) (reads which.Points)
@@ -273,6 +273,7 @@ run_asks workers (Rated c table) = refl
 run_asks workers (Begun p k) = refl
 run_asks workers (Merged p both) = refl
 run_asks workers (Reweighed p rows) = refl
+run_asks workers (Supposed p held) = refl
 
 resume_asks : (workers : ℕ) (made : Judged) → task_refusal (task.Resume workers) made ≡ None
 resume_asks workers (Planned p) = refl
@@ -281,6 +282,7 @@ resume_asks workers (Rated c table) = refl
 resume_asks workers (Begun p k) = refl
 resume_asks workers (Merged p both) = refl
 resume_asks workers (Reweighed p rows) = refl
+resume_asks workers (Supposed p held) = refl
 
 none_refuses : {A : Type 0} (o : Option Status) (x : A) → o ≡ None → Refuses (unless o x)
 none_refuses None x is = tt

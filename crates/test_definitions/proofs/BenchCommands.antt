@@ -30,11 +30,11 @@ abbrev all_read : (Which → List ℕ) → Reads
 all_read bytes file = Whole (bytes file)
 
 abbrev files : List ℕ → Reads
-files text = all_read (by_file text dup_workload dup_rates dup_points [] [] [] [])
+files text = all_read (by_file text dup_workload dup_rates dup_points [] [] [] [] [])
 
 -- a command with this task, where the netlist has this name
 abbrev command : Task → List ℕ → Command
-command own name = record { files = by_file name (codes "w") (codes "r") (codes "p") [] [] [] []; settings = settings_of [] []; task = own }
+command own name = record { files = by_file name (codes "w") (codes "r") (codes "p") [] [] [] [] []; settings = settings_of [] []; task = own }
 
 abbrev refusal_of : Result Judged Status → Option Status
 refusal_of made = elim made [ Ok _ ↦ None | Err why ↦ Some why ]
@@ -110,13 +110,13 @@ unfolding opened
 form_blif = refl
 
 -- the fault of a `.bench` file comes before a loop and before the workload
-bench_first : refused (Some (net 2 ∷ [])) task.Check (codes "n.bench") (all_read (by_file (codes "OUTPUT(y)\n") [] [] [] [] [] [] []))
+bench_first : refused (Some (net 2 ∷ [])) task.Check (codes "n.bench") (all_read (by_file (codes "OUTPUT(y)\n") [] [] [] [] [] [] [] []))
     ≡ Some (status.Bench (record { line = 1; kind = bench.Undriven (codes "y") }))
 unfolding opened
 bench_first = refl
 
 -- and the loop of one before the workload
-then_loop : refused (Some (net 0 ∷ [])) task.Check (codes "n.bench") (all_read (by_file (codes "y = NOT(y)\n") [] [] [] [] [] [] []))
+then_loop : refused (Some (net 0 ∷ [])) task.Check (codes "n.bench") (all_read (by_file (codes "y = NOT(y)\n") [] [] [] [] [] [] [] []))
     ≡ Some (status.Loop (net 0 ∷ []))
 unfolding opened
 then_loop = refl
@@ -130,6 +130,6 @@ classes_first = refl
 report_checks : (refused None task.Report (codes "n.blif") (files dup_netlist) ≡ None)
     × (refused None task.Report (codes "n.bench") (files dup_bench) ≡ None)
     × (refused None task.Report (codes "n.bench") (files (codes "y = AND()\n")) ≡ Some (status.Bench (record { line = 1; kind = bench.BadCount })))
-    × (refused None task.Report (codes "n.blif") (all_read (by_file dup_netlist (codes "workload,kind,a,b\n") [] [] [] [] [] [])) ≡ Some (status.Workload (record { row = 1; kind = work.Empty })))
+    × (refused None task.Report (codes "n.blif") (all_read (by_file dup_netlist (codes "workload,kind,a,b\n") [] [] [] [] [] [] [])) ≡ Some (status.Workload (record { row = 1; kind = work.Empty })))
 unfolding opened
 report_checks = (refl, refl, refl, refl)

@@ -54,6 +54,7 @@ name which.Result = codes "res"
 name which.First = codes "one"
 name which.Second = codes "two"
 name which.NewRates = codes "n.csv"
+name which.Held = codes "h.csv"
 
 pub usage : refusal_line name dup status.Usage ≡ codes "refused: usage\n"
 unfolding opened
@@ -108,14 +109,14 @@ unfolding opened
 memory_line no_room = refl
 
 abbrev files : List ℕ → List ℕ → List ℕ → Reads
-files text workload rates file = Whole (by_file text workload rates dup_points [] [] [] [] file)
+files text workload rates file = Whole (by_file text workload rates dup_points [] [] [] [] [] file)
 
 -- the workload could not be read, and the rates are bad
 abbrev unread : Reads
-unread = by_file (Whole []) Failed (Whole (codes "part")) (Whole dup_points) Failed Failed Failed Failed
+unread = by_file (Whole []) Failed (Whole (codes "part")) (Whole dup_points) Failed Failed Failed Failed Failed
 
 abbrev check : Command
-check = record { files = by_file (codes "n") (codes "w") (codes "r") (codes "p") [] [] [] []; settings = settings_of [] []; task = task.Check }
+check = record { files = by_file (codes "n") (codes "w") (codes "r") (codes "p") [] [] [] [] []; settings = settings_of [] []; task = task.Check }
 
 -- the workload is looked at before the rates
 pub workload_first : judged None check (files dup_netlist (codes "workload,kind,a,b\n") (codes "part")) ≡ Err (status.Workload (record { row = 1; kind = work.Empty }))

@@ -38,6 +38,7 @@ use Rattle.campaign_plan.specs.Danger.{is_dangerous, is_noticed}
 use Rattle.campaign_plan.specs.Weights.{weight}
 use Rattle.campaign_plan.specs.PlanFaults.{plan_refusal}
 use Rattle.campaign_plan.specs.Batches.{outcome_of, own_sums}
+use Rattle.held_inputs.specs.HeldFile.{row_fault as held_inputs_row_fault, held_of}
 use Rattle.result_file.specs.ResultText.{header_text, row_text, result_rows}
 use Rattle.result_file.specs.KeptRows.{hex_value, row_fault as result_file_row_fault, kept}
 use Rattle.fmeda_report.specs.Report.{sizes_line, part_line, metric_lines, fault_line, report, summary}
@@ -51,9 +52,9 @@ use Rattle.class_table.specs.ClassTable.{classes_text}
 use Rattle.refusals.specs.Texts.{check_text}
 use Rattle.refusals.specs.NetlistFile.{netlist_in}
 use Rattle.refusals.specs.RefusalLines.{refusal_line}
-use Rattle.command_reads.specs.FirstRefusal.{netlist_step, plan_of, classes_plan_of, judge}
+use Rattle.command_reads.specs.FirstRefusal.{netlist_step, plan_of, runless_plan_of, classes_plan_of, judge}
 use Rattle.command_reads.specs.Answers.{plan_behind, both_behind}
 
 unfoldable pub opened : ⊤
-unfolding tokens_of gate_named odd_rows bench_statement_of bench_said_lines bench_line_fault bench_nets_of inputs_of driven_of bench_drivers_of bench_circuit_of bench_too_large bench_two_drivers bench_undriven bench_of fixed_value readings next_fault follow rep_of rep_count netlist_in digits next_record records_from strip_bom val raw_state below some_below firsts first_where first_after plane_below hex lines_of placed bare joined statement_of directive_line table_line line_fault kind_of is_inside table_above plane_above file_models models_of items_of rows_below formals formal_inputs instances reaches has_nest sum_over_instances walk enter steps_from net_of visits_of clock_names nets_of drives_of model_fault two_models unknown_model bad_formal unbound recursive too_deep too_large walk_fault two_clocks bad_clock clock_read two_drivers undriven bad_net netlist_of circuit_of input_names_of table_names_of latch_names_of output_names_of faults_for row_fault workloads workload_of alarm_points_row_fault points_of goes_unalarmed units_of rate_table_row_fault rates_of is_dangerous is_noticed weight plan_refusal outcome_of own_sums header_text row_text result_rows hex_value result_file_row_fault kept sizes_line part_line metric_lines fault_line report summary netlist_text workload_text rates_text points_text classes_text check_text refusal_line netlist_step plan_behind plan_of classes_plan_of judge both_behind merged part_batches pair_refusal pair_planes pairs_text text_by_planes placed_lines placed_joined
+unfolding tokens_of gate_named odd_rows bench_statement_of bench_said_lines bench_line_fault bench_nets_of inputs_of driven_of bench_drivers_of bench_circuit_of bench_too_large bench_two_drivers bench_undriven bench_of fixed_value readings next_fault follow rep_of rep_count netlist_in digits next_record records_from strip_bom val raw_state below some_below firsts first_where first_after plane_below hex lines_of placed bare joined statement_of directive_line table_line line_fault kind_of is_inside table_above plane_above file_models models_of items_of rows_below formals formal_inputs instances reaches has_nest sum_over_instances walk enter steps_from net_of visits_of clock_names nets_of drives_of model_fault two_models unknown_model bad_formal unbound recursive too_deep too_large walk_fault two_clocks bad_clock clock_read two_drivers undriven bad_net netlist_of circuit_of input_names_of table_names_of latch_names_of output_names_of faults_for row_fault workloads workload_of alarm_points_row_fault points_of goes_unalarmed units_of rate_table_row_fault rates_of held_inputs_row_fault held_of is_dangerous is_noticed weight plan_refusal outcome_of own_sums header_text row_text result_rows hex_value result_file_row_fault kept sizes_line part_line metric_lines fault_line report summary netlist_text workload_text rates_text points_text classes_text check_text refusal_line netlist_step plan_behind plan_of runless_plan_of classes_plan_of judge both_behind merged part_batches pair_refusal pair_planes pairs_text text_by_planes placed_lines placed_joined
 opened = tt

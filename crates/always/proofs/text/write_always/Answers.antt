@@ -1,7 +1,5 @@
-use Rattle.std.proofs.Common.{◌≡◌, ◌∙◌, List, ℕ, length, ap, sym}
+use Rattle.std.proofs.Common.{◌≡◌}
 use Rattle.std.proofs.lemmas.Result.{err_from_is_err_and}
-use Rattle.always_answers.specs.declared.answers.PartAnswer.{PartAnswer}
-use Rattle.claim_search.specs.declared.faults.FaultAnswer.{FaultAnswer}
 use Rattle.fm_shelf.proofs.Sending.{sends_as, sends_stop, sends_then}
 use Rattle.always.specs.Steps.{metrics_of, names_of, terms_of}
 use Rattle.always.specs.Verdict.{verdict_at}

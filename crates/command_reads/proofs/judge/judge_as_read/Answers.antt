@@ -49,5 +49,8 @@ returns-in_ok-judge_begun-in-Begun c = made_as c.args.netlist.now c.args.setting
 pub returns-in_ok-judge_merged-in-Merged : goal.returns-in_ok-judge_merged-in-Merged
 returns-in_ok-judge_merged-in-Merged c = made_as c.args.netlist.now c.args.settings (reads_by c.args.reads.now) c.args.kind kind.Merged c.in-Merged.is (made.Merged c.in_ok-judge_merged-in-Merged.field-0) c.in_ok-judge_merged-in-Merged.ensures.merges tt c.in_ok-judge_merged-in-Merged.ensures.sound
 
+pub returns-in_ok-judge_supposed-in-Supposed : goal.returns-in_ok-judge_supposed-in-Supposed
+returns-in_ok-judge_supposed-in-Supposed c = made_as c.args.netlist.now c.args.settings (reads_by c.args.reads.now) c.args.kind kind.Supposed c.in-Supposed.is (made.Supposed c.in_ok-judge_supposed-in-Supposed.field-0) c.in_ok-judge_supposed-in-Supposed.ensures.supposes tt c.in_ok-judge_supposed-in-Supposed.ensures.sound
+
 pub returns-in_ok-generated_plan-in-Generated : goal.returns-in_ok-generated_plan-in-Generated
 returns-in_ok-generated_plan-in-Generated c = planned_as c.args.netlist.now c.args.settings (reads_by c.args.reads.now) c.args.kind _ c.in-Generated.is generated_settings (generated_is c.args.netlist.now c.args.settings (reads_by c.args.reads.now) _) c.in_ok-generated_plan-in-Generated.field-0 c.in_ok-generated_plan-in-Generated.ensures.plans tt c.in_ok-generated_plan-in-Generated.ensures.sound

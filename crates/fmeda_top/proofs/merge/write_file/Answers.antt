@@ -1,4 +1,4 @@
-use Rattle.std.proofs.Common.{◌≡◌, ◌∙◌, ap, refl, sym, subst, length, true, false, arith}
+use Rattle.std.proofs.Common.{◌≡◌, ◌∙◌, refl, sym, subst, length, true, false, arith}
 use Rattle.std.specs.Result.{is_err}
 use Rattle.fm_shelf.specs.Content.{HasIfKnown}
 use Rattle.fm_shelf.specs.Past.{WritesOn}

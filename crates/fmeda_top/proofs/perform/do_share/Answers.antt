@@ -15,5 +15,5 @@ returns g c =
     λ held reads set ready.
     let own = subst (IsReady held reads) c.planned.ensures ready in
     told_does names set (task.Shard c.args.part c.args.parts) (task.Shard c.args.part c.args.parts) c.args.judged.now (made.Planned c.planned.result.now) reads c.ended.result.status before
-    refl c.planned.ensures after (g.F.Shelf.seen c.ended.result.shelf) (g.O.Sink.seen c.ended.new.out) c.run_share-ran.result.end refl refl (c.run_share-ran.ensures reads own.0)
+    refl c.planned.ensures after (g.F.Shelf.seen c.ended.result.shelf) (g.O.Sink.seen c.ended.new.out) c.run_share-ran.result.end refl refl refl (c.run_share-ran.ensures reads own.0)
     c.ended.ensures.said (ap g.F.Shelf.seen c.ended.ensures.shelf)

@@ -35,7 +35,7 @@ returns-in-Run g c =
     λ reads set ready.
     let own = subst (IsReady held reads) c.planned-plan.ensures ready in
     told_does names set c.args.task.now (task.Run c.in-Run.workers) c.args.judged (made.Planned c.planned-plan.result.now) reads c.ended.result.status before c.in-Run.is c.planned-plan.ensures
-    after (g.F.Shelf.seen c.ended.result.shelf) (g.O.Sink.seen c.ended.new.out) c.run_anew-ran.result.end refl refl (c.run_anew-ran.ensures reads own.0) c.ended.ensures.said
+    after (g.F.Shelf.seen c.ended.result.shelf) (g.O.Sink.seen c.ended.new.out) c.run_anew-ran.result.end refl refl refl (c.run_anew-ran.ensures reads own.0) c.ended.ensures.said
     (ap g.F.Shelf.seen c.ended.ensures.shelf)
 
 pub returns-in-Gen : goal.returns-in-Gen
@@ -47,7 +47,7 @@ returns-in-Gen g c =
     λ reads set ready.
     let own = subst (IsReady held reads) c.planned-plan-in-Gen.ensures ready in
     told_does names set c.args.task.now (task.Gen c.in-Gen.stages c.in-Gen.workers) c.args.judged (made.Planned c.planned-plan-in-Gen.result.now) reads c.ended-in-Gen.result.status before c.in-Gen.is c.planned-plan-in-Gen.ensures
-    after (g.F.Shelf.seen c.ended-in-Gen.result.shelf) (g.O.Sink.seen c.ended-in-Gen.new.out) c.run_anew-ran-in-Gen.result.end refl refl (c.run_anew-ran-in-Gen.ensures reads own.0) c.ended-in-Gen.ensures.said
+    after (g.F.Shelf.seen c.ended-in-Gen.result.shelf) (g.O.Sink.seen c.ended-in-Gen.new.out) c.run_anew-ran-in-Gen.result.end refl refl refl (c.run_anew-ran-in-Gen.ensures reads own.0) c.ended-in-Gen.ensures.said
     (ap g.F.Shelf.seen c.ended-in-Gen.ensures.shelf)
 
 pub returns-in-Resume : goal.returns-in-Resume
@@ -59,7 +59,7 @@ returns-in-Resume g c =
     λ reads set ready.
     let own = subst (IsReady held reads) c.into_begun-begun.ensures ready in
     told_does names set c.args.task.now (task.Resume c.in-Resume.workers) c.args.judged (made.Begun c.into_begun-begun.result) reads c.ended-in-Resume.result.status before c.in-Resume.is c.into_begun-begun.ensures
-    after (g.F.Shelf.seen c.ended-in-Resume.result.shelf) (g.O.Sink.seen c.ended-in-Resume.new.out) c.run_on-ran.result.end refl refl (c.run_on-ran.ensures reads own.0.0 own.1) c.ended-in-Resume.ensures.said
+    after (g.F.Shelf.seen c.ended-in-Resume.result.shelf) (g.O.Sink.seen c.ended-in-Resume.new.out) c.run_on-ran.result.end refl refl refl (c.run_on-ran.ensures reads own.0.0 own.1) c.ended-in-Resume.ensures.said
     (ap g.F.Shelf.seen c.ended-in-Resume.ensures.shelf)
 
 pub returns-in-Shard : goal.returns-in-Shard

@@ -1,4 +1,4 @@
-use Rattle.std.proofs.Common.{ap, ap₂, sym, map, List, [], ◌∷◌, ◌++◌}
+use Rattle.std.proofs.Common.{ap, ap₂, sym, map, List, [], ◌∷◌}
 use Rattle.std.specs.Prelude.{codes, decimal, slice_index_or}
 use Rattle.circuit.specs.declared.parts.NetId.{NetId}
 use Rattle.commands.specs.Commands.{name_by}
@@ -99,3 +99,18 @@ returns-in-NoFault g c = λ k names. said_as _ _ (name_by c.args.names.now) k c.
 pub returns-in-NoNet : goal.returns-in-NoNet
 unfolding refusal_line
 returns-in-NoNet g c = λ k names. said_as _ _ (name_by c.args.names.now) k c.args.status.now _ c.in-NoNet.is (c.say-in-NoNet.ensures)
+
+pub returns-in-Held : goal.returns-in-Held
+unfolding refusal_line
+returns-in-Held g c = λ k names. said_as _ _ (name_by c.args.names.now) k c.args.status.now _ c.in-Held.is (words_said _ _ _ _ (ap (λ (w : Bytes). codes "held row" ∷ decimal c.in-Held.fault.row ∷ w ∷ []) c.held_kind.ensures) c.refuse_row-in-Held.ensures)
+
+pub returns-in-NoAlarm : goal.returns-in-NoAlarm
+unfolding refusal_line
+returns-in-NoAlarm g c = λ k names. said_as _ _ (name_by c.args.names.now) k c.args.status.now _ c.in-NoAlarm.is (c.say-in-NoAlarm.ensures)
+
+pub returns-in-LongWindow : goal.returns-in-LongWindow
+unfolding refusal_line
+returns-in-LongWindow g c = λ k names. said_as _ _ (name_by c.args.names.now) k c.args.status.now _ c.in-LongWindow.is c.refuse_window.ensures
+
+pub returns-in-Contradiction : goal.returns-in-Contradiction
+returns-in-Contradiction g c = λ k names. said_as _ _ (name_by c.args.names.now) k c.args.status.now _ c.in-Contradiction.is (c.refuse_contradiction.ensures (name_by c.args.names.now) k)

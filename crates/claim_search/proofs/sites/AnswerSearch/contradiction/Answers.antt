@@ -1,4 +1,4 @@
-use Rattle.std.proofs.Common.{refl, inl, inr, sym, subst, ◌∙◌}
+use Rattle.std.proofs.Common.{inl, inr, sym, subst, ◌∙◌}
 use Rattle.circuit.specs.Sound.{IsNetlist}
 use Rattle.claim_search.proofs.Contradicting.{bare_asked, none_is_so, some_are_so}
 use Rattle.claim_search.proofs.Marking.{written}

@@ -5,15 +5,15 @@ use Rattle.coverage_claim.specs.Rules.{LieIn, Sets}
 use Rattle.coverage_claim.specs.Stretch.{AreSo, Stretch, Values}
 use Rattle.pair_sets.specs.Choice.{set_at}
 use Rattle.pair_sets.specs.Pairs.{has}
-use Rattle.region_search.specs.Going.{AreSites, GoesOn, IsFor}
+use Rattle.region_search.specs.Going.{AreFor, AreSites, GoesOn}
 use Rattle.region_search.specs.Window.{IsForced, leaves_from}
 use Rattle.region_search.specs.Work.{pairs_left}
 use Rattle.region_search.proofs.search.Search.grow.Given as goal
 
 abbrev pub invariant-loop-number : goal.invariant-loop-number
 invariant-loop-number l = record {
-  trial : IsFor l.watchers l.trial;
-  frames : l.trial.sets.frames ≡ l.initial.trial.sets.frames;
+  trial : AreFor l.watchers l.trial;
+  frames : l.trial.pair.sets.frames ≡ l.initial.trial.pair.sets.frames;
   size : length l.starts ≡ length l.latches;
   same : l.some ≡ false → l.starts ≡ l.initial.starts;
   keeps : (k : ℕ) (x y : Bool) → has (set_at l.initial.starts k) x y ≡ true → has (set_at l.starts k) x y ≡ true;

@@ -1,3 +1,0 @@
-mod Sums
-mod Cycles
-mod Transient

@@ -1,2 +1,0 @@
-pub mod Upsets
-pub mod Laws

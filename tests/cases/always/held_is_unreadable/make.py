@@ -1,0 +1,2 @@
+import os
+os.chmod("held.csv", 0)

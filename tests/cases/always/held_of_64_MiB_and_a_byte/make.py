@@ -1,0 +1,1 @@
+open("held.csv", "a").truncate(2**26 + 1)
