@@ -118,7 +118,7 @@ chosen_more (pairs ∷ sets) (x ∷ xs) (y ∷ ys) (suc i) new fewer chosen = (c
 abbrev AreEnds : Site → PairSet → PairSet → Type 0
 AreEnds site own ends = (g f : Bool) → has ends g f ≡ driving site (has own) g f
 
-agree_end : (truth : ℕ) (site : Site) (reads : List PairSet) (own ends : PairSet) → AreEnds site own ends → (golden faulty : List Bool) (a b : Bool)
+pub agree_end : (truth : ℕ) (site : Site) (reads : List PairSet) (own ends : PairSet) → AreEnds site own ends → (golden faulty : List Bool) (a b : Bool)
     → Agree truth site reads own golden faulty a b → has ends (truth_gives truth golden) (truth_gives truth faulty) ≡ true
 agree_end truth site reads own ends are golden faulty a b agree =
     are (truth_gives truth golden) (truth_gives truth faulty)
@@ -183,7 +183,7 @@ at_from truth site reads own ends one i a b are is lt at =
 abbrev pub AreThose : ℕ → Site → List PairSet → PairSet → ℕ → PairSet → Type 0
 AreThose truth site reads own i new = (a b : Bool) → (has new a b ≡ true) ↔ AgreesAt truth site reads own i a b
 
-lift : (truth : ℕ) (site : Site) (reads : List PairSet) (own : PairSet) (i : ℕ) (new : PairSet) → AreThose truth site reads own i new
+pub lift : (truth : ℕ) (site : Site) (reads : List PairSet) (own : PairSet) (i : ℕ) (new : PairSet) → AreThose truth site reads own i new
     → (golden faulty : List Bool) (a b : Bool) → Agree truth site reads own golden faulty a b → Agree truth site (set reads i new) own golden faulty a b
 lift truth site reads own i new are golden faulty a b agree = record {
   chosen = chosen_set reads golden faulty i new
@@ -194,7 +194,7 @@ lift truth site reads own i new are golden faulty a b agree = record {
   faulty_may = agree.faulty_may;
 }
 
-lift_at : (truth : ℕ) (site : Site) (reads : List PairSet) (own : PairSet) (i : ℕ) (new : PairSet) → AreThose truth site reads own i new
+pub lift_at : (truth : ℕ) (site : Site) (reads : List PairSet) (own : PairSet) (i : ℕ) (new : PairSet) → AreThose truth site reads own i new
     → (j : ℕ) (a b : Bool) → AgreesAt truth site reads own j a b → AgreesAt truth site (set reads i new) own j a b
 lift_at truth site reads own i new are j a b at = record {
   golden = at.golden;
@@ -206,7 +206,7 @@ lift_at truth site reads own i new are j a b at = record {
   faulty_at = at.faulty_at;
 }
 
-at_has : (truth : ℕ) (site : Site) (reads : List PairSet) (own : PairSet) (i : ℕ) (a b : Bool) → i < length reads → AgreesAt truth site reads own i a b → has (set_at reads i) a b ≡ true
+pub at_has : (truth : ℕ) (site : Site) (reads : List PairSet) (own : PairSet) (i : ℕ) (a b : Bool) → i < length reads → AgreesAt truth site reads own i a b → has (set_at reads i) a b ≡ true
 at_has truth site reads own i a b lt at =
     ap₂ (has (set_at reads i)) (sym at.golden_at) (sym at.faulty_at) ∙ chosen_at reads at.golden at.faulty i lt at.agree.chosen
 

@@ -4,6 +4,7 @@
 mod law;
 mod pairs;
 mod table;
+mod values;
 
 pub use law::tables_are_rules;
 pub use pairs::PairSet;

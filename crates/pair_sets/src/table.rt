@@ -5,15 +5,8 @@ ghost use Rattle.pair_sets.specs.Pairs.{has};
 ghost use Rattle.pair_sets.specs.Steps.{digit_behind, some_end};
 
 use crate::pairs::PairSet;
+use crate::values::{FIRST, SECOND, Values, gives, table_values};
 use coverage_claim::Site;
-
-// What a truth table gives in a row.
-fn gives(truth: u64, row: u32) -> bool
-    requires { row < 64 }
-    ensures { result ≡ bit truth row }
-{
-    (truth >> row) & 1 == 1
-}
 
 // The row with a digit more.
 fn row_with(row: u32, digit: bool) -> u32
@@ -131,8 +124,8 @@ impl TableRule {
         )
     }
 
-    /// Leaves of the pairs of the nets that the table reads those of choices that agree with it, and gives those of its own net.
-    pub fn narrow(self, reads: &mut [PairSet], own: PairSet) -> PairSet
+    // As `narrow`, of any number of nets: the choices are walked for each pair, up to the first that agrees.
+    fn narrow_each(self, reads: &mut [PairSet], own: PairSet) -> PairSet
         requires few { length reads.old ≤ 6 }
         ensures left { IsLeft self.truth self.site reads.old own reads.new result }
     {
@@ -145,5 +138,34 @@ impl TableRule {
             self.agrees_own(reads, own, false, true),
             self.agrees_own(reads, own, true, true),
         )
+    }
+
+    // As `narrow`, of two nets: all choices at once, as the bits of a word.
+    fn narrow_two(self, reads: &mut [PairSet], own: PairSet) -> PairSet
+        requires two { length reads.old ≡ 2 }
+        ensures left { IsLeft self.truth self.site reads.old own reads.new result }
+    {
+        let values = Values {
+            golden: table_values(self.truth, FIRST.golden, SECOND.golden),
+            faulty: table_values(self.truth, FIRST.faulty, SECOND.faulty),
+        };
+        let choices = FIRST.choices(reads[0])
+            & SECOND.choices(reads[1])
+            & values.choices(own.driving(self.site));
+        reads[0] = FIRST.pairs(choices);
+        reads[1] = SECOND.pairs(choices);
+        values.pairs(choices).shown(self.site).and(own)
+    }
+
+    /// Leaves of the pairs of the nets that the table reads those of choices that agree with it, and gives those of its own net.
+    pub fn narrow(self, reads: &mut [PairSet], own: PairSet) -> PairSet
+        requires few { length reads.old ≤ 6 }
+        ensures left { IsLeft self.truth self.site reads.old own reads.new result }
+    {
+        if reads.len() == 2 {
+            self.narrow_two(reads, own)
+        } else {
+            self.narrow_each(reads, own)
+        }
     }
 }

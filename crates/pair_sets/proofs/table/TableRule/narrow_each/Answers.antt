@@ -1,7 +1,7 @@
 use Rattle.std.proofs.Common.{arith}
 use Rattle.pair_sets.proofs.Choices.{half_start}
 use Rattle.pair_sets.proofs.FourPairs.{own_step}
-use Rattle.pair_sets.proofs.table.TableRule.narrow.Goals as goal
+use Rattle.pair_sets.proofs.table.TableRule.narrow_each.Goals as goal
 
 pub loop-i-init : goal.loop-i-init
 loop-i-init c = half_start c.args.self.truth c.args.self.site c.args.reads.now c.args.own
