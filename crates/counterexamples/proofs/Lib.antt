@@ -1,0 +1,3 @@
+pub mod Contradicting
+pub mod Seeing
+pub mod Loading

@@ -1,0 +1,32 @@
+use Rattle.std.proofs.Common.{◌<◌, ◌≤◌, ◌||◌, List, [], length, not, ap, ap₂, sym, ◌∙◌, arith, get_or, take_all}
+use Rattle.std.proofs.lemmas.List.Folds.{list_any_more}
+use Rattle.circuit.specs.Trace.{trace}
+use Rattle.circuit.specs.declared.parts.Fault.{Fault}
+use Rattle.circuit.specs.declared.parts.NetId.{NetId}
+use Rattle.fm_base.specs.Lists.{same_bit}
+use Rattle.lane_words.specs.Loads.{loaded_faults}
+use Rattle.counterexamples.specs.Contradicted.{some_differs}
+use Rattle.counterexamples.proofs.look.differing.Goals as goal
+
+pub loop-net-preserved : goal.loop-net-preserved
+loop-net-preserved c = λ vectors t k after size lane.
+    let bank = c.args.lanes.now in
+    let nets = c.args.nets.now in
+    let i = c.loop-net.net-index in
+    let none : NetId = record { 0 = 0 } in
+    let within : i < length nets = omega arith in
+    let first : 0 < 64 = omega arith in
+    c.either_lanes-differ.ensures k
+    ∙ ap₂ (λ a b. a || b) (c.loop-net.invariant vectors t k after size lane)
+    (c.other_lanes-own.ensures k lane
+    ∙ ap₂ (λ v o. not (same_bit v o)) (c.net-values.ensures vectors t k after size lane (c.requires.nets i none within))
+    (c.get.ensures ∙ c.net-values.ensures vectors t 0 after size first (c.requires.nets i none within)
+    ∙ ap (λ (x : List Fault). trace bank.circuit x vectors t (get_or nets i none).0) c.requires.golden))
+    ∙ sym (list_any_more (λ (net : NetId). not (same_bit (trace bank.circuit (loaded_faults bank.loads k) vectors t net.0) (trace bank.circuit [] vectors t net.0))) nets i none within)
+
+pub returns : goal.returns
+returns c = λ vectors t k after size lane.
+    let bank = c.args.lanes.now in
+    let done : length c.args.nets.now ≤ c.loop-net.net-index = c.loop-net-test.false in
+    c.loop-net.invariant vectors t k after size lane
+    ∙ ap (λ (nets : List NetId). some_differs nets (trace bank.circuit [] vectors t) (trace bank.circuit (loaded_faults bank.loads k) vectors t)) (take_all c.loop-net.net-index c.args.nets.now done)

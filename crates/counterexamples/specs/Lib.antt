@@ -1,0 +1,2 @@
+pub mod Contradicted
+pub mod Runs
