@@ -96,7 +96,7 @@ abbrev pub free_in : List NetId → Region
 free_in [] n = Intact
 free_in (net ∷ nets) n = if net.0 == n then Free else free_in nets n
 
-free_there : (nets : List NetId) (k : ℕ) → k < length nets → free_in nets (net_at nets k).0 ≡ Free
+pub free_there : (nets : List NetId) (k : ℕ) → k < length nets → free_in nets (net_at nets k).0 ≡ Free
 free_there [] k lt = absurd (omega (arith, lt))
 free_there (net ∷ nets) zero lt = rw (eq-eqb net.0 net.0 refl) refl
 free_there (net ∷ nets) (suc k) lt = by_first (cases_eq net.0 (net_at nets k).0) (free_there nets k (omega (arith, lt)))
@@ -105,7 +105,7 @@ free_there (net ∷ nets) (suc k) lt = by_first (cases_eq net.0 (net_at nets k).
     by_first (inl same) rest = rw (eq-eqb net.0 (net_at nets k).0 same) refl
     by_first (inr apart) rest = rw (ne_eqb net.0 (net_at nets k).0 apart) rest
 
-free_elsewhere : (nets : List NetId) (n : ℕ) → All (λ net. net.0 ≢ n) nets → free_in nets n ≡ Intact
+pub free_elsewhere : (nets : List NetId) (n : ℕ) → All (λ net. net.0 ≢ n) nets → free_in nets n ≡ Intact
 free_elsewhere [] n out = refl
 free_elsewhere (net ∷ nets) n out = rw (ne_eqb net.0 n (All-head (λ (each : NetId). each.0 ≢ n) net nets out)) (free_elsewhere nets n (All-tail (λ (each : NetId). each.0 ≢ n) net nets out))
 

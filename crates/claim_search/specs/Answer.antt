@@ -29,3 +29,6 @@ IsAnswer claim NoRuns = HasNoRuns claim
 -- what holds of a region holds of each part of it
 abbrev pub is_of_parts : Answer → Bool
 is_of_parts = elim [ Alarmed ↦ true | NoRuns ↦ true | _ ↦ false ]
+
+abbrev pub is_early : Answer → Bool
+is_early = elim [ Early ↦ true | _ ↦ false ]

@@ -1,5 +1,6 @@
 -- Regions in which some nets have a site, and nothing is done elsewhere; and what a search for answers works with.
-use Rattle.std.specs.Prelude.{◌≡◌, ◌≢◌, ◌+◌, ℕ, List, [], ◌∷◌, length, All, slice_index_or}
+use Rattle.std.specs.Prelude.{◌≡◌, ◌≢◌, ◌<◌, ◌≤◌, ◌+◌, ℕ, List, [], ◌∷◌, length, All, slice_index_or}
+use Rattle.circuit.specs.Order.{net_at}
 use Rattle.circuit.specs.declared.parts.NetId.{NetId}
 use Rattle.coverage_claim.specs.Claim.{Claim}
 use Rattle.coverage_claim.specs.Region.{Region}
@@ -42,3 +43,9 @@ answer_at answers i = slice_index_or answers i Open
 -- THE ANSWER TO A NET: to each claim in whose region it alone has the site
 abbrev pub IsAnswerAt : Claim → NetId → Site → Answer → Type 0
 IsAnswerAt claim net site answer = IsAt (net ∷ []) site claim.region → IsAnswer claim answer
+
+-- ---- private steps, which the public contracts don't cite
+
+-- nothing happens elsewhere than at the nets from one place to another
+abbrev pub LiesWithin : List NetId → (start end : ℕ) → Region → Type 0
+LiesWithin nets start end region = (n : ℕ) → ((i : ℕ) → start ≤ i → i < end → (net_at nets i).0 ≢ n) → region n ≡ Intact

@@ -1,10 +1,12 @@
 // The answer to a claim.
-ghost use Rattle.std.specs.Prelude.{◌≡◌, ◌≤◌, ◌+◌, ℕ, Bool, false, length};
+ghost use Rattle.std.specs.Prelude.{◌≡◌, ◌≤◌, ◌+◌, ℕ, Bool, false, List, length};
 ghost use Rattle.coverage_claim.specs.Claim.{Claim};
 ghost use Rattle.pair_sets.specs.Choice.{set_at};
 ghost use Rattle.pair_sets.specs.Pairs.{has};
 ghost use Rattle.region_search.specs.Going.{IsFor};
-ghost use Rattle.claim_search.specs.Answer.{IsAnswer};
+ghost use Rattle.pair_sets.specs.declared.pairs.PairSet.{PairSet as OneSet};
+ghost use Rattle.claim_search.specs.Answer.{IsAnswer, IsProvedWithSome};
+ghost use Rattle.claim_search.specs.LeadIn.{IsLedIn};
 ghost use Rattle.claim_search.specs.Forced.{AreForced, AreJoined, Forces};
 ghost use Rattle.claim_search.specs.Question.{IsAsked, IsSearched, MayBeAsked};
 ghost use Rattle.claim_search.specs.Sites.{site_at};
@@ -31,13 +33,31 @@ pub enum Answer {
 }
 
 impl Answer {
-    ghost use Rattle.claim_search.specs.Answer.{is_of_parts};
+    ghost use Rattle.claim_search.specs.Answer.{is_early, is_of_parts};
 
     // Whether it is the answer to each part of the region too.
     pub(crate) fn is_of_parts(self) -> bool
         ensures { result ≡ is_of_parts self }
     {
         matches!(self, Answer::Alarmed | Answer::NoRuns)
+    }
+
+    // Whether the claim is proved, and an observation net may differ before its first cycle.
+    pub(crate) fn is_early(self) -> bool
+        ensures { result ≡ is_early self }
+    {
+        matches!(self, Answer::Early)
+    }
+}
+
+// The answer to a claim that is proved, by what the cycles before it have shown.
+pub(crate) fn answer_if_proved(led: LeadIn) -> Answer
+    ensures { (claim : Claim) (starts : List OneSet) → IsLedIn claim starts led → IsProvedWithSome claim → IsAnswer claim result }
+{
+    match led {
+        LeadIn::NoRuns => Answer::NoRuns,
+        LeadIn::MayDiffer => Answer::Early,
+        LeadIn::Agrees => Answer::Alarmed,
     }
 }
 

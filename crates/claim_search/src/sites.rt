@@ -4,12 +4,13 @@ ghost use Rattle.circuit.specs.Order.{net_at};
 ghost use Rattle.circuit.specs.Sound.{IsNet};
 ghost use Rattle.coverage_claim.specs.Claim.{Claim};
 ghost use Rattle.region_search.specs.Search.{places_of};
-ghost use Rattle.claim_search.specs.Answer.{IsAnswer};
+ghost use Rattle.claim_search.specs.Answer.{IsAnswer, IsProvedWithSome};
 ghost use Rattle.claim_search.specs.Forced.{AreThoseFor, with_length};
 ghost use Rattle.claim_search.specs.Question.{IsPosed, IsSearched, MayBePosed};
-ghost use Rattle.claim_search.specs.Sites.{IsAnswerAt, IsAt, IsReady, answer_at, site_at};
+ghost use Rattle.claim_search.specs.Sites.{IsAnswerAt, IsAt, IsReady, LiesWithin, answer_at, site_at};
 
-use crate::answer::{Answer, answer_by_cases, forced_pairs};
+use crate::answer::{Answer, answer_by_cases, answer_if_proved, forced_pairs};
+use crate::lead::lead_in;
 use crate::question::{Posed, Question, Searched};
 use crate::window::WindowSearch;
 use circuit::parts::NetId;
@@ -167,9 +168,75 @@ impl AnswerSearch {
         answer
     }
 
+    // The answer to a claim that is proved, in whose region these nets are free: the cycles before it are gone through, and no window.
+    fn answer_proved(
+        &mut self,
+        searched: &Searched<'_>,
+        posed: &Posed<'_>,
+        nets: &[NetId],
+    ) -> Answer
+        requires searched { IsSearched searched.now }
+        requires posed { MayBePosed searched.now.netlist.now posed.now }
+        requires ready { IsReady searched.now posed.now self.old }
+        requires nets { All (IsNet searched.now.netlist.now) nets.now }
+        ensures ready { IsReady searched.now posed.now self.new }
+        ensures answer { (claim : Claim) → IsPosed searched.now.netlist.now posed.now claim → IsAt nets.now Site.Free claim.region → IsProvedWithSome claim → IsAnswer claim result }
+    {
+        mark(&mut self.sites, nets, Site::Free);
+        let question = Question {
+            posed: *posed,
+            sites: &self.sites,
+        };
+        let led = lead_in(&mut self.lead, searched, &question, &mut self.starts);
+        mark(&mut self.sites, nets, Site::Intact);
+        answer_if_proved(led)
+    }
+
+    // As `answer_free`, where each claim is proved in whose region nothing happens elsewhere: what is left to ask is whether an observation
+    // net may differ before its first cycle.
+    fn answer_early(
+        &mut self,
+        searched: &Searched<'_>,
+        posed: &Posed<'_>,
+        nets: &[NetId],
+        answers: &mut [Answer],
+        start: usize,
+        end: usize,
+    )
+        requires searched { IsSearched searched.now }
+        requires posed { MayBePosed searched.now.netlist.now posed.now }
+        requires ready { IsReady searched.now posed.now self.old }
+        requires nets { All (IsNet searched.now.netlist.now) nets.now }
+        requires order { start ≤ end }
+        requires inside { end ≤ length nets.now }
+        requires size { length answers.old ≡ length nets.now }
+        requires proved { (claim : Claim) → IsPosed searched.now.netlist.now posed.now claim → LiesWithin nets.now start end claim.region → IsProvedWithSome claim }
+        ensures ready { IsReady searched.now posed.now self.new }
+        ensures each { (claim : Claim) → IsPosed searched.now.netlist.now posed.now claim → (i : ℕ) → start ≤ i → i < end
+            → IsAnswerAt claim (net_at nets.now i) Site.Free (answer_at answers.new i) }
+        ensures others { (i : ℕ) → (i < start) ⊎ (end ≤ i) → answer_at answers.new i ≡ answer_at answers.old i }
+    {
+        if start == end {
+            return;
+        }
+        let whole = self.answer_proved(searched, posed, &nets[start..end]);
+        if whole.is_of_parts() {
+            note(answers, start, end, whole);
+            return;
+        }
+        if start + 1 == end {
+            answers[start] = whole;
+            return;
+        }
+        let middle = start + (end - start) / 2;
+        self.answer_early(searched, posed, nets, answers, start, middle);
+        self.answer_early(searched, posed, nets, answers, middle, end);
+    }
+
     /// The answers to claims in whose regions one of these nets is free, for the nets from one place to another. All of them are asked of at
     /// once; where that tells nothing of each, they are halved. So few open nets of many cost few answers. All nets at once, and each
-    /// by itself, are asked of by cases too.
+    /// by itself, are asked of by cases too. Where the claim about all of them is proved so is that about each, and of halves only the cycles
+    /// before it are asked.
     pub fn answer_free(
         &mut self,
         searched: &Searched<'_>,
@@ -198,6 +265,10 @@ impl AnswerSearch {
         let whole = self.answer(searched, posed, &nets[start..end], Site::Free, by_cases);
         if whole.is_of_parts() {
             note(answers, start, end, whole);
+            return;
+        }
+        if whole.is_early() {
+            self.answer_early(searched, posed, nets, answers, start, end);
             return;
         }
         if start + 1 == end {
