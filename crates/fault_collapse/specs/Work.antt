@@ -1,5 +1,5 @@
 -- Shapes of private steps: what a worker simulates groups with, and what it has simulated: four groups in each of its rounds.
-use Rattle.std.specs.Prelude.{◌≡◌, ℕ, ◌+◌, ◌*◌, ◌<◌, ◌≤◌, All, List, [], length, slice_index_or}
+use Rattle.std.specs.Prelude.{◌≡◌, ℕ, ◌+◌, ◌*◌, ◌<◌, All, List, [], length, slice_index_or}
 use Rattle.std.specs.Int.{div_ceil}
 use Rattle.batch_crew.specs.Crew.{HaveWorked}
 use Rattle.batch_crew.specs.declared.rounds.WorkerShare.{WorkerShare}

@@ -2,10 +2,10 @@ use Rattle.clap.specs.Words.{found_of, rows_of}
 use Rattle.command_line.proofs.Tasks.{no_classes, no_coverage, no_latencies, no_pairs, no_report, no_resume, no_run}
 use Rattle.command_line.proofs.table.plain_task_of.Goals as goal
 
-pub returns-in_err-workers_of : goal.returns-in_err-workers_of
-returns-in_err-workers_of c =
+pub returns-in_err-workers_of-in-classes : goal.returns-in_err-workers_of-in-classes
+returns-in_err-workers_of-in-classes c =
     rw c.from_residual.ensures
-    (no_classes (rows_of (found_of c.args.matches.now)) c.in_err-workers_of.ensures c.args.word.now c.in-classes.is)
+    (no_classes (rows_of (found_of c.args.matches.now)) c.in_err-workers_of-in-classes.ensures c.args.word.now c.in-classes.is)
 
 pub returns-in_err-workers_of-in-report : goal.returns-in_err-workers_of-in-report
 returns-in_err-workers_of-in-report c =

@@ -1,4 +1,4 @@
-use Rattle.std.proofs.Common.{◌≡◌, List, length, ap, sym, subst, ◌∙◌, arith}
+use Rattle.std.proofs.Common.{◌≡◌, List, length, ap, sym, subst, ◌∙◌}
 use Rattle.fm_base.proofs.Lists.{written_whole}
 use Rattle.campaign_plan.specs.declared.Outcome.{Outcome}
 use Rattle.fault_collapse.specs.Chosen.{AreSimulated}

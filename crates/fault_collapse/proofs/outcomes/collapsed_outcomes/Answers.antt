@@ -5,7 +5,7 @@ use Rattle.fm_base.specs.Lists.{below}
 use Rattle.fault_list.specs.Faults.{batches_for}
 use Rattle.campaign_plan.specs.declared.Outcome.{Outcome}
 use Rattle.classifier.specs.Simulated.{Simulated}
-use Rattle.collapse_map.specs.Collapsed.{Collapsed, rep_count}
+use Rattle.collapse_map.specs.Collapsed.{Collapsed}
 use Rattle.fault_collapse.specs.Chosen.{AreChosen, AreSimulated, HaveLanes, planes_shown}
 use Rattle.fault_collapse.specs.Outcomes.{collapsed_of, simulated_on}
 use Rattle.fault_collapse.specs.Work.{fours_for}
@@ -20,11 +20,11 @@ enough numbers count found counted room =
     let hold = (rounds_hold count 4 some).0 in
     omega (arith, hold, counted, room)
 
-pub choose-chosen-requires : goal.choose-chosen-requires
-choose-chosen-requires g c = c.len-count.ensures.count ∙ sym (ap (λ (x : Collapsed). length x.faults) c.requires.collapse)
+pub choose-requires : goal.choose-requires
+choose-requires g c = c.len-count.ensures.count ∙ sym (ap (λ (x : Collapsed). length x.faults) c.requires.collapse)
 
-pub found_by-found-requires-clause-numbers : goal.found_by-found-requires-clause-numbers
-found_by-found-requires-clause-numbers g c κs within =
+pub found_by-requires-clause-numbers : goal.found_by-requires-clause-numbers
+found_by-requires-clause-numbers g c κs within =
     let s : Collapsed = c.args.collapse.now in
     let numbers : List ℕ = c.in_ok-chosen.chosen.numbers.items in
     let below : All (λ k. k < length s.faults) numbers = numbers_below s numbers c.in_ok-chosen.chosen.places.items c.in_ok-chosen.ensures in
