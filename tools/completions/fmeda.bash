@@ -17,14 +17,14 @@ _fmeda() {
         run | resume) options="--ftti --flips --upsets --pulses --asil --workers" ;;
         audit) options="--every --alone --ftti --flips --upsets --pulses" ;;
         merge | reweigh | faults) options="--ftti --flips --upsets --pulses" ;;
-        report | progress) options="--ftti --flips --upsets --pulses --asil" ;;
+        progress) options="--ftti --flips --upsets --pulses --asil" ;;
         shard) options="--part --of --ftti --flips --upsets --pulses" ;;
         breakdown) options="--ftti --flips --upsets --pulses --asil --intervals --workers" ;;
         trace) options="--run --fault --flips --upsets --pulses --nets" ;;
         always) options="--ftti --window --ahead --flips --upsets --pulses --asil" ;;
-        latencies|coverage) options="--ftti --flips --upsets --pulses --asil --workers" ;;
+        report|latencies|coverage) options="--ftti --flips --upsets --pulses --asil --workers" ;;
         pairs) options="--ftti --flips --upsets --pulses --workers" ;;
-        gen) options="--workers" ;;
+        classes | gen) options="--workers" ;;
     esac
     case $current in
         -*) COMPREPLY=($(compgen -W "$options" -- "$current")) ;;
