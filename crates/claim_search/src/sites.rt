@@ -67,6 +67,14 @@ fn forced_for(forced: &[PairSet], site: Site) -> &[PairSet]
     }
 }
 
+// The most nets of a netlist in which pairs are tried by cases.
+const MOST_NETS_BY_CASES: usize = 4096;
+
+// Whether cases are tried, where they are asked for: in a netlist of many nets they take a minute for each open net.
+fn are_tried(searched: &Searched<'_>, by_cases: bool) -> bool {
+    by_cases && searched.netlist.nets() <= MOST_NETS_BY_CASES
+}
+
 impl AnswerSearch {
     /// A search for what is posed of a netlist. It takes the memory of all that it does: three bytes for each net and frame of a window, and
     /// a few for each net and latch.
@@ -133,7 +141,7 @@ impl AnswerSearch {
     }
 
     /// The answer to a claim in whose region these nets have this site, and all others are intact; where it is open, by cases too, if they are
-    /// asked for.
+    /// asked for and the netlist has at most 4,096 nets.
     pub fn answer(
         &mut self,
         searched: &Searched<'_>,
@@ -162,7 +170,7 @@ impl AnswerSearch {
             &question,
             forced,
             &mut self.starts,
-            by_cases,
+            are_tried(searched, by_cases),
         );
         mark(&mut self.sites, nets, Site::Intact);
         answer
