@@ -555,7 +555,7 @@ def what_holds_for_every_workload(folder, program):
     assert "#   as simulated 98.78 %, met; for every workload at least 97.56 %, met, since cycle 0\n" in printed, printed
     assert flow.joinpath("always.txt").read_text() == EVERY.replace("ahead 1", "ahead 0")
     said = " ".join(re.sub("<[^>]*>", " ", flow.joinpath("page.html").read_text()).split())
-    for wanted in ("1 open faults, 0.05 FIT, did no harm in the simulation", "the proof is too weak: d/1.", "spfm permanent at least 97 % 98.78 % met 97.56 % met 97.56 % met", "main yes 0 3 0 3 0 0"):
+    for wanted in ("1 open fault, 0.05 FIT, did no harm in the simulation", "the proof is too weak: d/1.", "spfm permanent at least 97 % 98.78 % met 97.56 % met 97.56 % met", "main yes 0 3 0 3 0 0"):
         assert wanted in said, (wanted, said)
 
 
