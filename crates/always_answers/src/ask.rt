@@ -42,6 +42,7 @@ fn answers_with(
     requires searched { IsSearched searched.now }
     requires posed { MayBePosed searched.now.netlist.now posed.now }
     requires netlist { searched.now.netlist.now ≡ asked.now.netlist.now }
+    requires order { IsOrder searched.now.netlist.now asked.now.order.now }
     requires of_claim { IsPosed searched.now.netlist.now posed.now (claim_of asked.now) }
     requires frames { posed.now.window + posed.now.ahead + 1 ≤ 17 }
     requires circuit { reach.now.circuit ≡ searched.now.netlist.now }
@@ -71,11 +72,13 @@ fn answers_with(
         alloc,
         &mut search,
         searched,
+        asked.order,
         posed,
         reach,
         asked.faults,
         &seen,
         &free,
+        &open,
     )?;
     let marks = Parts {
         of_nets: asked.parts,

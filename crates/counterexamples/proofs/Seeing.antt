@@ -1,5 +1,5 @@
 -- A run that is followed by one cycle more, and what it contradicts.
-use Rattle.std.proofs.Common.{◌≡◌, ◌≢◌, ℕ, ◌+◌, ◌<◌, ◌≤◌, Bool, false, List, [], ◌∷◌, ◌++◌, length, get_or, set, refl, ap, ap₂, sym, subst, ◌∙◌, arith, below_more, get_or-set_other, get_or-set_same}
+use Rattle.std.proofs.Common.{true, ◌≡◌, ◌≢◌, inl, inr, ◌||◌, ℕ, ◌+◌, ◌<◌, ◌≤◌, Bool, false, List, [], ◌∷◌, ◌++◌, length, get_or, set, refl, ap, ap₂, sym, subst, ◌∙◌, arith, below_more, get_or-set_other, get_or-set_same}
 use Rattle.std.specs.Prelude.{All, Some}
 use Rattle.std.proofs.lemmas.List.{length_push}
 use Rattle.circuit.specs.declared.parts.Fault.{Fault}
@@ -10,9 +10,10 @@ use Rattle.claim_search.specs.declared.question.Posed.{Posed}
 use Rattle.coverage_claim.specs.Stretch.{held_at}
 use Rattle.coverage_claim.specs.declared.parts.Held.{Held}
 use Rattle.fm_base.specs.Planes.{bit}
+use Rattle.fm_base.proofs.Tests.{or_cases}
 use Rattle.lane_words.specs.Bank.{AreAfter, Bank}
 use Rattle.counterexamples.specs.Contradicted.{AreContradicted, some_differs, some_raised}
-use Rattle.counterexamples.specs.Runs.{AreHeldIn, HasFollowed, IsFollowedTo, IsSeen, IsUnalarmed, Looks, seen_at}
+use Rattle.counterexamples.specs.Runs.{AreHeldIn, HasFollowed, IsFollowedTo, IsSeen, IsUnalarmed, LanesContradicted, Looks, seen_at}
 use Rattle.counterexamples.specs.declared.look.Seen.{Seen}
 
 abbrev none : Seen
@@ -119,3 +120,11 @@ module _ (c : Circuit) (p : Posed) (faults : ℕ → List Fault) where
           silent = λ u from le. (shown.each (un.t + p.window) (omega (arith, lasts, count))).raised k u lane un.silent from le;
         },
       )
+
+  -- so it is of all lanes in which none comes
+  pub followed_lanes : (n : ℕ) (seen : List Seen) (found own both : ℕ) → faults 0 ≡ [] → HasFollowed c p faults n seen → LanesContradicted c p faults found
+      → ((k : ℕ) → k < 64 → bit own k ≡ true → IsUnalarmed p n seen k) → ((k : ℕ) → bit both k ≡ (bit found k || bit own k)) → LanesContradicted c p faults both
+  followed_lanes n seen found own both golden run before un either k lane e = elim (or_cases (bit found k) (bit own k) (sym (either k) ∙ e)) as (λ _. AreContradicted c p (faults k)) [
+    | inl earlier ↦ before k lane earlier
+    | inr now ↦ contradicts n seen k golden run lane (un k lane now)
+  ]

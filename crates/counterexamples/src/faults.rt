@@ -29,8 +29,8 @@ use std::alloc::Global;
 // The most faults of a batch: lane 0 has none.
 const BATCH: usize = 63;
 
-// How many runs are tried with each batch.
-const RUNS: u32 = 16;
+// How many runs are tried with each batch at most.
+const RUNS: u32 = 256;
 
 // How many cycles a run has behind those that a claim needs, and the most that it has.
 const MORE: u64 = 32;
@@ -65,11 +65,12 @@ fn mark(found: u64, batch: &[u32], marks: &mut [bool])
     }
 }
 
-// The lanes of those that are loaded that some of a few runs contradict.
+// The lanes of those that are loaded that some of a few runs contradict. Where so many are found, no more runs are tried.
 fn found_lanes(
     netlist: &Netlist,
     order: &Order,
     posed: &Posed<'_>,
+    many: usize,
     numbers: &mut [u32],
     inputs: &mut [bool],
     lanes: &mut Lanes,
@@ -92,6 +93,9 @@ fn found_lanes(
         let cycles = follow(netlist, order, posed, numbers, inputs, lanes, seen);
         let own = unalarmed_lanes(posed, seen, cycles);
         found = either_lanes(found, own);
+        if found.count_ones() as usize >= many {
+            return found;
+        }
     }
     found
 }
@@ -124,7 +128,16 @@ fn try_batch(
     ensures marks { MarksContradicted netlist.now posed.now faults.now marks.old → MarksContradicted netlist.now posed.now faults.now marks.new }
 {
     lanes.load(&loads_of(faults, batch));
-    let found = found_lanes(netlist, order, posed, numbers, inputs, lanes, seen);
+    let found = found_lanes(
+        netlist,
+        order,
+        posed,
+        batch.len(),
+        numbers,
+        inputs,
+        lanes,
+        seen,
+    );
     mark(found, batch, marks);
 }
 

@@ -48,10 +48,10 @@ pub part_answers-requires-clause-parts : goal.part_answers-requires-clause-parts
 part_answers-requires-clause-parts c =
     let own = c.args.searched.now.netlist.now in
     let p = c.args.posed.now in
-    let marks = c.deref-6.result.now in
+    let marks = c.deref-7.result.now in
     let free = c.in_ok-free.free.items in
     let open_nets = c.in_ok-open.open.items in
-    let back = sym c.deref-6.ensures.value in
+    let back = sym c.deref-7.ensures.value in
     let seen = (
     subst (AreSeen own p.observed.now) back
     (subst (λ (goals : List NetId). AreSeen own goals c.in_ok-seen.seen.items) c.requires.points c.in_ok-seen.ensures)) in
@@ -62,8 +62,8 @@ part_answers-requires-clause-parts c =
     subst (λ (each : List Bool). AreMarked free each (length each) open_nets) back
     (subst (λ (each : List Bool). AreMarked free each (length each) open_nets) c.deref-3.ensures.value
     (subst (λ (each : List Answer). AreMarked each c.deref-3.result.now (length c.deref-3.result.now) open_nets) c.deref-2.ensures.value c.in_ok-open.ensures))) in
-    are_parts own p (claim_of c.args.asked.now) c.requires.of_claim free (record { of_nets = c.args.asked.now.parts; seen = c.deref-6.result; «open» = c.deref-7.result }) c.requires.parts
-    seen answered (subst (AreMarked free marks (length marks)) (sym c.deref-7.ensures.value) marked)
+    are_parts own p (claim_of c.args.asked.now) c.requires.of_claim free (record { of_nets = c.args.asked.now.parts; seen = c.deref-7.result; «open» = c.deref-8.result }) c.requires.parts
+    seen answered (subst (AreMarked free marks (length marks)) (sym c.deref-8.ensures.value) marked)
 
 pub returns-in_err-parts : goal.returns-in_err-parts
 returns-in_err-parts c =
@@ -79,7 +79,7 @@ returns c =
     let p = c.args.posed.now in
     let free = c.in_ok-free.free.items in
     let open_nets = c.in_ok-open.open.items in
-    let back = sym c.deref-6.ensures.value in
+    let back = sym c.deref-7.ensures.value in
     let seen = (
     subst (AreSeen own p.observed.now) back
     (subst (λ (goals : List NetId). AreSeen own goals c.in_ok-seen.seen.items) c.requires.points c.in_ok-seen.ensures)) in
@@ -91,5 +91,5 @@ returns c =
     (subst (λ (each : List Bool). AreMarked free each (length each) open_nets) c.deref-3.ensures.value
     (subst (λ (each : List Answer). AreMarked each c.deref-3.result.now (length c.deref-3.result.now) open_nets) c.deref-2.ensures.value c.in_ok-open.ensures))) in
     are_answers own p (claim_of asked) c.requires.of_claim (record { faults = c.in_ok-faults.faults; «open» = c.in_ok-open.open; parts = c.in_ok-parts.parts }) asked.faults.now
-    (record { of_nets = asked.parts; seen = c.deref-6.result; «open» = c.deref-7.result }) asked.part_count free (c.in_default.ensures.answer (claim_of asked) c.requires.of_claim)
-    c.in_ok-faults.ensures.answers seen answered marked (sym c.deref-7.ensures.value) c.in_ok-parts.ensures
+    (record { of_nets = asked.parts; seen = c.deref-7.result; «open» = c.deref-8.result }) asked.part_count free (c.in_default.ensures.answer (claim_of asked) c.requires.of_claim)
+    c.in_ok-faults.ensures.answers seen answered marked (sym c.deref-8.ensures.value) c.in_ok-parts.ensures
