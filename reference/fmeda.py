@@ -15,8 +15,8 @@ import waves
 from campaign import Refused
 
 USAGE = Refused(2, b"usage")
-OPTIONS = {"classes": "workers", "check": "flips upsets pulses", "run": "ftti flips upsets pulses workers asil", "resume": "ftti flips upsets pulses workers asil",
-           "audit": "every alone ftti flips upsets pulses", "gen": "workers", "report": "ftti flips upsets pulses asil workers", "shard": "part of ftti flips upsets pulses",
+OPTIONS = {"classes": "", "check": "flips upsets pulses", "run": "ftti flips upsets pulses workers asil", "resume": "ftti flips upsets pulses workers asil",
+           "audit": "every alone ftti flips upsets pulses", "gen": "workers", "report": "ftti flips upsets pulses asil", "shard": "part of ftti flips upsets pulses",
            "merge": "ftti flips upsets pulses", "reweigh": "ftti flips upsets pulses", "pairs": "ftti flips upsets pulses workers", "parts": "", "faults": "ftti flips upsets pulses",
            "progress": "ftti flips upsets pulses asil", "breakdown": "ftti flips upsets pulses asil intervals workers", "latencies": "ftti flips upsets pulses asil workers",
            "coverage": "ftti flips upsets pulses asil workers", "trace": "run fault flips upsets pulses nets", "always": "ftti window ahead flips upsets pulses asil"}

@@ -190,7 +190,7 @@ ROWS = {
     ),
     "report": (
         ("report_has_no_result", "dup", "report dup.blif dup.csv rates.csv points.csv res", None, None, "usage", 2),
-        ("report_of_33_workers", "dup", "report dup.blif dup.csv rates.csv points.csv --workers 33", None, None, "usage", 2),
+        ("report_has_no_workers", "dup", "report dup.blif dup.csv rates.csv points.csv --workers 2", None, None, "usage", 2),
         ("report_of_a_ring", None, "report ring.blif w.csv r.csv p.csv", "ring.blif", ".model ring\n.names x y\n1 1\n.names y x\n1 1\n.end\n", "loop x y", 4),
         ("report_without_a_rate", "dup", "report dup.blif dup.csv rates.csv points.csv", "rates.csv", "pattern,part,role,covered,permanent,transient\na,in,mission,yes,4,0\nb,in,mission,yes,4,0\ny,out,mission,yes,2,0\nal,dup,mechanism,no,4,0\n", "no rate for net z", 6),
     ),

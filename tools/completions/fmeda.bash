@@ -17,14 +17,14 @@ _fmeda() {
         run | resume) options="--ftti --flips --upsets --pulses --asil --workers" ;;
         audit) options="--every --alone --ftti --flips --upsets --pulses" ;;
         merge | reweigh | faults) options="--ftti --flips --upsets --pulses" ;;
-        progress) options="--ftti --flips --upsets --pulses --asil" ;;
+        report | progress) options="--ftti --flips --upsets --pulses --asil" ;;
         shard) options="--part --of --ftti --flips --upsets --pulses" ;;
         breakdown) options="--ftti --flips --upsets --pulses --asil --intervals --workers" ;;
         trace) options="--run --fault --flips --upsets --pulses --nets" ;;
         always) options="--ftti --window --ahead --flips --upsets --pulses --asil" ;;
-        report|latencies|coverage) options="--ftti --flips --upsets --pulses --asil --workers" ;;
+        latencies|coverage) options="--ftti --flips --upsets --pulses --asil --workers" ;;
         pairs) options="--ftti --flips --upsets --pulses --workers" ;;
-        classes | gen) options="--workers" ;;
+        gen) options="--workers" ;;
     esac
     case $current in
         -*) COMPREPLY=($(compgen -W "$options" -- "$current")) ;;

@@ -1,5 +1,5 @@
 -- The lines of `classes`, fault by fault.
-use Rattle.std.specs.Prelude.{ℕ, ◌/◌, ◌%◌, List, [], ◌∷◌, length, false, slice_index_or}
+use Rattle.std.specs.Prelude.{ℕ, ◌/◌, ◌%◌, List, [], ◌∷◌, length, false}
 use Rattle.std.specs.List.{flat_map}
 use Rattle.circuit.specs.declared.parts.Fault.{Fault}
 use Rattle.circuit.specs.Circuit.{Circuit}
@@ -8,6 +8,7 @@ use Rattle.fault_list.specs.Faults.{fault_at, fault_name}
 use Rattle.metric_sums.specs.Classes.{class_of}
 use Rattle.metric_sums.specs.declared.Role.TheVariants.{Mission}
 use Rattle.campaign_plan.specs.declared.Outcome.{Outcome}
+use Rattle.classifier.specs.Simulated.{Simulated, planes_simulated}
 use Rattle.metric_sums.specs.Words.{class_word}
 use Rattle.fm_base.specs.Lists.{below}
 use Rattle.fm_base.specs.Names.{Bytes}
@@ -19,10 +20,6 @@ abbrev pub class_line : Circuit → List Fault → Outcome → ℕ → Bytes
 class_line c fs planes i =
     line (fault_name c (fault_at fs i) ∷ class_word (class_of (bit planes.danger (i % 64)) (bit planes.noticed (i % 64)) Mission false (is_permanent (fault_at fs i))) ∷ [])
 
--- the planes of each batch, where the batches stand in rising order
-abbrev pub planes_in_order : List Outcome → ℕ → Outcome
-planes_in_order planes batch = slice_index_or planes batch (record { danger = 0; noticed = 0 })
-
--- the lines of all faults, in list order, where `planes` gives the planes of each batch
-abbrev pub class_lines : Circuit → List Fault → (planes : ℕ → Outcome) → Bytes
-class_lines c fs planes = flat_map (λ i. class_line c fs (planes (i / 64)) i) (below (length fs))
+-- the lines of all faults, in list order
+abbrev pub class_lines : Simulated → Bytes
+class_lines s = flat_map (λ i. class_line s.circuit s.faults (planes_simulated s (i / 64)) i) (below (length s.faults))

@@ -4,16 +4,17 @@ ghost use Rattle.std.specs.List.{flat_map};
 ghost use Rattle.fm_base.specs.Lists.{below};
 ghost use Rattle.fm_base.specs.Planes.{bit};
 ghost use Rattle.fm_base.specs.Text.{line};
-ghost use Rattle.fault_list.specs.Faults.{batches_for, fault_at, fault_name};
+ghost use Rattle.fault_list.specs.Faults.{fault_at, fault_name};
 ghost use Rattle.circuit.specs.Effects.{is_permanent};
 ghost use Rattle.metric_sums.specs.Classes.{class_of as class_for};
 ghost use Rattle.metric_sums.specs.declared.Role.TheVariants.{Mission};
 ghost use Rattle.fm_shelf.specs.Sink.{Sends};
 ghost use Rattle.metric_sums.specs.Words.{class_word as word_of_class};
-ghost use Rattle.class_table.specs.ClassLines.{class_line, class_lines, planes_in_order};
+ghost use Rattle.class_table.specs.ClassLines.{class_line, class_lines};
 
 use campaign_plan::{Outcome, has_bit};
 use circuit::netlist::Netlist;
+use classifier::BatchSimulator;
 use fault_list::FaultList;
 use fm_shelf::lines::write_line;
 use fm_shelf::shelf::{Failed, Sink};
@@ -53,17 +54,12 @@ fn write_class<O: Sink>(
 }
 
 // Writes a line for each fault.
-fn write_each<O: Sink>(
-    net: &Netlist,
-    faults: &FaultList,
-    planes: &[Outcome],
-    out: &mut O,
-) -> Result<(), Failed>
-    requires { length planes.now ≡ batches_for (length faults.now) }
-    ensures { Sends (O.seen out.old) (O.seen out.new) (class_lines net.now faults.now (planes_in_order planes.now)) result }
+fn write_each<O: Sink>(simulator: &mut BatchSimulator<'_>, out: &mut O) -> Result<(), Failed>
+    ensures { Sends (O.seen out.old) (O.seen out.new) (class_lines simulator.old) result }
 {
-    for i in 0..faults.len() {
-        write_class(net, faults, i, planes[(i / 64) as usize], out)?;
+    for i in 0..simulator.faults().len() {
+        let planes = simulator.batch(i / 64);
+        write_class(simulator.net(), simulator.faults(), i, planes, out)?;
     }
     Ok(())
 }
@@ -77,18 +73,12 @@ fn write_end<O: Sink>(out: &mut O, count: u32) -> Result<(), Failed>
     write_line(out, &[b"end", digits.format(count).as_bytes()])
 }
 
-/// Writes the class of each fault, all of them being in a mission part that isn't covered, and the number of faults. The planes are those of
-/// the batches, in rising order.
-pub fn write_classes<O: Sink>(
-    net: &Netlist,
-    faults: &FaultList,
-    planes: &[Outcome],
-    out: &mut O,
-) -> Result<(), Failed>
-    requires { length planes.now ≡ batches_for (length faults.now) }
+/// Writes the class of each fault, all of them being in a mission part that isn't covered, and the number of faults.
+pub fn write_classes<O: Sink>(simulator: &mut BatchSimulator<'_>, out: &mut O) -> Result<(), Failed>
     ensures { Sends (O.seen out.old) (O.seen out.new)
-        (class_lines net.now faults.now (planes_in_order planes.now) ++ line (codes "end" ∷ decimal (length faults.now) ∷ [])) result }
+        (class_lines simulator.old ++ line (codes "end" ∷ decimal (length simulator.old.faults) ∷ [])) result }
 {
-    write_each(net, faults, planes, out)?;
-    write_end(out, faults.len())
+    let count = simulator.faults().len();
+    write_each(simulator, out)?;
+    write_end(out, count)
 }

@@ -40,12 +40,10 @@ same_manner a b e = absurd (apart (alone_word a) (alone_word b) refl e)
 
 -- a task without what is its own
 abbrev plain : Task → Task
-plain (task.Classes n) = task.Classes 0
 plain (task.Run n) = task.Run 0
 plain (task.Resume n) = task.Resume 0
 plain (task.Audit n by) = task.Audit 0 Lanes
 plain (task.Gen k n) = task.Gen 0 0
-plain (task.Report n) = task.Report 0
 plain (task.Shard k n) = task.Shard 0 0
 plain (task.Pairs n) = task.Pairs 0
 plain (task.Breakdown ns n) = task.Breakdown [] 0
@@ -57,7 +55,7 @@ plain other = other
 
 -- which the table has in one place alone, by its word
 found : (own : Task) → find (λ t. bytes_eq (word_of t) (word_of own)) tasks ≡ Some (plain own)
-found (task.Classes n) = refl
+found task.Classes = refl
 found own = refl
 
 same_plain : (a b : Task) → word_of a ≡ word_of b → plain a ≡ plain b
@@ -77,7 +75,6 @@ module _ (rows : List Row) where
 
   -- one task of each is said
   same_own : (a b : Task) → plain a ≡ plain b → HasOwn rows a → HasOwn rows b → a ≡ b
-  same_own (task.Classes n) (task.Classes m) e p q = ap task.Classes (same_workers n m p q)
   same_own (task.Run n) (task.Run m) e p q = ap task.Run (same_workers n m p q)
   same_own (task.Resume n) (task.Resume m) e p q = ap task.Resume (same_workers n m p q)
   same_own (task.Audit n by) (task.Audit m other) e p q =
@@ -88,7 +85,6 @@ module _ (rows : List Row) where
       let stages : k ≡ l = same_number rows [] (codes "stages") 1 1000 k l p.0 q.0 in
       let workers : n ≡ m = same_workers n m p.1 q.1 in
       λ i. task.Gen (stages i) (workers i)
-  same_own (task.Report n) (task.Report m) e p q = ap task.Report (same_workers n m p q)
   same_own (task.Shard k n) (task.Shard l m) e p q =
       let part : k ≡ l = same_number rows [] (codes "part") 0 1023 k l p.0 q.0 in
       let parts : n ≡ m = same_number rows [] (codes "of") 1 1024 n m p.1 q.1 in

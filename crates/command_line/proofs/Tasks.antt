@@ -10,14 +10,6 @@ use Rattle.command_line.specs.WordsSteps.{IsTaskOf}
 use Rattle.command_line.proofs.Alone.{apart}
 
 module _ (rows : List Row) (none : (workers : ℕ) → ¬ (HasNumber rows [] (codes "workers") 1 32 workers)) (word : Text) where
-  pub no_classes : word ≡ codes "classes" → (own : Task) → ¬ (IsTaskOf word rows own)
-  no_classes e (task.Classes workers) is = none workers is.1
-  no_classes e other is = absurd (apart (codes "classes") (word_of other) refl (sym e ∙ is.0))
-
-  pub no_report : word ≡ codes "report" → (own : Task) → ¬ (IsTaskOf word rows own)
-  no_report e (task.Report workers) is = none workers is.1
-  no_report e other is = absurd (apart (codes "report") (word_of other) refl (sym e ∙ is.0))
-
   pub no_run : word ≡ codes "run" → (own : Task) → ¬ (IsTaskOf word rows own)
   no_run e (task.Run workers) is = none workers is.1
   no_run e other is = absurd (apart (codes "run") (word_of other) refl (sym e ∙ is.0))

@@ -27,13 +27,13 @@ row_of own =
     let window : List Rule = within 0 8 (free (codes "window")) ++ within 0 8 (option (codes "ahead") (codes "1")) in
     let plan : List Rule = inputs ++ place (codes "result") ∷ ftti ++ lists in
     elim own [
-      | task.Classes n ↦ (codes "classes", map place (codes "netlist" ∷ codes "workload" ∷ []) ++ workers)
+      | task.Classes ↦ (codes "classes", map place (codes "netlist" ∷ codes "workload" ∷ []))
       | task.Check ↦ (codes "check", inputs ++ lists)
       | task.Run n ↦ (codes "run", plan ++ workers ++ asil)
       | task.Resume n ↦ (codes "resume", plan ++ workers ++ asil)
       | task.Audit n by ↦ (codes "audit", plan ++ within 1 16384 (option (codes "every") (codes "1")) ++ flag (codes "alone") ∷ [])
       | task.Gen k n ↦ (codes "gen", within 1 1000 (place (codes "stages")) ++ place (codes "result") ∷ workers)
-      | task.Report n ↦ (codes "report", inputs ++ ftti ++ lists ++ asil ++ workers)
+      | task.Report ↦ (codes "report", inputs ++ ftti ++ lists ++ asil)
       | task.Shard k n ↦ (codes "shard", plan ++ within 0 1023 (needed (codes "part")) ++ within 1 1024 (needed (codes "of")))
       | task.Merge ↦ (codes "merge", plan ++ map place (codes "first" ∷ codes "second" ∷ []))
       | task.Reweigh ↦ (codes "reweigh", inputs ++ map place (codes "first" ∷ codes "newrates" ∷ codes "result" ∷ []) ++ ftti ++ lists)
@@ -54,7 +54,7 @@ word_of own = (row_of own).0
 -- one of each task, whatever its numbers
 abbrev pub tasks : List Task
 tasks =
-    task.Classes 0 ∷ task.Check ∷ task.Run 0 ∷ task.Resume 0 ∷ task.Audit 0 Lanes ∷ task.Gen 0 0 ∷ task.Report 0 ∷ task.Shard 0 0 ∷ task.Merge ∷ task.Reweigh
+    task.Classes ∷ task.Check ∷ task.Run 0 ∷ task.Resume 0 ∷ task.Audit 0 Lanes ∷ task.Gen 0 0 ∷ task.Report ∷ task.Shard 0 0 ∷ task.Merge ∷ task.Reweigh
     ∷ task.Pairs 0 ∷ task.Parts ∷ task.Faults ∷ task.Progress ∷ task.Breakdown [] 0 ∷ task.Latencies 0 ∷ task.Coverage 0
     ∷ task.Trace 0 None None ∷ task.Always None 0 ∷ []
 

@@ -63,12 +63,10 @@ module _ (rows : List Row) where
   HasOwn own =
       let HasWorkers : ℕ → Type 0 = λ workers. HasNumber [] (codes "workers") 1 32 workers in
       elim own [
-        | task.Classes workers ↦ HasWorkers workers
         | task.Run workers ↦ HasWorkers workers
         | task.Resume workers ↦ HasWorkers workers
         | task.Audit every by ↦ HasNumber [] (codes "every") 1 16384 every × (text_or (codes "false") (codes "alone") ≡ alone_word by)
         | task.Gen stages workers ↦ HasNumber [] (codes "stages") 1 1000 stages × HasWorkers workers
-        | task.Report workers ↦ HasWorkers workers
         | task.Shard part parts ↦ HasNumber [] (codes "part") 0 1023 part × HasNumber [] (codes "of") 1 1024 parts × (part < parts)
         | task.Pairs workers ↦ HasWorkers workers
         | task.Breakdown intervals workers ↦ HasWorkers workers × (text_or (codes "none") (codes "intervals") ≡ cycles_text intervals) × AreRising 16 4096 intervals

@@ -140,17 +140,13 @@ fn command_rows() -> &'static [Row]
     ensures { fold with_row named_app result.now ≡ fmeda_app }
 {
     &[
-        Row("classes", &[], &[Netlist, Workload, Workers]),
+        Row("classes", &[], &[Netlist, Workload]),
         Row("check", INPUTS, &[Flips, Upsets, Pulses]),
         Row("run", PLAN, &[Workers, Asil]),
         Row("resume", PLAN, &[Workers, Asil]),
         Row("audit", PLAN, &[Every, Alone]),
         Row("gen", &[], &[Stages, ResultFile, Workers]),
-        Row(
-            "report",
-            INPUTS,
-            &[Ftti, Flips, Upsets, Pulses, Asil, Workers],
-        ),
+        Row("report", INPUTS, &[Ftti, Flips, Upsets, Pulses, Asil]),
         Row("shard", PLAN, &[Part, Of]),
         Row("merge", PLAN, &[First, Second]),
         Row(
@@ -300,9 +296,7 @@ fn plain_task_of(word: &str, matches: &ArgMatches) -> Option<Task>
     ensures { Finds (IsTaskOf word.now (rows_of (found_of matches.now))) result }
 {
     match word {
-        "classes" => Some(Task::Classes {
-            workers: workers_of(matches)?,
-        }),
+        "classes" => Some(Task::Classes),
         "check" => Some(Task::Check),
         "run" => Some(Task::Run {
             workers: workers_of(matches)?,
@@ -312,9 +306,7 @@ fn plain_task_of(word: &str, matches: &ArgMatches) -> Option<Task>
         }),
         "audit" => audit_of(matches),
         "gen" => gen_of(matches),
-        "report" => Some(Task::Report {
-            workers: workers_of(matches)?,
-        }),
+        "report" => Some(Task::Report),
         "shard" => shard_of(matches),
         "merge" => Some(Task::Merge),
         "reweigh" => Some(Task::Reweigh),

@@ -30,7 +30,7 @@ abbrev pub kind_of : Task → Kind
 kind_of own =
     let plan : Kind = elim own [ task.Resume n ↦ Begun | task.Audit n by ↦ Begun | task.Pairs n ↦ Begun | task.Faults ↦ Begun | task.Progress ↦ Begun | _ ↦ Planned ] in
     elim own [
-      | task.Classes n ↦ Observed
+      | task.Classes ↦ Observed
       | task.Parts ↦ Rated
       | task.Merge ↦ Merged
       | task.Reweigh ↦ Reweighed
@@ -81,8 +81,6 @@ HasFitNumbers (task.Run workers) = (0 < workers) × (workers ≤ 32)
 HasFitNumbers (task.Resume workers) = (0 < workers) × (workers ≤ 32)
 HasFitNumbers (task.Audit every by) = (1 ≤ every) × (every ≤ 16384)
 HasFitNumbers (task.Gen stages workers) = (1 ≤ stages) × (stages ≤ 1000) × (0 < workers) × (workers ≤ 32)
-HasFitNumbers (task.Classes workers) = (0 < workers) × (workers ≤ 32)
-HasFitNumbers (task.Report workers) = (0 < workers) × (workers ≤ 32)
 HasFitNumbers (task.Shard part parts) = (part < parts) × (parts ≤ 1024)
 HasFitNumbers (task.Pairs workers) = (0 < workers) × (workers ≤ 32)
 HasFitNumbers (task.Breakdown intervals workers) = AreRising 16 4096 intervals × (0 < workers) × (workers ≤ 32)

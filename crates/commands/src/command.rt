@@ -148,9 +148,7 @@ pub enum AuditBy {
 /// cycles of a window, 0 to 8, where they were given, with 0 to 8 cycles ahead of it.
 #[derive(Drop)]
 pub enum Task {
-    Classes {
-        workers: u32,
-    },
+    Classes,
     Check,
     Run {
         workers: u32,
@@ -166,9 +164,7 @@ pub enum Task {
         stages: u32,
         workers: u32,
     },
-    Report {
-        workers: u32,
-    },
+    Report,
     Shard {
         part: u32,
         parts: u32,
@@ -208,7 +204,7 @@ impl Task {
         ensures { result ≡ kind_of self.now }
     {
         match self {
-            Task::Classes { .. } => Kind::Observed,
+            Task::Classes => Kind::Observed,
             Task::Parts => Kind::Rated,
             Task::Resume { .. }
             | Task::Audit { .. }

@@ -1,5 +1,5 @@
 -- The faults that are simulated show what each fault is.
-use Rattle.std.proofs.Common.{◌≡◌, ◌≢◌, ◌⊎◌, inl, inr, ℕ, zero, suc, ◌+◌, ◌*◌, ◌/◌, ◌%◌, ◌<◌, ◌≤◌, Bool, true, false, ◌&&◌, cond, List, [], ◌∷◌, ◌++◌, length, length-append, map, get_or, set, refl, add-one, ap, ap₂, sym, subst, ◌∙◌, arith}
+use Rattle.std.proofs.Common.{◌≡◌, ◌≢◌, ◌⊎◌, inl, inr, ℕ, zero, suc, ◌+◌, ◌*◌, ◌/◌, ◌%◌, ◌<◌, ◌≤◌, Bool, true, false, ◌&&◌, cond, List, [], ◌∷◌, ◌++◌, length, length-append, map, get_or, set, refl, add-one, suc-mul, ap, ap₂, sym, subst, ◌∙◌, arith}
 use Rattle.std.specs.Prelude.{filter, Option, Some, slice_get, slice_index}
 use Rattle.std.specs.Option.{option_map, option_to_list}
 use Rattle.std.proofs.lemmas.Bool.{eq-eqb, eqb-true}
@@ -8,9 +8,10 @@ use Rattle.std.specs.List.{All}
 use Rattle.std.proofs.lemmas.List.{append-nil, get_or-set_other, get_or-set_same, get_or_append_left}
 use Rattle.std.proofs.lemmas.List.FromFn.{length-range_with_len}
 use Rattle.std.proofs.lemmas.List.Sums.{count_by-le-length, length-filter}
+use Rattle.circuit.specs.declared.parts.Fault.{Fault}
 use Rattle.circuit.specs.declared.parts.NetId.{NetId}
+use Rattle.circuit.specs.Circuit.{Circuit}
 use Rattle.circuit.specs.Order.{IsOrder}
-use Rattle.circuit.specs.Sound.{IsNetlist}
 use Rattle.fault_list.specs.Faults.{fault_at, fault_number, is_used}
 use Rattle.fm_base.specs.Lists.{below}
 use Rattle.fm_base.specs.Planes.{bit, plane_of}
@@ -18,15 +19,18 @@ use Rattle.fm_base.proofs.Below.{below_push, below_small}
 use Rattle.fm_base.proofs.Bits.{bit-plane_of, plane_small}
 use borrow.Author.Tests.{ltb-true}
 use Rattle.campaign_plan.specs.declared.Outcome.{Outcome}
-use Rattle.alarm_points.specs.PointsKept.{ArePointsFor}
-use Rattle.campaign_plan.specs.Batches.{outcome_of}
+use Rattle.campaign_plan.specs.Analysis.{Analysis, all_faults}
+use Rattle.campaign_plan.specs.Batches.{outcome_of, true_planes}
 use Rattle.campaign_plan.specs.Danger.{is_dangerous, is_noticed}
-use Rattle.classifier.specs.Simulated.{Simulated, planes_simulated}
-use Rattle.classifier.proofs.PlaneBits.{plane_is, planes_have}
+use Rattle.campaign_plan.specs.Kept.{IsPlan}
+use Rattle.classifier.specs.Planes.{planes_of}
+use Rattle.classifier.proofs.PlaneBits.{plane_is, planes_have, planes_same}
+use Rattle.workload.specs.declared.run.Run.{Run}
+use Rattle.alarm_points.specs.declared.Points.{Points}
 use Rattle.collapse_map.specs.Collapsed.{AreFaultsOf, Collapsed, is_own, rep_count, rep_of}
 use Rattle.collapse_map.proofs.Kept.{looks_same, rep_again}
 use Rattle.collapse_map.proofs.Numbered.{rep_there}
-use Rattle.fault_collapse.specs.Chosen.{AreChosen, AreSimulated, danger_shown, faults_in, notice_shown, place_for, planes_shown}
+use Rattle.fault_collapse.specs.Chosen.{AreChosen, AreSimulated, danger_shown, faults_in, group_planes, notice_shown, place_for, planes_shown}
 use Rattle.fault_collapse.specs.Outcomes.{AreAlike, collapsed_of}
 use Rattle.fault_collapse.proofs.Alike.{look_alike}
 use Rattle.collapse_map.proofs.Looking.{watched_nets}
@@ -94,6 +98,20 @@ module _ (s : Collapsed) (numbers places : List ℕ) (chosen : AreChosen s numbe
       let count = ap length chosen.listed ∙ length-filter (is_own s) (below (length s.faults)) in
       omega arith
 
+-- ---- what is simulated
+
+-- a group's planes, by the lanes that were loaded with it
+pub group_is : (p : Analysis) (net : Circuit) (points : Points) (runs : List Run) (ftti : ℕ) (loaded : ℕ → List Fault) (numbers : List ℕ) (group : ℕ)
+    → net ≡ p.circuit → points ≡ p.points → runs ≡ p.runs → ftti ≡ p.settings.ftti → ((k : ℕ) → k < 64 → loaded k ≡ faults_in (all_faults p) numbers group k)
+    → planes_of net points ftti runs loaded ≡ group_planes p numbers group
+group_is p net points runs ftti loaded numbers group e f g h same =
+    ap₂ (λ (n : Circuit) (x : Points). planes_of n x ftti runs loaded) e f
+    ∙ ap₂ (λ t (rs : List Run). planes_of p.circuit p.points t rs loaded) h g
+    ∙ planes_same p.circuit p.points p.settings.ftti p.runs loaded (faults_in (all_faults p) numbers group) same
+
+pub times_more : (start n x : ℕ) → start + n * x + x ≡ start + (n + 1) * x
+times_more start n x = let more : (n + 1) * x ≡ n * x + x = ap (λ k. k * x) (add-one n) ∙ suc-mul n x in omega (arith, more)
+
 -- ---- what is read off
 
 slice_get_at : {X : Type 0} (xs : List X) (i : ℕ) (d : X) → i < length xs → slice_get xs i ≡ Some (get_or xs i d)
@@ -101,11 +119,13 @@ slice_get_at [] i d lt = absurd (omega arith)
 slice_get_at (x ∷ xs) zero d lt = refl
 slice_get_at (x ∷ xs) (suc i) d lt = slice_get_at xs i d (omega arith)
 
-module _ (p : Simulated) (order : List NetId) (sound : IsNetlist p.circuit) (ordered : IsOrder p.circuit order) (fit : ArePointsFor p.circuit p.points)
-    (listed : AreFaultsOf p.circuit p.faults) (numbers places : List ℕ) (found : List Outcome)
+module _ (p : Analysis) (order : List NetId) (plan : IsPlan p) (ordered : IsOrder p.circuit order) (numbers places : List ℕ) (found : List Outcome)
     (chosen : AreChosen (collapsed_of p) numbers places) (room : length numbers ≤ 64 * length found) (simulated : AreSimulated p numbers found) where
   abbrev s : Collapsed
   s = collapsed_of p
+
+  listed : AreFaultsOf p.circuit (all_faults p)
+  listed = record { flips = p.settings.flips; pulses = p.settings.pulses; listed = refl }
 
   -- the representative of each fault has a place
   module _ (i : ℕ) (within : i < length s.faults) where
@@ -116,10 +136,10 @@ module _ (p : Simulated) (order : List NetId) (sound : IsNetlist p.circuit) (ord
     place = place_for s places i
 
     there : (rep < length s.faults) × (fault_at s.faults rep ≡ fault_at s.faults rep)
-    there = ((rep_there s sound listed i within).0, refl)
+    there = ((rep_there s plan.netlist listed i within).0, refl)
 
     placed : (place < length numbers) × (get_or numbers place 0 ≡ rep)
-    placed = chosen.each rep there.0 (eq-eqb (rep_of s rep) rep (rep_again s order sound ordered listed i within))
+    placed = chosen.each rep there.0 (eq-eqb (rep_of s rep) rep (rep_again s order plan.netlist ordered listed i within))
 
     pub has_lane : place / 64 < length found
     has_lane = let lt = placed.0 in omega (arith, lt, room)
@@ -131,24 +151,24 @@ module _ (p : Simulated) (order : List NetId) (sound : IsNetlist p.circuit) (ord
         ap (λ k. option_to_list (option_map (fault_at s.faults) (slice_get numbers k))) whole
         ∙ ap (λ (o : Option ℕ). option_to_list (option_map (fault_at s.faults) o)) (slice_get_at numbers place 0 placed.0 ∙ ap Some placed.1)
 
-    alike : AreAlike p.circuit p.points p.ftti p.runs (fault_at s.faults i) (fault_at s.faults rep)
-    alike = look_alike p.circuit p.points p.ftti p.runs (fault_at s.faults i) (fault_at s.faults rep)
-        (looks_same s order sound ordered listed (watched_nets p.circuit p.points fit) i within)
+    alike : AreAlike p.circuit p.points p.settings.ftti p.runs (fault_at s.faults i) (fault_at s.faults rep)
+    alike = look_alike p.circuit p.points p.settings.ftti p.runs (fault_at s.faults i) (fault_at s.faults rep)
+        (looks_same s order plan.netlist ordered listed (watched_nets p.circuit p.points plan.points) i within)
 
     lane : place % 64 < 64
     lane = omega arith
 
-    danger_true : danger_shown s places found i ≡ is_dangerous p.circuit p.points p.ftti p.runs (fault_at s.faults i ∷ [])
+    danger_true : danger_shown s places found i ≡ is_dangerous p.circuit p.points p.settings.ftti p.runs (fault_at s.faults i ∷ [])
     danger_true =
         ap (λ (o : Outcome). bit o.danger (place % 64)) (simulated (place / 64) has_lane)
-        ∙ (planes_have p.circuit p.points p.ftti p.runs (faults_in s.faults numbers (place / 64))).danger (place % 64) lane
-        ∙ ap (is_dangerous p.circuit p.points p.ftti p.runs) in_lane
+        ∙ (planes_have p.circuit p.points p.settings.ftti p.runs (faults_in s.faults numbers (place / 64))).danger (place % 64) lane
+        ∙ ap (is_dangerous p.circuit p.points p.settings.ftti p.runs) in_lane
         ∙ sym alike.danger
 
     notice_true : notice_shown s places found i ≡ is_noticed p.circuit p.points p.runs (fault_at s.faults i ∷ [])
     notice_true =
         ap (λ (o : Outcome). bit o.noticed (place % 64)) (simulated (place / 64) has_lane)
-        ∙ (planes_have p.circuit p.points p.ftti p.runs (faults_in s.faults numbers (place / 64))).noticed (place % 64) lane
+        ∙ (planes_have p.circuit p.points p.settings.ftti p.runs (faults_in s.faults numbers (place / 64))).noticed (place % 64) lane
         ∙ ap (is_noticed p.circuit p.points p.runs) in_lane
         ∙ sym alike.noticed
 
@@ -162,12 +182,12 @@ module _ (p : Simulated) (order : List NetId) (sound : IsNetlist p.circuit) (ord
   where_used false a b same = refl
 
   -- THE PLANES THAT ARE READ OFF are the true ones
-  pub planes_true : (batch : ℕ) → planes_shown s places found batch ≡ planes_simulated p batch
+  pub planes_true : (batch : ℕ) → planes_shown s places found batch ≡ true_planes p batch
   unfolding planes_shown outcome_of
   planes_true batch = ap₂ (λ danger noticed. let planes : Outcome = record { danger = danger; noticed = noticed } in planes)
       (same_plane
       (λ k. is_used (length s.faults) batch k && danger_shown s places found (fault_number batch k))
-      (λ k. is_used (length s.faults) batch k && is_dangerous p.circuit p.points p.ftti p.runs (fault_at s.faults (fault_number batch k) ∷ []))
+      (λ k. is_used (length s.faults) batch k && is_dangerous p.circuit p.points p.settings.ftti p.runs (fault_at s.faults (fault_number batch k) ∷ []))
       (λ k lt. where_used (is_used (length s.faults) batch k) _ _ (λ used. danger_true (fault_number batch k) (ltb-true (fault_number batch k) (length s.faults) used))))
       (same_plane
       (λ k. is_used (length s.faults) batch k && notice_shown s places found (fault_number batch k))
@@ -179,5 +199,5 @@ module _ (p : Simulated) (order : List NetId) (sound : IsNetlist p.circuit) (ord
   map_same {X} f g (x ∷ xs) same = ap₂ (λ (y : X) (ys : List X). y ∷ ys) (same x) (map_same f g xs same)
 
   -- ALL PLANES are the true ones
-  pub all_true : (batches : ℕ) → map (planes_shown s places found) (below batches) ≡ map (planes_simulated p) (below batches)
-  all_true batches = map_same (planes_shown s places found) (planes_simulated p) (below batches) planes_true
+  pub all_true : (batches : ℕ) → map (planes_shown s places found) (below batches) ≡ map (true_planes p) (below batches)
+  all_true batches = map_same (planes_shown s places found) (true_planes p) (below batches) planes_true

@@ -6,8 +6,8 @@ use Rattle.fault_list.specs.Faults.{fault_at, fault_number, is_used}
 use Rattle.fm_base.specs.Lists.{below}
 use Rattle.fm_base.specs.Planes.{bit, lanes, plane_of}
 use Rattle.campaign_plan.specs.declared.Outcome.{Outcome}
+use Rattle.campaign_plan.specs.Analysis.{Analysis, all_faults}
 use Rattle.classifier.specs.Planes.{outcome_at, planes_of}
-use Rattle.classifier.specs.Simulated.{Simulated}
 use Rattle.collapse_map.specs.Collapsed.{Collapsed, is_own, rep_of}
 
 -- the faults that are their own representatives, in rising order, and the place of each among them
@@ -25,12 +25,12 @@ abbrev pub faults_in : List Fault → List ℕ → ℕ → ℕ → List Fault
 faults_in faults numbers group lane = option_to_list (chosen_at faults numbers (fault_number group lane))
 
 -- the planes of a group
-abbrev pub group_planes : Simulated → List ℕ → ℕ → Outcome
-group_planes s numbers group = planes_of s.circuit s.points s.ftti s.runs (faults_in s.faults numbers group)
+abbrev pub group_planes : Analysis → List ℕ → ℕ → Outcome
+group_planes p numbers group = planes_of p.circuit p.points p.settings.ftti p.runs (faults_in (all_faults p) numbers group)
 
 -- these are the planes of the groups
-abbrev pub AreSimulated : Simulated → List ℕ → List Outcome → Type 0
-AreSimulated s numbers found = (group : ℕ) → group < length found → outcome_at found group ≡ group_planes s numbers group
+abbrev pub AreSimulated : Analysis → List ℕ → List Outcome → Type 0
+AreSimulated p numbers found = (group : ℕ) → group < length found → outcome_at found group ≡ group_planes p numbers group
 
 -- the place of the representative of fault i
 abbrev pub place_for : Collapsed → List ℕ → ℕ → ℕ

@@ -2,12 +2,10 @@
 #![tactic(auto)]
 
 mod chosen;
-mod fan_out;
 mod outcomes;
 mod planes;
 mod simulate;
 mod spread;
-mod worker;
 
-pub use outcomes::OutcomeList;
-pub use planes::{collapsed_planes, simulated_planes};
+pub use outcomes::{OutcomeList, collapsed_outcomes};
+pub use planes::collapsed_planes;

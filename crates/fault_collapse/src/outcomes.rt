@@ -1,26 +1,26 @@
-// The outcomes of all faults on a testbench.
-ghost use Rattle.std.specs.Prelude.{◌≡◌, ◌<◌, ◌≤◌, IfOk};
+// The outcomes of all faults of a plan.
+ghost use Rattle.std.specs.Prelude.{◌≡◌, ◌≤◌, ◌+◌, ◌*◌, IfOk, length};
 ghost use Rattle.circuit.specs.Order.{IsOrder};
-ghost use Rattle.circuit.specs.Sound.{IsNetlist};
-ghost use Rattle.alarm_points.specs.PointsKept.{ArePointsFor};
-ghost use Rattle.collapse_map.specs.Collapsed.{AreFaultsOf};
-ghost use Rattle.fault_collapse.specs.Outcomes.{all_planes, collapsed_of, simulated_on};
+ghost use Rattle.classifier.specs.Simulator.{simulator_of};
+ghost use Rattle.testbench.specs.Testbench.{IsTestbenchFor};
+ghost use Rattle.fault_collapse.specs.Outcomes.{all_planes, collapsed_of, most_steps};
 
 use crate::chosen::choose;
-use crate::fan_out::found_by;
-use crate::simulate::Representatives;
+use crate::simulate::{WORDS, simulate};
 use crate::spread::spread;
-use campaign_plan::Outcome;
+use campaign_plan::{Outcome, Plan};
+use classifier::Simulator;
 use collapse_map::Collapse;
-use fault_list::FaultList;
-use fm_base::Seq;
+use fm_base::{Seq, Steps};
 use room::{NoRoom, filled};
 use std::alloc::Global;
-use std::thread::Threads;
+use std::sync::ledger::Ledger;
 use testbench::Testbench;
 
+const LANES: usize = 64;
+
 /// No lane in danger, and none noticed.
-pub(crate) const NOTHING: Outcome = Outcome {
+const NOTHING: Outcome = Outcome {
     danger: 0,
     noticed: 0,
 };
@@ -28,43 +28,31 @@ pub(crate) const NOTHING: Outcome = Outcome {
 /// The planes of batches, in rising order.
 pub type OutcomeList = Seq<Outcome>;
 
-/// The planes of all batches of these faults, in rising order. Only faults that are their own representatives are simulated, 256 at once by
-/// each of 1 to 32 workers; each other fault has the bits of its representative.
-pub(crate) fn collapsed_outcomes<R: Threads + Sync>(
-    rt: &R,
+/// The planes that each batch of a plan truly has, in rising order. Only faults that are their own representatives are
+/// simulated, 256 at once; each other fault has the bits of its representative. It takes at most one step for each table and
+/// cycle, for each 256 faults that are their own representatives.
+pub fn collapsed_outcomes<L: Ledger>(
     alloc: Global,
+    plan: &Plan,
     bench: &Testbench<'_>,
-    faults: &FaultList,
-    ftti: u32,
     collapse: &Collapse,
-    workers: u32,
+    simulator: &mut Simulator,
+    steps: &mut Steps<L>,
 ) -> Result<OutcomeList, NoRoom>
-    requires workers { (0 < workers) × (workers ≤ 32) }
-    requires netlist { IsNetlist bench.now.circuit }
-    requires order { IsOrder bench.now.circuit bench.now.order }
-    requires points { ArePointsFor bench.now.circuit bench.now.points }
-    requires faults { AreFaultsOf bench.now.circuit faults.now }
-    requires collapse { collapse.now ≡ collapsed_of (simulated_on bench.now faults.now ftti) }
-    ensures { IfOk result (λ list. list ≡ all_planes (simulated_on bench.now faults.now ftti)) }
+    requires bench { IsTestbenchFor plan.now bench.now }
+    requires order { IsOrder plan.now.circuit bench.now.order }
+    requires collapse { collapse.now ≡ collapsed_of plan.now }
+    requires simulator { simulator.old ≡ simulator_of bench.now plan.now.settings.ftti }
+    ensures outcomes { IfOk result (λ list. list ≡ all_planes plan.now) }
+    ensures same { simulator.new ≡ simulator.old }
+    ensures cost { steps.new ≤ steps.old + most_steps plan.now }
 {
-    let count = faults.len();
+    let count = plan.faults().len();
     let chosen = choose(alloc, collapse, count)?;
-    let mut list = filled(alloc, NOTHING, faults.batches() as usize)?;
-    let representatives = Representatives {
-        bench,
-        faults,
-        ftti,
-        numbers: chosen.numbers.as_slice(),
-        count: collapse.count(),
-    };
-    let found = found_by(rt, alloc, &representatives, workers)?;
-    let places = chosen.places.as_slice();
-    spread(
-        collapse,
-        places,
-        found.as_slice(),
-        count,
-        list.as_mut_slice(),
-    );
+    let rounds = chosen.numbers.len().div_ceil(LANES * WORDS);
+    let mut found = filled(alloc, NOTHING, rounds * WORDS)?;
+    let mut list = filled(alloc, NOTHING, plan.batches() as usize)?;
+    simulate(plan, bench, &chosen.numbers, &mut found, simulator, steps);
+    spread(collapse, &chosen.places, &found, count, &mut list);
     Ok(Seq::from_vec(list))
 }

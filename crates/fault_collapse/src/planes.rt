@@ -1,59 +1,65 @@
-// The planes of all batches of faults, with all that it takes to simulate them.
-ghost use Rattle.std.specs.Prelude.{◌≡◌, ◌<◌, ◌≤◌, IfOk};
+// The planes of all batches of a plan, with all that it takes to simulate them.
+ghost use Rattle.std.specs.Prelude.{◌≡◌, ◌<◌, IfOk};
 ghost use Rattle.circuit.specs.Order.{IsOrder};
-ghost use Rattle.circuit.specs.Sound.{IsNetlist};
-ghost use Rattle.classifier.specs.Simulated.{simulated_of};
-ghost use Rattle.collapse_map.specs.Collapsed.{AreFaultsOf};
-ghost use Rattle.fault_collapse.specs.Outcomes.{all_planes, simulated_on};
+ghost use Rattle.testbench.specs.Testbench.{testbench_of};
+ghost use Rattle.fault_collapse.specs.Outcomes.{all_planes, collapsed_of};
 
 use crate::outcomes::{OutcomeList, collapsed_outcomes};
 use campaign_plan::Plan;
+use classifier::Simulator;
 use collapse_map::Collapse;
-use fault_list::FaultList;
+use fm_base::Steps;
 use netlist_levels::Order;
 use room::NoRoom;
 use std::alloc::Global;
-use std::thread::Threads;
+use std::marker::Brand;
+use std::sync::ledger::{Blank, Ledger};
 use testbench::Testbench;
 
-/// The planes that each batch of these faults truly has on a testbench, in rising order: equal faults are collapsed, and only faults that are
-/// their own representatives are simulated, in a thread for each of 1 to 32 workers. `ftti` is the fault tolerant time interval in cycles,
-/// for the goals without one of their own.
-pub fn simulated_planes<R: Threads + Sync>(
-    rt: &R,
+// The planes of all batches, by a simulator that is made here.
+fn simulated_planes<L: Ledger>(
     alloc: Global,
+    plan: &Plan,
     bench: &Testbench<'_>,
-    faults: &FaultList,
-    ftti: u32,
-    workers: u32,
+    collapse: &Collapse,
+    steps: &mut Steps<L>,
 ) -> Result<OutcomeList, NoRoom>
-    requires workers { (0 < workers) × (workers ≤ 32) }
-    requires netlist { IsNetlist bench.now.circuit }
-    requires faults { AreFaultsOf bench.now.circuit faults.now }
-    ensures { IfOk result (λ list. list ≡ all_planes (simulated_on bench.now faults.now ftti)) }
+    requires order { IsOrder plan.now.circuit bench.now.order }
+    requires collapse { collapse.now ≡ collapsed_of plan.now }
+    requires bench { bench.now ≡ testbench_of plan.now bench.now.order }
+    ensures { IfOk result (λ list. list ≡ all_planes plan.now) }
 {
-    let (net, points) = (bench.net(), bench.points());
-    let collapse = Collapse::new(alloc, net, bench.order(), faults, points)?;
-    let planes = collapsed_outcomes(rt, alloc, bench, faults, ftti, &collapse, workers);
-    drop(collapse);
+    let mut simulator = Simulator::new(alloc, bench, plan.settings().ftti)?;
+    let planes = collapsed_outcomes(alloc, plan, bench, collapse, &mut simulator, steps);
+    drop(simulator);
     planes
 }
 
-/// The planes that each batch of a plan truly has, in rising order, by 1 to 32 workers. The testbench is made here.
-pub fn collapsed_planes<R: Threads + Sync>(
-    rt: &R,
+// The same, with a counter of steps that nobody reads.
+fn counted_planes<L: Ledger>(
     alloc: Global,
+    blank: Blank,
     plan: &Plan,
     order: &Order,
-    workers: u32,
 ) -> Result<OutcomeList, NoRoom>
-    requires workers { (0 < workers) × (workers ≤ 32) }
+    requires name { blank.name ≡ L.name }
+    requires parts { blank.parts ≡ L.parts }
+    requires some { 0 < blank.parts }
     requires order { IsOrder plan.now.circuit order.now }
-    ensures { IfOk result (λ list. list ≡ all_planes (simulated_of plan.now)) }
+    ensures { IfOk result (λ list. list ≡ all_planes plan.now) }
 {
+    let (net, points) = (plan.net(), plan.points());
+    let collapse = Collapse::new(alloc, net, order, plan.faults(), points)?;
     let bench = Testbench::of_plan(alloc, plan, order)?;
-    let (faults, ftti) = (plan.faults(), plan.settings().ftti);
-    let planes = simulated_planes(rt, alloc, &bench, faults, ftti, workers);
-    drop(bench);
-    planes
+    let mut steps: Steps<L> = Steps::fresh(blank);
+    simulated_planes(alloc, plan, &bench, &collapse, &mut steps)
+}
+
+/// The planes that each batch of a plan truly has, in rising order: equal faults are collapsed, and only faults that are their own
+/// representatives are simulated, on this thread. The testbench and the simulator are made here.
+pub fn collapsed_planes(alloc: Global, plan: &Plan, order: &Order) -> Result<OutcomeList, NoRoom>
+    requires { IsOrder plan.now.circuit order.now }
+    ensures { IfOk result (λ list. list ≡ all_planes plan.now) }
+{
+    counted_planes::<Brand>(alloc, Blank::new(1), plan, order)
 }

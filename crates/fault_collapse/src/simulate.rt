@@ -1,31 +1,24 @@
 // The simulation of chosen faults, 64 in each word of the lanes, each alone in its lane.
-ghost use Rattle.std.specs.Prelude.{◌≡◌, ◌+◌, ◌*◌, ◌<◌, ◌≤◌, ◌^◌, ℕ, All, length};
+ghost use Rattle.std.specs.Prelude.{◌≡◌, ◌+◌, ◌*◌, ◌/◌, ◌%◌, ◌<◌, ◌≤◌, ◌^◌, ℕ, All, length};
+ghost use Rattle.campaign_plan.specs.Analysis.{all_faults};
 ghost use Rattle.classifier.specs.Simulator.{listed, simulator_of};
+ghost use Rattle.testbench.specs.Testbench.{IsTestbenchFor};
 ghost use Rattle.lane_words.specs.Loads.{loaded_faults};
-ghost use Rattle.fault_collapse.specs.Chosen.{chosen_at, faults_in};
-ghost use Rattle.fault_collapse.specs.Work.{AreFour, AreOfFaults};
+ghost use Rattle.workload.specs.Runs.{all_cycles};
+ghost use Rattle.fault_collapse.specs.Chosen.{AreSimulated, chosen_at, faults_in};
 
-use campaign_plan::Outcome;
+use campaign_plan::{Outcome, Plan};
 use circuit::parts::Fault;
 use classifier::{LaneFaults, Simulator};
 use fault_list::FaultList;
+use fm_base::Steps;
+use std::sync::ledger::Ledger;
 use testbench::Testbench;
 
 const LANES: usize = 64;
 
 /// The number of groups that are simulated at once.
 pub(crate) const WORDS: usize = 4;
-
-/// The faults that are simulated, and on what: those with these numbers, of which there are `count`. A group has 64 of them, and the last may
-/// have fewer. `ftti` is the fault tolerant time interval in cycles, for the goals without one of their own.
-#[derive(Clone, Copy)]
-pub(crate) struct Representatives<'a> {
-    pub bench: &'a Testbench<'a>,
-    pub faults: &'a FaultList,
-    pub ftti: u32,
-    pub numbers: &'a [u32],
-    pub count: u32,
-}
 
 // The fault at a place among these numbers.
 fn chosen_at(faults: &FaultList, numbers: &[u32], place: usize) -> Option<Fault>
@@ -64,18 +57,29 @@ fn lists_of(faults: &FaultList, numbers: &[u32], first: usize) -> [LaneFaults; 4
     lists
 }
 
-/// The planes of four groups, from a first one on. It takes no memory.
-pub(crate) fn simulate_four(
-    representatives: &Representatives<'_>,
-    first: usize,
+/// The planes of each group of 64 of the faults of these numbers, one after the other, four groups in each round. `found` has room
+/// for whole rounds. It takes no memory, and at most one step for each round, table and cycle.
+pub(crate) fn simulate<L: Ledger>(
+    plan: &Plan,
+    bench: &Testbench<'_>,
+    numbers: &[u32],
+    found: &mut [Outcome],
     simulator: &mut Simulator,
-) -> [Outcome; 4]
-    requires numbers { AreOfFaults representatives.now }
-    requires few { first + 4 ≤ 2 ^ 32 }
-    requires simulator { simulator.old ≡ simulator_of representatives.now.bench.now representatives.now.ftti }
-    ensures planes { AreFour representatives.now first result }
+    steps: &mut Steps<L>,
+)
+    requires bench { IsTestbenchFor plan.now bench.now }
+    requires numbers { All (λ number. number < length (all_faults plan.now)) numbers.now }
+    requires few { length found.old < 2 ^ 32 }
+    requires rounds { length found.old % 4 ≡ 0 }
+    requires simulator { simulator.old ≡ simulator_of bench.now plan.now.settings.ftti }
+    ensures found { AreSimulated plan.now numbers.now found.new }
     ensures same { simulator.new ≡ simulator.old }
+    ensures cost { steps.new ≤ steps.old + length found.old / 4 * (all_cycles plan.now.runs * length plan.now.circuit.tables) }
 {
-    let lists = lists_of(representatives.faults, representatives.numbers, first);
-    simulator.lists(representatives.bench, &lists)
+    for round in 0..found.len() / WORDS {
+        let first = round * WORDS;
+        let lists = lists_of(plan.faults(), numbers, first);
+        let outcomes = simulator.counted_lists(bench, &lists, steps);
+        found[first..first + WORDS].copy_from_slice(&outcomes);
+    }
 }

@@ -144,7 +144,7 @@ runless_judged netlist walk set reads p held e =
 
 -- OF REPORTS
 pub of_the_plan : ReportsAreOfThePlan
-of_the_plan report always workers window ahead reads others walk loops p q held is_report is_always set net same planned supposed =
+of_the_plan report always window ahead reads others walk loops p q held is_report is_always set net same planned supposed =
     let netlist = report.files which.Netlist in
     let own : judge netlist walk report.settings reads kind.Planned ≡ Ok (Planned p) =
     subst (λ t. judge netlist walk report.settings reads (kind_of t) ≡ Ok (Planned p)) is_report (judge_gives walk report reads (Planned p) planned) in

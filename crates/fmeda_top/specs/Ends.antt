@@ -60,9 +60,9 @@ use Rattle.command_reads.specs.FirstRefusal.{Judged, Driven, Rated, Planned, Beg
 
 -- the text that a task prints; none where it writes a result file
 abbrev pub text_of : Task → Judged → Option Bytes
-text_of (task.Classes workers) (Planned p) = Some (classes_text p)
+text_of task.Classes (Planned p) = Some (classes_text p)
 text_of task.Check (Planned p) = Some (check_text p)
-text_of (task.Report workers) (Planned p) = Some (true_report p)
+text_of task.Report (Planned p) = Some (true_report p)
 text_of (task.Audit every by) (Begun p k) = Some (audit_line every (length (each_nth every k.rows)) (batch_count p))
 text_of (task.Pairs workers) (Begun p k) = Some (pairs_text p (planes_in k.rows))
 text_of task.Parts (Rated c table) = Some (part_table c table)

@@ -178,8 +178,8 @@ AlwaysHolds =
 -- OF REPORTS: over the same netlist, rates, points and settings, the plan of `report` is that of `always` with the runs of its workload
 abbrev pub ReportsAreOfThePlan : Type 0
 ReportsAreOfThePlan =
-    (report always : Command) (workers : ℕ) (window : Option ℕ) (ahead : ℕ) (reads others : Reads) (walk loops : Option (List NetId)) (p q : Analysis) (held : List HeldInput)
-    → report.task ≡ task.Report workers → always.task ≡ task.Always window ahead → report.settings ≡ always.settings
+    (report always : Command) (window : Option ℕ) (ahead : ℕ) (reads others : Reads) (walk loops : Option (List NetId)) (p q : Analysis) (held : List HeldInput)
+    → report.task ≡ task.Report → always.task ≡ task.Always window ahead → report.settings ≡ always.settings
     → report.files which.Netlist ≡ always.files which.Netlist
     → ForEach (λ file. reads file ≡ others file) (which.Netlist ∷ which.Rates ∷ which.Points ∷ [])
     → judged walk report reads ≡ Ok (Planned p) → judged loops always others ≡ Ok (Supposed q held) → p ≡ with_runs q p.runs

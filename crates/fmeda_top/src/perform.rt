@@ -78,10 +78,10 @@ fn print<R: Threads + Sync, O: Sink>(
     ensures { TellsAs task.now (made_by judged.now) (O.seen out.old) (O.seen out.new) result }
 {
     match task {
-        Task::Classes { workers } => tell_classes(rt, alloc, judged.observed(), *workers, out),
+        Task::Classes => tell_classes(alloc, judged.observed(), out),
         Task::Check => tell_check(judged.planned(), out),
         Task::Audit { every, by } => tell_audit(alloc, judged.begun(), *every, *by, out),
-        Task::Report { workers } => tell_report(rt, alloc, judged.planned(), *workers, out),
+        Task::Report => tell_report(alloc, judged.planned(), out),
         Task::Pairs { workers } => tell_pairs(rt, alloc, judged.begun(), out, *workers),
         Task::Parts => tell_parts(alloc, judged.rated(), out),
         Task::Faults => tell_faults(alloc, judged.begun(), out),

@@ -122,14 +122,14 @@ unfolding opened
 then_loop = refl
 
 -- `classes` looks at its netlist in the same way
-classes_first : refused None (task.Classes 1) (codes "n.bench") (files (codes "y = MAJ(a, b, c)\n")) ≡ Some (status.Bench (record { line = 1; kind = bench.BadGate }))
+classes_first : refused None task.Classes (codes "n.bench") (files (codes "y = MAJ(a, b, c)\n")) ≡ Some (status.Bench (record { line = 1; kind = bench.BadGate }))
 unfolding opened
 classes_first = refl
 
 -- `report` has the checks of `check`
-report_checks : (refused None (task.Report 1) (codes "n.blif") (files dup_netlist) ≡ None)
-    × (refused None (task.Report 1) (codes "n.bench") (files dup_bench) ≡ None)
-    × (refused None (task.Report 1) (codes "n.bench") (files (codes "y = AND()\n")) ≡ Some (status.Bench (record { line = 1; kind = bench.BadCount })))
-    × (refused None (task.Report 1) (codes "n.blif") (all_read (by_file dup_netlist (codes "workload,kind,a,b\n") [] [] [] [] [] [] [])) ≡ Some (status.Workload (record { row = 1; kind = work.Empty })))
+report_checks : (refused None task.Report (codes "n.blif") (files dup_netlist) ≡ None)
+    × (refused None task.Report (codes "n.bench") (files dup_bench) ≡ None)
+    × (refused None task.Report (codes "n.bench") (files (codes "y = AND()\n")) ≡ Some (status.Bench (record { line = 1; kind = bench.BadCount })))
+    × (refused None task.Report (codes "n.blif") (all_read (by_file dup_netlist (codes "workload,kind,a,b\n") [] [] [] [] [] [] [])) ≡ Some (status.Workload (record { row = 1; kind = work.Empty })))
 unfolding opened
 report_checks = (refl, refl, refl, refl)

@@ -1,7 +1,7 @@
-use Rattle.std.proofs.Common.{ap, ◌++◌, ◌∷◌, []}
+use Rattle.std.proofs.Common.{◌∙◌, ap, length, ◌++◌, ◌∷◌, []}
 use Rattle.std.specs.Prelude.{codes, decimal}
 use Rattle.fm_base.specs.Text.{line}
-use Rattle.class_table.specs.ClassLines.{class_lines, planes_in_order}
+use Rattle.class_table.specs.ClassLines.{class_lines}
 use Rattle.std.proofs.lemmas.Result.{err_from_is_err_and}
 use Rattle.fm_shelf.proofs.Sending.{sends_as, sends_stop, sends_then}
 use Rattle.class_table.proofs.table.write_classes.Goals as goal
@@ -13,5 +13,5 @@ returns-in_err-write_each g c =
 
 pub returns : goal.returns
 returns g c =
-    let lines = class_lines c.args.net.now c.args.faults.now (planes_in_order c.args.planes.now) in
-    sends_as (ap (λ n. lines ++ line (codes "end" ∷ decimal n ∷ [])) c.len.ensures.count) (sends_then c.in_ok-write_each.ensures c.write_end.ensures)
+    let count = c.len-count.ensures.count ∙ ap length c.faults.ensures in
+    sends_as (ap (λ n. class_lines c.args.simulator.now ++ line (codes "end" ∷ decimal n ∷ [])) count) (sends_then c.in_ok-write_each.ensures c.write_end.ensures)

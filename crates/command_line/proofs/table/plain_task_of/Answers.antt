@@ -1,20 +1,10 @@
 use Rattle.clap.specs.Words.{found_of, rows_of}
-use Rattle.command_line.proofs.Tasks.{no_classes, no_coverage, no_latencies, no_pairs, no_report, no_resume, no_run}
+use Rattle.command_line.proofs.Tasks.{no_coverage, no_latencies, no_pairs, no_resume, no_run}
 use Rattle.command_line.proofs.table.plain_task_of.Goals as goal
-
-pub returns-in_err-workers_of-in-classes : goal.returns-in_err-workers_of-in-classes
-returns-in_err-workers_of-in-classes c =
-    rw c.from_residual.ensures
-    (no_classes (rows_of (found_of c.args.matches.now)) c.in_err-workers_of-in-classes.ensures c.args.word.now c.in-classes.is)
-
-pub returns-in_err-workers_of-in-report : goal.returns-in_err-workers_of-in-report
-returns-in_err-workers_of-in-report c =
-    rw c.from_residual-in_err-workers_of-in-report.ensures
-    (no_report (rows_of (found_of c.args.matches.now)) c.in_err-workers_of-in-report.ensures c.args.word.now c.in-report.is)
 
 pub returns-in_err-workers_of-in-run : goal.returns-in_err-workers_of-in-run
 returns-in_err-workers_of-in-run c =
-    rw c.from_residual-in_err-workers_of-in-run.ensures
+    rw c.from_residual.ensures
     (no_run (rows_of (found_of c.args.matches.now)) c.in_err-workers_of-in-run.ensures c.args.word.now c.in-run.is)
 
 pub returns-in_err-workers_of-in-resume : goal.returns-in_err-workers_of-in-resume

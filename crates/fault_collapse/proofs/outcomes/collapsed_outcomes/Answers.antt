@@ -1,70 +1,102 @@
-use Rattle.std.proofs.Common.{◌≡◌, ◌<◌, ◌≤◌, ◌*◌, ◌∙◌, ℕ, List, length, map, ap, ap₂, sym, subst, arith}
+use Rattle.std.proofs.Common.{◌≡◌, ◌<◌, ◌≤◌, ◌+◌, ◌*◌, ◌/◌, ◌%◌, ◌∙◌, ℕ, List, length, map, ap, ap₂, sym, subst, arith}
+use Rattle.std.specs.Int.{div_ceil}
 use Rattle.std.specs.List.{All}
-use Rattle.fm_base.proofs.Lists.{written_whole}
-use Rattle.fm_base.specs.Lists.{below}
-use Rattle.fault_list.specs.Faults.{batches_for}
+use Rattle.std.proofs.Math.Nat.{mul-div_cancel, mul-mod_left}
+use Rattle.std.proofs.lemmas.Grind.{common_steps}
+use Rattle.workload.specs.Runs.{all_cycles}
 use Rattle.campaign_plan.specs.declared.Outcome.{Outcome}
-use Rattle.classifier.specs.Simulated.{Simulated}
-use Rattle.collapse_map.specs.Collapsed.{Collapsed}
+use Rattle.campaign_plan.specs.Analysis.{Analysis, all_faults, batch_count}
+use Rattle.collapse_map.specs.Collapsed.{Collapsed, rep_count}
+use Rattle.fm_base.specs.Lists.{below}
 use Rattle.fault_collapse.specs.Chosen.{AreChosen, AreSimulated, HaveLanes, planes_shown}
-use Rattle.fault_collapse.specs.Outcomes.{collapsed_of, simulated_on}
-use Rattle.fault_collapse.specs.Work.{fours_for}
-use Rattle.fault_collapse.proofs.Choosing.{all_true, has_lane, numbers_below, numbers_counted}
+use Rattle.fault_collapse.specs.Outcomes.{collapsed_of}
+use Rattle.fault_collapse.proofs.Choosing.{all_true, has_lane, numbers_below, numbers_counted, numbers_few}
 use Rattle.fault_collapse.proofs.Rounds.{rounds_hold}
 use Rattle.fault_collapse.proofs.outcomes.collapsed_outcomes.Goals as goal
 
--- the groups that were simulated have room for all numbers
-enough : (numbers count found : ℕ) → count ≡ numbers → found ≡ fours_for count * 4 → numbers ≤ 64 * found
-enough numbers count found counted room =
-    let some : 0 < 4 = omega arith in
-    let hold = (rounds_hold count 4 some).0 in
-    omega (arith, hold, counted, room)
-
-pub choose-requires : goal.choose-requires
-choose-requires g c = c.len-count.ensures.count ∙ sym (ap (λ (x : Collapsed). length x.faults) c.requires.collapse)
-
-pub found_by-requires-clause-numbers : goal.found_by-requires-clause-numbers
-found_by-requires-clause-numbers g c κs within =
+pub simulate-requires-clause-numbers : goal.simulate-requires-clause-numbers
+simulate-requires-clause-numbers g c =
     let s : Collapsed = c.args.collapse.now in
-    let numbers : List ℕ = c.in_ok-chosen.chosen.numbers.items in
-    let below : All (λ k. k < length s.faults) numbers = numbers_below s numbers c.in_ok-chosen.chosen.places.items c.in_ok-chosen.ensures in
-    subst (λ n. All (λ k. k < n) c.as_slice.result.now) (ap (λ (x : Collapsed). length x.faults) c.requires.collapse)
-    (subst (λ (xs : List ℕ). All (λ k. k < length s.faults) xs) (sym c.as_slice.ensures.value) below)
+    let below : All (λ k. k < length s.faults) c.in_ok-chosen.chosen.numbers.items =
+    numbers_below s c.in_ok-chosen.chosen.numbers.items c.in_ok-chosen.chosen.places.items c.in_ok-chosen.ensures in
+    subst (λ n. All (λ k. k < n) c.deref.result.now) (ap (λ (x : Collapsed). length x.faults) c.requires.collapse)
+    (subst (λ (xs : List ℕ). All (λ k. k < length s.faults) xs) (sym c.deref.ensures.value) below)
+
+pub simulate-requires-clause-few : goal.simulate-requires-clause-few
+simulate-requires-clause-few g c =
+    let n : ℕ = length c.in_ok-chosen.chosen.numbers.items in
+    let listed : length c.faults.result.now ≡ length (all_faults c.args.plan.now) = ap length c.faults.ensures.value in
+    let faults : length c.args.collapse.now.faults ≡ length (all_faults c.args.plan.now) = ap (λ (x : Collapsed). length x.faults) c.requires.collapse in
+    let most : n ≤ length c.args.collapse.now.faults = numbers_few c.args.collapse.now c.in_ok-chosen.chosen.numbers.items c.in_ok-chosen.chosen.places.items c.in_ok-chosen.ensures in
+    let len : c.len.result ≡ n = omega (arith, c.len.ensures, c.deref.ensures.len, ap length c.deref.ensures.value) in
+    let rounds : c.div_ceil-rounds.result ≡ div_ceil n (256) = c.div_ceil-rounds.ensures ∙ ap (λ m. div_ceil m (256)) len in
+    let whole : c.div_ceil-rounds.result * 4 ≡ div_ceil n (256) * 4 = ap (λ r. r * 4) rounds in
+    let some : 0 < 4 = omega arith in
+    let hold = (rounds_hold n 4 some).1 in
+    omega (arith, hold, whole, most, faults, listed, c.len-count.ensures.few, c.deref_mut.ensures.len, c.in_ok-found.ensures.len)
+
+pub simulate-requires-clause-rounds : goal.simulate-requires-clause-rounds
+simulate-requires-clause-rounds g c =
+    let rounds : ℕ = c.div_ceil-rounds.result in
+    let long : length c.deref_mut.result.now ≡ rounds * 4 = omega (arith, c.deref_mut.ensures.len, c.in_ok-found.ensures.len) in
+    ap (λ n. n % 4) long ∙ mul-mod_left rounds 4
 
 pub spread-requires-clause-lanes : goal.spread-requires-clause-lanes
 spread-requires-clause-lanes g c =
-    let s : Simulated = simulated_on c.args.bench.now c.args.faults.now c.args.ftti in
+    let p : Analysis = c.args.plan.now in
     let numbers : List ℕ = c.in_ok-chosen.chosen.numbers.items in
     let places : List ℕ = c.in_ok-chosen.chosen.places.items in
-    let chosen : AreChosen (collapsed_of s) numbers places = subst (λ (x : Collapsed). AreChosen x numbers places) c.requires.collapse c.in_ok-chosen.ensures in
-    let found : List Outcome = c.in_ok-found.found.items in
-    let counted : c.count.result ≡ length numbers = c.count.ensures ∙ sym (numbers_counted c.args.collapse.now numbers places c.in_ok-chosen.ensures) in
-    let room : length numbers ≤ 64 * length found = enough (length numbers) c.count.result (length found) counted c.in_ok-found.ensures.count in
-    let simulated : AreSimulated s numbers found = subst (λ (xs : List ℕ). AreSimulated s xs found) c.as_slice.ensures.value c.in_ok-found.ensures.planes in
-    let lanes : HaveLanes (collapsed_of s) places found =
-    has_lane s c.args.bench.now.order c.requires.netlist c.requires.order c.requires.points c.requires.faults numbers places found chosen room simulated in
-    subst (λ (x : Collapsed). HaveLanes x c.as_slice-places.result.now c.as_slice-2.result.now) (sym c.requires.collapse)
-    (subst (λ (ps : List ℕ). HaveLanes (collapsed_of s) ps c.as_slice-2.result.now) (sym c.as_slice-places.ensures.value)
-    (subst (λ (fs : List Outcome). HaveLanes (collapsed_of s) places fs) (sym c.as_slice-2.ensures.value) lanes))
+    let chosen : AreChosen (collapsed_of p) numbers places = subst (λ (x : Collapsed). AreChosen x numbers places) c.requires.collapse c.in_ok-chosen.ensures in
+    let found : List Outcome = c.simulate.new.found in
+    let len : c.len.result ≡ length numbers = omega (arith, c.len.ensures, c.deref.ensures.len, ap length c.deref.ensures.value) in
+    let rounds : c.div_ceil-rounds.result ≡ div_ceil (length numbers) (256) = c.div_ceil-rounds.ensures ∙ ap (λ m. div_ceil m (256)) len in
+    let whole : c.div_ceil-rounds.result * 4 ≡ div_ceil (length numbers) (256) * 4 = ap (λ r. r * 4) rounds in
+    let some : 0 < 4 = omega arith in
+    let hold = (rounds_hold (length numbers) 4 some).0 in
+    let room : length numbers ≤ 64 * length found = omega (arith, hold, whole, c.simulate.auto.found, c.deref_mut.ensures.len, c.in_ok-found.ensures.len) in
+    let back : c.deref-3.result.now ≡ found = grind (arith, common_steps) in
+    let simulated : AreSimulated p numbers found = subst (λ (xs : List ℕ). AreSimulated p xs found) c.deref.ensures.value c.simulate.ensures.found in
+    let lanes : HaveLanes (collapsed_of p) places found = has_lane p c.args.bench.now.order c.faults.ensures.plan c.requires.order numbers places found chosen room simulated in
+    subst (λ (x : Collapsed). HaveLanes x c.deref-2.result.now c.deref-3.result.now) (sym c.requires.collapse)
+    (subst (λ (ps : List ℕ). HaveLanes (collapsed_of p) ps c.deref-3.result.now) (sym c.deref-2.ensures.value)
+    (subst (λ (fs : List Outcome). HaveLanes (collapsed_of p) places fs) (sym back) lanes))
 
-pub returns : goal.returns
-returns g c =
-    let s : Simulated = simulated_on c.args.bench.now c.args.faults.now c.args.ftti in
+pub returns-clause-outcomes : goal.returns-clause-outcomes
+returns-clause-outcomes g c =
+    let p : Analysis = c.args.plan.now in
     let numbers : List ℕ = c.in_ok-chosen.chosen.numbers.items in
     let places : List ℕ = c.in_ok-chosen.chosen.places.items in
-    let chosen : AreChosen (collapsed_of s) numbers places = subst (λ (x : Collapsed). AreChosen x numbers places) c.requires.collapse c.in_ok-chosen.ensures in
-    let found : List Outcome = c.in_ok-found.found.items in
-    let counted : c.count.result ≡ length numbers = c.count.ensures ∙ sym (numbers_counted c.args.collapse.now numbers places c.in_ok-chosen.ensures) in
-    let room : length numbers ≤ 64 * length found = enough (length numbers) c.count.result (length found) counted c.in_ok-found.ensures.count in
-    let simulated : AreSimulated s numbers found = subst (λ (xs : List ℕ). AreSimulated s xs found) c.as_slice.ensures.value c.in_ok-found.ensures.planes in
-    let old = c.in_ok-list.list in
-    let new : List Outcome = c.spread.new.list in
-    let count : length new ≡ length old.items = c.spread.auto.list ∙ ap length c.as_mut_slice.ensures.value in
-    let batches : length c.as_mut_slice.result.now ≡ batches_for (length s.faults) =
-    omega (arith, ap length c.as_mut_slice.ensures.value, c.in_ok-list.ensures.len, old.ok.0, c.batches.ensures) in
-    c.from_vec.ensures ∙ written_whole new old.items old.len count old.ok.0
+    let chosen : AreChosen (collapsed_of p) numbers places = subst (λ (x : Collapsed). AreChosen x numbers places) c.requires.collapse c.in_ok-chosen.ensures in
+    let found : List Outcome = c.simulate.new.found in
+    let len : c.len.result ≡ length numbers = omega (arith, c.len.ensures, c.deref.ensures.len, ap length c.deref.ensures.value) in
+    let rounds : c.div_ceil-rounds.result ≡ div_ceil (length numbers) (256) = c.div_ceil-rounds.ensures ∙ ap (λ m. div_ceil m (256)) len in
+    let whole : c.div_ceil-rounds.result * 4 ≡ div_ceil (length numbers) (256) * 4 = ap (λ r. r * 4) rounds in
+    let some : 0 < 4 = omega arith in
+    let hold = (rounds_hold (length numbers) 4 some).0 in
+    let room : length numbers ≤ 64 * length found = omega (arith, hold, whole, c.simulate.auto.found, c.deref_mut.ensures.len, c.in_ok-found.ensures.len) in
+    let back : c.deref-3.result.now ≡ found = grind (arith, common_steps) in
+    let simulated : AreSimulated p numbers found = subst (λ (xs : List ℕ). AreSimulated p xs found) c.deref.ensures.value c.simulate.ensures.found in
+    let batches : length c.deref_mut-2.result.now ≡ batch_count p = omega (arith, c.deref_mut-2.ensures.len, c.in_ok-list.ensures.len, c.batches.ensures.count) in
+    let list : c.from_vec.result ≡ c.spread.new.list = grind (arith, common_steps) in
+    list
     ∙ c.spread.ensures
-    ∙ ap (λ n. map (planes_shown c.args.collapse.now c.as_slice-places.result.now c.as_slice-2.result.now) (below n)) batches
-    ∙ ap (λ (x : Collapsed). map (planes_shown x c.as_slice-places.result.now c.as_slice-2.result.now) (below (batches_for (length s.faults)))) c.requires.collapse
-    ∙ ap₂ (λ (ps : List ℕ) (fs : List Outcome). map (planes_shown (collapsed_of s) ps fs) (below (batches_for (length s.faults)))) c.as_slice-places.ensures.value c.as_slice-2.ensures.value
-    ∙ all_true s c.args.bench.now.order c.requires.netlist c.requires.order c.requires.points c.requires.faults numbers places found chosen room simulated (batches_for (length s.faults))
+    ∙ ap (λ n. map (planes_shown c.args.collapse.now c.deref-2.result.now c.deref-3.result.now) (below n)) batches
+    ∙ ap (λ (x : Collapsed). map (planes_shown x c.deref-2.result.now c.deref-3.result.now) (below (batch_count p))) c.requires.collapse
+    ∙ ap₂ (λ (ps : List ℕ) (fs : List Outcome). map (planes_shown (collapsed_of p) ps fs) (below (batch_count p))) c.deref-2.ensures.value back
+    ∙ all_true p c.args.bench.now.order c.faults.ensures.plan c.requires.order numbers places found chosen room simulated (batch_count p)
+
+pub returns-clause-cost : goal.returns-clause-cost
+returns-clause-cost g c =
+    let p : Analysis = c.args.plan.now in
+    let numbers : List ℕ = c.in_ok-chosen.chosen.numbers.items in
+    let each : ℕ = all_cycles p.runs * length p.circuit.tables in
+    let len : c.len.result ≡ length numbers = omega (arith, c.len.ensures, c.deref.ensures.len, ap length c.deref.ensures.value) in
+    let counted : length numbers ≡ rep_count c.args.collapse.now = numbers_counted c.args.collapse.now numbers c.in_ok-chosen.chosen.places.items c.in_ok-chosen.ensures in
+    let reps : rep_count c.args.collapse.now ≡ rep_count (collapsed_of p) = ap rep_count c.requires.collapse in
+    let rounds : c.div_ceil-rounds.result ≡ div_ceil (rep_count (collapsed_of p)) 256 = c.div_ceil-rounds.ensures ∙ ap (λ m. div_ceil m 256) (len ∙ counted ∙ reps) in
+    let some : 0 < 4 = omega arith in
+    let long : length c.deref_mut.result.now ≡ c.div_ceil-rounds.result * 4 = omega (arith, c.deref_mut.ensures.len, c.in_ok-found.ensures.len) in
+    let shared : length c.deref_mut.result.now / 4 ≡ c.div_ceil-rounds.result = ap (λ n. n / 4) long ∙ mul-div_cancel c.div_ceil-rounds.result some in
+    let spent : c.simulate.new.steps ≤ c.args.steps.now + div_ceil (rep_count (collapsed_of p)) 256 * each =
+    subst (λ r. c.simulate.new.steps ≤ c.args.steps.now + r * each) (shared ∙ rounds) c.simulate.ensures.cost in
+    omega (arith, spent)

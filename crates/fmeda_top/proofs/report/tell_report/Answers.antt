@@ -15,5 +15,5 @@ pub returns : goal.returns
 returns g c =
     let p = c.args.planned.now.plan in
     let truly = ap planes_in_order (c.as_slice.ensures ∙ c.in_ok-planes.ensures) ∙ true_in_order p in
-    told (task.Report c.args.workers) (Planned p) _ _ (true_report p) c.write_report.result c.after_text.result refl refl
+    told task.Report (Planned p) _ _ (true_report p) c.write_report.result c.after_text.result refl refl
     (sends_as (ap (report p) truly) c.write_report.ensures.report) c.after_text.ensures.done c.after_text.ensures.failed tt
