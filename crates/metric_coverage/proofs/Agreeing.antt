@@ -24,12 +24,12 @@ use Rattle.fmeda_report.specs.Words.{fraction_word}
 use Rattle.metric_bounds.specs.declared.End.{End}
 use Rattle.metric_bounds.specs.declared.End.TheVariants.{Best, Worst, MostLatent}
 use Rattle.coverage.specs.declared.Evidence.{Evidence}
-use Rattle.coverage.specs.declared.Evidence.TheVariants.{NoPath, Never, Quiet, Noticed, Caught, Harm}
-use Rattle.coverage.specs.Coverage.{evidence_line, evidence_word, found_lines, free_lines, is_unexcited, is_unreached, latent_line, reading_lines, unspoken_line}
+use Rattle.coverage.specs.declared.Evidence.TheVariants.{NoPath, Always, Never, Quiet, Noticed, Caught, Harm}
+use Rattle.coverage.specs.Coverage.{evidence_line, evidence_word, found_lines, free_lines, is_unexcited, is_unproved, is_unreached, latent_line, reading_lines, unspoken_line}
 use Rattle.coverage.specs.Evidence.{is_kind}
 use Rattle.coverage.specs.Free.{class_at_end, freed, sums_with}
 use Rattle.coverage.specs.Upsets.{all_upsets, counts, cycle_line, harm_in, is_flip_in, rate_in, tried_upsets, upset_lines}
-use Rattle.metric_coverage.specs.Text.{free_by_lines, part_by}
+use Rattle.metric_coverage.specs.Text.{free_by_lines, part_by, unproved_lines}
 use Rattle.metric_coverage.specs.Weights.{classes_below, evidence_below, weight_below}
 use Rattle.metric_coverage.proofs.Numbers.{free_told, part_told}
 
@@ -69,6 +69,7 @@ module _ (p : Analysis) (own other : ℕ → Evidence) (class : ℕ → Class) (
   same_weights : (k : ℕ) (permanent : Bool) → evidence_below p own k permanent (fault_count p) ≡ evidence_below p other k permanent (fault_count p)
   same_weights k permanent = λ j. record {
     no_path = of_kind NoPath j;
+    always = of_kind Always j;
     never = of_kind Never j;
     quiet = of_kind Quiet j;
     noticed = of_kind Noticed j;
@@ -83,12 +84,12 @@ module _ (p : Analysis) (own other : ℕ → Evidence) (class : ℕ → Class) (
           (λ i lt. ap (λ e. has_part_and_kind p k permanent (fault_numbered p i) && is_kind e kind) (same i lt)))
 
   -- the lines of the parts
-  same_part : (k : ℕ) → evidence_line p own k true ++ latent_line p class k ++ evidence_line p own k false
-      ≡ evidence_line p other k true ++ latent_line p class k ++ evidence_line p other k false
-  same_part k =
-      sym (part_told p own class k)
-      ∙ (λ j. part_by (part_numbered p k) (record { permanent = same_weights k true j; transient = same_weights k false j; classes = classes_below p class k (fault_count p) }))
-      ∙ part_told p other class k
+  same_part : (proofs : Bool) (k : ℕ) → evidence_line proofs p own k true ++ latent_line p class k ++ evidence_line proofs p own k false
+      ≡ evidence_line proofs p other k true ++ latent_line p class k ++ evidence_line proofs p other k false
+  same_part proofs k =
+      sym (part_told proofs p own class k)
+      ∙ (λ j. part_by proofs (part_numbered p k) (record { permanent = same_weights k true j; transient = same_weights k false j; classes = classes_below p class k (fault_count p) }))
+      ∙ part_told proofs p other class k
 
   -- those of free faults
   same_free_lines : (word : Bytes) (a b : ℕ → Bool) → ((i : ℕ) → i < fault_count p → a i ≡ b i) → free_lines p word a class ≡ free_lines p word b class
@@ -130,23 +131,28 @@ module _ (p : Analysis) (own other : ℕ → Evidence) (class : ℕ → Class) (
       else []
 
 -- THE LINES OF A READING
-pub same_reading : (p : Analysis) (own other : ℕ → Evidence) (planes : ℕ → Outcome) → ((i : ℕ) → i < fault_count p → own i ≡ other i) → reading_lines p own planes ≡ reading_lines p other planes
+pub same_reading : (proofs : Bool) (p : Analysis) (own other : ℕ → Evidence) (planes : ℕ → Outcome) → ((i : ℕ) → i < fault_count p → own i ≡ other i)
+    → reading_lines proofs p own planes ≡ reading_lines proofs p other planes
 unfolding reading_lines
-same_reading p own other planes same =
+same_reading proofs p own other planes same =
     let class : ℕ → Class = class_of_fault p planes in
     let parts : (ℕ → Evidence) → Bytes =
-    λ evidence. flat_map (λ k. evidence_line p evidence k true ++ latent_line p class k ++ evidence_line p evidence k false) (below (part_count p)) in
+    λ evidence. flat_map (λ k. evidence_line proofs p evidence k true ++ latent_line p class k ++ evidence_line proofs p evidence k false) (below (part_count p)) in
     let each : parts own ≡ parts other =
-    same_texts (part_count p) (λ k. evidence_line p own k true ++ latent_line p class k ++ evidence_line p own k false)
-    (λ k. evidence_line p other k true ++ latent_line p class k ++ evidence_line p other k false) (λ k lt. same_part p own other class same k) in
+    same_texts (part_count p) (λ k. evidence_line proofs p own k true ++ latent_line p class k ++ evidence_line proofs p own k false)
+    (λ k. evidence_line proofs p other k true ++ latent_line p class k ++ evidence_line proofs p other k false) (λ k lt. same_part p own other class same proofs k) in
     let never : free_lines p (codes "unexcited") (λ i. is_unexcited (own i) (class i)) class ≡ free_lines p (codes "unexcited") (λ i. is_unexcited (other i) (class i)) class =
     same_free_lines p own other class same (codes "unexcited") (λ i. is_unexcited (own i) (class i)) (λ i. is_unexcited (other i) (class i))
     (λ i lt. ap (λ e. is_unexcited e (class i)) (same i lt)) in
     let quiet : free_lines p (codes "unreached") (λ i. is_unreached (own i) (class i)) class ≡ free_lines p (codes "unreached") (λ i. is_unreached (other i) (class i)) class =
     same_free_lines p own other class same (codes "unreached") (λ i. is_unreached (own i) (class i)) (λ i. is_unreached (other i) (class i))
     (λ i lt. ap (λ e. is_unreached e (class i)) (same i lt)) in
+    let unproved : unproved_lines proofs p own class ≡ unproved_lines proofs p other class =
+    ap (λ (lines : Bytes). if proofs then lines else [])
+    (same_free_lines p own other class same (codes "unproved") (λ i. is_unproved (own i) (class i)) (λ i. is_unproved (other i) (class i))
+    (λ i lt. ap (λ e. is_unproved e (class i)) (same i lt))) in
     let upsets : upset_lines p own ≡ upset_lines p other = same_upsets p own other class same in
-    λ j. each j ++ found_lines p (all_sums p planes) ++ upsets j ++ never j ++ quiet j
+    λ j. each j ++ found_lines p (all_sums p planes) ++ upsets j ++ never j ++ quiet j ++ unproved j
 
 -- and of the faults by name
 pub same_names : (p : Analysis) (own other : ℕ → Evidence) (class : ℕ → Class) → ((i : ℕ) → i < fault_count p → own i ≡ other i)

@@ -12,10 +12,12 @@ use Rattle.metric_coverage.specs.Text.{found_by, free_by_lines, part_by}
 use Rattle.metric_coverage.specs.Weights.{part_below}
 
 -- those of a part
-pub part_told : (p : Analysis) (evidence : ℕ → Evidence) (class : ℕ → Class) (k : ℕ) → part_by (part_numbered p k) (part_below p evidence class k (fault_count p))
-    ≡ evidence_line p evidence k true ++ latent_line p class k ++ evidence_line p evidence k false
+pub part_told : (proofs : Bool) (p : Analysis) (evidence : ℕ → Evidence) (class : ℕ → Class) (k : ℕ)
+    → part_by proofs (part_numbered p k) (part_below p evidence class k (fault_count p))
+    ≡ evidence_line proofs p evidence k true ++ latent_line p class k ++ evidence_line proofs p evidence k false
 unfolding evidence_line latent_line
-part_told p evidence class k = refl
+part_told true p evidence class k = refl
+part_told false p evidence class k = refl
 
 -- those of the metrics as they were found
 pub found_told : (p : Analysis) (s : Sums) → found_by p.settings.asil s ≡ found_lines p s

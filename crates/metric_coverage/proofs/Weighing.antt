@@ -18,7 +18,7 @@ use Rattle.campaign_plan.specs.Analysis.{Analysis, fault_count, fault_numbered, 
 use Rattle.campaign_plan.specs.Weights.{weight}
 use Rattle.campaign_plan.proofs.Small.{weights_small}
 use Rattle.coverage.specs.declared.Evidence.{Evidence}
-use Rattle.coverage.specs.declared.Evidence.TheVariants.{NoPath, Never, Quiet, Noticed, Caught, Harm}
+use Rattle.coverage.specs.declared.Evidence.TheVariants.{NoPath, Always, Never, Quiet, Noticed, Caught, Harm}
 use Rattle.coverage.specs.Evidence.{is_kind}
 use Rattle.metric_coverage.specs.declared.weights.ClassWeights.{ClassWeights}
 use Rattle.metric_coverage.specs.declared.weights.EvidenceWeights.{EvidenceWeights}
@@ -54,6 +54,7 @@ nothing n = omega arith
 evidence_cases : (mine : Bool) (e : Evidence) (w : ℕ) (t : EvidenceWeights)
     → record {
       no_path = t.no_path + where_true (mine && is_kind e NoPath) w;
+      always = t.always + where_true (mine && is_kind e Always) w;
       never = t.never + where_true (mine && is_kind e Never) w;
       quiet = t.quiet + where_true (mine && is_kind e Quiet) w;
       noticed = t.noticed + where_true (mine && is_kind e Noticed) w;
@@ -62,6 +63,7 @@ evidence_cases : (mine : Bool) (e : Evidence) (w : ℕ) (t : EvidenceWeights)
     } ≡ (if mine then with_evidence e w t else t)
 evidence_cases false e w t = λ j. record {
   no_path = nothing t.no_path j;
+  always = nothing t.always j;
   never = nothing t.never j;
   quiet = nothing t.quiet j;
   noticed = nothing t.noticed j;
@@ -70,6 +72,16 @@ evidence_cases false e w t = λ j. record {
 }
 evidence_cases true NoPath w t = λ j. record {
   no_path = t.no_path + w;
+  always = nothing t.always j;
+  never = nothing t.never j;
+  quiet = nothing t.quiet j;
+  noticed = nothing t.noticed j;
+  caught = nothing t.caught j;
+  harm = nothing t.harm j;
+}
+evidence_cases true Always w t = λ j. record {
+  no_path = nothing t.no_path j;
+  always = t.always + w;
   never = nothing t.never j;
   quiet = nothing t.quiet j;
   noticed = nothing t.noticed j;
@@ -78,6 +90,7 @@ evidence_cases true NoPath w t = λ j. record {
 }
 evidence_cases true Never w t = λ j. record {
   no_path = nothing t.no_path j;
+  always = nothing t.always j;
   never = t.never + w;
   quiet = nothing t.quiet j;
   noticed = nothing t.noticed j;
@@ -86,6 +99,7 @@ evidence_cases true Never w t = λ j. record {
 }
 evidence_cases true Quiet w t = λ j. record {
   no_path = nothing t.no_path j;
+  always = nothing t.always j;
   never = nothing t.never j;
   quiet = t.quiet + w;
   noticed = nothing t.noticed j;
@@ -94,6 +108,7 @@ evidence_cases true Quiet w t = λ j. record {
 }
 evidence_cases true Noticed w t = λ j. record {
   no_path = nothing t.no_path j;
+  always = nothing t.always j;
   never = nothing t.never j;
   quiet = nothing t.quiet j;
   noticed = t.noticed + w;
@@ -102,6 +117,7 @@ evidence_cases true Noticed w t = λ j. record {
 }
 evidence_cases true Caught w t = λ j. record {
   no_path = nothing t.no_path j;
+  always = nothing t.always j;
   never = nothing t.never j;
   quiet = nothing t.quiet j;
   noticed = nothing t.noticed j;
@@ -110,6 +126,7 @@ evidence_cases true Caught w t = λ j. record {
 }
 evidence_cases true Harm w t = λ j. record {
   no_path = nothing t.no_path j;
+  always = nothing t.always j;
   never = nothing t.never j;
   quiet = nothing t.quiet j;
   noticed = nothing t.noticed j;
@@ -163,6 +180,7 @@ module _ (p : Analysis) (evidence : ℕ → Evidence) (class : ℕ → Class) wh
       let mine : ℕ → Bool = λ m. same_bit (is_lasting m) permanent && here k m in
       (λ j. record {
         no_path = weight_more (λ m. mine m && is_kind (evidence m) NoPath) (weight p) i j;
+        always = weight_more (λ m. mine m && is_kind (evidence m) Always) (weight p) i j;
         never = weight_more (λ m. mine m && is_kind (evidence m) Never) (weight p) i j;
         quiet = weight_more (λ m. mine m && is_kind (evidence m) Quiet) (weight p) i j;
         noticed = weight_more (λ m. mine m && is_kind (evidence m) Noticed) (weight p) i j;
@@ -214,6 +232,7 @@ module _ (p : Analysis) (evidence : ℕ → Evidence) (class : ℕ → Class) wh
       let mine : ℕ → Bool = λ m. same_bit (is_lasting m) permanent && here k m in
       record {
         no_path = weight_light p table (λ m. mine m && is_kind (evidence m) NoPath) n le;
+        always = weight_light p table (λ m. mine m && is_kind (evidence m) Always) n le;
         never = weight_light p table (λ m. mine m && is_kind (evidence m) Never) n le;
         quiet = weight_light p table (λ m. mine m && is_kind (evidence m) Quiet) n le;
         noticed = weight_light p table (λ m. mine m && is_kind (evidence m) Noticed) n le;

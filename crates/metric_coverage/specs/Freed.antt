@@ -1,11 +1,11 @@
 -- Which faults of a reading are free, as code has them: by the evidence of each fault and by the planes of each batch.
 use Rattle.std.specs.Prelude.{ℕ, Bool, false, List, slice_index_or}
 use Rattle.metric_sums.specs.declared.Class.{Class}
-use Rattle.coverage.specs.Coverage.{is_unexcited, is_unreached}
+use Rattle.coverage.specs.Coverage.{is_unexcited, is_unproved, is_unreached}
 use Rattle.coverage.specs.declared.Evidence.{Evidence}
 use Rattle.coverage.specs.declared.Evidence.TheVariants.{NoPath}
 use Rattle.metric_coverage.specs.declared.free.FreeFaults.{FreeFaults}
-use Rattle.metric_coverage.specs.declared.free.FreeFaults.TheVariants.{NoFault, Unexcited, Unreached}
+use Rattle.metric_coverage.specs.declared.free.FreeFaults.TheVariants.{NoFault, Unexcited, Unreached, Unproved}
 
 -- the evidence of a fault, of a list
 abbrev pub evidence_at : List Evidence → ℕ → Evidence
@@ -16,6 +16,7 @@ abbrev pub is_free : FreeFaults → Evidence → Class → Bool
 is_free NoFault evidence class = false
 is_free Unexcited evidence class = is_unexcited evidence class
 is_free Unreached evidence class = is_unreached evidence class
+is_free Unproved evidence class = is_unproved evidence class
 
 -- the faults that are free
 abbrev pub free_by : FreeFaults → (ℕ → Evidence) → (ℕ → Class) → ℕ → Bool

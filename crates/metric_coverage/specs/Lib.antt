@@ -5,6 +5,7 @@ pub mod Cycles
 pub mod Turns
 pub mod Work
 pub mod Planes
+pub mod Proofs
 pub mod Spoken
 pub mod Paths
 pub mod Findings

@@ -5,6 +5,7 @@ use Rattle.fm_base.specs.Names.{Bytes}
 use Rattle.fm_base.specs.Text.{line}
 use Rattle.alarm_points.specs.declared.Goal.{Goal}
 use Rattle.metric_sums.specs.declared.Asil.{Asil}
+use Rattle.metric_sums.specs.declared.Class.{Class}
 use Rattle.metric_sums.specs.declared.Sums.{Sums}
 use Rattle.metric_sums.specs.Classes.{is_mechanism}
 use Rattle.metric_sums.specs.Metrics.{fraction, lfm, lfm_target, meets, pmhf_target, spfm_permanent, spfm_target, spfm_transient, term}
@@ -19,20 +20,31 @@ use Rattle.metric_bounds.specs.declared.EndSums.{EndSums}
 use Rattle.metric_bounds.specs.Bounds.{lfm_ends, standing_of, term_standing}
 use Rattle.metric_bounds.specs.Steps.{greatest_term, least_term, spfm_permanent_ends, spfm_transient_ends, standing_word}
 use Rattle.readings.specs.Breakdown.{goal_word, with_goals}
-use Rattle.coverage.specs.Coverage.{reading_lines, unspoken_line}
-use Rattle.coverage.specs.Laws.{spoken}
+use Rattle.coverage.specs.declared.Evidence.{Evidence}
+use Rattle.coverage.specs.Coverage.{coverage_body, free_lines, is_unproved, proved_evidence, reading_lines, unspoken_line}
 use Rattle.metric_coverage.specs.declared.amount.Amount.{Amount}
 use Rattle.metric_coverage.specs.declared.cycles.CycleWeights.{CycleWeights}
 use Rattle.metric_coverage.specs.declared.weights.ClassWeights.{ClassWeights}
 use Rattle.metric_coverage.specs.declared.weights.EvidenceWeights.{EvidenceWeights}
 use Rattle.metric_coverage.specs.declared.weights.PartWeights.{PartWeights}
 
--- the lines of a part: of its permanent or its transient faults by evidence, of a mechanism's permanent faults by class, and all of them
-abbrev pub evidence_by : Part → Bool → EvidenceWeights → Bytes
-evidence_by own permanent w =
+-- the lines of a part: of its permanent or its transient faults by evidence, without `always` and with it; of a mechanism's permanent faults by class;
+-- and all of them
+abbrev pub found_by_kind : Part → Bool → EvidenceWeights → Bytes
+found_by_kind own permanent w =
     line (codes "part" ∷ own.name ∷ role_word own.role ∷ (if permanent then codes "permanent" else codes "transient") ∷ codes "rate" ∷ decimal (rate_of_kind permanent own)
     ∷ codes "no-path" ∷ decimal w.no_path ∷ codes "never" ∷ decimal w.never ∷ codes "quiet" ∷ decimal w.quiet ∷ codes "noticed" ∷ decimal w.noticed
     ∷ codes "caught" ∷ decimal w.caught ∷ codes "harm" ∷ decimal w.harm ∷ codes "coverage" ∷ fraction_word (fraction w.caught (w.caught + w.harm)) ∷ [])
+
+abbrev pub proved_by_kind : Part → Bool → EvidenceWeights → Bytes
+proved_by_kind own permanent w =
+    line (codes "part" ∷ own.name ∷ role_word own.role ∷ (if permanent then codes "permanent" else codes "transient") ∷ codes "rate" ∷ decimal (rate_of_kind permanent own)
+    ∷ codes "no-path" ∷ decimal w.no_path ∷ codes "always" ∷ decimal w.always ∷ codes "never" ∷ decimal w.never ∷ codes "quiet" ∷ decimal w.quiet
+    ∷ codes "noticed" ∷ decimal w.noticed ∷ codes "caught" ∷ decimal w.caught ∷ codes "harm" ∷ decimal w.harm
+    ∷ codes "coverage" ∷ fraction_word (fraction w.caught (w.caught + w.harm)) ∷ [])
+
+abbrev pub evidence_by : (proofs : Bool) → Part → Bool → EvidenceWeights → Bytes
+evidence_by proofs own permanent w = if proofs then proved_by_kind own permanent w else found_by_kind own permanent w
 
 abbrev pub classes_line : Part → ClassWeights → Bytes
 classes_line own w =
@@ -42,8 +54,8 @@ classes_line own w =
 abbrev pub latent_by : Part → ClassWeights → Bytes
 latent_by own w = if not (is_mechanism own.role) then [] else classes_line own w
 
-abbrev pub part_by : Part → PartWeights → Bytes
-part_by own w = evidence_by own true w.permanent ++ latent_by own w.classes ++ evidence_by own false w.transient
+abbrev pub part_by : (proofs : Bool) → Part → PartWeights → Bytes
+part_by proofs own w = evidence_by proofs own true w.permanent ++ latent_by own w.classes ++ evidence_by proofs own false w.transient
 
 -- a metric as it was found, and all of them
 abbrev pub found_line : Bytes → Bytes → Option Bool → Bytes
@@ -89,15 +101,23 @@ free_by_lines word asil amount s =
     ++ ratio_line word (codes "lfm") (lfm_target asil) (lfm_ends s)
     ++ term_line word asil s
 
--- the reading of the plan itself, and that of a goal alone
-abbrev pub whole_lines : Analysis → Bytes
-whole_lines p = line (codes "reading" ∷ codes "all" ∷ []) ++ reading_lines p (spoken p) (true_planes p)
+-- the lines of unproved faults, where the text is with proofs
+abbrev pub unproved_lines : (proofs : Bool) → Analysis → (ℕ → Evidence) → (ℕ → Class) → Bytes
+unproved_lines proofs p evidence class = if proofs then free_lines p (codes "unproved") (λ i. is_unproved (evidence i) (class i)) class else []
 
-abbrev pub goal_lines : Analysis → Goal → Bytes
-goal_lines p goal =
+-- the reading of the plan itself, and that of a goal alone, where some faults are proved
+abbrev pub whole_lines : (proofs : Bool) → (proved : ℕ → Bool) → Analysis → Bytes
+whole_lines proofs proved p = line (codes "reading" ∷ codes "all" ∷ []) ++ reading_lines proofs p (proved_evidence proved p) (true_planes p)
+
+abbrev pub goal_lines : (proofs : Bool) → (proved : ℕ → Bool) → Analysis → Goal → Bytes
+goal_lines proofs proved p goal =
     line (codes "reading" ∷ codes "goal" ∷ goal_word goal ∷ [])
-    ++ reading_lines (with_goals p (goal ∷ [])) (spoken (with_goals p (goal ∷ []))) (true_planes (with_goals p (goal ∷ [])))
+    ++ reading_lines proofs (with_goals p (goal ∷ [])) (proved_evidence proved (with_goals p (goal ∷ []))) (true_planes (with_goals p (goal ∷ [])))
 
 -- the faults that nothing speaks for
-abbrev pub unspoken_lines : Analysis → Bytes
-unspoken_lines p = flat_map (unspoken_line p (spoken p) (class_of_fault p (true_planes p))) (below (fault_count p))
+abbrev pub unspoken_lines : (proved : ℕ → Bool) → Analysis → Bytes
+unspoken_lines proved p = flat_map (unspoken_line p (proved_evidence proved p) (class_of_fault p (true_planes p))) (below (fault_count p))
+
+-- what follows the title and what is supposed
+abbrev pub body : (proofs : Bool) → (proved : ℕ → Bool) → Analysis → Bytes
+body proofs proved p = coverage_body proofs (proved_evidence proved) true_planes p

@@ -7,7 +7,7 @@ use Rattle.metric_sums.specs.Classes.{is_class, is_danger}
 use Rattle.campaign_plan.specs.Analysis.{Analysis, fault_count, fault_numbered, part_count}
 use Rattle.campaign_plan.specs.Weights.{has_part_and_kind, weight}
 use Rattle.coverage.specs.declared.Evidence.{Evidence}
-use Rattle.coverage.specs.declared.Evidence.TheVariants.{NoPath, Never, Quiet, Noticed, Caught, Harm}
+use Rattle.coverage.specs.declared.Evidence.TheVariants.{NoPath, Always, Never, Quiet, Noticed, Caught, Harm}
 use Rattle.coverage.specs.Evidence.{is_kind}
 use Rattle.metric_coverage.specs.declared.weights.ClassWeights.{ClassWeights}
 use Rattle.metric_coverage.specs.declared.weights.EvidenceWeights.{EvidenceWeights}
@@ -21,6 +21,7 @@ weight_below p k permanent test n = sum_by (weight p) (filter (λ i. has_part_an
 abbrev pub evidence_below : Analysis → (ℕ → Evidence) → ℕ → Bool → ℕ → EvidenceWeights
 evidence_below p evidence k permanent n = record {
   no_path = weight_below p k permanent (λ i. is_kind (evidence i) NoPath) n;
+  always = weight_below p k permanent (λ i. is_kind (evidence i) Always) n;
   never = weight_below p k permanent (λ i. is_kind (evidence i) Never) n;
   quiet = weight_below p k permanent (λ i. is_kind (evidence i) Quiet) n;
   noticed = weight_below p k permanent (λ i. is_kind (evidence i) Noticed) n;
@@ -44,7 +45,7 @@ part_below p evidence class k n = record {
 
 -- no fault
 abbrev pub no_evidence : EvidenceWeights
-no_evidence = record { no_path = 0; never = 0; quiet = 0; noticed = 0; caught = 0; harm = 0 }
+no_evidence = record { no_path = 0; always = 0; never = 0; quiet = 0; noticed = 0; caught = 0; harm = 0 }
 
 abbrev pub no_classes : ClassWeights
 no_classes = record { harm = 0; detected = 0; latent = 0 }
@@ -55,6 +56,7 @@ no_part = record { permanent = no_evidence; transient = no_evidence; classes = n
 -- one fault of this weight more
 abbrev pub with_evidence : Evidence → ℕ → EvidenceWeights → EvidenceWeights
 with_evidence NoPath w t = record t { no_path = t.no_path + w }
+with_evidence Always w t = record t { always = t.always + w }
 with_evidence Never w t = record t { never = t.never + w }
 with_evidence Quiet w t = record t { quiet = t.quiet + w }
 with_evidence Noticed w t = record t { noticed = t.noticed + w }
@@ -76,6 +78,7 @@ with_fault false evidence class w t = record t { transient = with_evidence evide
 -- the weights are at most 10^18 units, as those of all faults together
 pub record AreLight (t : EvidenceWeights) : Type 0 where
   pub no_path : t.no_path ≤ 10 ^ 18
+  pub always : t.always ≤ 10 ^ 18
   pub never : t.never ≤ 10 ^ 18
   pub quiet : t.quiet ≤ 10 ^ 18
   pub noticed : t.noticed ≤ 10 ^ 18

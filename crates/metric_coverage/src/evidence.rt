@@ -1,6 +1,6 @@
 // The evidence of a fault.
 ghost use Rattle.std.specs.Prelude.{◌≡◌};
-ghost use Rattle.coverage.specs.Evidence.{evidence_of as evidence_by_bits};
+ghost use Rattle.coverage.specs.Evidence.{evidence_of as evidence_by_bits, with_proof as evidence_with_proof};
 
 use coverage::Evidence;
 
@@ -21,5 +21,18 @@ pub fn evidence_of(path: bool, harm: bool, bare: bool, excited: bool, noticed: b
         Evidence::Noticed
     } else {
         Evidence::Quiet
+    }
+}
+
+/// The same of a fault that is proved or not: a proof speaks before all that the workload shows, but harm.
+pub fn with_proof(proved: bool, evidence: Evidence) -> Evidence
+    ensures { result ≡ evidence_with_proof proved evidence }
+{
+    if !proved {
+        return evidence;
+    }
+    match evidence {
+        Evidence::NoPath | Evidence::Harm => evidence,
+        _ => Evidence::Always,
     }
 }

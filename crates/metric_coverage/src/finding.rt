@@ -1,15 +1,17 @@
 // The evidence of each fault of a list.
 ghost use Rattle.std.specs.Prelude.{◌≡◌, ◌<◌, ◌/◌, ◌%◌, ℕ, IfOk, length};
+ghost use Rattle.circuit.specs.Value.{bit_at};
 ghost use Rattle.fm_base.specs.Planes.{bit};
 ghost use Rattle.campaign_plan.specs.Analysis.{Analysis, batch_count, fault_count};
 ghost use Rattle.classifier.specs.Planes.{outcome_at};
-ghost use Rattle.coverage.specs.Evidence.{evidence_of as evidence_by_bits};
-ghost use Rattle.coverage.specs.Laws.{spoken};
+ghost use Rattle.coverage.specs.Coverage.{proved_evidence};
+ghost use Rattle.coverage.specs.Evidence.{evidence_of as evidence_by_bits, with_proof as evidence_with_proof};
 ghost use Rattle.metric_coverage.specs.Freed.{evidence_at};
 ghost use Rattle.metric_coverage.specs.Spoken.{AreToldOf, evidence_by};
 
-use crate::evidence::evidence_of;
+use crate::evidence::{evidence_of, with_proof};
 use campaign_plan::{Outcome, Plan, has_bit};
+use circuit::meaning::bit as bit_of;
 use coverage::{Evidence, one_simulation_gives_coverage};
 use room::{NoRoom, push};
 use std::alloc::Global;
@@ -45,28 +47,27 @@ fn evidence_of_faults(
     bare: &[Outcome],
     path: &[bool],
     excited: &[bool],
+    proved: &[bool],
 ) -> Result<Vec<Evidence>, NoRoom>
     requires planes { length planes.now ≡ batch_count plan.now }
     requires bare { length bare.now ≡ batch_count plan.now }
     requires path { length path.now ≡ fault_count plan.now }
     requires excited { length excited.now ≡ fault_count plan.now }
     ensures count { IfOk result (λ list. length list.items ≡ fault_count plan.now) }
-    ensures each { IfOk result (λ list. (i : ℕ) → i < fault_count plan.now → evidence_at list.items i ≡ evidence_by planes.now bare.now path.now excited.now i) }
+    ensures each { IfOk result (λ list. (i : ℕ) → i < fault_count plan.now → evidence_at list.items i ≡ evidence_with_proof (bit_at proved.now i) (evidence_by planes.now bare.now path.now excited.now i)) }
 {
     let mut list = Vec::new(alloc);
     for i in 0..plan.faults().len() {
         let at = i as usize;
-        push(
-            &mut list,
-            evidence_of_fault(planes, bare, path[at], excited[at], i),
-        )?;
+        let shown = evidence_of_fault(planes, bare, path[at], excited[at], i);
+        push(&mut list, with_proof(bit_of(proved, i), shown))?;
     }
     Ok(list)
 }
 
 /// The evidence of each fault, in the order of the list: `planes` are those of a plan `q` with the same faults, as a reading of it has, and `bare`
-/// those of `q` without alarm points. Of each fault `path` tells whether one leads to an observation point of `q`, and `excited` whether some run
-/// excites the fault.
+/// those of `q` without alarm points. Of each fault `path` tells whether one leads to an observation point of `q`, `excited` whether some run
+/// excites the fault, and `proved` whether it is proved: none is that has no place there.
 pub fn evidence_list(
     alloc: Global,
     plan: &Plan,
@@ -74,6 +75,7 @@ pub fn evidence_list(
     bare: &[Outcome],
     path: &[bool],
     excited: &[bool],
+    proved: &[bool],
 ) -> Result<Vec<Evidence>, NoRoom>
     requires planes { length planes.now ≡ batch_count plan.now }
     requires bare { length bare.now ≡ batch_count plan.now }
@@ -81,9 +83,9 @@ pub fn evidence_list(
     requires excited { length excited.now ≡ fault_count plan.now }
     ensures count { IfOk result (λ list. length list.items ≡ fault_count plan.now) }
     ensures spoken { IfOk result (λ list. (q : Analysis) → fault_count q ≡ fault_count plan.now → AreToldOf q planes.now bare.now path.now excited.now
-        → (i : ℕ) → i < fault_count q → evidence_at list.items i ≡ spoken q i) }
+        → (i : ℕ) → i < fault_count q → evidence_at list.items i ≡ proved_evidence (bit_at proved.now) q i) }
 {
     one_simulation_gives_coverage();
-    let list = evidence_of_faults(alloc, plan, planes, bare, path, excited)?;
+    let list = evidence_of_faults(alloc, plan, planes, bare, path, excited, proved)?;
     Ok(list)
 }

@@ -7,7 +7,7 @@ ghost use Rattle.campaign_plan.specs.Analysis.{Analysis, batch_count, fault_coun
 ghost use Rattle.readings.specs.Latencies.{is_excited};
 ghost use Rattle.reading_planes.specs.Readings.{coverage_list as pairs_of};
 ghost use Rattle.testbench.specs.Testbench.{IsTestbenchFor};
-ghost use Rattle.coverage.specs.Laws.{spoken};
+ghost use Rattle.coverage.specs.Coverage.{proved_evidence};
 ghost use Rattle.metric_coverage.specs.Findings.{AreFindings, AreFound, HasFound, IsFindingBy, goal_plan, several};
 ghost use Rattle.metric_coverage.specs.Freed.{evidence_at};
 ghost use Rattle.metric_coverage.specs.Planes.{ArePlaneTables, table_at};
@@ -40,7 +40,7 @@ pub(crate) struct Finding {
 /// What is found by all readings: the planes of each reading of `coverage_list`, the finding of the plan itself, and those of each goal
 /// alone, where there are several.
 #[derive(Drop)]
-pub(crate) struct Found {
+pub struct Found {
     pub(crate) tables: Vec<BatchPlanes>,
     pub(crate) whole: Finding,
     pub(crate) goals: Vec<Finding>,
@@ -62,6 +62,7 @@ fn finding_of(
     bare: &[Outcome],
     path: &[bool],
     excited: &[bool],
+    proved: &[bool],
 ) -> Result<Finding, NoRoom>
     requires planes { length planes.now ≡ batch_count plan.now }
     requires bare { length bare.now ≡ batch_count plan.now }
@@ -69,9 +70,9 @@ fn finding_of(
     requires excited { length excited.now ≡ fault_count plan.now }
     ensures weighed { IfOk result (IsFindingBy plan.now planes.now) }
     ensures spoken { IfOk result (λ f. (q : Analysis) → fault_count q ≡ fault_count plan.now → AreToldOf q planes.now bare.now path.now excited.now
-        → (i : ℕ) → i < fault_count q → evidence_at f.evidence.items i ≡ spoken q i) }
+        → (i : ℕ) → i < fault_count q → evidence_at f.evidence.items i ≡ proved_evidence (bit_at proved.now) q i) }
 {
-    let evidence = evidence_list(alloc, plan, planes, bare, path, excited)?;
+    let evidence = evidence_list(alloc, plan, planes, bare, path, excited, proved)?;
     let parts = part_weights(alloc, plan, &evidence, planes)?;
     let cycles = cycle_weights(alloc, plan, &evidence)?;
     Ok(Finding {
@@ -87,19 +88,20 @@ fn whole_finding(
     plan: &Plan,
     bench: &Testbench<'_>,
     excited: &[bool],
+    proved: &[bool],
     tables: &[BatchPlanes],
 ) -> Result<Finding, NoRoom>
     requires bench { IsTestbenchFor plan.now bench.now }
     requires excited { length excited.now ≡ fault_count plan.now }
     requires tried { (i : ℕ) → i < fault_count plan.now → bit_at excited.now i ≡ is_excited plan.now (fault_numbered plan.now i) }
     requires tables { ArePlaneTables plan.now (pairs_of plan.now.points) tables.now }
-    ensures { IfOk result (HasFound plan.now plan.now (table_at tables.now 0)) }
+    ensures { IfOk result (HasFound plan.now plan.now (bit_at proved.now) (table_at tables.now 0)) }
 {
     pairs_give_plans();
     let path = path_list(alloc, plan, bench.reach())?;
     let planes = planes_by(tables, 0);
     let bare = planes_by(tables, 1);
-    let finding = finding_of(alloc, plan, planes, bare, &path, excited)?;
+    let finding = finding_of(alloc, plan, planes, bare, &path, excited, proved)?;
     Ok(finding)
 }
 
@@ -109,20 +111,21 @@ fn goal_finding(
     plan: &Plan,
     g: usize,
     excited: &[bool],
+    proved: &[bool],
     tables: &[BatchPlanes],
 ) -> Result<Finding, NoRoom>
     requires goal { g < length (several plan.now) }
     requires excited { length excited.now ≡ fault_count plan.now }
     requires tried { (i : ℕ) → i < fault_count plan.now → bit_at excited.now i ≡ is_excited plan.now (fault_numbered plan.now i) }
     requires tables { ArePlaneTables plan.now (pairs_of plan.now.points) tables.now }
-    ensures { IfOk result (HasFound plan.now (goal_plan plan.now g) (table_at tables.now (2 * g + 2))) }
+    ensures { IfOk result (HasFound plan.now (goal_plan plan.now g) (bit_at proved.now) (table_at tables.now (2 * g + 2))) }
 {
     pairs_give_plans();
     let goals = plan.points().goals.as_slice();
     let path = goal_path_list(alloc, plan, &goals[g])?;
     let planes = planes_by(tables, 2 * g + 2);
     let bare = planes_by(tables, 2 * g + 3);
-    let finding = finding_of(alloc, plan, planes, bare, &path, excited)?;
+    let finding = finding_of(alloc, plan, planes, bare, &path, excited, proved)?;
     Ok(finding)
 }
 
@@ -131,16 +134,20 @@ fn goal_findings(
     alloc: Global,
     plan: &Plan,
     excited: &[bool],
+    proved: &[bool],
     tables: &[BatchPlanes],
 ) -> Result<Vec<Finding>, NoRoom>
     requires excited { length excited.now ≡ fault_count plan.now }
     requires tried { (i : ℕ) → i < fault_count plan.now → bit_at excited.now i ≡ is_excited plan.now (fault_numbered plan.now i) }
     requires tables { ArePlaneTables plan.now (pairs_of plan.now.points) tables.now }
-    ensures { IfOk result (λ list. AreFindings plan.now tables.now list.items) }
+    ensures { IfOk result (λ list. AreFindings plan.now (bit_at proved.now) tables.now list.items) }
 {
     let mut list = Vec::new(alloc);
     for g in 0..several_goals(plan).len() {
-        push(&mut list, goal_finding(alloc, plan, g, excited, tables)?)?;
+        push(
+            &mut list,
+            goal_finding(alloc, plan, g, excited, proved, tables)?,
+        )?;
     }
     Ok(list)
 }
@@ -150,17 +157,18 @@ fn findings(
     alloc: Global,
     plan: &Plan,
     bench: &Testbench<'_>,
+    proved: &[bool],
     tables: Vec<BatchPlanes>,
 ) -> Result<Found, NoRoom>
     requires order { (nets : List NetValue) × IsOrder plan.now.circuit nets }
     requires bench { IsTestbenchFor plan.now bench.now }
     requires tables { ArePlaneTables plan.now (pairs_of plan.now.points) tables.items }
-    ensures { IfOk result (AreFound plan.now) }
+    ensures { IfOk result (AreFound plan.now (bit_at proved.now)) }
 {
     let golden = GoldenValues::new(alloc, bench)?;
     let excited = excited_list(alloc, plan, &golden)?;
-    let goals = goal_findings(alloc, plan, &excited, &tables)?;
-    let whole = whole_finding(alloc, plan, bench, &excited, &tables)?;
+    let goals = goal_findings(alloc, plan, &excited, proved, &tables)?;
+    let whole = whole_finding(alloc, plan, bench, &excited, proved, &tables)?;
     Ok(Found {
         tables,
         whole,
@@ -174,17 +182,18 @@ fn find_on<R: Threads + Sync>(
     alloc: Global,
     plan: &Plan,
     bench: &Testbench<'_>,
+    proved: &[bool],
     workers: u32,
 ) -> Result<Found, NoRoom>
     requires order { (nets : List NetValue) × IsOrder plan.now.circuit nets }
     requires bench { IsTestbenchFor plan.now bench.now }
     requires workers { (0 < workers) × (workers ≤ 32) }
-    ensures { IfOk result (AreFound plan.now) }
+    ensures { IfOk result (AreFound plan.now (bit_at proved.now)) }
 {
     pairs_give_plans();
     let readings = coverage_list(alloc, plan.points())?;
     let tables = reading_tables(rt, alloc, plan, bench, &readings, workers)?;
-    findings(alloc, plan, bench, tables)
+    findings(alloc, plan, bench, proved, tables)
 }
 
 /// The same, on a testbench that is made and given up here.
@@ -193,14 +202,15 @@ pub(crate) fn find<R: Threads + Sync>(
     alloc: Global,
     plan: &Plan,
     order: &Order,
+    proved: &[bool],
     workers: u32,
 ) -> Result<Found, NoRoom>
     requires order { IsOrder plan.now.circuit order.now }
     requires workers { (0 < workers) × (workers ≤ 32) }
-    ensures { IfOk result (AreFound plan.now) }
+    ensures { IfOk result (AreFound plan.now (bit_at proved.now)) }
 {
     let bench = Testbench::of_plan(alloc, plan, order)?;
-    let found = find_on(rt, alloc, plan, &bench, workers);
+    let found = find_on(rt, alloc, plan, &bench, proved, workers);
     drop(bench);
     found
 }

@@ -27,6 +27,8 @@ pub enum FreeFaults {
     Unexcited,
     /// These, and those that were excited, while neither an observation point nor an alarm showed them.
     Unreached,
+    /// Those that do no harm in this workload, while a path leads from them and nothing is proved.
+    Unproved,
 }
 
 /// Whether a fault of this evidence and this class is free.
@@ -37,9 +39,10 @@ pub(crate) fn is_free(free: FreeFaults, evidence: Evidence, class: Class) -> boo
         return false;
     }
     match evidence {
+        Evidence::NoPath | Evidence::Always | Evidence::Harm => false,
         Evidence::Never => free != FreeFaults::NoFault,
-        Evidence::Quiet => free == FreeFaults::Unreached,
-        _ => false,
+        Evidence::Quiet => free == FreeFaults::Unreached || free == FreeFaults::Unproved,
+        Evidence::Noticed | Evidence::Caught => free == FreeFaults::Unproved,
     }
 }
 

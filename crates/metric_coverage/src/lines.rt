@@ -6,7 +6,7 @@ ghost use Rattle.campaign_plan.specs.Analysis.{part_count, part_numbered};
 ghost use Rattle.campaign_plan.specs.Weights.{rate_of_kind};
 ghost use Rattle.metric_sums.specs.Classes.{is_mechanism as has_mechanism};
 ghost use Rattle.metric_sums.specs.Words.{role_word as word_of_role};
-ghost use Rattle.metric_coverage.specs.Text.{classes_line, evidence_by, latent_by, part_by};
+ghost use Rattle.metric_coverage.specs.Text.{classes_line, evidence_by, found_by_kind, latent_by, part_by, proved_by_kind};
 ghost use Rattle.metric_coverage.specs.Weights.{AreClassesLight, AreLight, IsPartLight, part_at};
 
 use crate::weights::{ClassWeights, EvidenceWeights, PartWeights};
@@ -54,8 +54,8 @@ fn rate_of(part: &Part, permanent: bool) -> u64
     }
 }
 
-// Writes the line of a part's permanent or transient faults, by evidence.
-fn write_evidence<O: Sink>(
+// Writes the line of a part's permanent or transient faults, by evidence without `always`.
+fn write_found_kinds<O: Sink>(
     plan: &Plan,
     number: u32,
     permanent: bool,
@@ -64,7 +64,7 @@ fn write_evidence<O: Sink>(
 ) -> Result<(), Failed>
     requires part { number < part_count plan.now }
     requires light { AreLight weights.now }
-    ensures { Sends (O.seen out.old) (O.seen out.new) (evidence_by (part_numbered plan.now number) permanent weights.now) result }
+    ensures { Sends (O.seen out.old) (O.seen out.new) (found_by_kind (part_numbered plan.now number) permanent weights.now) result }
 {
     let part = plan.part(number);
     write_line(
@@ -92,6 +92,68 @@ fn write_evidence<O: Sink>(
             fraction_word(weights.coverage()).bytes(),
         ],
     )
+}
+
+// The same with `always`.
+fn write_all_kinds<O: Sink>(
+    plan: &Plan,
+    number: u32,
+    permanent: bool,
+    weights: &EvidenceWeights,
+    out: &mut O,
+) -> Result<(), Failed>
+    requires part { number < part_count plan.now }
+    requires light { AreLight weights.now }
+    ensures { Sends (O.seen out.old) (O.seen out.new) (proved_by_kind (part_numbered plan.now number) permanent weights.now) result }
+{
+    let part = plan.part(number);
+    write_line(
+        out,
+        &[
+            b"part",
+            part.name.as_slice(),
+            role_of(part),
+            kind_word(&permanent),
+            b"rate",
+            number_word(rate_of(part, permanent)).bytes(),
+            b"no-path",
+            number_word(weights.no_path).bytes(),
+            b"always",
+            number_word(weights.always).bytes(),
+            b"never",
+            number_word(weights.never).bytes(),
+            b"quiet",
+            number_word(weights.quiet).bytes(),
+            b"noticed",
+            number_word(weights.noticed).bytes(),
+            b"caught",
+            number_word(weights.caught).bytes(),
+            b"harm",
+            number_word(weights.harm).bytes(),
+            b"coverage",
+            fraction_word(weights.coverage()).bytes(),
+        ],
+    )
+}
+
+// Writes the line of a part's permanent or transient faults by evidence, with `always` where the text is with proofs.
+fn write_evidence<O: Sink>(
+    plan: &Plan,
+    proofs: bool,
+    number: u32,
+    permanent: bool,
+    weights: &EvidenceWeights,
+    out: &mut O,
+) -> Result<(), Failed>
+    requires part { number < part_count plan.now }
+    requires light { AreLight weights.now }
+    ensures { Sends (O.seen out.old) (O.seen out.new) (evidence_by proofs (part_numbered plan.now number) permanent weights.now) result }
+{
+    if proofs {
+        write_all_kinds(plan, number, permanent, weights, out)
+    } else {
+        write_found_kinds(plan, number, permanent, weights, out)
+    }
 }
 
 // Writes the line of a part's permanent faults, by class.
@@ -135,31 +197,33 @@ fn write_latent<O: Sink>(part: &Part, weights: &ClassWeights, out: &mut O) -> Re
 // Writes the lines of a part.
 fn write_part<O: Sink>(
     plan: &Plan,
+    proofs: bool,
     number: u32,
     weights: &PartWeights,
     out: &mut O,
 ) -> Result<(), Failed>
     requires part { number < part_count plan.now }
     requires light { IsPartLight weights.now }
-    ensures { Sends (O.seen out.old) (O.seen out.new) (part_by (part_numbered plan.now number) weights.now) result }
+    ensures { Sends (O.seen out.old) (O.seen out.new) (part_by proofs (part_numbered plan.now number) weights.now) result }
 {
-    write_evidence(plan, number, true, &weights.permanent, out)?;
+    write_evidence(plan, proofs, number, true, &weights.permanent, out)?;
     write_latent(plan.part(number), &weights.classes, out)?;
-    write_evidence(plan, number, false, &weights.transient, out)
+    write_evidence(plan, proofs, number, false, &weights.transient, out)
 }
 
 /// Writes the lines of each part, in order of first row.
 pub(crate) fn write_parts<O: Sink>(
     plan: &Plan,
+    proofs: bool,
     parts: &[PartWeights],
     out: &mut O,
 ) -> Result<(), Failed>
     requires light { (k : ℕ) → k < part_count plan.now → IsPartLight (part_at parts.now k) }
     requires count { length parts.now ≡ part_count plan.now }
-    ensures { Sends (O.seen out.old) (O.seen out.new) (flat_map (λ k. part_by (part_numbered plan.now k) (part_at parts.now k)) (below (part_count plan.now))) result }
+    ensures { Sends (O.seen out.old) (O.seen out.new) (flat_map (λ k. part_by proofs (part_numbered plan.now k) (part_at parts.now k)) (below (part_count plan.now))) result }
 {
     for number in 0..plan.parts() {
-        write_part(plan, number, &parts[number as usize], out)?;
+        write_part(plan, proofs, number, &parts[number as usize], out)?;
     }
     Ok(())
 }

@@ -24,6 +24,7 @@ fn evidence_word(evidence: Evidence) -> &'static [u8]
 {
     match evidence {
         Evidence::NoPath => b"no-path",
+        Evidence::Always => b"always",
         Evidence::Never => b"never",
         Evidence::Quiet => b"quiet",
         Evidence::Noticed => b"noticed",

@@ -1,13 +1,15 @@
 // The text of `coverage`.
 ghost use Rattle.std.specs.Prelude.{◌≡◌, ◌+◌, ◌*◌, ◌++◌, ◌∷◌, [], flat_map, length};
 ghost use Rattle.fm_shelf.specs.Sink.{Sends};
-ghost use Rattle.campaign_plan.specs.Analysis.{batch_count};
+ghost use Rattle.campaign_plan.specs.Analysis.{batch_count, fault_count};
+ghost use Rattle.campaign_plan.specs.Batches.{class_of_fault as class_by_planes};
 ghost use Rattle.fmeda_report.specs.Tallies.{planes_in_order};
 ghost use Rattle.readings.specs.Breakdown.{goal_word as word_of_goal, with_goals};
-ghost use Rattle.coverage.specs.Coverage.{coverage, reading_lines};
+ghost use Rattle.coverage.specs.Coverage.{reading_lines};
 ghost use Rattle.metric_coverage.specs.Findings.{AreFindings, AreFound, HasFound, IsFindingBy, several};
 ghost use Rattle.metric_coverage.specs.Freed.{evidence_at};
-ghost use Rattle.metric_coverage.specs.Text.{goal_lines, unspoken_lines, whole_lines};
+ghost use Rattle.metric_coverage.specs.Proofs.{proved_by};
+ghost use Rattle.metric_coverage.specs.Text.{body, goal_lines, unproved_lines, unspoken_lines, whole_lines};
 
 use crate::found::{Finding, Found, several_goals};
 use crate::free::FreeFaults;
@@ -15,9 +17,11 @@ use crate::lines::write_parts;
 use crate::metrics::{write_found_lines, write_free_lines};
 use crate::names::write_names;
 use crate::planes::{BatchPlanes, planes_by};
+use crate::proofs::Proofs;
 use crate::upsets::write_upset_lines;
 use alarm_points::Goal;
 use campaign_plan::{Outcome, Plan};
+use coverage::Evidence;
 use fm_shelf::lines::write_line;
 use fm_shelf::shelf::{Failed, Sink};
 
@@ -29,9 +33,37 @@ fn goal_word(goal: &Goal) -> &[u8]
     if name.is_empty() { b"-" } else { name }
 }
 
-// Writes the lines of a reading: those of the parts, of the metrics and of the upsets.
+// Writes the lines of the faults that nothing is proved of, where the text is with proofs.
+fn write_unproved<O: Sink>(
+    plan: &Plan,
+    proofs: bool,
+    evidence: &[Evidence],
+    planes: &[Outcome],
+    out: &mut O,
+) -> Result<(), Failed>
+    requires evidence { length evidence.now ≡ fault_count plan.now }
+    requires planes { length planes.now ≡ batch_count plan.now }
+    ensures { Sends (O.seen out.old) (O.seen out.new)
+        (unproved_lines proofs plan.now (evidence_at evidence.now) (class_by_planes plan.now (planes_in_order planes.now))) result }
+{
+    if proofs {
+        write_free_lines(
+            plan,
+            b"unproved",
+            FreeFaults::Unproved,
+            evidence,
+            planes,
+            out,
+        )
+    } else {
+        Ok(())
+    }
+}
+
+// Writes the lines of a reading: those of the parts, of the metrics, of the upsets and of the free faults.
 fn write_reading<O: Sink>(
     plan: &Plan,
+    proofs: bool,
     finding: &Finding,
     planes: &[Outcome],
     out: &mut O,
@@ -39,10 +71,10 @@ fn write_reading<O: Sink>(
     requires planes { length planes.now ≡ batch_count plan.now }
     requires finding { IsFindingBy plan.now planes.now finding.now }
     ensures { Sends (O.seen out.old) (O.seen out.new)
-        (reading_lines plan.now (evidence_at finding.now.evidence.items) (planes_in_order planes.now)) result }
+        (reading_lines proofs plan.now (evidence_at finding.now.evidence.items) (planes_in_order planes.now)) result }
 {
     let evidence = finding.evidence.as_slice();
-    write_parts(plan, finding.parts.as_slice(), out)?;
+    write_parts(plan, proofs, finding.parts.as_slice(), out)?;
     write_found_lines(plan, evidence, planes, out)?;
     write_upset_lines(plan, evidence, finding.cycles.as_slice(), out)?;
     write_free_lines(
@@ -60,41 +92,45 @@ fn write_reading<O: Sink>(
         evidence,
         planes,
         out,
-    )
+    )?;
+    write_unproved(plan, proofs, evidence, planes, out)
 }
 
 // Writes the reading of the plan itself.
 fn write_whole<O: Sink>(
     plan: &Plan,
+    proofs: &Proofs<'_>,
     finding: &Finding,
     planes: &[Outcome],
     out: &mut O,
 ) -> Result<(), Failed>
-    requires { HasFound plan.now plan.now planes.now finding.now }
-    ensures { Sends (O.seen out.old) (O.seen out.new) (whole_lines plan.now) result }
+    requires { HasFound plan.now plan.now (proved_by proofs.now) planes.now finding.now }
+    ensures { Sends (O.seen out.old) (O.seen out.new) (whole_lines proofs.now.asked (proved_by proofs.now) plan.now) result }
 {
     write_line(out, &[b"reading", b"all"])?;
-    write_reading(plan, finding, planes, out)
+    write_reading(plan, proofs.asked, finding, planes, out)
 }
 
 // Writes the reading of goal `g` alone.
 fn write_goal<O: Sink>(
     plan: &Plan,
+    proofs: &Proofs<'_>,
     goal: &Goal,
     finding: &Finding,
     planes: &[Outcome],
     out: &mut O,
 ) -> Result<(), Failed>
-    requires { HasFound plan.now (with_goals plan.now (goal.now ∷ [])) planes.now finding.now }
-    ensures { Sends (O.seen out.old) (O.seen out.new) (goal_lines plan.now goal.now) result }
+    requires { HasFound plan.now (with_goals plan.now (goal.now ∷ [])) (proved_by proofs.now) planes.now finding.now }
+    ensures { Sends (O.seen out.old) (O.seen out.new) (goal_lines proofs.now.asked (proved_by proofs.now) plan.now goal.now) result }
 {
     write_line(out, &[b"reading", b"goal", goal_word(goal)])?;
-    write_reading(plan, finding, planes, out)
+    write_reading(plan, proofs.asked, finding, planes, out)
 }
 
 // Writes the reading of each of these goals.
 fn write_goals<O: Sink>(
     plan: &Plan,
+    proofs: &Proofs<'_>,
     goals: &[Goal],
     findings: &[Finding],
     tables: &[BatchPlanes],
@@ -102,50 +138,62 @@ fn write_goals<O: Sink>(
 ) -> Result<(), Failed>
     requires goals { goals.now ≡ several plan.now }
     requires tables { length tables.now ≡ 2 * length (several plan.now) + 2 }
-    requires findings { AreFindings plan.now tables.now findings.now }
-    ensures { Sends (O.seen out.old) (O.seen out.new) (flat_map (goal_lines plan.now) goals.now) result }
+    requires findings { AreFindings plan.now (proved_by proofs.now) tables.now findings.now }
+    ensures { Sends (O.seen out.old) (O.seen out.new) (flat_map (goal_lines proofs.now.asked (proved_by proofs.now) plan.now) goals.now) result }
 {
     for (g, goal) in goals.iter().enumerate() {
         let planes = planes_by(tables, 2 * g + 2);
-        write_goal(plan, goal, &findings[g], planes, out)?;
+        write_goal(plan, proofs, goal, &findings[g], planes, out)?;
     }
     Ok(())
 }
 
 // Writes all readings.
-fn write_readings<O: Sink>(plan: &Plan, found: &Found, out: &mut O) -> Result<(), Failed>
-    requires { AreFound plan.now found.now }
-    ensures { Sends (O.seen out.old) (O.seen out.new) (whole_lines plan.now ++ flat_map (goal_lines plan.now) (several plan.now)) result }
+fn write_readings<O: Sink>(
+    plan: &Plan,
+    proofs: &Proofs<'_>,
+    found: &Found,
+    out: &mut O,
+) -> Result<(), Failed>
+    requires { AreFound plan.now (proved_by proofs.now) found.now }
+    ensures { Sends (O.seen out.old) (O.seen out.new)
+        (whole_lines proofs.now.asked (proved_by proofs.now) plan.now
+        ++ flat_map (goal_lines proofs.now.asked (proved_by proofs.now) plan.now) (several plan.now)) result }
 {
     let tables = found.tables.as_slice();
     let findings = found.goals.as_slice();
     let goals = several_goals(plan);
-    write_whole(plan, &found.whole, planes_by(tables, 0), out)?;
-    write_goals(plan, goals, findings, tables, out)
+    write_whole(plan, proofs, &found.whole, planes_by(tables, 0), out)?;
+    write_goals(plan, proofs, goals, findings, tables, out)
 }
 
 // Writes the lines of the faults that nothing speaks for, in the reading of the plan itself.
 fn write_unspoken_faults<O: Sink>(
     plan: &Plan,
+    proofs: &Proofs<'_>,
     finding: &Finding,
     planes: &[Outcome],
     out: &mut O,
 ) -> Result<(), Failed>
-    requires { HasFound plan.now plan.now planes.now finding.now }
-    ensures { Sends (O.seen out.old) (O.seen out.new) (unspoken_lines plan.now) result }
+    requires { HasFound plan.now plan.now (proved_by proofs.now) planes.now finding.now }
+    ensures { Sends (O.seen out.old) (O.seen out.new) (unspoken_lines (proved_by proofs.now) plan.now) result }
 {
     let evidence = finding.evidence.as_slice();
     write_names(plan, evidence, planes, out)
 }
 
-/// Writes the whole text, by what was found.
-pub(crate) fn write_text<O: Sink>(plan: &Plan, found: &Found, out: &mut O) -> Result<(), Failed>
-    requires { AreFound plan.now found.now }
-    ensures { Sends (O.seen out.old) (O.seen out.new) (coverage plan.now) result }
+/// Writes what follows the title, by what was found.
+pub(crate) fn write_body<O: Sink>(
+    plan: &Plan,
+    proofs: &Proofs<'_>,
+    found: &Found,
+    out: &mut O,
+) -> Result<(), Failed>
+    requires { AreFound plan.now (proved_by proofs.now) found.now }
+    ensures { Sends (O.seen out.old) (O.seen out.new) (body proofs.now.asked (proved_by proofs.now) plan.now) result }
 {
     let tables = found.tables.as_slice();
-    write_line(out, &[b"fmeda-coverage", b"1"])?;
-    write_readings(plan, found, out)?;
-    write_unspoken_faults(plan, &found.whole, planes_by(tables, 0), out)?;
+    write_readings(plan, proofs, found, out)?;
+    write_unspoken_faults(plan, proofs, &found.whole, planes_by(tables, 0), out)?;
     write_line(out, &[b"end"])
 }

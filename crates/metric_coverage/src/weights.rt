@@ -18,6 +18,7 @@ use std::alloc::Global;
 #[derive(Clone, Copy)]
 pub(crate) struct EvidenceWeights {
     pub(crate) no_path: u64,
+    pub(crate) always: u64,
     pub(crate) never: u64,
     pub(crate) quiet: u64,
     pub(crate) noticed: u64,
@@ -61,6 +62,7 @@ impl EvidenceWeights {
     {
         EvidenceWeights {
             no_path: 0,
+            always: 0,
             never: 0,
             quiet: 0,
             noticed: 0,
@@ -77,6 +79,7 @@ impl EvidenceWeights {
     {
         match evidence {
             Evidence::NoPath => self.no_path += weight,
+            Evidence::Always => self.always += weight,
             Evidence::Never => self.never += weight,
             Evidence::Quiet => self.quiet += weight,
             Evidence::Noticed => self.noticed += weight,

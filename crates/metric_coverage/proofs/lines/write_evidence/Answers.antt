@@ -1,28 +1,15 @@
-use Rattle.std.proofs.Common.{◌∷◌, [], ap, ◌∙◌}
-use Rattle.std.specs.Prelude.{codes, decimal}
-use Rattle.fm_base.specs.Text.{line}
-use Rattle.rate_table.specs.declared.Part.{Part}
-use Rattle.campaign_plan.specs.Weights.{rate_of_kind}
-use Rattle.fmeda_report.specs.Words.{fraction_word}
-use Rattle.metric_sums.specs.Words.{role_word}
+use Rattle.std.proofs.Common.{Bool, ap, sym}
+use Rattle.campaign_plan.specs.Analysis.{part_numbered}
 use Rattle.fm_shelf.proofs.Sending.{sends_as}
+use Rattle.metric_coverage.specs.Text.{evidence_by}
 use Rattle.metric_coverage.proofs.lines.write_evidence.Goals as goal
 
-pub returns : goal.returns
-returns g c =
-    let part = c.part-part.ensures in
-    let name = c.as_slice.ensures ∙ ap (λ (own : Part). own.name) part in
-    let role = c.role_of.ensures ∙ ap (λ (own : Part). role_word own.role) part in
-    let rate = c.bytes.ensures ∙ c.number_word.ensures ∙ ap decimal (c.rate_of.ensures ∙ ap (rate_of_kind c.args.permanent) part) in
-    let no_path = c.bytes-2.ensures ∙ c.number_word-2.ensures in
-    let never = c.bytes-3.ensures ∙ c.number_word-3.ensures in
-    let quiet = c.bytes-4.ensures ∙ c.number_word-4.ensures in
-    let noticed = c.bytes-5.ensures ∙ c.number_word-5.ensures in
-    let caught = c.bytes-6.ensures ∙ c.number_word-6.ensures in
-    let harm = c.bytes-7.ensures ∙ c.number_word-7.ensures in
-    let coverage = c.bytes-8.ensures ∙ c.fraction_word.ensures ∙ ap fraction_word c.coverage.ensures in
-    sends_as
-    (λ j. line (
-    codes "part" ∷ name j ∷ role j ∷ c.kind_word.ensures j ∷ codes "rate" ∷ rate j ∷ codes "no-path" ∷ no_path j ∷ codes "never" ∷ never j ∷ codes "quiet" ∷ quiet j
-    ∷ codes "noticed" ∷ noticed j ∷ codes "caught" ∷ caught j ∷ codes "harm" ∷ harm j ∷ codes "coverage" ∷ coverage j ∷ []))
-    c.write_line.ensures
+pub returns-then-proofs : goal.returns-then-proofs
+returns-then-proofs g c =
+    sends_as (ap (λ (b : Bool). evidence_by b (part_numbered c.args.plan.now c.args.number) c.args.permanent c.args.weights.now) (sym c.if-proofs.true))
+    c.write_all_kinds.ensures
+
+pub returns-else-proofs : goal.returns-else-proofs
+returns-else-proofs g c =
+    sends_as (ap (λ (b : Bool). evidence_by b (part_numbered c.args.plan.now c.args.number) c.args.permanent c.args.weights.now) (sym c.if-proofs.false))
+    c.write_found_kinds.ensures

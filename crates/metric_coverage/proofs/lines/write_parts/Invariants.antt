@@ -10,4 +10,4 @@ use Rattle.metric_coverage.proofs.lines.write_parts.Given as goal
 -- the lines of the parts so far went out
 abbrev pub invariant-loop-number : goal.invariant-loop-number
 invariant-loop-number g l =
-    Sends (g.O.Sink.seen l.initial.out) (g.O.Sink.seen l.out) (flat_map (λ k. part_by (part_numbered l.plan k) (part_at l.parts k)) (below l.number)) (Ok tt)
+    Sends (g.O.Sink.seen l.initial.out) (g.O.Sink.seen l.out) (flat_map (λ k. part_by l.proofs (part_numbered l.plan k) (part_at l.parts k)) (below l.number)) (Ok tt)

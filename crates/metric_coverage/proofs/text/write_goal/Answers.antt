@@ -5,9 +5,9 @@ use Rattle.fm_base.specs.Text.{line}
 use Rattle.campaign_plan.specs.Analysis.{Analysis}
 use Rattle.campaign_plan.specs.Batches.{true_planes}
 use Rattle.readings.specs.Breakdown.{with_goals}
-use Rattle.coverage.specs.Coverage.{reading_lines}
-use Rattle.coverage.specs.Laws.{spoken}
+use Rattle.coverage.specs.Coverage.{proved_evidence, reading_lines}
 use Rattle.fm_shelf.proofs.Sending.{sends_as, sends_stop, sends_then}
+use Rattle.metric_coverage.specs.Proofs.{proved_by}
 use Rattle.metric_coverage.proofs.Texts.{goal_read}
 use Rattle.metric_coverage.proofs.text.write_goal.Goals as goal
 
@@ -15,10 +15,10 @@ pub returns-in_err-write_line : goal.returns-in_err-write_line
 returns-in_err-write_line g c =
     let e = err_from_is_err_and c.from_residual.result c.from_residual.ensures.1 in
     let q : Analysis = with_goals c.args.plan.now (c.args.goal.now ∷ []) in
-    rw e.1 (sends_stop (reading_lines q (spoken q) (true_planes q)) e.0
+    rw e.1 (sends_stop (reading_lines c.args.proofs.now.asked q (proved_evidence (proved_by c.args.proofs.now) q) (true_planes q)) e.0
     (sends_as (ap (λ (w : List ℕ). line (codes "reading" ∷ codes "goal" ∷ w ∷ [])) c.goal_word.ensures) c.in_err-write_line.ensures))
 
 pub returns : goal.returns
 returns g c =
     sends_then (sends_as (ap (λ (w : List ℕ). line (codes "reading" ∷ codes "goal" ∷ w ∷ [])) c.goal_word.ensures) c.in_ok-write_line.ensures)
-    (sends_as (goal_read c.args.plan.now (c.args.goal.now ∷ []) c.args.planes.now c.args.finding.now c.requires) c.write_reading.ensures)
+    (sends_as (goal_read c.args.proofs.now.asked (proved_by c.args.proofs.now) c.args.plan.now (c.args.goal.now ∷ []) c.args.planes.now c.args.finding.now c.requires) c.write_reading.ensures)

@@ -10,6 +10,7 @@ use Rattle.fm_shelf.proofs.Sending.{sends_as, sends_more, sends_none, sends_torn
 use Rattle.metric_coverage.specs.declared.found.Finding.{Finding}
 use Rattle.metric_coverage.specs.Findings.{HasFound, goal_plan, several}
 use Rattle.metric_coverage.specs.Planes.{table_at}
+use Rattle.metric_coverage.specs.Proofs.{proved_by}
 use Rattle.metric_coverage.specs.Text.{goal_lines}
 use Rattle.metric_coverage.proofs.Texts.{several_at}
 use Rattle.metric_coverage.proofs.text.write_goals.Goals as goal
@@ -25,26 +26,26 @@ write_goal-requires g c =
     let lt : at < length (several p) = omega (arith, c.loop-g-test.true, ap length c.requires.goals) in
     let one : c.index-goals-g.result ≡ goal_at p.points.goals at =
     goal_is c.args.goals.now at c.index-goals-g.result c.loop-g-test.true c.index-goals-g.is ∙ ap (λ (gs : List Goal). goal_at gs at) c.requires.goals ∙ several_at p at lt in
-    let has : HasFound p (goal_plan p at) (table_at c.args.tables.now (2 * at + 2)) c.index-findings-g.result =
-    subst (λ (f : Finding). HasFound p (goal_plan p at) (table_at c.args.tables.now (2 * at + 2)) f) (sym c.index-findings-g.is) (c.requires.findings.each at c.index-findings-g.result lt) in
-    subst (λ (own : Goal). HasFound p (with_goals p (own ∷ [])) c.planes_by-planes.result.now c.index-findings-g.result) (sym one)
-    (subst (λ (planes : List Outcome). HasFound p (goal_plan p at) planes c.index-findings-g.result) (sym c.planes_by-planes.ensures) has)
+    let has : HasFound p (goal_plan p at) (proved_by c.args.proofs.now) (table_at c.args.tables.now (2 * at + 2)) c.index-findings-g.result =
+    subst (λ (f : Finding). HasFound p (goal_plan p at) (proved_by c.args.proofs.now) (table_at c.args.tables.now (2 * at + 2)) f) (sym c.index-findings-g.is) (c.requires.findings.each at c.index-findings-g.result lt) in
+    subst (λ (own : Goal). HasFound p (with_goals p (own ∷ [])) (proved_by c.args.proofs.now) c.planes_by-planes.result.now c.index-findings-g.result) (sym one)
+    (subst (λ (planes : List Outcome). HasFound p (goal_plan p at) (proved_by c.args.proofs.now) planes c.index-findings-g.result) (sym c.planes_by-planes.ensures) has)
 
 pub loop-g-init : goal.loop-g-init
 loop-g-init g c = sends_none _
 
 pub loop-g-preserved : goal.loop-g-preserved
 loop-g-preserved g c =
-    sends_more (goal_lines c.args.plan.now) c.args.goals.now c.loop-g.g (goal_at [] 0) c.loop-g-test.true c.loop-g.invariant
-    (sends_as (ap (goal_lines c.args.plan.now) (goal_is c.args.goals.now c.loop-g.g c.index-goals-g.result c.loop-g-test.true c.index-goals-g.is)) c.in_ok-write_goal.ensures)
+    sends_more (goal_lines c.args.proofs.now.asked (proved_by c.args.proofs.now) c.args.plan.now) c.args.goals.now c.loop-g.g (goal_at [] 0) c.loop-g-test.true c.loop-g.invariant
+    (sends_as (ap (goal_lines c.args.proofs.now.asked (proved_by c.args.proofs.now) c.args.plan.now) (goal_is c.args.goals.now c.loop-g.g c.index-goals-g.result c.loop-g-test.true c.index-goals-g.is)) c.in_ok-write_goal.ensures)
 
 pub returns-in_err-write_goal : goal.returns-in_err-write_goal
 returns-in_err-write_goal g c =
     let e = err_from_is_err_and c.from_residual.result c.from_residual.ensures.1 in
-    rw e.1 (sends_torn (goal_lines c.args.plan.now) c.args.goals.now c.loop-g.g (goal_at [] 0) c.loop-g-test.true e.0 c.loop-g.invariant
-    (sends_as (ap (goal_lines c.args.plan.now) (goal_is c.args.goals.now c.loop-g.g c.index-goals-g.result c.loop-g-test.true c.index-goals-g.is)) c.in_err-write_goal.ensures))
+    rw e.1 (sends_torn (goal_lines c.args.proofs.now.asked (proved_by c.args.proofs.now) c.args.plan.now) c.args.goals.now c.loop-g.g (goal_at [] 0) c.loop-g-test.true e.0 c.loop-g.invariant
+    (sends_as (ap (goal_lines c.args.proofs.now.asked (proved_by c.args.proofs.now) c.args.plan.now) (goal_is c.args.goals.now c.loop-g.g c.index-goals-g.result c.loop-g-test.true c.index-goals-g.is)) c.in_err-write_goal.ensures))
 
 pub returns : goal.returns
 returns g c =
     let goals = c.args.goals.now in
-    sends_as (ap (flat_map (goal_lines c.args.plan.now)) (take_all c.loop-g.g goals (omega (arith, c.loop-g-test.false)))) c.loop-g.invariant
+    sends_as (ap (flat_map (goal_lines c.args.proofs.now.asked (proved_by c.args.proofs.now) c.args.plan.now)) (take_all c.loop-g.g goals (omega (arith, c.loop-g-test.false)))) c.loop-g.invariant

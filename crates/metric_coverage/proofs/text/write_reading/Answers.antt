@@ -18,7 +18,7 @@ use Rattle.metric_coverage.specs.Freed.{evidence_at, free_by}
 use Rattle.metric_coverage.specs.declared.free.FreeFaults.{FreeFaults}
 use Rattle.metric_coverage.specs.declared.free.FreeFaults.TheVariants.{Unexcited, Unreached}
 use Rattle.metric_coverage.specs.declared.weights.PartWeights.{PartWeights}
-use Rattle.metric_coverage.specs.Text.{part_by}
+use Rattle.metric_coverage.specs.Text.{part_by, unproved_lines}
 use Rattle.metric_coverage.specs.Weights.{IsPartLight, part_at}
 use Rattle.metric_coverage.proofs.Texts.{parts_told}
 use Rattle.metric_coverage.proofs.text.write_reading.Goals as goal
@@ -48,9 +48,9 @@ returns-in_err-write_parts g c =
     let f = c.args.finding.now in
     let class : ℕ → Class = class_of_fault p (planes_in_order planes) in
     let evidence : c.as_slice-evidence.result.now ≡ f.evidence.items = c.as_slice-evidence.ensures.value in
-    let parts = ap (λ (ps : List PartWeights). flat_map (λ k. part_by (part_numbered p k) (part_at ps k)) (below (part_count p))) c.as_slice.ensures.value
-    ∙ parts_told p (evidence_at f.evidence.items) class f.parts.items c.requires.finding.parts in
-    rw e.1 (sends_stop _ e.0 (sends_stop _ e.0 (sends_stop _ e.0 (sends_stop _ e.0 (sends_as parts c.in_err-write_parts.ensures)))))
+    let parts = ap (λ (ps : List PartWeights). flat_map (λ k. part_by c.args.proofs (part_numbered p k) (part_at ps k)) (below (part_count p))) c.as_slice.ensures.value
+    ∙ parts_told c.args.proofs p (evidence_at f.evidence.items) class f.parts.items c.requires.finding.parts in
+    rw e.1 (sends_stop _ e.0 (sends_stop _ e.0 (sends_stop _ e.0 (sends_stop _ e.0 (sends_stop _ e.0 (sends_as parts c.in_err-write_parts.ensures))))))
 
 pub returns-in_err-write_found_lines : goal.returns-in_err-write_found_lines
 unfolding reading_lines
@@ -61,9 +61,10 @@ returns-in_err-write_found_lines g c =
     let f = c.args.finding.now in
     let class : ℕ → Class = class_of_fault p (planes_in_order planes) in
     let evidence : c.as_slice-evidence.result.now ≡ f.evidence.items = c.as_slice-evidence.ensures.value in
-    let parts = ap (λ (ps : List PartWeights). flat_map (λ k. part_by (part_numbered p k) (part_at ps k)) (below (part_count p))) c.as_slice.ensures.value
-    ∙ parts_told p (evidence_at f.evidence.items) class f.parts.items c.requires.finding.parts in
-    rw e.1 (sends_stop _ e.0 (sends_stop _ e.0 (sends_stop _ e.0 (sends_then (sends_as parts c.in_ok-write_parts.ensures) c.in_err-write_found_lines.ensures))))
+    let parts = ap (λ (ps : List PartWeights). flat_map (λ k. part_by c.args.proofs (part_numbered p k) (part_at ps k)) (below (part_count p))) c.as_slice.ensures.value
+    ∙ parts_told c.args.proofs p (evidence_at f.evidence.items) class f.parts.items c.requires.finding.parts in
+    rw e.1 (sends_stop _ e.0 (sends_stop _ e.0 (sends_stop _ e.0 (sends_stop _ e.0
+    (sends_then (sends_as parts c.in_ok-write_parts.ensures) c.in_err-write_found_lines.ensures)))))
 
 pub returns-in_err-write_upset_lines : goal.returns-in_err-write_upset_lines
 unfolding reading_lines
@@ -74,10 +75,10 @@ returns-in_err-write_upset_lines g c =
     let f = c.args.finding.now in
     let class : ℕ → Class = class_of_fault p (planes_in_order planes) in
     let evidence : c.as_slice-evidence.result.now ≡ f.evidence.items = c.as_slice-evidence.ensures.value in
-    let parts = ap (λ (ps : List PartWeights). flat_map (λ k. part_by (part_numbered p k) (part_at ps k)) (below (part_count p))) c.as_slice.ensures.value
-    ∙ parts_told p (evidence_at f.evidence.items) class f.parts.items c.requires.finding.parts in
-    rw e.1 (sends_stop _ e.0 (sends_stop _ e.0 (sends_then (sends_then (sends_as parts c.in_ok-write_parts.ensures) c.in_ok-write_found_lines.ensures)
-    (sends_as (ap (λ (list : List Evidence). upset_lines p (evidence_at list)) evidence) c.in_err-write_upset_lines.ensures))))
+    let parts = ap (λ (ps : List PartWeights). flat_map (λ k. part_by c.args.proofs (part_numbered p k) (part_at ps k)) (below (part_count p))) c.as_slice.ensures.value
+    ∙ parts_told c.args.proofs p (evidence_at f.evidence.items) class f.parts.items c.requires.finding.parts in
+    rw e.1 (sends_stop _ e.0 (sends_stop _ e.0 (sends_stop _ e.0 (sends_then (sends_then (sends_as parts c.in_ok-write_parts.ensures) c.in_ok-write_found_lines.ensures)
+    (sends_as (ap (λ (list : List Evidence). upset_lines p (evidence_at list)) evidence) c.in_err-write_upset_lines.ensures)))))
 
 pub returns-in_err-write_free_lines : goal.returns-in_err-write_free_lines
 unfolding reading_lines
@@ -88,11 +89,27 @@ returns-in_err-write_free_lines g c =
     let f = c.args.finding.now in
     let class : ℕ → Class = class_of_fault p (planes_in_order planes) in
     let evidence : c.as_slice-evidence.result.now ≡ f.evidence.items = c.as_slice-evidence.ensures.value in
-    let parts = ap (λ (ps : List PartWeights). flat_map (λ k. part_by (part_numbered p k) (part_at ps k)) (below (part_count p))) c.as_slice.ensures.value
-    ∙ parts_told p (evidence_at f.evidence.items) class f.parts.items c.requires.finding.parts in
-    rw e.1 (sends_stop _ e.0 (sends_then (sends_then (sends_then (sends_as parts c.in_ok-write_parts.ensures) c.in_ok-write_found_lines.ensures)
+    let parts = ap (λ (ps : List PartWeights). flat_map (λ k. part_by c.args.proofs (part_numbered p k) (part_at ps k)) (below (part_count p))) c.as_slice.ensures.value
+    ∙ parts_told c.args.proofs p (evidence_at f.evidence.items) class f.parts.items c.requires.finding.parts in
+    rw e.1 (sends_stop _ e.0 (sends_stop _ e.0 (sends_then (sends_then (sends_then (sends_as parts c.in_ok-write_parts.ensures) c.in_ok-write_found_lines.ensures)
     (sends_as (ap (λ (list : List Evidence). upset_lines p (evidence_at list)) evidence) c.in_ok-write_upset_lines.ensures))
-    (sends_as (ap (free_text p planes (codes "unexcited") Unexcited) evidence) c.in_err-write_free_lines.ensures)))
+    (sends_as (ap (free_text p planes (codes "unexcited") Unexcited) evidence) c.in_err-write_free_lines.ensures))))
+
+pub returns-in_err-write_free_lines-2 : goal.returns-in_err-write_free_lines-2
+unfolding reading_lines
+returns-in_err-write_free_lines-2 g c =
+    let e = err_from_is_err_and c.from_residual-in_err-write_free_lines-2.result c.from_residual-in_err-write_free_lines-2.ensures.1 in
+    let p = c.args.plan.now in
+    let planes = c.args.planes.now in
+    let f = c.args.finding.now in
+    let class : ℕ → Class = class_of_fault p (planes_in_order planes) in
+    let evidence : c.as_slice-evidence.result.now ≡ f.evidence.items = c.as_slice-evidence.ensures.value in
+    let parts = ap (λ (ps : List PartWeights). flat_map (λ k. part_by c.args.proofs (part_numbered p k) (part_at ps k)) (below (part_count p))) c.as_slice.ensures.value
+    ∙ parts_told c.args.proofs p (evidence_at f.evidence.items) class f.parts.items c.requires.finding.parts in
+    rw e.1 (sends_stop _ e.0 (sends_then (sends_then (sends_then (sends_then (sends_as parts c.in_ok-write_parts.ensures) c.in_ok-write_found_lines.ensures)
+    (sends_as (ap (λ (list : List Evidence). upset_lines p (evidence_at list)) evidence) c.in_ok-write_upset_lines.ensures))
+    (sends_as (ap (free_text p planes (codes "unexcited") Unexcited) evidence) c.in_ok-write_free_lines.ensures))
+    (sends_as (ap (free_text p planes (codes "unreached") Unreached) evidence) c.in_err-write_free_lines-2.ensures)))
 
 pub returns : goal.returns
 unfolding reading_lines
@@ -102,9 +119,10 @@ returns g c =
     let f = c.args.finding.now in
     let class : ℕ → Class = class_of_fault p (planes_in_order planes) in
     let evidence : c.as_slice-evidence.result.now ≡ f.evidence.items = c.as_slice-evidence.ensures.value in
-    let parts = ap (λ (ps : List PartWeights). flat_map (λ k. part_by (part_numbered p k) (part_at ps k)) (below (part_count p))) c.as_slice.ensures.value
-    ∙ parts_told p (evidence_at f.evidence.items) class f.parts.items c.requires.finding.parts in
-    sends_then (sends_then (sends_then (sends_then (sends_as parts c.in_ok-write_parts.ensures) c.in_ok-write_found_lines.ensures)
+    let parts = ap (λ (ps : List PartWeights). flat_map (λ k. part_by c.args.proofs (part_numbered p k) (part_at ps k)) (below (part_count p))) c.as_slice.ensures.value
+    ∙ parts_told c.args.proofs p (evidence_at f.evidence.items) class f.parts.items c.requires.finding.parts in
+    sends_then (sends_then (sends_then (sends_then (sends_then (sends_as parts c.in_ok-write_parts.ensures) c.in_ok-write_found_lines.ensures)
     (sends_as (ap (λ (list : List Evidence). upset_lines p (evidence_at list)) evidence) c.in_ok-write_upset_lines.ensures))
     (sends_as (ap (free_text p planes (codes "unexcited") Unexcited) evidence) c.in_ok-write_free_lines.ensures))
-    (sends_as (ap (free_text p planes (codes "unreached") Unreached) evidence) c.write_free_lines-2.ensures)
+    (sends_as (ap (free_text p planes (codes "unreached") Unreached) evidence) c.in_ok-write_free_lines-2.ensures))
+    (sends_as (ap (λ (list : List Evidence). unproved_lines c.args.proofs p (evidence_at list) class) evidence) c.write_unproved.ensures)
