@@ -42,11 +42,11 @@ none_same a b c (suc n) same e =
     absurd (none-some (record { num = a; den = suc n }) (sym e ∙ is))
 
 module _ (p : Analysis) (most : Sums) (are : AreAtMost (true_sums p) most) (law : SpfmIsAtLeast) where
-  permanent_by : (o : Option Fraction) → spfm_permanent most ≡ o → HoldsLeast spfm_permanent p o
+  pub permanent_by : (o : Option Fraction) → spfm_permanent most ≡ o → HoldsLeast spfm_permanent p o
   permanent_by None e = none_same _ _ (true_sums p).permanent_all most.permanent_all are.permanent_all e
   permanent_by (Some least) e = (law (true_sums p) most are least).0 e
 
-  transient_by : (o : Option Fraction) → spfm_transient most ≡ o → HoldsLeast spfm_transient p o
+  pub transient_by : (o : Option Fraction) → spfm_transient most ≡ o → HoldsLeast spfm_transient p o
   transient_by None e = none_same _ _ (true_sums p).transient_all most.transient_all are.transient_all e
   transient_by (Some least) e = (law (true_sums p) most are least).1 e
 

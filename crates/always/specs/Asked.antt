@@ -1,5 +1,5 @@
 -- What `always` asks of a plan.
-use Rattle.std.specs.Prelude.{◌≡◌, ◌==◌, ℕ, List, length, map, fold, Option, Some, None, Result, Ok, Err, if◌then◌else◌, nat_lt, unwrap_or, slice_index}
+use Rattle.std.specs.Prelude.{◌≡◌, ◌==◌, ⊤, ℕ, List, length, map, fold, Option, Some, None, Result, Ok, Err, if◌then◌else◌, nat_lt, unwrap_or, slice_index}
 use Rattle.alarm_points.specs.Interval.{interval_of}
 use Rattle.alarm_points.specs.declared.Goal.{Goal}
 use Rattle.always_answers.specs.declared.answers.Answers.{Answers}
@@ -22,6 +22,7 @@ use Rattle.always.specs.Text.{always_text}
 use Rattle.always.specs.Verdict.{Terms}
 use Rattle.always.specs.declared.asked.AskedFault.{AskedFault}
 use Rattle.always.specs.declared.asked.AskedFault.TheVariants.{LongWindow, NoAlarm}
+use Rattle.always.specs.declared.asked.Hypotheses.{Hypotheses}
 
 -- THE LEAST INTERVAL of the goals, and 8 where each has more cycles
 abbrev pub shorter_of : (ftti least : ℕ) → Goal → ℕ
@@ -52,6 +53,16 @@ net_parts p = map (λ net. unwrap_or (part_named p.rates (net_name p.circuit net
 -- THE ANSWERS ARE RIGHT, by the plan's own numbers of parts
 abbrev pub AreRightOf : Analysis → Terms → Answers → Type 0
 AreRightOf p terms answers = AreRight p terms (slice_index (net_parts p)) answers
+
+-- what is asked, as code has it
+abbrev pub terms_of : Hypotheses → Terms
+terms_of asked = record { held = asked.held.now; from = asked.from; window = asked.window; ahead = asked.ahead }
+
+-- THE ANSWERS that are given are right; or there are none, since what is supposed of runs contradicts itself, or there is no memory
+abbrev pub AnswersAsked : Analysis → Terms → Result Answers NoAnswers → Type 0
+AnswersAsked p terms (Ok answers) = AreRightOf p terms answers
+AnswersAsked p terms (Err (Contradiction why)) = Contradict (claim_of p terms) why
+AnswersAsked p terms (Err (Memory no_room)) = ⊤
 
 -- THE TEXT OF RIGHT ANSWERS is sent; or nothing is, since what is supposed of runs contradicts itself, or there is no memory
 abbrev pub AnswersPlan : Analysis → Terms → (before after : SinkState) → Result (Result (Unit {0}) Failed) NoAnswers → Type 0

@@ -1,7 +1,6 @@
 -- Shapes of private steps of the writer; no public clause cites them.
 use Rattle.std.specs.Prelude.{ℕ, Bool, true, not, ◌&&◌, [], ◌∷◌, ◌++◌, codes, decimal, flat_map}
 use Rattle.always_answers.specs.declared.answers.PartAnswer.{PartAnswer}
-use Rattle.always_answers.specs.declared.inquiry.Inquiry.{Inquiry}
 use Rattle.campaign_plan.specs.Analysis.{Analysis, fault_count, fault_numbered, part_numbered, part_of}
 use Rattle.campaign_plan.specs.Batches.{class_with}
 use Rattle.circuit.specs.Circuit.{Circuit}
@@ -22,10 +21,6 @@ use Rattle.always.specs.declared.sums.Counting.TheVariants.{All, Later}
 use Rattle.always.specs.declared.tally.Tally.{Tally}
 use Rattle.always.specs.declared.verdict.Verdict.{Verdict}
 use Rattle.always.specs.declared.verdict.Verdict.TheVariants.{Early, Open}
-
--- what is asked
-abbrev pub terms_of : Inquiry → Terms
-terms_of asked = record { held = asked.held.now; from = asked.from; window = asked.window; ahead = asked.ahead }
 
 -- the line of a held input that may have any value before, or has one
 abbrev pub free_line : Circuit → Held → Bytes

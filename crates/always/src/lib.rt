@@ -4,6 +4,7 @@
 mod asked;
 mod law;
 mod lines;
+mod marks;
 mod metrics;
 mod names;
 mod sums;
@@ -12,10 +13,12 @@ mod text;
 mod verdict;
 mod words;
 
-pub use asked::{AskedFault, answer_plan, asked_fault};
+pub use asked::{AskedFault, Hypotheses, answer_plan, answers_of_plan, asked_fault, hypotheses_of};
 pub use law::{
     asked_terms_fit, faults_are_harmless, printed_spfm_holds, text_is_of_no_runs,
     whole_parts_are_covered,
 };
+pub use lines::write_terms;
+pub use marks::alarmed_faults;
 pub use text::write_always;
 pub use verdict::Verdict;

@@ -3,13 +3,15 @@ ghost use Rattle.std.specs.Prelude.{◌≡◌, ◌<◌, flat_map, length};
 ghost use Rattle.fm_base.specs.Lists.{below};
 ghost use Rattle.fm_shelf.specs.Sink.{Sends};
 ghost use Rattle.campaign_plan.specs.Analysis.{fault_count, part_count, part_numbered};
-ghost use Rattle.always.specs.Steps.{bound_line, free_line, part_by, terms_of};
+ghost use Rattle.always.specs.Asked.{terms_of};
+ghost use Rattle.always.specs.Steps.{bound_line, free_line, part_by};
 ghost use Rattle.always.specs.Text.{assumes_line, held_line, part_answer, part_line, sizes_line, terms_lines, window_line};
 ghost use Rattle.always.specs.Verdict.{verdict_at};
 
+use crate::asked::Hypotheses;
 use crate::tally::{Tally, tally_part};
 use crate::words::{bit_word, covering_word, role_of, whole_word, window_word};
-use always_answers::{Inquiry, PartAnswer};
+use always_answers::PartAnswer;
 use campaign_plan::Plan;
 use circuit::netlist::Netlist;
 use claim_search::FaultAnswer;
@@ -127,9 +129,9 @@ fn write_assumed<O: Sink>(from: u32, out: &mut O) -> Result<(), Failed>
 }
 
 /// Writes the hypotheses.
-pub(crate) fn write_terms<O: Sink>(
+pub fn write_terms<O: Sink>(
     net: &Netlist,
-    asked: &Inquiry<'_>,
+    asked: &Hypotheses<'_>,
     out: &mut O,
 ) -> Result<(), Failed>
     ensures { Sends (O.seen out.old) (O.seen out.new) (terms_lines net.now (terms_of asked.now)) result }

@@ -2,23 +2,25 @@
 ghost use Rattle.std.specs.Prelude.{◌≡◌, length};
 ghost use Rattle.fm_shelf.specs.Sink.{Sends};
 ghost use Rattle.campaign_plan.specs.Analysis.{fault_count, part_count};
-ghost use Rattle.always.specs.Steps.{head_of, metrics_of, names_of, terms_of};
+ghost use Rattle.always.specs.Asked.{terms_of};
+ghost use Rattle.always.specs.Steps.{head_of, metrics_of, names_of};
 ghost use Rattle.always.specs.Text.{always_text};
 ghost use Rattle.always.specs.Verdict.{verdict_at};
 
+use crate::asked::Hypotheses;
 use crate::lines::{write_parts, write_sizes, write_terms};
 use crate::metrics::write_metrics;
 use crate::names::write_names;
 use crate::sums::Counting;
 use crate::verdict::Verdict;
-use always_answers::{Answers, Inquiry};
+use always_answers::Answers;
 use campaign_plan::Plan;
 use claim_search::FaultAnswer;
 use fm_shelf::lines::write_line;
 use fm_shelf::shelf::{Failed, Sink};
 
 // Writes the title, the sizes and the hypotheses.
-fn write_head<O: Sink>(plan: &Plan, asked: &Inquiry<'_>, out: &mut O) -> Result<(), Failed>
+fn write_head<O: Sink>(plan: &Plan, asked: &Hypotheses<'_>, out: &mut O) -> Result<(), Failed>
     ensures { Sends (O.seen out.old) (O.seen out.new) (head_of plan.now (terms_of asked.now)) result }
 {
     write_line(out, &[b"fmeda-always", b"1"])?;
@@ -55,11 +57,11 @@ fn write_tail<O: Sink>(
     write_line(out, &[b"end"])
 }
 
-/// Writes what was answered to an inquiry about a plan: how its parts and faults stand for every workload, and how much the single-point fault
+/// Writes what was answered of a plan by these hypotheses: how its parts and faults stand for every workload, and how much the single-point fault
 /// metrics are at least. It takes no memory, and goes over all faults once for each part and four times more.
 pub fn write_always<O: Sink>(
     plan: &Plan,
-    asked: &Inquiry<'_>,
+    asked: &Hypotheses<'_>,
     answers: &Answers,
     out: &mut O,
 ) -> Result<(), Failed>

@@ -9,7 +9,7 @@ use Rattle.fm_base.specs.Text.{line}
 use Rattle.alarm_points.specs.declared.Goal.{Goal}
 use Rattle.metric_sums.specs.declared.Class.{Class}
 use Rattle.campaign_plan.specs.declared.Outcome.{Outcome}
-use Rattle.campaign_plan.specs.Analysis.{Analysis, fault_count, fault_numbered, part_count, part_numbered}
+use Rattle.campaign_plan.specs.Analysis.{Analysis, fault_count, part_count, part_numbered}
 use Rattle.campaign_plan.specs.Batches.{class_of_fault, own_sums, true_planes}
 use Rattle.campaign_plan.specs.Weights.{weight}
 use Rattle.fmeda_report.specs.Tallies.{planes_in_order}

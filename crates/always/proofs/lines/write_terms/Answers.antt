@@ -1,6 +1,6 @@
 use Rattle.std.proofs.lemmas.Result.{err_from_is_err_and}
 use Rattle.fm_shelf.proofs.Sending.{sends_as, sends_stop, sends_then}
-use Rattle.always.specs.Steps.{terms_of}
+use Rattle.always.specs.Asked.{terms_of}
 use Rattle.always.specs.Text.{assumes_line, window_line}
 use Rattle.always.proofs.Telling.{terms_are}
 use Rattle.always.proofs.lines.write_terms.Goals as goal

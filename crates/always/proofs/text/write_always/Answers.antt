@@ -1,7 +1,8 @@
 use Rattle.std.proofs.Common.{◌≡◌}
 use Rattle.std.proofs.lemmas.Result.{err_from_is_err_and}
 use Rattle.fm_shelf.proofs.Sending.{sends_as, sends_stop, sends_then}
-use Rattle.always.specs.Steps.{metrics_of, names_of, terms_of}
+use Rattle.always.specs.Asked.{terms_of}
+use Rattle.always.specs.Steps.{metrics_of, names_of}
 use Rattle.always.specs.Verdict.{verdict_at}
 use Rattle.always.proofs.Telling.{parts_of, whole_is}
 use Rattle.always.proofs.text.write_always.Goals as goal

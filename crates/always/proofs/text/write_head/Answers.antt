@@ -2,7 +2,7 @@ use Rattle.std.proofs.Common.{ap}
 use Rattle.std.proofs.lemmas.Result.{err_from_is_err_and}
 use Rattle.circuit.specs.Circuit.{Circuit}
 use Rattle.fm_shelf.proofs.Sending.{sends_as, sends_stop, sends_then}
-use Rattle.always.specs.Steps.{terms_of}
+use Rattle.always.specs.Asked.{terms_of}
 use Rattle.always.specs.Text.{sizes_line, terms_lines}
 use Rattle.always.proofs.Telling.{head_is}
 use Rattle.always.proofs.text.write_head.Goals as goal
