@@ -25,6 +25,7 @@ row_of own =
     let asil : List Rule = option (codes "asil") (codes "D") ∷ [] in
     let run : List Rule = within 1 65536 (option (codes "run") (codes "1")) in
     let window : List Rule = within 0 8 (free (codes "window")) ++ within 0 8 (option (codes "ahead") (codes "1")) in
+    let claims : List Rule = free (codes "held") ∷ within 0 8 (free (codes "window")) ++ within 0 8 (free (codes "ahead")) in
     let plan : List Rule = inputs ++ place (codes "result") ∷ ftti ++ lists in
     elim own [
       | task.Classes ↦ (codes "classes", map place (codes "netlist" ∷ codes "workload" ∷ []))
@@ -43,7 +44,8 @@ row_of own =
       | task.Progress ↦ (codes "progress", plan ++ asil)
       | task.Breakdown ns n ↦ (codes "breakdown", inputs ++ ftti ++ lists ++ asil ++ option (codes "intervals") (codes "none") ∷ workers)
       | task.Latencies n ↦ (codes "latencies", inputs ++ ftti ++ lists ++ asil ++ workers)
-      | task.Coverage n ↦ (codes "coverage", inputs ++ ftti ++ lists ++ asil ++ workers)
+      | task.Coverage n ↦ (codes "coverage", inputs ++ ftti ++ lists ++ asil ++ workers ++ claims)
+      | task.ProvedCoverage n w a ↦ (codes "coverage", inputs ++ ftti ++ lists ++ asil ++ workers ++ claims)
       | task.Trace n f ns ↦ (codes "trace", map place (codes "netlist" ∷ codes "workload" ∷ []) ++ run ++ free (codes "fault") ∷ lists ++ free (codes "nets") ∷ [])
       | task.Always w a ↦ (codes "always", map place (codes "netlist" ∷ codes "rates" ∷ codes "points" ∷ codes "held" ∷ []) ++ ftti ++ window ++ lists ++ asil)
     ]
@@ -51,7 +53,7 @@ row_of own =
 abbrev pub word_of : Task → Text
 word_of own = (row_of own).0
 
--- one of each task, whatever its numbers
+-- one of each task, whatever its numbers; that of `coverage` stands for both of its tasks
 abbrev pub tasks : List Task
 tasks =
     task.Classes ∷ task.Check ∷ task.Run 0 ∷ task.Resume 0 ∷ task.Audit 0 Lanes ∷ task.Gen 0 0 ∷ task.Report ∷ task.Shard 0 0 ∷ task.Merge ∷ task.Reweigh

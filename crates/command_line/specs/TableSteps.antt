@@ -64,6 +64,8 @@ rule_for argument.Fault = free_option (codes "fault")
 rule_for argument.Nets = free_option (codes "nets")
 rule_for argument.Window = bounded (free_option (codes "window")) 0 8
 rule_for argument.Ahead = bounded (option (codes "ahead") (codes "1")) 0 8
+rule_for argument.HeldOption = free_option (codes "held")
+rule_for argument.AheadOption = bounded (free_option (codes "ahead")) 0 8
 
 -- a command with this argument behind its others
 abbrev pub with_argument : App → Argument → App

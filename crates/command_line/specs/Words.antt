@@ -58,7 +58,11 @@ module _ (rows : List Row) where
     pub pulses : (text_or (codes "none") (codes "pulses") ≡ cycles_text set.pulses) × AreCycles 4 set.pulses
     pub asil : text_or (codes "D") (codes "asil") ≡ asil_word set.asil
 
-  -- what is a task's own; the window of `always` is one only where its option stands there
+  -- the window is one only where its option stands there
+  abbrev pub IsWindow : Option ℕ → Type 0
+  IsWindow window = MatchOption window (first_of (codes "window") rows ≡ None) (λ cycles. HasNumber [] (codes "window") 0 8 cycles)
+
+  -- what is a task's own: `coverage` is with proofs where the held inputs are given, and else has neither a window nor cycles ahead
   abbrev pub HasOwn : Task → Type 0
   HasOwn own =
       let HasWorkers : ℕ → Type 0 = λ workers. HasNumber [] (codes "workers") 1 32 workers in
@@ -72,9 +76,11 @@ module _ (rows : List Row) where
         | task.Breakdown intervals workers ↦ HasWorkers workers × (text_or (codes "none") (codes "intervals") ≡ cycles_text intervals) × AreRising 16 4096 intervals
         | task.Latencies workers ↦ HasWorkers workers
         | task.Coverage workers ↦ HasWorkers workers
+            × (first_of (codes "held") rows ≡ None) × (first_of (codes "window") rows ≡ None) × (first_of (codes "ahead") rows ≡ None)
+        | task.ProvedCoverage workers window ahead ↦ HasWorkers workers × (first_of (codes "held") rows ≢ None) × IsWindow window
+            × HasNumber (codes "1") (codes "ahead") 0 8 ahead
         | task.Trace run fault nets ↦ HasNumber [] (codes "run") 1 65536 run × (first_of (codes "fault") rows ≡ fault) × (first_of (codes "nets") rows ≡ nets)
-        | task.Always window ahead ↦ MatchOption window (first_of (codes "window") rows ≡ None) (λ cycles. HasNumber [] (codes "window") 0 8 cycles)
-            × HasNumber [] (codes "ahead") 0 8 ahead
+        | task.Always window ahead ↦ IsWindow window × HasNumber [] (codes "ahead") 0 8 ahead
         | _ ↦ Unit {0}
       ]
 

@@ -1,5 +1,5 @@
 // The table of commands.
-ghost use Rattle.std.specs.Prelude.{◌≡◌, ◌≢◌, [], IfOk, codes, false, fold};
+ghost use Rattle.std.specs.Prelude.{◌≡◌, ◌≢◌, [], IfOk, codes, false, fold, is_some, true};
 ghost use Rattle.clap.specs.Words.{app_of, first_of, found_of, rows_of, rule_of};
 ghost use Rattle.clap.specs.declared.builder.command.Command.TheViews.{out-Command};
 ghost use Rattle.command_line.specs.TableSteps.{HasCommandToo, app_of_row, bounded, flag, free_option, named_app, option, positional, required_option, rule_for, with_argument, with_row};
@@ -11,7 +11,7 @@ use crate::cycles::read_numbers;
 use crate::entries::{manner_of, number_of, text_of};
 use crate::read::WordsRefusal;
 use Argument::{
-    Ahead, Alone, Asil, Every, Fault, First, Flips, Ftti, Held, Intervals, Netlist, Nets, NewRates,
+    Ahead, AheadOption, Alone, Asil, Every, Fault, First, Flips, Ftti, Held, HeldOption, Intervals, Netlist, Nets, NewRates,
     Of, Part, Points, Pulses, Rates, ResultFile, Run, Second, Stages, Upsets, Window, Workers,
     Workload,
 };
@@ -50,6 +50,8 @@ enum Argument {
     Nets,
     Window,
     Ahead,
+    HeldOption,
+    AheadOption,
 }
 
 const MOST_INTERVALS: usize = 16;
@@ -132,6 +134,8 @@ fn arg_of<'a>(alloc: Global, argument: Argument) -> Arg<'a>
         Nets => free_arg(alloc, "nets"),
         Window => free_arg(alloc, "window").value_parser(value_parser!(u32).range(0..=8)),
         Ahead => option_arg(alloc, "ahead", "1").value_parser(value_parser!(u32).range(0..=8)),
+        HeldOption => free_arg(alloc, "held"),
+        AheadOption => free_arg(alloc, "ahead").value_parser(value_parser!(u32).range(0..=8)),
     }
 }
 
@@ -171,7 +175,17 @@ fn command_rows() -> &'static [Row]
         Row(
             "coverage",
             INPUTS,
-            &[Ftti, Flips, Upsets, Pulses, Asil, Workers],
+            &[
+                Ftti,
+                Flips,
+                Upsets,
+                Pulses,
+                Asil,
+                Workers,
+                HeldOption,
+                Window,
+                AheadOption,
+            ],
         ),
         Row(
             "trace",
@@ -289,6 +303,45 @@ fn always_of(matches: &ArgMatches) -> Option<Task>
     Some(Task::Always { window, ahead })
 }
 
+// Whether an option stands there.
+fn is_given(matches: &ArgMatches, id: &str) -> bool
+    ensures { result ≡ is_some (first_of id.now (rows_of (found_of matches.now))) }
+{
+    matches.get_str(id).is_some()
+}
+
+// `coverage` with proofs.
+fn proved_coverage_of(matches: &ArgMatches) -> Option<Task>
+    requires { is_some (first_of (codes "held") (rows_of (found_of matches.now))) ≡ true }
+    ensures { Finds (IsTaskOf (codes "coverage") (rows_of (found_of matches.now))) result }
+{
+    let workers = workers_of(matches)?;
+    let ahead = number_of(matches, "ahead", "1", 0, 8)?;
+    let window = match matches.get_str("window") {
+        Some(_) => Some(number_of(matches, "window", "", 0, 8)?),
+        None => None,
+    };
+    Some(Task::ProvedCoverage {
+        workers,
+        window,
+        ahead,
+    })
+}
+
+// `coverage`, with proofs where held inputs are given; else nothing says what a window is for.
+fn coverage_of(matches: &ArgMatches) -> Option<Task>
+    ensures { Finds (IsTaskOf (codes "coverage") (rows_of (found_of matches.now))) result }
+{
+    if is_given(matches, "held") {
+        return proved_coverage_of(matches);
+    }
+    if is_given(matches, "window") || is_given(matches, "ahead") {
+        return None;
+    }
+    let workers = workers_of(matches)?;
+    Some(Task::Coverage { workers })
+}
+
 // The task of this word where it has neither lists nor texts of its own.
 fn plain_task_of(word: &str, matches: &ArgMatches) -> Option<Task>
     requires lists { word.now ≢ codes "breakdown" }
@@ -319,9 +372,7 @@ fn plain_task_of(word: &str, matches: &ArgMatches) -> Option<Task>
         "latencies" => Some(Task::Latencies {
             workers: workers_of(matches)?,
         }),
-        "coverage" => Some(Task::Coverage {
-            workers: workers_of(matches)?,
-        }),
+        "coverage" => coverage_of(matches),
         "always" => always_of(matches),
         _ => None,
     }

@@ -8,7 +8,7 @@ use Rattle.campaign_plan.specs.declared.Settings.{Settings}
 use Rattle.commands.specs.declared.command.Asked.{Asked}
 use Rattle.commands.specs.declared.command.FileNames.{FileNames}
 use Rattle.commands.specs.declared.command.Kind.{Kind}
-use Rattle.commands.specs.declared.command.Kind.TheVariants.{Observed, Driven, Rated, Planned, Begun, Merged, Reweighed, Supposed, Generated}
+use Rattle.commands.specs.declared.command.Kind.TheVariants.{Observed, Driven, Rated, Planned, Begun, Merged, Reweighed, Supposed, Claimed, Generated}
 use Rattle.commands.specs.declared.command.Task.{Task}
 use Rattle.commands.specs.declared.command.Task.TheVariants as task
 use Rattle.commands.specs.declared.command.Which.{Which}
@@ -37,6 +37,7 @@ kind_of own =
       | task.Gen stages n ↦ Generated stages
       | task.Trace run fault nets ↦ Driven
       | task.Always window ahead ↦ Supposed
+      | task.ProvedCoverage n window ahead ↦ Claimed
       | _ ↦ plan
     ]
 
@@ -51,6 +52,7 @@ inputs_of kind =
       | Merged ↦ plan ++ First ∷ Second ∷ []
       | Reweighed ↦ plan ++ First ∷ NewRates ∷ []
       | Supposed ↦ Netlist ∷ Rates ∷ Points ∷ Held ∷ []
+      | Claimed ↦ plan ++ Held ∷ []
       | Generated n ↦ []
       | _ ↦ plan
     ]
@@ -86,6 +88,7 @@ HasFitNumbers (task.Pairs workers) = (0 < workers) × (workers ≤ 32)
 HasFitNumbers (task.Breakdown intervals workers) = AreRising 16 4096 intervals × (0 < workers) × (workers ≤ 32)
 HasFitNumbers (task.Latencies workers) = (0 < workers) × (workers ≤ 32)
 HasFitNumbers (task.Coverage workers) = (0 < workers) × (workers ≤ 32)
+HasFitNumbers (task.ProvedCoverage workers window ahead) = (0 < workers) × (workers ≤ 32) × IfSome window (λ cycles. cycles ≤ 8) × (ahead ≤ 8)
 HasFitNumbers (task.Trace run fault nets) = (1 ≤ run) × (run ≤ 65536)
 HasFitNumbers (task.Always window ahead) = IfSome window (λ cycles. cycles ≤ 8) × (ahead ≤ 8)
 HasFitNumbers _ = Unit {0}

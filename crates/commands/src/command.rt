@@ -6,7 +6,7 @@ use campaign_plan::Settings;
 use fm_base::{Name, Seq};
 
 /// One of the files of a command: the four inputs, the result file, the two that `merge` reads, of which `reweigh` reads the first, the other
-/// rates of `reweigh`, and the held inputs of `always`. Where a command writes a result file, it is `Result`.
+/// rates of `reweigh`, and the held inputs of `always` and of `coverage`. Where a command writes a result file, it is `Result`.
 #[derive(Clone, Copy, Debug, PartialEq, Eq)]
 pub enum Which {
     Netlist,
@@ -78,12 +78,13 @@ pub enum Kind {
     Driven,
     Rated,
     /// The plan of the four inputs; with its result file; with two of them; with one and other rates; a plan without runs, and its held
-    /// inputs; the plan of generated texts of so many stages.
+    /// inputs; the plan with its runs, and held inputs; the plan of generated texts of so many stages.
     Planned,
     Begun,
     Merged,
     Reweighed,
     Supposed,
+    Claimed,
     Generated(u32),
 }
 
@@ -120,6 +121,13 @@ impl Kind {
                 Which::NewRates,
             ],
             Kind::Supposed => &[Which::Netlist, Which::Rates, Which::Points, Which::Held],
+            Kind::Claimed => &[
+                Which::Netlist,
+                Which::Workload,
+                Which::Rates,
+                Which::Points,
+                Which::Held,
+            ],
             Kind::Generated(_) => &[],
         }
     }
@@ -187,6 +195,11 @@ pub enum Task {
     Coverage {
         workers: u32,
     },
+    ProvedCoverage {
+        workers: u32,
+        window: Option<u32>,
+        ahead: u32,
+    },
     Trace {
         run: u32,
         fault: Option<Name>,
@@ -216,6 +229,7 @@ impl Task {
             Task::Gen { stages, .. } => Kind::Generated(*stages),
             Task::Trace { .. } => Kind::Driven,
             Task::Always { .. } => Kind::Supposed,
+            Task::ProvedCoverage { .. } => Kind::Claimed,
             _ => Kind::Planned,
         }
     }
